@@ -1,0 +1,40 @@
+-- The fund's fields and refusal 2: a fund field out of range.
+use Prim.Native.Nat.{ℕ, _+_, _*_, _%_}
+use mathlib.Core.Bool.{Bool, true, false}
+use mathlib.Core.List.{List, [], _∷_}
+use lib.Dec.{leb, ltb, eqb}
+use lib.IntN.{ℤ, pos, negsuc}
+use lib.ListN.{getD}
+use Rattle.lists.specs.Below.{allBelow}
+use Rattle.lists.specs.Every.{every, inside}
+use Rattle.fund.specs.declared.Fund.{Fund}
+
+-- the ceiling on limits and on fund-wide created and redeemed units
+abbrev pub ceiling : ℕ
+ceiling = 999_999_999_999
+
+-- estimated cash, -999,999,999 to 9,999,999,999 hundredths of a yuan
+unfoldable pub cashInRange : ℤ → Bool
+cashInRange (pos e) = leb e 9_999_999_999
+cashInRange (negsuc e) = ltb e 999_999_999
+
+-- a limit: 0 is no limit, else a multiple of the basket size
+unfoldable pub limitInRange : ℕ → ℕ → Bool
+limitInRange size limit = every (leb limit ceiling ∷ eqb (limit % size) 0 ∷ [])
+
+-- refusal 2 looks at all of these
+unfoldable pub fundInRange : Fund → Bool
+fundInRange f =
+    every
+    (leb (f .«first_code») 999_994
+    ∷ inside 1 99_999_999 (f .«basket_size»)
+    ∷ leb (f .«max_cash_ratio» .0) 100_000
+    ∷ leb (f .switch) 3
+    ∷ cashInRange (f .«estimated_cash»)
+    ∷ allBelow (λ k. limitInRange (f .«basket_size») (getD (f .limits) k 0)) 8
+    ∷ [])
+
+-- the limits stand in the list text's order: creation and redemption by turns (side 0 and 1), and of these
+-- cumulative for the fund, cumulative per account, net for the fund, net per account (kind 0 to 3)
+unfoldable pub limitOf : Fund → ℕ → ℕ → ℕ
+limitOf f kind side = getD (f .limits) (2 * kind + side) 0

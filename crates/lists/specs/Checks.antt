@@ -1,0 +1,109 @@
+-- The tests of a call in order, and the answer that the first failing one gives.
+use mathlib.Core.Path.{_≡_, refl, sym, ap, _∙_}
+use mathlib.Core.Bool.{Bool, true, false, cond, not, _&&_, false≢true}
+use mathlib.Core.List.{List, [], _∷_, _++_}
+use Prim.Native.Nat.{ℕ, zero, suc, _≤_, _<_}
+use native.Mathlib.Omega.{arith}
+use lib.Dec.{T, ltb, eqb, ltb→lt}
+use borrow.Author.Tests.{eqb-true}
+
+-- a test: whether it fails, and the refusal's number and place where it does
+pub record Check : Type 0 where
+  pub fails : Bool
+  pub number : ℕ
+  pub place : ℕ
+
+abbrev pub check : Bool → ℕ → ℕ → Check
+check f n p = record { fails = f; number = n; place = p }
+
+-- an answer as three numbers: the refusal's number (0 accepted), its place, and the value of an accepted call
+pub record Reply : Type 0 where
+  pub number : ℕ
+  pub place : ℕ
+  pub value : ℕ
+
+abbrev pub reply : ℕ → ℕ → ℕ → Reply
+reply n p v = record { number = n; place = p; value = v }
+
+-- the refusal of the first test that fails; where none does, accepted with the value v
+unfoldable pub answered : List Check → ℕ → Reply
+answered [] v = reply 0 0 v
+answered (c ∷ cs) v = cond (c .fails) (reply (c .number) (c .place) 0) (answered cs v)
+
+-- no test fails
+unfoldable pub passes : List Check → Bool
+passes [] = true
+passes (c ∷ cs) = not (c .fails) && passes cs
+
+unfoldable pub isAccepted : Reply → Bool
+isAccepted r = eqb (r .number) 0
+
+-- what each test says where none fails
+abbrev pub Passed : List Check → Type 0
+Passed [] = Unit {0}
+Passed (c ∷ cs) = (c .fails ≡ false) × Passed cs
+
+-- no refusal has the number 0
+abbrev pub numbered : List Check → Bool
+numbered [] = true
+numbered (c ∷ cs) = ltb 0 (c .number) && numbered cs
+
+and-left : (a b : Bool) → T (a && b) → T a
+and-left true b t = tt
+and-left false b t = t
+
+and-right : (a b : Bool) → T (a && b) → T b
+and-right true b t = t
+and-right false b t = absurd t
+
+pass : (t : Bool) (n p v : ℕ) (r : Reply) → T (ltb 0 n) → eqb (cond t (reply n p 0) r .number) 0 ≡ true → (t ≡ false) × (eqb (r .number) 0 ≡ true)
+pass true n p v r h e = absurd (omega (arith, ltb→lt 0 n h, eqb-true n 0 e))
+pass false n p v r h e = (refl, e)
+
+-- an accepted call has passed each test
+pub all-passed : (cs : List Check) (v : ℕ) → T (numbered cs) → isAccepted (answered cs v) ≡ true → Passed cs
+unfolding answered isAccepted
+all-passed [] v t e = tt
+all-passed (c ∷ cs) v t e =
+    let p = pass (c .fails) (c .number) (c .place) v (answered cs v) (and-left (ltb 0 (c .number)) (numbered cs) t) e in
+    (p .0, all-passed cs v (and-right (ltb 0 (c .number)) (numbered cs) t) (p .1))
+
+pub passed-all : (cs : List Check) → passes cs ≡ true → Passed cs
+unfolding passes
+passed-all [] e = tt
+passed-all (c ∷ cs) e = go (c .fails) refl e (passed-all cs)
+  where
+    go : (f : Bool) → c .fails ≡ f → (not f && passes cs) ≡ true → (passes cs ≡ true → Passed cs) → (c .fails ≡ false) × Passed cs
+    go true p e rest = absurd (false≢true e)
+    go false p e rest = (p, rest e)
+
+pub passes-all : (cs : List Check) → Passed cs → passes cs ≡ true
+unfolding passes
+passes-all [] p = refl
+passes-all (c ∷ cs) p = simp (p .0, passes-all cs (p .1))
+
+-- a list that passes is accepted with its value
+pub answered-passed : (cs : List Check) (v : ℕ) → passes cs ≡ true → answered cs v ≡ reply 0 0 v
+unfolding answered
+answered-passed [] v e = refl
+answered-passed (c ∷ cs) v e =
+    let p = passed-all (c ∷ cs) e in
+    simp (p .0, answered-passed cs v (passes-all cs (p .1)))
+
+-- stages: where the first passes, the answer is the second's; where it fails, its own
+pub answered-next : (cs ds : List Check) (v : ℕ) → passes cs ≡ true → answered (cs ++ ds) v ≡ answered ds v
+unfolding answered
+answered-next [] ds v e = refl
+answered-next (c ∷ cs) ds v e =
+    let p = passed-all (c ∷ cs) e in
+    simp (p .0, answered-next cs ds v (passes-all cs (p .1)))
+
+pub answered-stop : (cs ds : List Check) (v w : ℕ) → passes cs ≡ false → answered (cs ++ ds) v ≡ answered cs w
+unfolding answered passes
+answered-stop [] ds v w e = absurd (false≢true (sym e))
+answered-stop (c ∷ cs) ds v w e = go (c .fails) e (answered-stop cs ds v w)
+  where
+    go : (f : Bool) → (not f && passes cs) ≡ false → (passes cs ≡ false → answered (cs ++ ds) v ≡ answered cs w)
+        → cond f (reply (c .number) (c .place) 0) (answered (cs ++ ds) v) ≡ cond f (reply (c .number) (c .place) 0) (answered cs w)
+    go true e rest = refl
+    go false e rest = rest e

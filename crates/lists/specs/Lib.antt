@@ -1,0 +1,4 @@
+pub mod Below
+pub mod Every
+pub mod Checks
+pub mod Stretch
