@@ -1,6 +1,6 @@
 -- The components and refusal 3: a component out of range, order or flag use, with its place.
 use Prim.Native.Nat.{ℕ, _+_, _-_, _*_}
-use mathlib.Core.Bool.{Bool, true, false, not, _||_}
+use mathlib.Core.Bool.{Bool, not, _||_}
 use mathlib.Core.List.{List, [], _∷_}
 use lib.Dec.{leb, ltb, eqb}
 use lib.ListN.{getD}
@@ -35,13 +35,14 @@ componentInRange g c =
     ∷ zeroUnless (entry (c .flag) amountUsed) (c .amount .0)
     ∷ [])
 
--- codes rise strictly: the i-th is above the one before it
-unfoldable pub rising : List Component → ℕ → Bool
-rising cs i = eqb i 0 || ltb (getD cs (i - 1) blank .code) (getD cs i blank .code)
+-- the component c as the i-th, behind one with the code previous: in its ranges and, unless it is the first, above
+-- that code (codes rise strictly)
+unfoldable pub fits : ℕ → ℕ → ℕ → Component → Bool
+fits g i previous c = every (componentInRange g c ∷ (eqb i 0 || ltb previous (c .code)) ∷ [])
 
 -- refusal 3 at the i-th component
 unfoldable pub faultAt : ℕ → List Component → ℕ → Bool
-faultAt g cs i = not (every (componentInRange g (getD cs i blank) ∷ rising cs i ∷ []))
+faultAt g cs i = not (fits g i (getD cs (i - 1) blank .code) (getD cs i blank))
 
 -- the first component at fault of the first n, n where there is none
 unfoldable pub componentFault : ℕ → List Component → ℕ → ℕ

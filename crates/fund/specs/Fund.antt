@@ -1,6 +1,6 @@
 -- The fund's fields and refusal 2: a fund field out of range.
 use Prim.Native.Nat.{ℕ, _+_, _*_, _%_}
-use mathlib.Core.Bool.{Bool, true, false}
+use mathlib.Core.Bool.{Bool}
 use mathlib.Core.List.{List, [], _∷_}
 use lib.Dec.{leb, ltb, eqb}
 use lib.IntN.{ℤ, pos, negsuc}
@@ -22,6 +22,10 @@ cashInRange (negsuc e) = ltb e 999_999_999
 unfoldable pub limitInRange : ℕ → ℕ → Bool
 limitInRange size limit = every (leb limit ceiling ∷ eqb (limit % size) 0 ∷ [])
 
+-- the eight limits
+unfoldable pub limitsInRange : ℕ → List ℕ → Bool
+limitsInRange size limits = allBelow (λ k. limitInRange size (getD limits k 0)) 8
+
 -- refusal 2 looks at all of these
 unfoldable pub fundInRange : Fund → Bool
 fundInRange f =
@@ -31,7 +35,7 @@ fundInRange f =
     ∷ leb (f .«max_cash_ratio» .0) 100_000
     ∷ leb (f .switch) 3
     ∷ cashInRange (f .«estimated_cash»)
-    ∷ allBelow (λ k. limitInRange (f .«basket_size») (getD (f .limits) k 0)) 8
+    ∷ limitsInRange (f .«basket_size») (f .limits)
     ∷ [])
 
 -- the limits stand in the list text's order: creation and redemption by turns (side 0 and 1), and of these

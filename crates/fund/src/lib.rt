@@ -1,9 +1,9 @@
 // The fund and its components, and the tests of refusals 2 and 3.
 ghost use mathlib.Core.Path.{_≡_};
-ghost use Prim.Native.Nat.{ℕ, _+_, _*_, _≤_, _<_};
+ghost use Prim.Native.Nat.{_+_, _*_, _<_};
 ghost use lib.ListN.{length};
-ghost use Rattle.fund.specs.Fund.{cashInRange, limitInRange, fundInRange};
-ghost use Rattle.fund.specs.Components.{blank, outsideGroup, zeroUnless, componentInRange, componentFault, componentAt};
+ghost use Rattle.fund.specs.Fund.{cashInRange, limitInRange, limitsInRange, fundInRange};
+ghost use Rattle.fund.specs.Components.{blank, outsideGroup, zeroUnless, componentInRange, fits, componentFault, componentAt};
 use units::Money;
 use units::Rate;
 
@@ -31,3 +31,173 @@ pub const CEILING: u64 = 999_999_999_999;
 
 // How many components a day has room for.
 pub const MOST_COMPONENTS: usize = 300;
+
+// How many numbers a component takes in a run.
+pub const COMPONENT_WIDTH: usize = 5;
+
+// The component that stands where a day has none.
+pub fn blank_component() -> Component
+    ensures { λ r. ⌜ r ≡ blank ⌝ }
+{
+    Component {
+        code: 0,
+        quantity: 0,
+        flag: 0,
+        rate: Rate(0),
+        amount: Money(0),
+    }
+}
+
+// The i-th component of a run: the one place that knows a run's width and order.
+pub fn component_at(run: &[u64], i: usize) -> Component
+    requires { ⌜ 5 * i + 4 < length (now run) ⌝ }
+    ensures { λ r. ⌜ r ≡ componentAt (now (run .entry)) i ⌝ }
+{
+    let at = COMPONENT_WIDTH * i;
+    Component {
+        code: run[at],
+        quantity: run[at + 1],
+        flag: run[at + 2],
+        rate: Rate(run[at + 3]),
+        amount: Money(run[at + 4]),
+    }
+}
+
+pub fn cash_in_range(e: i64) -> bool
+    ensures { λ r. ⌜ r ≡ cashInRange e ⌝ }
+{
+    -999_999_999 <= e && e <= 9_999_999_999
+}
+
+fn limit_in_range(size: u64, limit: u64) -> bool
+    requires { ⌜ 0 < size ⌝ }
+    ensures { λ r. ⌜ r ≡ limitInRange size limit ⌝ }
+{
+    if CEILING < limit {
+        return false;
+    }
+    limit % size == 0
+}
+
+fn limits_in_range(size: u64, limits: [u64; 8]) -> bool
+    requires { ⌜ 0 < size ⌝ }
+    ensures { λ r. ⌜ r ≡ limitsInRange size limits ⌝ }
+{
+    let mut i = 0;
+    while i < 8 {
+        if !limit_in_range(size, limits[i]) {
+            return false;
+        }
+        i += 1;
+    }
+    true
+}
+
+// Refusal 2's test. The basket size comes before the limits, which are divided by it.
+pub fn fund_in_range(f: Fund) -> bool
+    ensures { λ r. ⌜ r ≡ fundInRange f ⌝ }
+{
+    let size = f.basket_size;
+    if 999_994 < f.first_code {
+        return false;
+    }
+    if size < 1 {
+        return false;
+    }
+    if 99_999_999 < size {
+        return false;
+    }
+    if 100_000 < f.max_cash_ratio.0 {
+        return false;
+    }
+    if 3 < f.switch {
+        return false;
+    }
+    if !cash_in_range(f.estimated_cash) {
+        return false;
+    }
+    let limits = f.limits;
+    limits_in_range(size, limits)
+}
+
+// An unused rate or amount is 0.
+pub fn zero_unless(used: bool, x: u64) -> bool
+    ensures { λ r. ⌜ r ≡ zeroUnless used x ⌝ }
+{
+    if used {
+        return true;
+    }
+    x == 0
+}
+
+// Whether a code is outside the fund's group of codes, which starts at `first_code`.
+pub fn outside_group(first_code: u64, code: u64) -> bool
+    ensures { λ r. ⌜ r ≡ outsideGroup «first_code» code ⌝ }
+{
+    if code < first_code {
+        return true;
+    }
+    5 < code - first_code
+}
+
+// A component's own ranges and flag use.
+pub fn component_in_range(first_code: u64, c: Component) -> bool
+    ensures { λ r. ⌜ r ≡ componentInRange «first_code» c ⌝ }
+{
+    if 999_999 < c.code {
+        return false;
+    }
+    if !outside_group(first_code, c.code) {
+        return false;
+    }
+    if 99_999_999 < c.quantity {
+        return false;
+    }
+    if 5 <= c.flag {
+        return false;
+    }
+    if 100_000 < c.rate.0 {
+        return false;
+    }
+    if 99_999_999_999 < c.amount.0 {
+        return false;
+    }
+    if !zero_unless(flags::entry_of(c.flag, flags::RATE_USED), c.rate.0) {
+        return false;
+    }
+    zero_unless(flags::entry_of(c.flag, flags::AMOUNT_USED), c.amount.0)
+}
+
+// Whether the i-th component is in its ranges and above the previous code.
+fn component_fits(first_code: u64, i: usize, previous: u64, c: Component) -> bool
+    ensures { λ r. ⌜ r ≡ fits «first_code» i previous c ⌝ }
+{
+    if !component_in_range(first_code, c) {
+        return false;
+    }
+    if i == 0 {
+        return true;
+    }
+    previous < c.code
+}
+
+// Refusal 3's test: the first component at fault of the first `count`, and `count` where none is. There is none behind the last
+// place, and what stands there is at fault.
+pub fn component_fault(first_code: u64, components: [Component; 300], count: usize) -> usize
+    ensures { λ r. ⌜ r ≡ componentFault «first_code» components count ⌝ }
+{
+    let mut previous: u64 = 0;
+    let mut i = 0;
+    while i < count {
+        if i == MOST_COMPONENTS {
+            return i;
+        }
+        let c = components[i];
+        if !component_fits(first_code, i, previous, c) {
+            return i;
+        }
+        previous = c.code;
+        i += 1;
+    }
+    i
+}

@@ -1,0 +1,82 @@
+-- What callers need of the flag table, shown once by one test of its five rows.
+use mathlib.Core.Path.{_≡_, refl, sym, ap, _∙_}
+use mathlib.Core.Bool.{Bool, true, false, not, _||_, false≢true}
+use mathlib.Core.List.{List, [], _∷_}
+use Prim.Native.Nat.{ℕ, zero, suc, _≤_, _<_}
+use native.Mathlib.Nat.{le-trans}
+use native.Mathlib.Decide.{decLt}
+use native.Mathlib.Omega.{arith}
+use lib.Dec.{lit≤}
+use lib.ListN.{length, getD, List·getD-eq-default}
+use borrow.Author.Tests.{not-true}
+use Rattle.lists.specs.Below.{allBelow, all-at}
+use Rattle.lists.specs.Every.{every, every-at}
+use Rattle.flags.specs.Table.{flagTable, entry, stockMoves, shortageInCash, rateUsed, amountUsed, shanghai, priced}
+
+-- past the table every entry is false
+pub past-flags : (flag column : ℕ) → 5 ≤ flag → entry flag column ≡ false
+unfolding entry flagTable
+past-flags flag column h = ap (λ (row : List Bool). getD row column false) (List·getD-eq-default flagTable [] h)
+
+row-width : (flag : ℕ) → length (getD flagTable flag []) ≤ 6
+unfolding flagTable
+row-width zero = lit≤ tt
+row-width (suc zero) = lit≤ tt
+row-width (suc (suc zero)) = lit≤ tt
+row-width (suc (suc (suc zero))) = lit≤ tt
+row-width (suc (suc (suc (suc zero)))) = lit≤ tt
+row-width (suc (suc (suc (suc (suc flag))))) = lit≤ tt
+
+pub past-columns : (flag column : ℕ) → 6 ≤ column → entry flag column ≡ false
+unfolding entry
+past-columns flag column h = List·getD-eq-default (getD flagTable flag []) false (le-trans (row-width flag) h)
+
+-- a is false or b is true
+abbrev implies : Bool → Bool → Bool
+implies a b = not a || b
+
+-- the rules that each row obeys
+abbrev rules : ℕ → List Bool
+rules flag =
+    implies (entry flag stockMoves) (entry flag shanghai)
+    ∷ implies (entry flag stockMoves) (entry flag priced)
+    ∷ implies (entry flag stockMoves) (not (entry flag amountUsed))
+    ∷ implies (not (entry flag stockMoves)) (entry flag amountUsed)
+    ∷ implies (entry flag shortageInCash) (entry flag stockMoves)
+    ∷ implies (entry flag shortageInCash) (entry flag rateUsed)
+    ∷ []
+
+table-rules : allBelow (λ flag. every (rules flag)) 5 ≡ true
+unfolding allBelow every entry flagTable
+table-rules = refl
+
+rule : (flag : ℕ) → flag < 5 → (k : ℕ) → getD (rules flag) k true ≡ true
+rule flag h = every-at (rules flag) (all-at (λ f. every (rules f)) 5 table-rules flag h)
+
+follows : (a b : Bool) → implies a b ≡ true → a ≡ true → b ≡ true
+follows true b i e = i
+follows false b i e = absurd (false≢true e)
+
+-- an entry that is true stands in the table
+inside : (flag column : ℕ) → entry flag column ≡ true → flag < 5
+inside flag column e = case (decLt flag 5)
+  where
+    case : Dec (flag < 5) → flag < 5
+    case (yes l) = l
+    case (no l) = absurd (false≢true (sym (past-flags flag column (omega arith)) ∙ e))
+
+-- where stock moves, the stock is Shanghai's and has a price, and the amount is not used
+pub moves-rules : (flag : ℕ) → entry flag stockMoves ≡ true → (entry flag shanghai ≡ true) × (entry flag priced ≡ true) × (entry flag amountUsed ≡ false)
+moves-rules flag e =
+    let r = rule flag (inside flag stockMoves e) in
+    (follows _ _ (r 0) e, follows _ _ (r 1) e, not-true _ (follows _ _ (r 2) e))
+
+-- where no stock moves, the amount is used
+pub stays-rule : (flag : ℕ) → flag < 5 → entry flag stockMoves ≡ false → entry flag amountUsed ≡ true
+stays-rule flag h e = follows _ _ (rule flag h 3) (ap not e)
+
+-- where cash stands for a shortage, stock moves and the rate is used
+pub shortage-rules : (flag : ℕ) → entry flag shortageInCash ≡ true → (entry flag stockMoves ≡ true) × (entry flag rateUsed ≡ true)
+shortage-rules flag e =
+    let r = rule flag (inside flag shortageInCash e) in
+    (follows _ _ (r 4) e, follows _ _ (r 5) e)

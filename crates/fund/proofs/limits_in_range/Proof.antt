@@ -1,0 +1,74 @@
+-- `fund::limits_in_range` meets its contract. The loop's invariant: every limit below `i` is in range.
+use mathlib.Core.Path.{_≡_, sym, _∙_}
+use mathlib.Core.Bool.{true, false}
+use mathlib.Core.List.{List}
+use Prim.Native.Nat.{ℕ, _≤_, _<_, _-_}
+use native.Mathlib.Nat.{not-suc-le-zero}
+use native.Mathlib.Omega.{arith}
+use lib.ListN.{getD}
+use borrow.Author.Count.{below-more}
+use borrow.Author.Tests.{not-true, not-false}
+use Rattle.lists.specs.Below.{all-true, all-false}
+use Rattle.fund.specs.Fund.{limitInRange, limitsInRange}
+use Rattle.fund.proofs.limits_in_range.Statement.{statement}
+use Rattle.fund.proofs.limits_in_range.Tie as tie
+
+fails : (size : ℕ) (limits : List ℕ) (i : ℕ) → i < 8 → limitInRange size (getD limits i 0) ≡ false → limitsInRange size limits ≡ false
+unfolding limitsInRange
+fails size limits i l e = all-false (λ k. limitInRange size (getD limits k 0)) 8 i l e
+
+passes : (size : ℕ) (limits : List ℕ) (i : ℕ) → 8 ≤ i → ((k : ℕ) → k < i → limitInRange size (getD limits k 0) ≡ true) → limitsInRange size limits ≡ true
+unfolding limitsInRange
+passes size limits i l all = all-true (λ k. limitInRange size (getD limits k 0)) 8 (λ k h. all k (omega arith))
+
+abbrev Inv-loop : tie.InvT-loop
+Inv-loop size limits i₀ i = (i ≤ 8) × ((k : ℕ) → k < i → limitInRange size (getD limits k 0) ≡ true)
+
+abbrev μ-loop : tie.MeasureT-loop
+μ-loop size limits i₀ i = 8 - i
+
+loop-holds : tie.Need-loop-holds Inv-loop μ-loop
+loop-holds c = (omega arith, λ k l. absurd (not-suc-le-zero l))
+
+mul-limit-in-range : tie.Need-mul-limit-in-range Inv-loop μ-loop
+mul-limit-in-range c = omega arith
+
+array-read-limit-in-range : tie.Need-array-read-limit-in-range Inv-loop μ-loop
+array-read-limit-in-range c = omega arith
+
+limit-in-range-requires : tie.Need-limit-in-range-requires Inv-loop μ-loop
+limit-in-range-requires c κs = omega arith
+
+returns : tie.Need-returns Inv-loop μ-loop
+returns c = sym (fails _ _ _ (c .before .before .loop-test .taken) (sym (c .before .limit-in-range .ensures) ∙ not-true _ (c .if1 .taken)))
+
+add-i : tie.Need-add-i Inv-loop μ-loop
+add-i c = omega arith
+
+loop-less : tie.Need-loop-less Inv-loop μ-loop
+loop-less c = omega arith
+
+loop-again : tie.Need-loop-again Inv-loop μ-loop
+loop-again c = (
+  omega arith,
+  below-more _ _ (c .before .before .before .loop .inv .1) (sym (c .before .limit-in-range .ensures) ∙ not-false _ (c .if1 .left)),
+)
+
+returns-2 : tie.Need-returns-2 Inv-loop μ-loop
+returns-2 c = sym (passes _ _ _ (omega arith) (c .before .loop .inv .1))
+
+pub limits-in-range-spec : {M : Type 1} → statement M
+limits-in-range-spec =
+    tie.close
+    (tie.spec
+    Inv-loop
+    μ-loop
+    loop-holds
+    mul-limit-in-range
+    array-read-limit-in-range
+    limit-in-range-requires
+    returns
+    add-i
+    loop-less
+    loop-again
+    returns-2)
