@@ -54,6 +54,12 @@ pub sum-more : (f : ℕ → ℕ) (n : ℕ) → sumBelow f (n + 1) ≡ sumBelow f
 unfolding sumBelow
 sum-more f n = rw (add-one, sumBelow)
 
+-- the first summand apart
+pub sum-head : (f : ℕ → ℕ) (n : ℕ) → sumBelow f (suc n) ≡ f 0 + sumBelow (λ k. f (suc k)) n
+unfolding sumBelow
+sum-head f zero = omega arith
+sum-head f (suc n) = omega (arith, sum-head f n)
+
 -- each summand is at most b
 pub sum-le : (f : ℕ → ℕ) (n b : ℕ) → ((k : ℕ) → k < n → f k ≤ b) → sumBelow f n ≤ n * b
 unfolding sumBelow

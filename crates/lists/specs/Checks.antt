@@ -1,11 +1,11 @@
 -- The tests of a call in order, and the answer that the first failing one gives.
-use mathlib.Core.Path.{_≡_, refl, sym, ap, _∙_}
+use mathlib.Core.Path.{_≡_, refl, sym, ap, subst, _∙_}
 use mathlib.Core.Bool.{Bool, true, false, cond, not, _&&_, false≢true}
 use mathlib.Core.List.{List, [], _∷_, _++_}
 use Prim.Native.Nat.{ℕ, zero, suc, _≤_, _<_}
 use native.Mathlib.Omega.{arith}
-use lib.Dec.{T, ltb, eqb, ltb→lt}
-use borrow.Author.Tests.{eqb-true}
+use lib.Dec.{T, T-not, ltb, eqb, ltb→lt}
+use borrow.Author.Tests.{eqb-true, eq-eqb}
 
 -- a test: whether it fails, and the refusal's number and place where it does
 pub record Check : Type 0 where
@@ -67,6 +67,32 @@ all-passed [] v t e = tt
 all-passed (c ∷ cs) v t e =
     let p = pass (c .fails) (c .number) (c .place) v (answered cs v) (and-left (ltb 0 (c .number)) (numbered cs) t) e in
     (p .0, all-passed cs v (and-right (ltb 0 (c .number)) (numbered cs) t) (p .1))
+
+-- an accepted call has its value
+pub accepted-value : (cs : List Check) (v : ℕ) → T (numbered cs) → isAccepted (answered cs v) ≡ true → answered cs v .value ≡ v
+unfolding answered isAccepted
+accepted-value [] v t e = refl
+accepted-value (c ∷ cs) v t e =
+    let p = pass (c .fails) (c .number) (c .place) v (answered cs v) (and-left (ltb 0 (c .number)) (numbered cs) t) e in
+    simp (p .0) (accepted-value cs v (and-right (ltb 0 (c .number)) (numbered cs) t) (p .1))
+
+-- no test of the list gives the number n
+abbrev pub avoids : ℕ → List Check → Bool
+avoids n [] = true
+avoids n (c ∷ cs) = not (eqb (c .number) n) && avoids n cs
+
+-- so the answer has not that number
+pub never-answered : (n : ℕ) (cs : List Check) (v : ℕ) → T (ltb 0 n) → T (avoids n cs) → answered cs v .number ≡ n → ⊥
+unfolding answered
+never-answered n [] v p t e = omega (arith, ltb→lt 0 n p)
+never-answered n (c ∷ cs) v p t e = go (c .fails) e (never-answered n cs v p (and-right (not (eqb (c .number) n)) (avoids n cs) t))
+  where
+    other : c .number ≡ n → ⊥
+    other q = T-not (eqb (c .number) n) (and-left (not (eqb (c .number) n)) (avoids n cs) t) (subst (λ (b : Bool). T b) (sym (eq-eqb (c .number) n q)) tt)
+
+    go : (f : Bool) → cond f (reply (c .number) (c .place) 0) (answered cs v) .number ≡ n → (answered cs v .number ≡ n → ⊥) → ⊥
+    go true q rest = other q
+    go false q rest = rest q
 
 pub passed-all : (cs : List Check) → passes cs ≡ true → Passed cs
 unfolding passes

@@ -2,3 +2,4 @@ pub mod Below
 pub mod Every
 pub mod Checks
 pub mod Stretch
+pub mod Same

@@ -1,0 +1,10 @@
+pub mod Relation
+pub mod PriceStep
+pub mod ValueStep
+pub mod TradeStep
+pub mod OrderMove
+pub mod StockCount
+pub mod CreateStep
+pub mod RedeemStep
+pub mod Whole
+pub mod Theorems

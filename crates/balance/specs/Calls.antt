@@ -1,0 +1,76 @@
+-- A list of calls on a day: one step by the definitions, and what it is for a list of events to have happened.
+use Prim.Native.Nat.{ℕ}
+use mathlib.Core.Path.{_≡_}
+use mathlib.Core.List.{List, [], _∷_}
+use Rattle.lists.specs.Checks.{Reply}
+use Rattle.rules.specs.declared.Day.{Day}
+use Rattle.rules.specs.Price.{priceReply, pricedPrices}
+use Rattle.rules.specs.Trade.{tradeReply, tradedBook}
+use Rattle.rules.specs.Value.{worthReply}
+use Rattle.rules.specs.Records.{roomIn}
+use Rattle.rules.specs.Creation.{creationReply, createdBook, createdList}
+use Rattle.rules.specs.Redemption.{redemptionReply, redeemedBook, redeemedList}
+
+-- the day, and the book and the prices that are lent with it
+pub record State : Type 0 where
+  pub day : Day
+  pub book : List ℕ
+  pub prices : List ℕ
+
+-- the lists that are lent to one call
+pub record Lent : Type 0 where
+  pub records : List ℕ
+
+pub data Call : Type 0 where
+  -- line, price
+  price : ℕ → ℕ → Call
+  -- line, quantity, price, seller, buyer
+  trade : ℕ → ℕ → ℕ → ℕ → ℕ → Call
+  -- account, units
+  create : ℕ → ℕ → Call
+  redeem : ℕ → ℕ → Call
+  value : Call
+
+pub record Result : Type 0 where
+  pub reply : Reply
+  pub after : State
+  pub lent : Lent
+
+-- one call on a state, with what is lent to it
+unfoldable pub step : State → Call → Lent → Result
+step s (price line p) lent =
+    record {
+      reply = priceReply (s .day) (s .book) (s .prices) line p;
+      after = record { day = s .day; book = s .book; prices = pricedPrices (s .day) (s .book) (s .prices) line p };
+      lent = lent;
+    }
+step s (trade line q p seller buyer) lent =
+    record {
+      reply = tradeReply (s .day) (s .book) (s .prices) line q p seller buyer;
+      after = record { day = s .day; book = tradedBook (s .day) (s .book) (s .prices) line q p seller buyer; prices = s .prices };
+      lent = lent;
+    }
+step s (create a units) lent =
+    record {
+      reply = creationReply (s .day) (s .book) (s .prices) a units (roomIn (lent .records));
+      after = record { day = s .day; book = createdBook (s .day) (s .book) (s .prices) a units (roomIn (lent .records)); prices = s .prices };
+      lent = record { records = createdList (s .day) (s .book) (s .prices) a units (lent .records) };
+    }
+step s (redeem a units) lent =
+    record {
+      reply = redemptionReply (s .day) (s .book) (s .prices) a units (roomIn (lent .records));
+      after = record { day = s .day; book = redeemedBook (s .day) (s .book) (s .prices) a units (roomIn (lent .records)); prices = s .prices };
+      lent = record { records = redeemedList (s .day) (s .book) (s .prices) a units (lent .records) };
+    }
+step s value lent = record { reply = worthReply (s .day) (s .book) (s .prices); after = s; lent = lent }
+
+-- what was observed of one call
+pub record Event : Type 0 where
+  pub call : Call
+  pub lent : Lent
+  pub result : Result
+
+-- the events, in order, lead from s to t: each call takes the day, book and prices as the one before left them
+unfoldable pub Happened : State → List Event → State → Type 0
+Happened s [] t = s ≡ t
+Happened s (e ∷ es) t = (e .result ≡ step s (e .call) (e .lent)) × Happened (e .result .after) es t

@@ -1,0 +1,190 @@
+-- What an accepted call has passed, fact by fact.
+use mathlib.Core.Path.{_≡_, refl, sym, ap, _∙_}
+use mathlib.Core.Bool.{Bool, true, false, not, _||_, false≢true}
+use mathlib.Core.List.{List, [], _∷_, _++_}
+use Prim.Native.Nat.{ℕ, _+_, _-_, _*_, _%_, _≤_, _<_}
+use native.Mathlib.Omega.{arith}
+use lib.Dec.{leb, ltb, eqb}
+use lib.ListN.{length}
+use borrow.Author.Tests.{leb-true, ltb-false, leb-false, eqb-true, eqb-false, not-false}
+use Rattle.lists.specs.Below.{firstBelow, first-all, first-stops}
+use Rattle.lists.specs.Every.{every, every-at, inside, inside-facts}
+use Rattle.lists.specs.Checks.{isAccepted, all-passed, accepted-value}
+use Rattle.lots.specs.Lots.{sellable}
+use Rattle.fund.specs.Fund.{ceiling, limitOf}
+use Rattle.rules.specs.declared.Day.{Day}
+use Rattle.rules.specs.Book.{cash, headAt, lotsAt, account}
+use Rattle.rules.specs.Sound.{isSound, onSoundDay, mostPrice}
+use Rattle.rules.specs.Price.{priceChecks, priceReply}
+use Rattle.rules.specs.Trade.{isInvestor, tradeChecks, tradeReply}
+use Rattle.rules.specs.Value.{hasValue, valueChecks, worthReply}
+use Rattle.rules.specs.Orders.{creation, redemption, baskets, mostBaskets, wholeBaskets, formChecks, switchAllows, withinLimit, countOf, fundCount, withinLimits, permissionChecks}
+use Rattle.rules.specs.Creation.{firstShort, isShort, creationDue, creationRecords, creationMeans, creationChecks, creationReply}
+use Rattle.rules.specs.Redemption.{delivered, fundLacks, firstLacking, unitsAvailable, redemptionPaid, redemptionRecords, redemptionMeans, redemptionChecks, redemptionReply}
+use Rattle.rules.proofs.SoundDay.{SoundDay, sound-facts}
+
+-- an account other than the fund
+pub investor-facts : (d : Day) (a : ℕ) → 2 ≤ d .accounts → isInvestor d a ≡ true → (0 < a) × (a < d .accounts)
+unfolding isInvestor
+investor-facts d a two e =
+    let p = inside-facts 1 (d .accounts - 1) a e in
+    (p .0, omega arith)
+
+pub record Prices (d : Day) (b ps : List ℕ) (line price : ℕ) : Type 0 where
+  pub sound : SoundDay d b ps
+  pub line-in : line < d .count
+  pub price-low : 1 ≤ price
+  pub price-high : price ≤ mostPrice
+
+pub price-facts : (d : Day) (b ps : List ℕ) (line price : ℕ) → isAccepted (priceReply d b ps line price) ≡ true → Prices d b ps line price
+unfolding priceReply priceChecks
+price-facts d b ps line price e =
+    let p = all-passed (onSoundDay d b ps (priceChecks d line price)) 0 tt e in
+    let r = inside-facts 1 mostPrice price (not-false _ (p .1 .1 .0)) in
+    record {
+      sound = sound-facts d b ps (not-false _ (p .0));
+      line-in = leb-false _ _ (p .1 .0);
+      price-low = r .0;
+      price-high = r .1;
+    }
+
+pub record Trades (d : Day) (b ps : List ℕ) (line q price seller buyer : ℕ) : Type 0 where
+  pub sound : SoundDay d b ps
+  pub line-in : line ≤ d .count
+  pub quantity-low : 1 ≤ q
+  pub quantity-high : q ≤ 999_999_999
+  pub price-low : 1 ≤ price
+  pub price-high : price ≤ mostPrice
+  pub seller-low : 0 < seller
+  pub seller-in : seller < d .accounts
+  pub buyer-low : 0 < buyer
+  pub buyer-in : buyer < d .accounts
+  pub two : buyer ≡ seller → ⊥
+  pub stock : q ≤ sellable (lotsAt (account d b seller) line)
+  pub money : q * price ≤ headAt (account d b buyer) cash
+
+pub trade-facts : (d : Day) (b ps : List ℕ) (line q price seller buyer : ℕ) → isAccepted (tradeReply d b ps line q price seller buyer) ≡ true → Trades d b ps line q price seller buyer
+unfolding tradeReply tradeChecks
+trade-facts d b ps line q price seller buyer e =
+    let p = all-passed (onSoundDay d b ps (tradeChecks d b line q price seller buyer)) 0 tt e in
+    let sound = sound-facts d b ps (not-false _ (p .0)) in
+    let qs = inside-facts 1 999_999_999 q (not-false _ (p .1 .1 .0)) in
+    let prices = inside-facts 1 mostPrice price (not-false _ (p .1 .1 .1 .0)) in
+    let sells = investor-facts d seller (sound .accounts-low) (not-false _ (p .1 .1 .1 .1 .0)) in
+    let buys = investor-facts d buyer (sound .accounts-low) (not-false _ (p .1 .1 .1 .1 .1 .0)) in
+    record {
+      sound = sound;
+      line-in = ltb-false _ _ (p .1 .0);
+      quantity-low = qs .0;
+      quantity-high = qs .1;
+      price-low = prices .0;
+      price-high = prices .1;
+      seller-low = sells .0;
+      seller-in = sells .1;
+      buyer-low = buys .0;
+      buyer-in = buys .1;
+      two = λ h. eqb-false seller buyer (p .1 .1 .1 .1 .1 .1 .0) (sym h);
+      stock = ltb-false _ _ (p .1 .1 .1 .1 .1 .1 .1 .0);
+      money = ltb-false _ _ (p .1 .1 .1 .1 .1 .1 .1 .1 .0);
+    }
+
+-- a limit is within where it is 0 or at least the units
+pub limit-fact : (limit units : ℕ) → withinLimit limit units ≡ true → 0 < limit → units ≤ limit
+unfolding withinLimit
+limit-fact limit units e pos = go (eqb limit 0) refl e
+  where
+    go : (z : Bool) → eqb limit 0 ≡ z → (z || leb units limit) ≡ true → units ≤ limit
+    go true f g = absurd (omega (arith, eqb-true limit 0 f))
+    go false f g = leb-true units limit g
+
+-- what the first two stages of an order say, for a kind of order
+pub record Orders (d : Day) (b : List ℕ) (kind a units : ℕ) : Type 0 where
+  pub account-low : 0 < a
+  pub account-in : a < d .accounts
+  pub whole : units % d .fund .«basket_size» ≡ 0
+  pub baskets-low : 1 ≤ baskets d units
+  pub baskets-high : baskets d units ≤ mostBaskets
+  pub limit : 0 < limitOf (d .fund) 0 kind → fundCount d b kind + units ≤ limitOf (d .fund) 0 kind
+  pub limit-each : 0 < limitOf (d .fund) 1 kind → countOf d b kind a + units ≤ limitOf (d .fund) 1 kind
+  pub net-limit : 0 < limitOf (d .fund) 2 kind → fundCount d b kind + units - fundCount d b (1 - kind) ≤ limitOf (d .fund) 2 kind
+  pub net-limit-each : 0 < limitOf (d .fund) 3 kind → countOf d b kind a + units - countOf d b (1 - kind) a ≤ limitOf (d .fund) 3 kind
+  pub below-ceiling : fundCount d b kind + units ≤ ceiling
+
+pub order-facts : (d : Day) (b : List ℕ) (kind a units : ℕ) → 2 ≤ d .accounts → isInvestor d a ≡ true → wholeBaskets mostBaskets d units ≡ true → withinLimits d b kind a units ≡ true → Orders d b kind a units
+unfolding wholeBaskets withinLimits
+order-facts d b kind a units two i w l =
+    let who = investor-facts d a two i in
+    let whole = every-at (eqb (units % d .fund .«basket_size») 0 ∷ inside 1 mostBaskets (baskets d units) ∷ []) w in
+    let count = inside-facts 1 mostBaskets (baskets d units) (whole 1) in
+    let at = every-at (withinLimit (limitOf (d .fund) 0 kind) (fundCount d b kind + units) ∷ withinLimit (limitOf (d .fund) 1 kind) (countOf d b kind a + units) ∷ withinLimit (limitOf (d .fund) 2 kind) (fundCount d b kind + units - fundCount d b (1 - kind)) ∷ withinLimit (limitOf (d .fund) 3 kind) (countOf d b kind a + units - countOf d b (1 - kind) a) ∷ leb (fundCount d b kind + units) ceiling ∷ []) l in
+    record {
+      account-low = who .0;
+      account-in = who .1;
+      whole = eqb-true _ _ (whole 0);
+      baskets-low = count .0;
+      baskets-high = count .1;
+      limit = limit-fact _ _ (at 0);
+      limit-each = limit-fact _ _ (at 1);
+      net-limit = limit-fact _ _ (at 2);
+      net-limit-each = limit-fact _ _ (at 3);
+      below-ceiling = leb-true _ _ (at 4);
+    }
+
+-- an accepted creation
+pub record Creates (d : Day) (b ps : List ℕ) (a units room : ℕ) : Type 0 where
+  pub sound : SoundDay d b ps
+  pub order : Orders d b creation a units
+  pub allowed : switchAllows d creation ≡ true
+  pub stocked : (i : ℕ) → i < d .count → isShort d b a (baskets d units) i ≡ false
+  pub money : creationDue d b ps a (baskets d units) ≤ headAt (account d b a) cash
+  pub listed : length (creationRecords d b ps a units) ≤ room
+
+pub creation-facts : (d : Day) (b ps : List ℕ) (a units room : ℕ) → isAccepted (creationReply d b ps a units room) ≡ true → Creates d b ps a units room
+unfolding creationReply creationChecks formChecks permissionChecks creationMeans firstShort
+creation-facts d b ps a units room e =
+    let p = all-passed (onSoundDay d b ps (creationChecks d b ps a units room)) (length (creationRecords d b ps a units)) tt e in
+    let sound = sound-facts d b ps (not-false _ (p .0)) in
+    let short = first-stops (isShort d b a (baskets d units)) (d .count) (p .1 .1 .1 .1 .1 .0) in
+    record {
+      sound = sound;
+      order = order-facts d b creation a units (sound .accounts-low) (not-false _ (p .1 .0)) (not-false _ (p .1 .1 .0)) (not-false _ (p .1 .1 .1 .1 .0));
+      allowed = not-false _ (p .1 .1 .1 .0);
+      stocked = first-all (isShort d b a (baskets d units)) (d .count) short;
+      money = ltb-false _ _ (p .1 .1 .1 .1 .1 .1 .1 .1 .0);
+      listed = ltb-false _ _ (p .1 .1 .1 .1 .1 .1 .1 .1 .1 .0);
+    }
+
+-- its value is the count of records
+pub creation-value : (d : Day) (b ps : List ℕ) (a units room : ℕ) → isAccepted (creationReply d b ps a units room) ≡ true → creationReply d b ps a units room .value ≡ length (creationRecords d b ps a units)
+unfolding creationReply creationChecks formChecks permissionChecks creationMeans
+creation-value d b ps a units room e = accepted-value (onSoundDay d b ps (creationChecks d b ps a units room)) _ tt e
+
+-- an accepted redemption
+pub record Redeems (d : Day) (b ps : List ℕ) (a units room : ℕ) : Type 0 where
+  pub sound : SoundDay d b ps
+  pub order : Orders d b redemption a units
+  pub allowed : switchAllows d redemption ≡ true
+  pub handed : units ≤ unitsAvailable d b a
+  pub stocked : (i : ℕ) → i < d .count → delivered d (baskets d units) i ≤ lotsAt (account d b 0) i .old
+  pub money : redemptionPaid d (baskets d units) ≤ headAt (account d b 0) cash
+  pub listed : length (redemptionRecords d units) ≤ room
+
+pub redemption-facts : (d : Day) (b ps : List ℕ) (a units room : ℕ) → isAccepted (redemptionReply d b ps a units room) ≡ true → Redeems d b ps a units room
+unfolding redemptionReply redemptionChecks formChecks permissionChecks redemptionMeans firstLacking fundLacks
+redemption-facts d b ps a units room e =
+    let p = all-passed (onSoundDay d b ps (redemptionChecks d b a units room)) (length (redemptionRecords d units)) tt e in
+    let sound = sound-facts d b ps (not-false _ (p .0)) in
+    let lacks = first-stops (fundLacks d b (baskets d units)) (d .count) (p .1 .1 .1 .1 .1 .1 .0) in
+    record {
+      sound = sound;
+      order = order-facts d b redemption a units (sound .accounts-low) (not-false _ (p .1 .0)) (not-false _ (p .1 .1 .0)) (not-false _ (p .1 .1 .1 .1 .0));
+      allowed = not-false _ (p .1 .1 .1 .0);
+      handed = ltb-false _ _ (p .1 .1 .1 .1 .1 .0);
+      stocked = λ i h. ltb-false _ _ (first-all (fundLacks d b (baskets d units)) (d .count) lacks i h);
+      money = ltb-false _ _ (p .1 .1 .1 .1 .1 .1 .1 .0);
+      listed = ltb-false _ _ (p .1 .1 .1 .1 .1 .1 .1 .1 .0);
+    }
+
+pub redemption-value : (d : Day) (b ps : List ℕ) (a units room : ℕ) → isAccepted (redemptionReply d b ps a units room) ≡ true → redemptionReply d b ps a units room .value ≡ length (redemptionRecords d units)
+unfolding redemptionReply redemptionChecks formChecks permissionChecks redemptionMeans
+redemption-value d b ps a units room e = accepted-value (onSoundDay d b ps (redemptionChecks d b a units room)) _ tt e

@@ -1,0 +1,6 @@
+pub mod Account
+pub mod SoundDay
+pub mod OpenedDay
+pub mod Sides
+pub mod Accepted
+pub mod Stock

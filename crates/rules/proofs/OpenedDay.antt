@@ -1,0 +1,163 @@
+-- What an accepted opening leaves, account by account, and that it has the kept property.
+use mathlib.Core.Path.{_≡_, refl, sym, ap, _∙_}
+use mathlib.Core.Bool.{true, cond}
+use mathlib.Core.List.{List, [], _∷_}
+use Prim.Native.Nat.{ℕ, suc, _+_, _-_, _*_, _≤_, _<_}
+use native.Mathlib.Nat.{mul-comm, add-zero}
+use native.Mathlib.Omega.{arith}
+use lib.Dec.{ltb, eqb}
+use lib.ListN.{length, getD, replicate, length-replicate, getD-replicate}
+use borrow.Author.Tests.{lt-ltb, eqb-true}
+use Rattle.lists.specs.Below.{joinBelow, join-length, sumBelow, sum-same, sum-zero, table-at}
+use Rattle.lists.specs.Every.{every-at}
+use Rattle.lists.specs.Checks.{isAccepted, all-passed}
+use Rattle.lists.specs.Stretch.{stretchOf, over, stretch-join, stretch-at}
+use Rattle.lots.specs.declared.Lots.{Lots}
+use Rattle.lots.specs.Lots.{lotsTotal}
+use Rattle.lots.proofs.Laws.{lots, lots-eq}
+use Rattle.fund.specs.Components.{blank, componentAt, componentWidth}
+use Rattle.rules.specs.declared.Day.{Day}
+use Rattle.rules.specs.Book.{widthOf, cash, created, redeemed, headAt, lotsAt, width, account, headTotal, lineTotal}
+use Rattle.rules.specs.Lines.{componentOf, priceOf}
+use Rattle.rules.specs.Opening.{Opening, holdingsOf, cashOpened, heldOpened, openedTotal, openedCash, mostOfLine, dayChecks, componentsOpened, lengthsFit, openingReply, openedDay, openedStretch, openedBook, openedPrices}
+use Rattle.rules.proofs.SoundDay.{Opens, opens-facts, SoundDay, Kept}
+
+-- one account's stretch
+module _ (n : ℕ) (h : List ℕ) where
+  abbrev lines : List ℕ
+  lines = joinBelow (λ l. heldOpened l h ∷ 0 ∷ 0 ∷ []) (n + 1)
+
+  pub opened-length : length (openedStretch n h) ≡ widthOf n
+  unfolding openedStretch
+  opened-length = omega (arith, join-length (λ l. heldOpened l h ∷ 0 ∷ 0 ∷ []) (n + 1) 3 (λ k. refl))
+
+  pub opened-cash : headAt (openedStretch n h) cash ≡ cashOpened h
+  unfolding openedStretch headAt
+  opened-cash = refl
+
+  pub opened-created : headAt (openedStretch n h) created ≡ 0
+  unfolding openedStretch headAt
+  opened-created = refl
+
+  pub opened-redeemed : headAt (openedStretch n h) redeemed ≡ 0
+  unfolding openedStretch headAt
+  opened-redeemed = refl
+
+  -- the i-th of the three numbers of line l
+  at-line : (l i : ℕ) → l < n + 1 → i < 3 → getD lines (l * 3 + i) 0 ≡ getD (heldOpened l h ∷ 0 ∷ 0 ∷ []) i 0
+  at-line l i hl hi =
+      sym (stretch-at 3 lines l i hi)
+      ∙ ap (λ (s : List ℕ). getD s i 0) (stretch-join (λ l. heldOpened l h ∷ 0 ∷ 0 ∷ []) (n + 1) 3 l (λ k. refl) hl)
+
+  past-head : (l i : ℕ) → getD (openedStretch n h) (3 + 3 * l + i) 0 ≡ getD lines (l * 3 + i) 0
+  unfolding openedStretch
+  past-head l i =
+      let e : 3 + 3 * l + i ≡ suc (suc (suc (l * 3 + i))) = omega arith in
+      rw e
+
+  pub opened-lots : (l : ℕ) → l < n + 1 → lotsAt (openedStretch n h) l ≡ lots (heldOpened l h) 0 0
+  unfolding lotsAt
+  opened-lots l hl =
+      lots-eq
+      (rw (← add-zero (3 + 3 * l)) (past-head l 0 ∙ at-line l 0 hl (omega arith)))
+      (past-head l 1 ∙ at-line l 1 hl (omega arith))
+      (past-head l 2 ∙ at-line l 2 hl (omega arith))
+
+module _ (o : Opening) (accepted : isAccepted (openingReply o) ≡ true) where
+  pub opened-day : openedDay o ≡ record { accounts = o .accounts; count = o .count; fund = o .fund; components = componentsOpened o }
+  unfolding openedDay
+  opened-day = rw accepted
+
+  pub opened-book : openedBook o ≡ joinBelow (λ a. openedStretch (o .count) (holdingsOf o a)) (o .accounts)
+  unfolding openedBook
+  opened-book = rw accepted
+
+  pub opened-prices : openedPrices o ≡ replicate (o .count) 0
+  unfolding openedPrices
+  opened-prices = rw accepted
+
+  pub opened-opens : Opens (o .accounts) (o .count) (lengthsFit o) (o .fund) (componentsOpened o) (openedTotal o) mostOfLine (heldOpened (o .count) (holdingsOf o 0)) (openedCash o)
+  unfolding openingReply dayChecks
+  opened-opens = opens-facts _ _ _ _ _ _ _ _ _ (all-passed _ 0 tt accepted)
+
+  -- an account's stretch of the opened book
+  pub opened-account : (a : ℕ) → a < o .accounts → stretchOf (widthOf (o .count)) (openedBook o) a ≡ openedStretch (o .count) (holdingsOf o a)
+  opened-account a h = rw opened-book (stretch-join (λ a. openedStretch (o .count) (holdingsOf o a)) (o .accounts) (widthOf (o .count)) a (λ k. opened-length (o .count) (holdingsOf o k)) h)
+
+  -- a component's place in the opened day
+  component-is : (i : ℕ) → i < o .count → getD (componentsOpened o) i blank ≡ componentAt (o .components) i
+  unfolding componentsOpened
+  component-is i h =
+      let most = opened-opens .count-high in
+      table-at (λ i. cond (ltb i (o .count)) (componentAt (o .components) i) blank) 300 i blank (omega arith)
+      ∙ rw (lt-ltb i (o .count) h)
+
+  pub opened-component : (i : ℕ) → i < o .count → componentOf (openedDay o) i ≡ componentAt (o .components) i
+  opened-component i h = rw opened-day (component-is i h)
+
+  -- totals of the opened book are those of the holdings
+  pub opened-money : headTotal (openedDay o) (openedBook o) cash ≡ openedCash o
+  unfolding headTotal openedCash over
+  opened-money =
+      rw opened-day
+      (sum-same _ _ (o .accounts) (λ a h. ap (λ (s : List ℕ). headAt s cash) (opened-account a h) ∙ opened-cash (o .count) (holdingsOf o a)))
+
+  pub opened-counter : (k : ℕ) → ((h : List ℕ) → headAt (openedStretch (o .count) h) k ≡ 0) → headTotal (openedDay o) (openedBook o) k ≡ 0
+  unfolding headTotal over
+  opened-counter k none =
+      rw opened-day
+      (sum-zero _ (o .accounts) (λ a h. ap (λ (s : List ℕ). headAt s k) (opened-account a h) ∙ none (holdingsOf o a)))
+
+  pub opened-line : (l : ℕ) → l < o .count + 1 → lineTotal (openedDay o) (openedBook o) l ≡ openedTotal o l
+  unfolding lineTotal openedTotal over
+  opened-line l hl =
+      rw opened-day
+      (sum-same _ _ (o .accounts) (λ a h.
+      ap (λ (s : List ℕ). lotsTotal (lotsAt s l)) (opened-account a h)
+      ∙ ap lotsTotal (opened-lots (o .count) (holdingsOf o a) l hl)
+      ∙ omega arith))
+
+  -- the fund's stretch
+  fund-account : stretchOf (widthOf (o .count)) (openedBook o) 0 ≡ openedStretch (o .count) (holdingsOf o 0)
+  fund-account = opened-account 0 (omega (arith, opened-opens .accounts-low))
+
+  fund-lots : (l : ℕ) → l < o .count + 1 → lotsAt (stretchOf (widthOf (o .count)) (openedBook o) 0) l ≡ lots (heldOpened l (holdingsOf o 0)) 0 0
+  fund-lots l h = ap (λ (s : List ℕ). lotsAt s l) fund-account ∙ opened-lots (o .count) (holdingsOf o 0) l h
+
+  opened-price : (i : ℕ) → i < o .count → priceOf (openedPrices o) i ≡ 0
+  unfolding priceOf
+  opened-price i h = rw opened-prices (getD-replicate (o .count) i 0 0 h)
+
+  -- an accepted opening leaves a day with the kept property
+  pub opened-kept : Kept (openedDay o) (openedBook o) (openedPrices o)
+  opened-kept =
+      rw opened-day
+      (record {
+        sound =
+            record {
+              accounts-low = p .accounts-low;
+              accounts-high = p .accounts-high;
+              count-low = p .count-low;
+              count-high = p .count-high;
+              book-size = rw opened-book (join-length _ (o .accounts) (widthOf (o .count)) (λ k. opened-length (o .count) (holdingsOf o k)));
+              prices-size = rw opened-prices (length-replicate (o .count) 0);
+              fund-fields = p .fund-fields;
+              components = p .components;
+              lines = λ l h. omega (arith, p .lines l h, rw opened-day at (opened-line l (omega arith)));
+              units = omega (arith, p .units, rw opened-day at (opened-line (o .count) (omega arith)));
+              money = omega (arith, p .money, rw opened-day at opened-money);
+              prices = λ i h. omega (arith, opened-price i h);
+              created-most = omega (arith, rw opened-day at (opened-counter created (opened-created (o .count))));
+              redeemed-most = omega (arith, rw opened-day at (opened-counter redeemed (opened-redeemed (o .count))));
+              fund-units = ap (λ (x : Lots). x .old) (fund-lots (o .count) (omega arith)) ∙ p .fund-units;
+              fund-created = ap (λ (s : List ℕ). headAt s created) fund-account ∙ opened-created (o .count) (holdingsOf o 0);
+              fund-redeemed = ap (λ (s : List ℕ). headAt s redeemed) fund-account ∙ opened-redeemed (o .count) (holdingsOf o 0);
+              fund-bought = λ l h. ap (λ (x : Lots). x .bought) (fund-lots l h);
+              fund-got = λ l h. ap (λ (x : Lots). x .got) (fund-lots l h);
+            };
+        room =
+            omega (arith, p .units, rw opened-day at (opened-line (o .count) (omega arith)), rw opened-day at (opened-counter created (opened-created (o .count))));
+      })
+    where
+      p : Opens (o .accounts) (o .count) (lengthsFit o) (o .fund) (componentsOpened o) (openedTotal o) mostOfLine (heldOpened (o .count) (holdingsOf o 0)) (openedCash o)
+      p = opened-opens

@@ -1,0 +1,12 @@
+pub mod Replies
+pub mod Book
+pub mod Lines
+pub mod Opening
+pub mod Sound
+pub mod Price
+pub mod Trade
+pub mod Value
+pub mod Records
+pub mod Orders
+pub mod Creation
+pub mod Redemption

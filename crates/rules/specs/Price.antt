@@ -1,0 +1,23 @@
+-- The price call: it sets its component's price and nothing else.
+use Prim.Native.Nat.{ℕ}
+use mathlib.Core.Bool.{not}
+use mathlib.Core.List.{List, [], _∷_}
+use lib.Dec.{leb}
+use lib.ListN.{set}
+use Rattle.lists.specs.Every.{inside}
+use Rattle.lists.specs.Checks.{Check, check, Reply, answered}
+use Rattle.rules.specs.declared.Day.{Day}
+use Rattle.rules.specs.Replies.{ifAccepted}
+use Rattle.rules.specs.Sound.{onSoundDay, mostPrice}
+
+unfoldable pub priceChecks : Day → ℕ → ℕ → List Check
+priceChecks d line price =
+    check (leb (d .count) line) 6 0
+    ∷ check (not (inside 1 mostPrice price)) 7 0
+    ∷ []
+
+unfoldable pub priceReply : Day → List ℕ → List ℕ → ℕ → ℕ → Reply
+priceReply d b ps line price = answered (onSoundDay d b ps (priceChecks d line price)) 0
+
+unfoldable pub pricedPrices : Day → List ℕ → List ℕ → ℕ → ℕ → List ℕ
+pricedPrices d b ps line price = ifAccepted (priceReply d b ps line price) (set ps line price) ps

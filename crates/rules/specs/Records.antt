@@ -1,0 +1,63 @@
+-- The records of an order, and the lent list that takes them.
+use Prim.Native.Nat.{ℕ, _+_, _-_, _*_, _/_, _%_}
+use mathlib.Core.Bool.{Bool, cond}
+use mathlib.Core.List.{List, [], _∷_, _++_}
+use lib.Dec.{ltb, eqb}
+use lib.ListN.{length, drop}
+use Rattle.lists.specs.Below.{joinBelow}
+use Rattle.units.specs.Units.{splitSize}
+use Rattle.rules.specs.declared.Day.{Day}
+use Rattle.rules.specs.declared.Record.{Record}
+use Rattle.rules.specs.Lines.{codeOf}
+
+-- sides B and S
+abbrev pub sideB : ℕ
+sideB = 1
+
+abbrev pub sideS : ℕ
+sideS = 2
+
+-- code, side, quantity and price; the amount is quantity times price
+abbrev pub recordOf : ℕ → ℕ → ℕ → ℕ → Record
+recordOf code side q price =
+    record { code = code; side = side; quantity = q; price = record { 0 = price }; amount = record { 0 = q * price } }
+
+-- cash c: none at 0; below the split size one record; else two, the second with the remainder even if 0
+unfoldable pub cashRecords : ℕ → ℕ → ℕ → List Record
+cashRecords code side c =
+    cond (eqb c 0) []
+    (cond (ltb c splitSize) (recordOf code side 1 c ∷ [])
+    (recordOf code side splitSize (c / splitSize) ∷ recordOf code side 1 (c % splitSize) ∷ []))
+
+-- a component of which stock moved
+unfoldable pub stockRecord : Day → ℕ → (ℕ → ℕ) → ℕ → List Record
+stockRecord d side moved i = cond (ltb 0 (moved i)) (recordOf (codeOf d i) side (moved i) 0 ∷ []) []
+
+-- in order: unit (g); each component with stock moved; other cash (g+5); Shanghai cash (g+2); unit (g+1).
+-- Stock is on one side and the rest on the other.
+unfoldable pub orderRecords : Day → ℕ → ℕ → ℕ → (ℕ → ℕ) → ℕ → ℕ → List Record
+orderRecords d stockSide restSide units moved other shanghai =
+    recordOf (d .fund .«first_code») restSide units 0
+    ∷ (joinBelow (stockRecord d stockSide moved) (d .count)
+    ++ (cashRecords (d .fund .«first_code» + 5) restSide other
+    ++ (cashRecords (d .fund .«first_code» + 2) restSide shanghai
+    ++ (recordOf (d .fund .«first_code» + 1) restSide units 0 ∷ []))))
+
+-- a record in the lent flat run: five numbers
+abbrev pub recordWidth : ℕ
+recordWidth = 5
+
+abbrev pub flatRecord : Record → List ℕ
+flatRecord r = r .code ∷ r .side ∷ r .quantity ∷ r .price .0 ∷ r .amount .0 ∷ []
+
+unfoldable pub flatten : List Record → List ℕ
+flatten [] = []
+flatten (r ∷ rs) = flatRecord r ++ flatten rs
+
+-- how many records a lent run of numbers takes
+unfoldable pub roomIn : List ℕ → ℕ
+roomIn list = length list / recordWidth
+
+-- the lent run with the records written: places past the last stay
+unfoldable pub withRecords : List Record → List ℕ → List ℕ
+withRecords rs list = flatten rs ++ drop (recordWidth * length rs) list

@@ -1,0 +1,83 @@
+-- Redemption of M baskets.
+use Prim.Native.Nat.{ℕ, _+_, _-_, _*_}
+use mathlib.Core.Bool.{Bool, cond, not}
+use mathlib.Core.List.{List, [], _∷_, _++_}
+use lib.Dec.{ltb}
+use lib.ListN.{length}
+use Rattle.lists.specs.Below.{firstBelow}
+use Rattle.lists.specs.Checks.{Check, check, Reply, answered}
+use Rattle.lists.specs.Stretch.{onStretch}
+use Rattle.units.specs.Units.{discount}
+use Rattle.lots.specs.Lots.{handInOf, getOf, payOutOf, handable}
+use Rattle.rules.specs.declared.Day.{Day}
+use Rattle.rules.specs.declared.Record.{Record}
+use Rattle.rules.specs.Replies.{ifAccepted}
+use Rattle.rules.specs.Book.{cash, headAt, lotsAt, width, account}
+use Rattle.rules.specs.Lines.{movesStock, redemptionRate, redemptionAmount}
+use Rattle.rules.specs.Sound.{onSoundDay}
+use Rattle.rules.specs.Orders.{redemption, baskets, formChecks, permissionChecks, need, shanghaiCash, otherCash, accountSide, fundSide}
+use Rattle.rules.specs.Records.{sideB, sideS, orderRecords, roomIn, withRecords}
+
+-- flags 0 and 1 deliver stock in full
+unfoldable pub delivered : Day → ℕ → ℕ → ℕ
+delivered d m i = cond (movesStock d i) (need d m i) 0
+
+-- the others pay M times P less the discount
+unfoldable pub redemptionCash : Day → ℕ → ℕ → ℕ
+redemptionCash d m i = cond (movesStock d i) 0 (discount (m * redemptionAmount d i) (redemptionRate d i))
+
+-- what the fund pays
+unfoldable pub redemptionPaid : Day → ℕ → ℕ
+redemptionPaid d m = otherCash d (redemptionCash d m) + shanghaiCash d (redemptionCash d m)
+
+-- the units that the account can hand in: those created today are got, and don't count
+unfoldable pub unitsAvailable : Day → List ℕ → ℕ → ℕ
+unitsAvailable d b a = handable (lotsAt (account d b a) (d .count))
+
+-- the fund's stock is its old lot
+unfoldable pub fundLacks : Day → List ℕ → ℕ → ℕ → Bool
+fundLacks d b m i = ltb (lotsAt (account d b 0) i .old) (delivered d m i)
+
+unfoldable pub firstLacking : Day → List ℕ → ℕ → ℕ
+firstLacking d b m = firstBelow (fundLacks d b m) (d .count)
+
+-- stock is B, the rest S
+unfoldable pub redemptionRecords : Day → ℕ → List Record
+redemptionRecords d units =
+    orderRecords d sideB sideS units
+    (delivered d (baskets d units))
+    (otherCash d (redemptionCash d (baskets d units)))
+    (shanghaiCash d (redemptionCash d (baskets d units)))
+
+-- the third stage; room is how many records the lent list takes
+unfoldable pub redemptionMeans : Day → List ℕ → ℕ → ℕ → ℕ → List Check
+redemptionMeans d b a units room =
+    check (ltb (unitsAvailable d b a) units) 9 0
+    ∷ check (ltb (firstLacking d b (baskets d units)) (d .count)) 17 (firstLacking d b (baskets d units))
+    ∷ check (ltb (headAt (account d b 0) cash) (redemptionPaid d (baskets d units))) 17 (d .count)
+    ∷ check (ltb room (length (redemptionRecords d units))) 16 0
+    ∷ []
+
+unfoldable pub redemptionChecks : Day → List ℕ → ℕ → ℕ → ℕ → List Check
+redemptionChecks d b a units room =
+    formChecks d a units ++ (permissionChecks d b redemption a units ++ redemptionMeans d b a units room)
+
+unfoldable pub redemptionReply : Day → List ℕ → List ℕ → ℕ → ℕ → ℕ → Reply
+redemptionReply d b ps a units room =
+    answered (onSoundDay d b ps (redemptionChecks d b a units room)) (length (redemptionRecords d units))
+
+-- the fund delivers stock and cash, and the units cease
+unfoldable pub redemptionMoves : Day → ℕ → ℕ → List ℕ → List ℕ
+redemptionMoves d a units b =
+    onStretch (width d) 0
+    (λ s. fundSide (d .count) (λ i x. payOutOf x (delivered d (baskets d units) i)) (headAt s cash - redemptionPaid d (baskets d units)) s)
+    (onStretch (width d) a
+    (λ s. accountSide (d .count) redemption units (λ i x. getOf x (delivered d (baskets d units) i)) (λ x. handInOf x units) (headAt s cash + redemptionPaid d (baskets d units)) s)
+    b)
+
+unfoldable pub redeemedBook : Day → List ℕ → List ℕ → ℕ → ℕ → ℕ → List ℕ
+redeemedBook d b ps a units room = ifAccepted (redemptionReply d b ps a units room) (redemptionMoves d a units b) b
+
+unfoldable pub redeemedList : Day → List ℕ → List ℕ → ℕ → ℕ → List ℕ → List ℕ
+redeemedList d b ps a units list =
+    ifAccepted (redemptionReply d b ps a units (roomIn list)) (withRecords (redemptionRecords d units) list) list

@@ -1,0 +1,72 @@
+// What the day book promises: the types of the day and its answers. The definitions are in specs/, their laws in proofs/.
+use fund::Component;
+use fund::Fund;
+use units::Money;
+use units::ReferenceValue;
+
+// One fund's day. The book and the prices are lent beside it.
+pub struct Day {
+    // The fund is account 0.
+    pub accounts: usize,
+    pub count: usize,
+    pub fund: Fund,
+    // Places past the count hold the blank component.
+    pub components: [Component; 300],
+}
+
+// Why a call is turned back, with a place where the paper gives one. specs/Replies.antt has the paper's numbers.
+pub enum Refusal {
+    Sizes,
+    FundField,
+    Component(usize),
+    Total(usize),
+    UnsoundDay,
+    NoSuchLine,
+    QuantityOrPrice,
+    Account,
+    ShortOfStock(usize),
+    ShortOfCash,
+    NotWholeBaskets,
+    Switch,
+    Limit,
+    NoReferenceValue,
+    CashRatio,
+    ListTooShort,
+    FundShort(usize),
+    TextLine(usize),
+    TextField(usize),
+    RecordCount,
+}
+
+// The answer of opening, price and trade.
+pub enum Answer {
+    Done,
+    Refused(Refusal),
+}
+
+// The answer of creation and redemption, with the count of records.
+pub enum OrderAnswer {
+    Made(usize),
+    Refused(Refusal),
+}
+
+// The answer of the reference value.
+pub enum ValueAnswer {
+    Worth(ReferenceValue),
+    Refused(Refusal),
+}
+
+// Opening's answer, with the day; the blank day where it is refused.
+pub struct Opened {
+    pub day: Day,
+    pub answer: Answer,
+}
+
+// A record of an order. Side B is 1, S is 2.
+pub struct Record {
+    pub code: u64,
+    pub side: u64,
+    pub quantity: u64,
+    pub price: Money,
+    pub amount: Money,
+}
