@@ -12,7 +12,7 @@ use Rattle.lists.specs.Checks.{Reply, isAccepted}
 use Rattle.lists.specs.Same.{whenSame, when-same, when-other}
 use Rattle.lots.specs.declared.Lots.{Lots}
 use Rattle.lots.specs.Lots.{handInOf, getOf, takeInOf, handable, lotsTotal}
-use Rattle.fund.specs.Fund.{ceiling}
+use Rattle.fund.specs.Fund.{ceiling, limitOf}
 use Rattle.rules.specs.declared.Day.{Day}
 use Rattle.rules.specs.Book.{cash, created, redeemed, headAt, lotsAt, account, headTotal, lineTotal}
 use Rattle.rules.specs.Lines.{codeOf, movesStock}
@@ -81,6 +81,9 @@ module _ (d : Day) (b ps : List ℕ) (a units room : ℕ) (t : Creates d b ps a 
   redeemed-same : headTotal d after redeemed ≡ headTotal d b redeemed
   unfolding fundCount
   redeemed-same = facts .fund-count-same redemption (omega arith) (λ q. omega arith)
+
+  limit-held : 0 < limitOf (d .fund) 0 creation → fundCount d after creation ≤ limitOf (d .fund) 0 creation
+  limit-held p = omega (arith, facts .fund-count-more, t .order .limit p)
 
   below : headTotal d b created + units ≤ ceiling
   unfolding fundCount
@@ -156,6 +159,28 @@ module _ (d : Day) (b ps : List ℕ) (a units room : ℕ) (t : Creates d b ps a 
           all-redeemed = omega (arith, facts .fund-count-same redemption (omega arith) (λ q. omega arith));
           limits = facts .limits;
         }
+
+-- an accepted creation does not end above the creation limit
+pub create-within : (s : State) (a units : ℕ) (lent : Lent) → isAccepted (step s (create a units) lent .reply) ≡ true
+    → 0 < limitOf (s .day .fund) 0 creation → fundCount (s .day) (step s (create a units) lent .after .book) creation ≤ limitOf (s .day .fund) 0 creation
+unfolding step createdBook
+create-within s a units lent e p =
+    omega (
+      arith,
+      ap (λ (z : Bool). fundCount (s .day) (cond z (creationMoves (s .day) (s .prices) a units (s .book)) (s .book)) creation) e,
+      limit-held _ _ _ _ _ _ (creation-facts _ _ _ _ _ _ e) p,
+    )
+
+-- and adds its units
+pub create-units : (s : State) (a units : ℕ) (lent : Lent) → isAccepted (step s (create a units) lent .reply) ≡ true
+    → lineTotal (s .day) (step s (create a units) lent .after .book) (s .day .count) ≡ lineTotal (s .day) (s .book) (s .day .count) + units
+unfolding step createdBook
+create-units s a units lent e =
+    omega (
+      arith,
+      ap (λ (z : Bool). lineTotal (s .day) (cond z (creationMoves (s .day) (s .prices) a units (s .book)) (s .book)) (s .day .count)) e,
+      units-more _ _ _ _ _ _ (creation-facts _ _ _ _ _ _ e),
+    )
 
 pub create-step : (s : State) (a units : ℕ) (lent : Lent) → Kept (s .day) (s .book) (s .prices) → StepKeeps s (create a units) (step s (create a units) lent)
 unfolding step createdBook createdList

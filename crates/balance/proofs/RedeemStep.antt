@@ -136,6 +136,17 @@ module _ (d : Day) (b ps : List ℕ) (a units room : ℕ) (t : Redeems d b ps a 
         limits = facts .limits;
       }
 
+-- an accepted redemption takes its units away
+pub redeem-units : (s : State) (a units : ℕ) (lent : Lent) → isAccepted (step s (redeem a units) lent .reply) ≡ true
+    → lineTotal (s .day) (step s (redeem a units) lent .after .book) (s .day .count) + units ≡ lineTotal (s .day) (s .book) (s .day .count)
+unfolding step redeemedBook
+redeem-units s a units lent e =
+    omega (
+      arith,
+      ap (λ (z : Bool). lineTotal (s .day) (cond z (redemptionMoves (s .day) a units (s .book)) (s .book)) (s .day .count)) e,
+      units-less _ _ _ _ _ _ (redemption-facts _ _ _ _ _ _ e),
+    )
+
 pub redeem-step : (s : State) (a units : ℕ) (lent : Lent) → Kept (s .day) (s .book) (s .prices) → StepKeeps s (redeem a units) (step s (redeem a units) lent)
 unfolding step redeemedBook redeemedList
 redeem-step s a units lent k = go (isAccepted answer) refl

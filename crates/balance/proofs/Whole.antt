@@ -132,17 +132,12 @@ module _ (o : Opening) (accepted : isAccepted (openingReply o) ≡ true) where
     limits : Limits (openedDay o) (t .book)
     limits = keeps .limits (fresh-limits opened-fresh)
 
-    sales : (a l : ℕ) → a < o .accounts → l ≤ o .count → Dec (a ≡ 0) → sold a l (opened o) es ≤ heldOpened l (holdingsOf o a) + got a l (opened o) es
-    sales a l i j (yes q) = omega (arith, keeps .fund-sold l, ap (λ (k : ℕ). sold k l (opened o) es) q)
-    sales a l i j (no n) =
-        let a-in : a < openedDay o .accounts = omega (arith, accounts-is) in
-        let l-in : l ≤ openedDay o .count = omega (arith, count-is) in
-        let x = lots-are a l a-in l-in in
-        omega (arith, keeps .lots a l (omega arith) a-in l-in, ap (λ (x : Lots). x .old) x, ap (λ (x : Lots). x .bought) x, ap (λ (x : Lots). x .got) x)
-
-    handing-in : (a l : ℕ) → a < o .accounts → l ≤ o .count → Dec (a ≡ 0) → handedIn a l (opened o) es ≤ heldOpened l (holdingsOf o a) + bought a l (opened o) es
-    handing-in a l i j (yes q) = omega (arith, keeps .fund-handed l, ap (λ (k : ℕ). handedIn k l (opened o) es) q)
-    handing-in a l i j (no n) =
+    -- sales and handing in are bounded by what was opened with and came in, by the drawing on the three lots
+    bounds : (a l : ℕ) → a < o .accounts → l ≤ o .count → Dec (a ≡ 0)
+        → (sold a l (opened o) es ≤ heldOpened l (holdingsOf o a) + got a l (opened o) es) × (handedIn a l (opened o) es ≤ heldOpened l (holdingsOf o a) + bought a l (opened o) es)
+    bounds a l i j (yes q) =
+        omega (arith, keeps .fund-sold l, keeps .fund-handed l, ap (λ (k : ℕ). sold k l (opened o) es) q, ap (λ (k : ℕ). handedIn k l (opened o) es) q)
+    bounds a l i j (no n) =
         let a-in : a < openedDay o .accounts = omega (arith, accounts-is) in
         let l-in : l ≤ openedDay o .count = omega (arith, count-is) in
         let x = lots-are a l a-in l-in in
@@ -186,8 +181,8 @@ module _ (o : Opening) (accepted : isAccepted (openingReply o) ≡ true) where
                 ap (λ (n : ℕ). lineTotal (openedDay o) (t .book) n) count-is,
                 ap (λ (n : ℕ). lineTotal (openedDay o) (openedBook o) n) count-is,
               );
-          sales = λ a l i j. sales a l i j (ℕ-discrete a 0);
-          handing-in = λ a l i j. handing-in a l i j (ℕ-discrete a 0);
+          sales = λ a l i j. omega (arith, bounds a l i j (ℕ-discrete a 0) .0);
+          handing-in = λ a l i j. omega (arith, bounds a l i j (ℕ-discrete a 0) .1);
           creation-limit = λ p. omega (arith, limit-is 0 creation, all-created, limits .all creation (omega arith) (omega (arith, limit-is 0 creation)));
           redemption-limit = λ p. omega (arith, limit-is 0 redemption, all-redeemed, limits .all redemption (omega arith) (omega (arith, limit-is 0 redemption)));
           creation-limit-each = λ a i p. omega (arith, limit-is 1 creation, created-is a (in-day a i), limits .each creation (omega arith) a (in-day a i) (omega (arith, limit-is 1 creation)));
