@@ -28,11 +28,11 @@ use Rattle.balance.proofs.OrderMove.{OrderMoved, order-moved}
 use Rattle.balance.proofs.StockCount.{quantity-is}
 
 -- what is handed in is there
-handed-there : (d : Day) (b : List ℕ) (a m i : ℕ) → handedIn d b a m i ≤ handable (lotsAt (account d b a) i)
+handed-there : (d : Day) (s : List ℕ) (m i : ℕ) → handedIn d s m i ≤ handable (lotsAt s i)
 unfolding handedIn available
-handed-there d b a m i = go (movesStock d i)
+handed-there d s m i = go (movesStock d i)
   where
-    go : (z : Bool) → cond z (min (need d m i) (handable (lotsAt (account d b a) i))) 0 ≤ handable (lotsAt (account d b a) i)
+    go : (z : Bool) → cond z (min (need d m i) (handable (lotsAt s i))) 0 ≤ handable (lotsAt s i)
     go true = omega arith
     go false = omega arith
 
@@ -41,16 +41,16 @@ module _ (d : Day) (b ps : List ℕ) (a units room : ℕ) (t : Creates d b ps a 
   m = baskets d units
 
   abbrev due : ℕ
-  due = creationDue d b ps a m
+  due = creationDue d (account d b a) ps m
 
   abbrev f : ℕ → Lots → Lots
-  f i x = handInOf x (handedIn d b a m i)
+  f i x = handInOf x (handedIn d (account d b a) m i)
 
   abbrev g : Lots → Lots
   g x = getOf x units
 
   abbrev h : ℕ → Lots → Lots
-  h i x = takeInOf x (handedIn d b a m i)
+  h i x = takeInOf x (handedIn d (account d b a) m i)
 
   abbrev paid : List ℕ → ℕ
   paid s = headAt s cash - due
@@ -69,7 +69,7 @@ module _ (d : Day) (b ps : List ℕ) (a units room : ℕ) (t : Creates d b ps a 
   money = facts .money (omega (arith, t .money))
 
   stock : (l : ℕ) → l < d .count → lineTotal d after l ≡ lineTotal d b l
-  stock l i = facts .line l i (omega (arith, handed-there d b a m l))
+  stock l i = facts .line l i (omega (arith, handed-there d (account d b a) m l))
 
   units-more : lineTotal d after (d .count) ≡ lineTotal d b (d .count) + units
   units-more = omega (arith, facts .units-total)
@@ -107,14 +107,14 @@ module _ (d : Day) (b ps : List ℕ) (a units room : ℕ) (t : Creates d b ps a 
   -- what the account handed in, as its records have it
   module _ (list : List ℕ) where
     abbrev made : List ℕ
-    made = withRecords (creationRecords d b ps a units) list
+    made = withRecords (creationRecords d (account d b a) ps units) list
 
     abbrev n : ℕ
-    n = length (creationRecords d b ps a units)
+    n = length (creationRecords d (account d b a) ps units)
 
-    recorded : (l : ℕ) → l < d .count → stockQuantity (codeOf d l) made n ≡ handedIn d b a m l
+    recorded : (l : ℕ) → l < d .count → stockQuantity (codeOf d l) made n ≡ handedIn d (account d b a) m l
     unfolding creationRecords
-    recorded l i = quantity-is d b ps (t .sound) l i sideS sideB units (handedIn d b a m) (otherCash d (creationCash d b ps a m)) (shanghaiCash d (creationCash d b ps a m)) list
+    recorded l i = quantity-is d b ps (t .sound) l i sideS sideB units (handedIn d (account d b a) m) (otherCash d (creationCash d (account d b a) ps m)) (shanghaiCash d (creationCash d (account d b a) ps m)) list
 
     abbrev Goal : ℕ → ℕ → Type 0
     Goal i l =
@@ -126,7 +126,7 @@ module _ (d : Day) (b ps : List ℕ) (a units room : ℕ) (t : Creates d b ps a 
         drawn-eq (facts .account-lots l j) refl refl
         (when-same a a _ refl ∙ when-other (d .count) l units (λ q. omega arith))
         (when-same a a _ refl ∙ ap (λ (z : Bool). cond z (stockQuantity (codeOf d l) made n) 0) (lt-ltb l (d .count) j) ∙ recorded l j)
-        (drawn-hand (lotsAt (account d b a) l) (handedIn d b a m l) (handed-there d b a m l))
+        (drawn-hand (lotsAt (account d b a) l) (handedIn d (account d b a) m l) (handed-there d (account d b a) m l))
     at-account l i (no j) =
         let q : d .count ≡ l = omega arith in
         subst (λ (k : ℕ). Goal a k) q
@@ -191,9 +191,9 @@ create-step s a units lent k = go (isAccepted answer) refl
 
     go : (z : Bool) → isAccepted answer ≡ z
         → Keeps (s .day) (s .book) (s .prices) (cond z (creationMoves (s .day) (s .prices) a units (s .book)) (s .book)) (s .prices)
-        (tallyIf z (callTally (s .day) (create a units) (record { records = cond z (withRecords (creationRecords (s .day) (s .book) (s .prices) a units) (lent .records)) (lent .records) }) (answer .value)))
+        (tallyIf z (callTally (s .day) (create a units) (record { records = cond z (withRecords (creationRecords (s .day) (account (s .day) (s .book) a) (s .prices) units) (lent .records)) (lent .records) }) (answer .value)))
     go true e =
-        subst (λ (v : ℕ). Keeps (s .day) (s .book) (s .prices) (creationMoves (s .day) (s .prices) a units (s .book)) (s .prices) (callTally (s .day) (create a units) (record { records = withRecords (creationRecords (s .day) (s .book) (s .prices) a units) (lent .records) }) v))
+        subst (λ (v : ℕ). Keeps (s .day) (s .book) (s .prices) (creationMoves (s .day) (s .prices) a units (s .book)) (s .prices) (callTally (s .day) (create a units) (record { records = withRecords (creationRecords (s .day) (account (s .day) (s .book) a) (s .prices) units) (lent .records) }) v))
         (sym (creation-value (s .day) (s .book) (s .prices) a units (roomIn (lent .records)) e))
         (create-keeps (s .day) (s .book) (s .prices) a units (roomIn (lent .records)) (creation-facts _ _ _ _ _ _ e) (lent .records) k)
     go false e = keeps-same k

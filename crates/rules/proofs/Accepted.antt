@@ -135,27 +135,27 @@ pub record Creates (d : Day) (b ps : List ℕ) (a units room : ℕ) : Type 0 whe
   pub sound : SoundDay d b ps
   pub order : Orders d b creation a units
   pub allowed : switchAllows d creation ≡ true
-  pub stocked : (i : ℕ) → i < d .count → isShort d b a (baskets d units) i ≡ false
-  pub money : creationDue d b ps a (baskets d units) ≤ headAt (account d b a) cash
-  pub listed : length (creationRecords d b ps a units) ≤ room
+  pub stocked : (i : ℕ) → i < d .count → isShort d (account d b a) (baskets d units) i ≡ false
+  pub money : creationDue d (account d b a) ps (baskets d units) ≤ headAt (account d b a) cash
+  pub listed : length (creationRecords d (account d b a) ps units) ≤ room
 
 pub creation-facts : (d : Day) (b ps : List ℕ) (a units room : ℕ) → isAccepted (creationReply d b ps a units room) ≡ true → Creates d b ps a units room
 unfolding creationReply creationChecks formChecks permissionChecks creationMeans firstShort
 creation-facts d b ps a units room e =
-    let p = all-passed (onSoundDay d b ps (creationChecks d b ps a units room)) (length (creationRecords d b ps a units)) tt e in
+    let p = all-passed (onSoundDay d b ps (creationChecks d b ps a units room)) (length (creationRecords d (account d b a) ps units)) tt e in
     let sound = sound-facts d b ps (not-false _ (p .0)) in
-    let short = first-stops (isShort d b a (baskets d units)) (d .count) (p .1 .1 .1 .1 .1 .0) in
+    let short = first-stops (isShort d (account d b a) (baskets d units)) (d .count) (p .1 .1 .1 .1 .1 .0) in
     record {
       sound = sound;
       order = order-facts d b creation a units (sound .accounts-low) (not-false _ (p .1 .0)) (not-false _ (p .1 .1 .0)) (not-false _ (p .1 .1 .1 .1 .0));
       allowed = not-false _ (p .1 .1 .1 .0);
-      stocked = first-all (isShort d b a (baskets d units)) (d .count) short;
+      stocked = first-all (isShort d (account d b a) (baskets d units)) (d .count) short;
       money = ltb-false _ _ (p .1 .1 .1 .1 .1 .1 .1 .1 .0);
       listed = ltb-false _ _ (p .1 .1 .1 .1 .1 .1 .1 .1 .1 .0);
     }
 
 -- its value is the count of records
-pub creation-value : (d : Day) (b ps : List ℕ) (a units room : ℕ) → isAccepted (creationReply d b ps a units room) ≡ true → creationReply d b ps a units room .value ≡ length (creationRecords d b ps a units)
+pub creation-value : (d : Day) (b ps : List ℕ) (a units room : ℕ) → isAccepted (creationReply d b ps a units room) ≡ true → creationReply d b ps a units room .value ≡ length (creationRecords d (account d b a) ps units)
 unfolding creationReply creationChecks formChecks permissionChecks creationMeans
 creation-value d b ps a units room e = accepted-value (onSoundDay d b ps (creationChecks d b ps a units room)) _ tt e
 
@@ -164,7 +164,7 @@ pub record Redeems (d : Day) (b ps : List ℕ) (a units room : ℕ) : Type 0 whe
   pub sound : SoundDay d b ps
   pub order : Orders d b redemption a units
   pub allowed : switchAllows d redemption ≡ true
-  pub handed : units ≤ unitsAvailable d b a
+  pub handed : units ≤ unitsAvailable d (account d b a)
   pub stocked : (i : ℕ) → i < d .count → delivered d (baskets d units) i ≤ lotsAt (account d b 0) i .old
   pub money : redemptionPaid d (baskets d units) ≤ headAt (account d b 0) cash
   pub listed : length (redemptionRecords d units) ≤ room
@@ -174,13 +174,13 @@ unfolding redemptionReply redemptionChecks formChecks permissionChecks redemptio
 redemption-facts d b ps a units room e =
     let p = all-passed (onSoundDay d b ps (redemptionChecks d b a units room)) (length (redemptionRecords d units)) tt e in
     let sound = sound-facts d b ps (not-false _ (p .0)) in
-    let lacks = first-stops (fundLacks d b (baskets d units)) (d .count) (p .1 .1 .1 .1 .1 .1 .0) in
+    let lacks = first-stops (fundLacks d (account d b 0) (baskets d units)) (d .count) (p .1 .1 .1 .1 .1 .1 .0) in
     record {
       sound = sound;
       order = order-facts d b redemption a units (sound .accounts-low) (not-false _ (p .1 .0)) (not-false _ (p .1 .1 .0)) (not-false _ (p .1 .1 .1 .1 .0));
       allowed = not-false _ (p .1 .1 .1 .0);
       handed = ltb-false _ _ (p .1 .1 .1 .1 .1 .0);
-      stocked = λ i h. ltb-false _ _ (first-all (fundLacks d b (baskets d units)) (d .count) lacks i h);
+      stocked = λ i h. ltb-false _ _ (first-all (fundLacks d (account d b 0) (baskets d units)) (d .count) lacks i h);
       money = ltb-false _ _ (p .1 .1 .1 .1 .1 .1 .1 .0);
       listed = ltb-false _ _ (p .1 .1 .1 .1 .1 .1 .1 .1 .0);
     }

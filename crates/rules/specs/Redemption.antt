@@ -30,16 +30,16 @@ redemptionCash d m i = cond (movesStock d i) 0 (discount (m * redemptionAmount d
 unfoldable pub redemptionPaid : Day → ℕ → ℕ
 redemptionPaid d m = otherCash d (redemptionCash d m) + shanghaiCash d (redemptionCash d m)
 
--- the units that the account can hand in: those created today are got, and don't count
-unfoldable pub unitsAvailable : Day → List ℕ → ℕ → ℕ
-unitsAvailable d b a = handable (lotsAt (account d b a) (d .count))
+-- the units that an account, with the stretch s, can hand in: those created today are got, and don't count
+unfoldable pub unitsAvailable : Day → List ℕ → ℕ
+unitsAvailable d s = handable (lotsAt s (d .count))
 
--- the fund's stock is its old lot
+-- the fund, with the stretch f, is short of component i: its stock is its old lot
 unfoldable pub fundLacks : Day → List ℕ → ℕ → ℕ → Bool
-fundLacks d b m i = ltb (lotsAt (account d b 0) i .old) (delivered d m i)
+fundLacks d f m i = ltb (lotsAt f i .old) (delivered d m i)
 
 unfoldable pub firstLacking : Day → List ℕ → ℕ → ℕ
-firstLacking d b m = firstBelow (fundLacks d b m) (d .count)
+firstLacking d f m = firstBelow (fundLacks d f m) (d .count)
 
 -- stock is B, the rest S
 unfoldable pub redemptionRecords : Day → ℕ → List Record
@@ -50,17 +50,17 @@ redemptionRecords d units =
     (shanghaiCash d (redemptionCash d (baskets d units)))
 
 -- the third stage; room is how many records the lent list takes
-unfoldable pub redemptionMeans : Day → List ℕ → ℕ → ℕ → ℕ → List Check
-redemptionMeans d b a units room =
-    check (ltb (unitsAvailable d b a) units) 9 0
-    ∷ check (ltb (firstLacking d b (baskets d units)) (d .count)) 17 (firstLacking d b (baskets d units))
-    ∷ check (ltb (headAt (account d b 0) cash) (redemptionPaid d (baskets d units))) 17 (d .count)
+unfoldable pub redemptionMeans : Day → List ℕ → List ℕ → ℕ → ℕ → List Check
+redemptionMeans d s f units room =
+    check (ltb (unitsAvailable d s) units) 9 0
+    ∷ check (ltb (firstLacking d f (baskets d units)) (d .count)) 17 (firstLacking d f (baskets d units))
+    ∷ check (ltb (headAt f cash) (redemptionPaid d (baskets d units))) 17 (d .count)
     ∷ check (ltb room (length (redemptionRecords d units))) 16 0
     ∷ []
 
 unfoldable pub redemptionChecks : Day → List ℕ → ℕ → ℕ → ℕ → List Check
 redemptionChecks d b a units room =
-    formChecks d a units ++ (permissionChecks d b redemption a units ++ redemptionMeans d b a units room)
+    formChecks d a units ++ (permissionChecks d b redemption a units ++ redemptionMeans d (account d b a) (account d b 0) units room)
 
 unfoldable pub redemptionReply : Day → List ℕ → List ℕ → ℕ → ℕ → ℕ → Reply
 redemptionReply d b ps a units room =
