@@ -49,7 +49,7 @@ module _ (d : Day) (b ps : List ℕ) (kind a units : ℕ) (f : ℕ → Lots → 
   fund s = fundSide (d .count) h (e s) s
 
   abbrev pub moved : List ℕ
-  moved = onStretch (width d) 0 fund (onStretch (width d) a investor b)
+  moved = onStretch (width d) a investor (onStretch (width d) 0 fund b)
 
   inside : (i : ℕ) → i < d .accounts → i * width d + width d ≤ length b
   inside i l = rw (sound .book-size) (within (width d) i (d .accounts) l)
@@ -60,41 +60,41 @@ module _ (d : Day) (b ps : List ℕ) (kind a units : ℕ) (f : ℕ → Lots → 
   wide : (i : ℕ) → i < d .accounts → 3 * d .count + 5 < length (account d b i)
   wide i l = omega (arith, stretch-length (width d) b i (inside i l))
 
-  not-fund : 0 ≡ a → ⊥
+  not-fund : a ≡ 0 → ⊥
   not-fund q = omega (arith, order .account-low)
 
-  changed : Changed (width d) b moved a 0 (investor (account d b a)) (fund (account d b 0))
+  changed : Changed (width d) b moved 0 a (fund (account d b 0)) (investor (account d b a))
   changed =
-      changed-both (width d) b a 0 investor fund not-fund (inside a (order .account-in)) (inside 0 first-in)
-      (λ s. account-length (d .count) kind units f g (c s) s)
+      changed-both (width d) b 0 a fund investor not-fund (inside 0 first-in) (inside a (order .account-in))
       (λ s. fund-length (d .count) h (e s) s)
+      (λ s. account-length (d .count) kind units f g (c s) s)
 
-  sums : (v : List ℕ → ℕ) → over (width d) (d .accounts) v moved + (v (account d b a) + v (account d b 0))
-      ≡ over (width d) (d .accounts) v b + (v (investor (account d b a)) + v (fund (account d b 0)))
-  sums v = changed-over (d .accounts) v changed (order .account-in) first-in not-fund
+  sums : (v : List ℕ → ℕ) → over (width d) (d .accounts) v moved + (v (account d b 0) + v (account d b a))
+      ≡ over (width d) (d .accounts) v b + (v (fund (account d b 0)) + v (investor (account d b a)))
+  sums v = changed-over (d .accounts) v changed first-in (order .account-in) not-fund
 
   -- the account's stretch after, and the fund's
   account-lots : (l : ℕ) → l < d .count → lotsAt (account d moved a) l ≡ f l (lotsAt (account d b a) l)
   account-lots l i =
       let s = account d b a in
-      ap (λ (x : List ℕ). lotsAt x l) (changed .first) ∙ account-line (d .count) kind units f g (c s) s either (wide a (order .account-in)) l i
+      ap (λ (x : List ℕ). lotsAt x l) (changed .second) ∙ account-line (d .count) kind units f g (c s) s either (wide a (order .account-in)) l i
 
   account-units : lotsAt (account d moved a) (d .count) ≡ g (lotsAt (account d b a) (d .count))
   account-units =
       let s = account d b a in
-      ap (λ (x : List ℕ). lotsAt x (d .count)) (changed .first) ∙ account-unit (d .count) kind units f g (c s) s either (wide a (order .account-in))
+      ap (λ (x : List ℕ). lotsAt x (d .count)) (changed .second) ∙ account-unit (d .count) kind units f g (c s) s either (wide a (order .account-in))
 
   fund-lots : (l : ℕ) → l < d .count → lotsAt (account d moved 0) l ≡ h l (lotsAt (account d b 0) l)
   fund-lots l i =
       let s = account d b 0 in
       let w = wide 0 first-in in
-      ap (λ (x : List ℕ). lotsAt x l) (changed .second) ∙ fund-line (d .count) h (e s) s (omega arith) l i
+      ap (λ (x : List ℕ). lotsAt x l) (changed .first) ∙ fund-line (d .count) h (e s) s (omega arith) l i
 
   fund-units : lotsAt (account d moved 0) (d .count) ≡ lotsAt (account d b 0) (d .count)
-  fund-units = ap (λ (x : List ℕ). lotsAt x (d .count)) (changed .second) ∙ fund-unit (d .count) h (e (account d b 0)) (account d b 0)
+  fund-units = ap (λ (x : List ℕ). lotsAt x (d .count)) (changed .first) ∙ fund-unit (d .count) h (e (account d b 0)) (account d b 0)
 
   fund-heads : (k : ℕ) → 0 < k → k < 3 → headAt (account d moved 0) k ≡ headAt (account d b 0) k
-  fund-heads k p q = ap (λ (x : List ℕ). headAt x k) (changed .second) ∙ fund-head (d .count) h (e (account d b 0)) (account d b 0) k p q
+  fund-heads k p q = ap (λ (x : List ℕ). headAt x k) (changed .first) ∙ fund-head (d .count) h (e (account d b 0)) (account d b 0) k p q
 
   -- what h leaves of a lot, the fund keeps on every line
   fund-keeps : (v : Lots → ℕ) → ((i : ℕ) (x : Lots) → v (h i x) ≡ v x) → (l : ℕ) → l < d .count + 1 → v (lotsAt (account d moved 0) l) ≡ v (lotsAt (account d b 0) l)
@@ -165,13 +165,13 @@ module _ (d : Day) (b ps : List ℕ) (kind a units : ℕ) (f : ℕ → Lots → 
   own-count : countOf d moved kind a ≡ countOf d b kind a + units
   unfolding countOf
   own-count =
-      ap (λ (x : List ℕ). headAt x (1 + kind)) (changed .first)
+      ap (λ (x : List ℕ). headAt x (1 + kind)) (changed .second)
       ∙ account-count (d .count) kind units f g (c (account d b a)) (account d b a) either (wide a (order .account-in))
 
   other-account : (j i : ℕ) → j < 2 → (i ≡ a → ⊥) → Dec (i ≡ 0) → countOf d moved j i ≡ countOf d b j i
   unfolding countOf
   other-account j i l n (yes q) = subst (λ (k : ℕ). headAt (account d moved k) (1 + j) ≡ headAt (account d b k) (1 + j)) (sym q) (fund-heads (1 + j) (omega arith) (omega arith))
-  other-account j i l n (no m) = ap (λ (x : List ℕ). headAt x (1 + j)) (changed .others i n m)
+  other-account j i l n (no m) = ap (λ (x : List ℕ). headAt x (1 + j)) (changed .others i m n)
 
   -- the count of the order's kind, of every account
   count-more : (i : ℕ) → countOf d moved kind i ≡ countOf d b kind i + whenSame a i units
@@ -184,7 +184,7 @@ module _ (d : Day) (b ps : List ℕ) (kind a units : ℕ) (f : ℕ → Lots → 
   own-other : (j : ℕ) → j < 2 → (j ≡ kind → ⊥) → countOf d moved j a ≡ countOf d b j a
   unfolding countOf
   own-other j l n =
-      ap (λ (x : List ℕ). headAt x (1 + j)) (changed .first)
+      ap (λ (x : List ℕ). headAt x (1 + j)) (changed .second)
       ∙ account-head (d .count) kind units f g (c (account d b a)) (account d b a) (1 + j) (omega arith) (omega arith) (λ q. n (omega arith))
 
   count-same : (j : ℕ) → j < 2 → (j ≡ kind → ⊥) → (i : ℕ) → countOf d moved j i ≡ countOf d b j i
@@ -262,7 +262,7 @@ module _ (d : Day) (b ps : List ℕ) (kind a units : ℕ) (f : ℕ → Lots → 
   order-moved =
       record {
         size = changed .size;
-        others = changed .others;
+        others = λ i n m. changed .others i m n;
         account-lots = account-lots;
         account-units = account-units;
         fund-units = fund-units;

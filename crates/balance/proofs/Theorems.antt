@@ -40,8 +40,8 @@ sound-answer d b ps cs v e t q = never-answered 5 cs v tt t (rw e at q)
 
 pub never-five : (s : State) (c : Call) (lent : Lent) → KeptState s → step s c lent .reply .number ≡ 5 → ⊥
 unfolding step priceReply priceChecks tradeReply tradeChecks worthReply valueChecks creationReply creationChecks redemptionReply redemptionChecks formChecks permissionChecks creationMeans redemptionMeans
-never-five s (price line p) lent k q = sound-answer _ _ _ (priceChecks (s .day) line p) _ (sound-true _ _ _ (k .sound)) tt q
-never-five s (trade line n p seller buyer) lent k q = sound-answer _ _ _ (tradeChecks (s .day) (s .book) line n p seller buyer) _ (sound-true _ _ _ (k .sound)) tt q
+never-five s (price line p) lent k q = sound-answer _ _ _ (priceChecks (s .day .count) line p) _ (sound-true _ _ _ (k .sound)) tt q
+never-five s (trade line n p seller buyer) lent k q = sound-answer _ _ _ (tradeChecks (s .day .accounts) (s .day .count) (s .book) line n p seller buyer) _ (sound-true _ _ _ (k .sound)) tt q
 never-five s (create a units) lent k q = sound-answer _ _ _ (creationChecks (s .day) (s .book) (s .prices) a units _) _ (sound-true _ _ _ (k .sound)) tt q
 never-five s (redeem a units) lent k q = sound-answer _ _ _ (redemptionChecks (s .day) (s .book) a units _) _ (sound-true _ _ _ (k .sound)) tt q
 never-five s value lent k q = sound-answer _ _ _ (valueChecks (s .day) (s .prices)) _ (sound-true _ _ _ (k .sound)) tt q

@@ -24,7 +24,7 @@ use Rattle.balance.proofs.Relation.{Tally, Keeps, keeps-same, tallyIf, 
 
 module _ (d : Day) (b ps : List ℕ) (line q p seller buyer : ℕ) (t : Trades d b ps line q p seller buyer) where
   abbrev after : List ℕ
-  after = tradeMoves d line q p seller buyer b
+  after = tradeMoves (d .count) line q p seller buyer b
 
   -- an account's stretch lies in the book and has its width
   inside : (a : ℕ) → a < d .accounts → a * width d + width d ≤ length b
@@ -195,7 +195,7 @@ unfolding step tradedBook
 trade-step s line q p seller buyer lent k = go (isAccepted (tradeReply (s .day) (s .book) (s .prices) line q p seller buyer)) refl
   where
     go : (z : Bool) → isAccepted (tradeReply (s .day) (s .book) (s .prices) line q p seller buyer) ≡ z
-        → Keeps (s .day) (s .book) (s .prices) (cond z (tradeMoves (s .day) line q p seller buyer (s .book)) (s .book)) (s .prices)
+        → Keeps (s .day) (s .book) (s .prices) (cond z (tradeMoves (s .day .count) line q p seller buyer (s .book)) (s .book)) (s .prices)
         (tallyIf z (callTally (s .day) (trade line q p seller buyer) lent (tradeReply (s .day) (s .book) (s .prices) line q p seller buyer .value)))
     go true e = trade-keeps (s .day) (s .book) (s .prices) line q p seller buyer (trade-facts _ _ _ _ _ _ _ _ e) k lent _
     go false e = keeps-same k

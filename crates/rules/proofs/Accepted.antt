@@ -24,7 +24,7 @@ use Rattle.rules.specs.Redemption.{delivered, fundLacks, firstLacking, u
 use Rattle.rules.proofs.SoundDay.{SoundDay, sound-facts}
 
 -- an account other than the fund
-pub investor-facts : (d : Day) (a : ℕ) → 2 ≤ d .accounts → isInvestor d a ≡ true → (0 < a) × (a < d .accounts)
+pub investor-facts : (d : Day) (a : ℕ) → 2 ≤ d .accounts → isInvestor (d .accounts) a ≡ true → (0 < a) × (a < d .accounts)
 unfolding isInvestor
 investor-facts d a two e =
     let p = inside-facts 1 (d .accounts - 1) a e in
@@ -39,7 +39,7 @@ pub record Prices (d : Day) (b ps : List ℕ) (line price : ℕ) : Type 0 where
 pub price-facts : (d : Day) (b ps : List ℕ) (line price : ℕ) → isAccepted (priceReply d b ps line price) ≡ true → Prices d b ps line price
 unfolding priceReply priceChecks
 price-facts d b ps line price e =
-    let p = all-passed (onSoundDay d b ps (priceChecks d line price)) 0 tt e in
+    let p = all-passed (onSoundDay d b ps (priceChecks (d .count) line price)) 0 tt e in
     let r = inside-facts 1 mostPrice price (not-false _ (p .1 .1 .0)) in
     record {
       sound = sound-facts d b ps (not-false _ (p .0));
@@ -66,7 +66,7 @@ pub record Trades (d : Day) (b ps : List ℕ) (line q price seller buyer : ℕ) 
 pub trade-facts : (d : Day) (b ps : List ℕ) (line q price seller buyer : ℕ) → isAccepted (tradeReply d b ps line q price seller buyer) ≡ true → Trades d b ps line q price seller buyer
 unfolding tradeReply tradeChecks
 trade-facts d b ps line q price seller buyer e =
-    let p = all-passed (onSoundDay d b ps (tradeChecks d b line q price seller buyer)) 0 tt e in
+    let p = all-passed (onSoundDay d b ps (tradeChecks (d .accounts) (d .count) b line q price seller buyer)) 0 tt e in
     let sound = sound-facts d b ps (not-false _ (p .0)) in
     let qs = inside-facts 1 999_999_999 q (not-false _ (p .1 .1 .0)) in
     let prices = inside-facts 1 mostPrice price (not-false _ (p .1 .1 .1 .0)) in
@@ -110,7 +110,7 @@ pub record Orders (d : Day) (b : List ℕ) (kind a units : ℕ) : Type 0 where
   pub net-limit-each : 0 < limitOf (d .fund) 3 kind → countOf d b kind a + units - countOf d b (1 - kind) a ≤ limitOf (d .fund) 3 kind
   pub below-ceiling : fundCount d b kind + units ≤ ceiling
 
-pub order-facts : (d : Day) (b : List ℕ) (kind a units : ℕ) → 2 ≤ d .accounts → isInvestor d a ≡ true → wholeBaskets mostBaskets d units ≡ true → withinLimits d b kind a units ≡ true → Orders d b kind a units
+pub order-facts : (d : Day) (b : List ℕ) (kind a units : ℕ) → 2 ≤ d .accounts → isInvestor (d .accounts) a ≡ true → wholeBaskets mostBaskets d units ≡ true → withinLimits d b kind a units ≡ true → Orders d b kind a units
 unfolding wholeBaskets withinLimits
 order-facts d b kind a units two i w l =
     let who = investor-facts d a two i in

@@ -10,3 +10,4 @@ pub mod Records
 pub mod Orders
 pub mod Creation
 pub mod Redemption
+pub mod Kinds

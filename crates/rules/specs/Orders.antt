@@ -35,7 +35,7 @@ wholeBaskets most d units = every (eqb (units % d .fund .«basket_size») 0 ∷ 
 -- the first stage, to 11
 unfoldable pub formChecks : Day → ℕ → ℕ → List Check
 formChecks d a units =
-    check (not (isInvestor d a)) 8 0
+    check (not (isInvestor (d .accounts) a)) 8 0
     ∷ check (not (wholeBaskets mostBaskets d units)) 11 0
     ∷ []
 

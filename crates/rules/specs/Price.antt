@@ -10,14 +10,15 @@ use Rattle.rules.specs.declared.Day.{Day}
 use Rattle.rules.specs.Replies.{ifAccepted}
 use Rattle.rules.specs.Sound.{onSoundDay, mostPrice}
 
-unfoldable pub priceChecks : Day → ℕ → ℕ → List Check
-priceChecks d line price =
-    check (leb (d .count) line) 6 0
+-- in a fund of n components
+unfoldable pub priceChecks : ℕ → ℕ → ℕ → List Check
+priceChecks n line price =
+    check (leb n line) 6 0
     ∷ check (not (inside 1 mostPrice price)) 7 0
     ∷ []
 
 unfoldable pub priceReply : Day → List ℕ → List ℕ → ℕ → ℕ → Reply
-priceReply d b ps line price = answered (onSoundDay d b ps (priceChecks d line price)) 0
+priceReply d b ps line price = answered (onSoundDay d b ps (priceChecks (d .count) line price)) 0
 
 unfoldable pub pricedPrices : Day → List ℕ → List ℕ → ℕ → ℕ → List ℕ
 pricedPrices d b ps line price = ifAccepted (priceReply d b ps line price) (set ps line price) ps

@@ -69,10 +69,10 @@ redemptionReply d b ps a units room =
 -- the fund delivers stock and cash, and the units cease
 unfoldable pub redemptionMoves : Day → ℕ → ℕ → List ℕ → List ℕ
 redemptionMoves d a units b =
-    onStretch (width d) 0
-    (λ s. fundSide (d .count) (λ i x. payOutOf x (delivered d (baskets d units) i)) (headAt s cash - redemptionPaid d (baskets d units)) s)
-    (onStretch (width d) a
+    onStretch (width d) a
     (λ s. accountSide (d .count) redemption units (λ i x. getOf x (delivered d (baskets d units) i)) (λ x. handInOf x units) (headAt s cash + redemptionPaid d (baskets d units)) s)
+    (onStretch (width d) 0
+    (λ f. fundSide (d .count) (λ i x. payOutOf x (delivered d (baskets d units) i)) (headAt f cash - redemptionPaid d (baskets d units)) f)
     b)
 
 unfoldable pub redeemedBook : Day → List ℕ → List ℕ → ℕ → ℕ → ℕ → List ℕ

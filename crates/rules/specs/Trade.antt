@@ -5,31 +5,32 @@ use mathlib.Core.List.{List, [], _∷_}
 use lib.Dec.{ltb, eqb}
 use Rattle.lists.specs.Every.{inside}
 use Rattle.lists.specs.Checks.{Check, check, Reply, answered}
-use Rattle.lists.specs.Stretch.{onStretch}
+use Rattle.lists.specs.Stretch.{stretchOf, onStretch}
 use Rattle.lots.specs.Lots.{sellOf, buyOf, sellable}
 use Rattle.rules.specs.declared.Day.{Day}
 use Rattle.rules.specs.Replies.{ifAccepted}
-use Rattle.rules.specs.Book.{cash, headAt, putHead, lotsAt, onLine, width, account}
+use Rattle.rules.specs.Book.{cash, headAt, putHead, widthOf, lotsAt, onLine}
 use Rattle.rules.specs.Sound.{onSoundDay, mostPrice}
 
--- an account other than the fund
-unfoldable pub isInvestor : Day → ℕ → Bool
-isInvestor d a = inside 1 (d .accounts - 1) a
+-- one of the accounts other than the fund
+unfoldable pub isInvestor : ℕ → ℕ → Bool
+isInvestor accounts a = inside 1 (accounts - 1) a
 
-unfoldable pub tradeChecks : Day → List ℕ → ℕ → ℕ → ℕ → ℕ → ℕ → List Check
-tradeChecks d b line q price seller buyer =
-    check (ltb (d .count) line) 6 0
+-- in a fund of n components
+unfoldable pub tradeChecks : ℕ → ℕ → List ℕ → ℕ → ℕ → ℕ → ℕ → ℕ → List Check
+tradeChecks accounts n b line q price seller buyer =
+    check (ltb n line) 6 0
     ∷ check (not (inside 1 999_999_999 q)) 7 0
     ∷ check (not (inside 1 mostPrice price)) 7 0
-    ∷ check (not (isInvestor d seller)) 8 0
-    ∷ check (not (isInvestor d buyer)) 8 0
+    ∷ check (not (isInvestor accounts seller)) 8 0
+    ∷ check (not (isInvestor accounts buyer)) 8 0
     ∷ check (eqb seller buyer) 8 0
-    ∷ check (ltb (sellable (lotsAt (account d b seller) line)) q) 9 0
-    ∷ check (ltb (headAt (account d b buyer) cash) (q * price)) 10 0
+    ∷ check (ltb (sellable (lotsAt (stretchOf (widthOf n) b seller) line)) q) 9 0
+    ∷ check (ltb (headAt (stretchOf (widthOf n) b buyer) cash) (q * price)) 10 0
     ∷ []
 
 unfoldable pub tradeReply : Day → List ℕ → List ℕ → ℕ → ℕ → ℕ → ℕ → ℕ → Reply
-tradeReply d b ps line q price seller buyer = answered (onSoundDay d b ps (tradeChecks d b line q price seller buyer)) 0
+tradeReply d b ps line q price seller buyer = answered (onSoundDay d b ps (tradeChecks (d .accounts) (d .count) b line q price seller buyer)) 0
 
 -- the seller's stretch and the buyer's after a trade of q for an amount m
 unfoldable pub sellSide : ℕ → ℕ → ℕ → List ℕ → List ℕ
@@ -38,10 +39,10 @@ sellSide line q m s = putHead cash (headAt s cash + m) (onLine (λ x. sellOf x q
 unfoldable pub buySide : ℕ → ℕ → ℕ → List ℕ → List ℕ
 buySide line q m s = putHead cash (headAt s cash - m) (onLine (λ x. buyOf x q) line s)
 
-unfoldable pub tradeMoves : Day → ℕ → ℕ → ℕ → ℕ → ℕ → List ℕ → List ℕ
-tradeMoves d line q price seller buyer b =
-    onStretch (width d) buyer (buySide line q (q * price)) (onStretch (width d) seller (sellSide line q (q * price)) b)
+unfoldable pub tradeMoves : ℕ → ℕ → ℕ → ℕ → ℕ → ℕ → List ℕ → List ℕ
+tradeMoves n line q price seller buyer b =
+    onStretch (widthOf n) buyer (buySide line q (q * price)) (onStretch (widthOf n) seller (sellSide line q (q * price)) b)
 
 unfoldable pub tradedBook : Day → List ℕ → List ℕ → ℕ → ℕ → ℕ → ℕ → ℕ → List ℕ
 tradedBook d b ps line q price seller buyer =
-    ifAccepted (tradeReply d b ps line q price seller buyer) (tradeMoves d line q price seller buyer b) b
+    ifAccepted (tradeReply d b ps line q price seller buyer) (tradeMoves (d .count) line q price seller buyer b) b

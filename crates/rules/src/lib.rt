@@ -62,7 +62,26 @@ pub struct Opened {
     pub answer: Answer,
 }
 
-// A record of an order. Side B is 1, S is 2.
+// The two kinds of order, as limits and counters are laid out.
+pub const CREATION: usize = 0;
+
+pub const REDEMPTION: usize = 1;
+
+// The most baskets of one order.
+pub const MOST_BASKETS: u64 = 20;
+
+// The most that a price may be.
+pub const MOST_PRICE: u64 = 9_999_999;
+
+// The sides of a record.
+pub const SIDE_B: u64 = 1;
+
+pub const SIDE_S: u64 = 2;
+
+// How many numbers a record takes in a flat run.
+pub const RECORD_WIDTH: usize = 5;
+
+// A record of an order.
 pub struct Record {
     pub code: u64,
     pub side: u64,
