@@ -18,7 +18,7 @@ use Rattle.fund.specs.Fund.{ceiling}
 use Rattle.rules.specs.Lines.{quantity, movesStock}
 use Rattle.rules.specs.Orders.{creation, redemption, baskets, need, fundCount}
 use Rattle.rules.specs.Records.{roomIn, withRecords}
-use Rattle.rules.specs.Redemption.{delivered, unitsAvailable, redemptionPaid, redemptionRecords, redemptionReply, redemptionMoves, redeemedBook, redeemedList}
+use Rattle.rules.specs.Redemption.{delivered, redemptionPaid, redemptionRecords, redemptionReply, redemptionMoves, redeemedBook, redeemedList}
 use Rattle.rules.proofs.SoundDay.{SoundDay, Kept, sound-moved}
 use Rattle.rules.proofs.Accepted.{Redeems, redemption-facts}
 use Rattle.balance.specs.Calls.{State, Lent, redeem, step}
@@ -52,10 +52,6 @@ module _ (d : Day) (b ps : List ℕ) (a units room : ℕ) (t : Redeems d b ps a 
   unfolding redemptionMoves
   facts = order-moved d b ps redemption a units f g received h paid (t .sound) (t .order) (omega arith)
 
-  units-there : units ≤ handable (lotsAt (account d b a) (d .count))
-  unfolding unitsAvailable
-  units-there = t .handed
-
   money : headTotal d after cash ≡ headTotal d b cash
   money = facts .money (omega (arith, t .money))
 
@@ -63,7 +59,7 @@ module _ (d : Day) (b ps : List ℕ) (a units room : ℕ) (t : Redeems d b ps a 
   stock l i = facts .line l i (omega (arith, t .stocked l i))
 
   units-less : lineTotal d after (d .count) + units ≡ lineTotal d b (d .count)
-  units-less = omega (arith, facts .units-total, units-there)
+  units-less = omega (arith, facts .units-total, t .handed)
 
   redeemed-more : headTotal d after redeemed ≡ headTotal d b redeemed + units
   unfolding fundCount
@@ -109,7 +105,7 @@ module _ (d : Day) (b ps : List ℕ) (a units room : ℕ) (t : Redeems d b ps a 
       (drawn-eq (facts .account-units) refl refl
       (when-same a a _ refl ∙ ap (λ (z : Bool). cond z (delivered d m (d .count)) 0) (le-ltb (d .count) (d .count) (omega arith)))
       (when-same a a _ refl ∙ when-same (d .count) (d .count) units refl)
-      (drawn-hand (lotsAt (account d b a) (d .count)) units units-there))
+      (drawn-hand (lotsAt (account d b a) (d .count)) units (t .handed)))
 
   lots : (i l : ℕ) → 0 < i → l ≤ d .count → Dec (a ≡ i) → Goal i l
   lots i l pos j (yes q) = subst (λ (k : ℕ). Goal k l) q (at-account l j (decLt l (d .count)))

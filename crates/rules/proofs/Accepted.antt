@@ -164,13 +164,14 @@ pub record Redeems (d : Day) (b ps : List ℕ) (a units room : ℕ) : Type 0 whe
   pub sound : SoundDay d b ps
   pub order : Orders d b redemption a units
   pub allowed : switchAllows d redemption ≡ true
-  pub handed : units ≤ unitsAvailable d (account d b a)
+  -- units created today, which are got, are not among them
+  pub handed : units ≤ lotsAt (account d b a) (d .count) .bought + lotsAt (account d b a) (d .count) .old
   pub stocked : (i : ℕ) → i < d .count → delivered d (baskets d units) i ≤ lotsAt (account d b 0) i .old
   pub money : redemptionPaid d (baskets d units) ≤ headAt (account d b 0) cash
   pub listed : length (redemptionRecords d units) ≤ room
 
 pub redemption-facts : (d : Day) (b ps : List ℕ) (a units room : ℕ) → isAccepted (redemptionReply d b ps a units room) ≡ true → Redeems d b ps a units room
-unfolding redemptionReply redemptionChecks formChecks permissionChecks redemptionMeans firstLacking fundLacks
+unfolding redemptionReply redemptionChecks formChecks permissionChecks redemptionMeans unitsAvailable firstLacking fundLacks
 redemption-facts d b ps a units room e =
     let p = all-passed (onSoundDay d b ps (redemptionChecks d b a units room)) (length (redemptionRecords d units)) tt e in
     let sound = sound-facts d b ps (not-false _ (p .0)) in
@@ -179,7 +180,7 @@ redemption-facts d b ps a units room e =
       sound = sound;
       order = order-facts d b redemption a units (sound .accounts-low) (not-false _ (p .1 .0)) (not-false _ (p .1 .1 .0)) (not-false _ (p .1 .1 .1 .1 .0));
       allowed = not-false _ (p .1 .1 .1 .0);
-      handed = ltb-false _ _ (p .1 .1 .1 .1 .1 .0);
+      handed = omega (arith, ltb-false (unitsAvailable d (account d b a)) units (p .1 .1 .1 .1 .1 .0));
       stocked = λ i h. ltb-false _ _ (first-all (fundLacks d (account d b 0) (baskets d units)) (d .count) lacks i h);
       money = ltb-false _ _ (p .1 .1 .1 .1 .1 .1 .1 .0);
       listed = ltb-false _ _ (p .1 .1 .1 .1 .1 .1 .1 .1 .0);

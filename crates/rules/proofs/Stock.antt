@@ -1,21 +1,20 @@
 -- The stock record of a component among an order's records: there is at most one with its code, and it has what moved.
 use mathlib.Core.Path.{_≡_, refl, sym, ap, _∙_}
 use mathlib.Core.Bool.{Bool, true, false, cond}
-use mathlib.Core.List.{List, [], _∷_, _++_}
-use Prim.Native.Nat.{ℕ, zero, suc, _+_, _*_, _/_, _%_, _≤_, _<_}
+use mathlib.Core.List.{List, [], _∷_, _++_, map}
+use Prim.Native.Nat.{ℕ, zero, suc, _+_, _*_, _≤_, _<_}
 use native.Mathlib.Omega.{arith}
-use lib.Dec.{ltb, eqb}
+use lib.Dec.{ltb}
 use lib.ListN.{length, getD, drop, length-append}
 use borrow.Author.Tests.{ltb-false}
 use Rattle.lists.specs.Below.{sumBelow, sum-head, sum-none, sum-only, sum-same, cond-le, joinBelow}
 use Rattle.lists.specs.Same.{whenSame, when-same, when-other}
-use Rattle.units.specs.Units.{splitSize}
 use Rattle.fund.specs.Components.{componentFault}
 use Rattle.fund.proofs.Laws.{components-fine, outside-codes, codes-differ}
 use Rattle.rules.specs.declared.Day.{Day}
 use Rattle.rules.specs.declared.Record.{Record}
 use Rattle.rules.specs.Lines.{codeOf}
-use Rattle.rules.specs.Records.{recordOf, cashRecords, stockRecord, orderRecords, recordWidth, flatRecord, flatten, withRecords}
+use Rattle.rules.specs.Records.{recordOf, cashParts, cashRecords, stockRecord, orderRecords, recordWidth, flatRecord, flatten, withRecords}
 
 -- a number v of each record that has the code
 pub tally : (Record → ℕ) → ℕ → List Record → ℕ
@@ -38,14 +37,15 @@ module _ (v : Record → ℕ) (code : ℕ) where
   tally-one r n = omega (arith, when-other (r .code) code (v r) n)
 
   -- cash records have another code
+  tally-parts : (other side : ℕ) (parts : List (ℕ × ℕ)) → (other ≡ code → ⊥) → tally v code (map (λ part. recordOf other side (part .0) (part .1)) parts) ≡ 0
+  unfolding tally
+  tally-parts other side [] n = refl
+  tally-parts other side (part ∷ parts) n =
+      omega (arith, when-other other code (v (recordOf other side (part .0) (part .1))) n, tally-parts other side parts n)
+
   tally-cash : (other side c : ℕ) → (other ≡ code → ⊥) → tally v code (cashRecords other side c) ≡ 0
-  unfolding cashRecords tally
-  tally-cash other side c n = go (eqb c 0) (ltb c splitSize)
-    where
-      go : (x y : Bool) → tally v code (cond x [] (cond y (recordOf other side 1 c ∷ []) (recordOf other side splitSize (c / splitSize) ∷ recordOf other side 1 (c % splitSize) ∷ []))) ≡ 0
-      go true y = refl
-      go false true = omega (arith, when-other other code (v (recordOf other side 1 c)) n)
-      go false false = omega (arith, when-other other code (v (recordOf other side splitSize (c / splitSize))) n, when-other other code (v (recordOf other side 1 (c % splitSize))) n)
+  unfolding cashRecords
+  tally-cash other side c n = tally-parts other side (cashParts c) n
 
 module _ (d : Day) (v : Record → ℕ) (sound : componentFault (d .fund .«first_code») (d .components) (d .count) ≡ d .count) (l : ℕ) (inside : l < d .count) where
   -- a component's code is none of the fund's group

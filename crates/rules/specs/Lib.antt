@@ -11,3 +11,4 @@ pub mod Orders
 pub mod Creation
 pub mod Redemption
 pub mod Kinds
+pub mod Cases

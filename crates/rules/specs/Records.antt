@@ -1,7 +1,7 @@
 -- The records of an order, and the lent list that takes them.
 use Prim.Native.Nat.{ℕ, _+_, _-_, _*_, _/_, _%_}
 use mathlib.Core.Bool.{Bool, cond}
-use mathlib.Core.List.{List, [], _∷_, _++_}
+use mathlib.Core.List.{List, [], _∷_, _++_, map}
 use lib.Dec.{ltb, eqb}
 use lib.ListN.{length, drop}
 use Rattle.lists.specs.Below.{joinBelow}
@@ -22,12 +22,16 @@ abbrev pub recordOf : ℕ → ℕ → ℕ → ℕ → Record
 recordOf code side q price =
     record { code = code; side = side; quantity = q; price = record { 0 = price }; amount = record { 0 = q * price } }
 
--- cash c: none at 0; below the split size one record; else two, the second with the remainder even if 0
-unfoldable pub cashRecords : ℕ → ℕ → ℕ → List Record
-cashRecords code side c =
+-- cash c as quantities and prices: none at 0; below the split size one record; else two, the second with the remainder
+-- even if 0
+unfoldable pub cashParts : ℕ → List (ℕ × ℕ)
+cashParts c =
     cond (eqb c 0) []
-    (cond (ltb c splitSize) (recordOf code side 1 c ∷ [])
-    (recordOf code side splitSize (c / splitSize) ∷ recordOf code side 1 (c % splitSize) ∷ []))
+    (cond (ltb c splitSize) ((1, c) ∷ [])
+    ((splitSize, c / splitSize) ∷ (1, c % splitSize) ∷ []))
+
+unfoldable pub cashRecords : ℕ → ℕ → ℕ → List Record
+cashRecords code side c = map (λ part. recordOf code side (part .0) (part .1)) (cashParts c)
 
 -- a component of which stock moved
 unfoldable pub stockRecord : Day → ℕ → (ℕ → ℕ) → ℕ → List Record

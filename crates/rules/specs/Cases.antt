@@ -1,0 +1,179 @@
+-- "A day to compare with": its cases (a) to (i), computed from the definitions as the rows of one check.
+use Prim.Native.Nat.{ℕ}
+use mathlib.Core.Path.{_≡_, refl}
+use mathlib.Core.Bool.{Bool, true, false}
+use mathlib.Core.List.{List, [], _∷_, _++_}
+use lib.Dec.{eqb}
+use lib.IntN.{negsuc}
+use lib.ListN.{replicate}
+use Rattle.lists.specs.Below.{sumBelow, anyBelow, allBelow, firstBelow, joinBelow, tabulate}
+use Rattle.lists.specs.Every.{every, inside}
+use Rattle.lists.specs.Checks.{Reply, answered, passes, isAccepted}
+use Rattle.lists.specs.Stretch.{stretchOf, over}
+use Rattle.units.specs.Units.{rounded, premium, discount, ratioBound}
+use Rattle.flags.specs.Table.{flagTable, entry}
+use Rattle.fund.specs.declared.Fund.{Fund}
+use Rattle.fund.specs.Fund.{cashInRange, limitInRange, limitsInRange, fundInRange, limitOf}
+use Rattle.fund.specs.Components.{outsideGroup, zeroUnless, componentInRange, fits, faultAt, componentFault, componentAt}
+use Rattle.rules.specs.Book.{headAt, lotsAt, headTotal, lineTotal}
+use Rattle.rules.specs.Lines.{codeOf, quantity, column, creationRate, redemptionRate, creationAmount, redemptionAmount, priceOf}
+use Rattle.rules.specs.Opening.{Opening, cashOpened, heldOpened, openedTotal, openedCash, overAt, totalFault, dayChecks, componentsOpened, lengthsFit, openingReply, openedDay, openedStretch, openedBook}
+use Rattle.rules.specs.Sound.{lentFits, opens, fundStill, isSound}
+use Rattle.rules.specs.Trade.{isInvestor}
+use Rattle.rules.specs.Value.{worthAt, lacksPrice, cashAdded, cashTaken, worthBefore, referenceValue, hasValue, valueChecks, worthReply}
+use Rattle.rules.specs.Records.{sideB, cashParts, cashRecords, stockRecord, orderRecords, flatten, roomIn, withRecords}
+use Rattle.rules.specs.Orders.{baskets, wholeBaskets, formChecks, switchAllows, withinLimit, countOf, fundCount, withinLimits, permissionChecks, need, shanghaiCash, otherCash}
+use Rattle.rules.specs.Creation.{available, handedIn, isShort, missing, missingWorth, isMissing, creationCash, creationDue, ratioPassed, creationRecords, firstShort, creationMeans, creationChecks, creationReply, createdList}
+use Rattle.rules.specs.Redemption.{delivered, redemptionCash, redemptionPaid, unitsAvailable, fundLacks, firstLacking, redemptionRecords, redemptionMeans, redemptionChecks, redemptionReply, redeemedList}
+
+abbrev both : Bool → Bool → Bool
+both true b = b
+both false b = false
+
+abbrev same : List ℕ → List ℕ → Bool
+same [] [] = true
+same [] (y ∷ ys) = false
+same (x ∷ xs) [] = false
+same (x ∷ xs) (y ∷ ys) = both (eqb x y) (same xs ys)
+
+-- what the definitions give, and what the paper says
+record Row : Type 0 where
+  got : List ℕ
+  want : List ℕ
+
+abbrev right : Row → Bool
+right r = same (r .got) (r .want)
+
+abbrev all : (Row → Bool) → List Row → Bool
+all f [] = true
+all f (r ∷ rs) = both (f r) (all f rs)
+
+-- The day: the fund has ample stock and cash; account 1 has old 600000 and 600036 as given, ample cash, and the
+-- units of one basket.
+abbrev basket : ℕ
+basket = 1_000_000
+
+abbrev compared : ℕ → ℕ → Opening
+compared of600000 of600036 =
+    record {
+      accounts = 2;
+      count = 5;
+      fund =
+          record {
+            «first_code» = 510_300;
+            «basket_size» = basket;
+            «max_cash_ratio» = record { 0 = 5_000 };
+            switch = 1;
+            «estimated_cash» = negsuc 33_121;
+            limits = replicate 8 0;
+          };
+      components =
+          1 ∷ 8_000 ∷ 3 ∷ 10_000 ∷ 96_000_000
+          ∷ 2 ∷ 1_000 ∷ 4 ∷ 0 ∷ 8_000_000
+          ∷ 600_000 ∷ 5_200 ∷ 1 ∷ 10_000 ∷ 0
+          ∷ 600_036 ∷ 3_000 ∷ 0 ∷ 0 ∷ 0
+          ∷ 600_519 ∷ 100 ∷ 2 ∷ 0 ∷ 150_000_000
+          ∷ [];
+      holdings =
+          1_000_000_000_000 ∷ 1_000_000 ∷ 1_000_000 ∷ 1_000_000 ∷ 1_000_000 ∷ 1_000_000 ∷ 0
+          ∷ 1_000_000_000_000 ∷ 0 ∷ 0 ∷ of600000 ∷ of600036 ∷ 0 ∷ basket
+          ∷ [];
+      book = replicate 42 0;
+      prices = replicate 5 0;
+    }
+
+-- yuan 12.000, none, 10.000, 40.000, none
+abbrev prices : List ℕ
+prices = 12_000 ∷ 0 ∷ 10_000 ∷ 40_000 ∷ 0 ∷ []
+
+abbrev three : Reply → List ℕ
+three r = r .number ∷ r .place ∷ r .value ∷ []
+
+-- one basket by account 1, with a list of eight records lent: the reply, and the list after
+abbrev lent : List ℕ
+lent = replicate 40 0
+
+abbrev createReply : Opening → List ℕ
+createReply o = three (creationReply (openedDay o) (openedBook o) prices 1 basket (roomIn lent))
+
+abbrev createList : Opening → List ℕ
+createList o = createdList (openedDay o) (openedBook o) prices 1 basket lent
+
+abbrev redeemReply : Opening → List ℕ
+redeemReply o = three (redemptionReply (openedDay o) (openedBook o) prices 1 basket (roomIn lent))
+
+abbrev redeemList : Opening → List ℕ
+redeemList o = redeemedList (openedDay o) (openedBook o) prices 1 basket lent
+
+abbrev valueOf : Opening → List ℕ
+valueOf o = three (worthReply (openedDay o) (openedBook o) prices)
+
+abbrev cashOf : ℕ → List ℕ
+cashOf c = flatten (cashRecords 510_302 sideB c)
+
+abbrev rows : List Row
+rows =
+    -- (a) value 4257
+    record { got = valueOf (compared 3_072 3_000); want = 0 ∷ 0 ∷ 4_257 ∷ [] }
+    -- (b) old 600000 of 3072 passes, with eight records
+    ∷ record { got = createReply (compared 3_072 3_000); want = 0 ∷ 0 ∷ 8 ∷ [] }
+    -- (c) 3071 gives 15
+    ∷ record { got = createReply (compared 3_071 3_000); want = 15 ∷ 0 ∷ 0 ∷ [] }
+    -- (d) 600036 at 2999 gives 9, place 3
+    ∷ record { got = createReply (compared 3_072 2_999); want = 9 ∷ 3 ∷ 0 ∷ [] }
+    -- (e) the creation's records
+    ∷ record {
+      got = createList (compared 3_072 3_000);
+      want =
+          510_300 ∷ 1 ∷ 1_000_000 ∷ 0 ∷ 0
+          ∷ 600_000 ∷ 2 ∷ 3_072 ∷ 0 ∷ 0
+          ∷ 600_036 ∷ 2 ∷ 3_000 ∷ 0 ∷ 0
+          ∷ 510_305 ∷ 1 ∷ 1_000_000 ∷ 113 ∷ 113_000_000
+          ∷ 510_305 ∷ 1 ∷ 1 ∷ 600_000 ∷ 600_000
+          ∷ 510_302 ∷ 1 ∷ 1_000_000 ∷ 173 ∷ 173_000_000
+          ∷ 510_302 ∷ 1 ∷ 1 ∷ 408_000 ∷ 408_000
+          ∷ 510_301 ∷ 1 ∷ 1_000_000 ∷ 0 ∷ 0
+          ∷ [];
+    }
+    -- (f) one basket redeemed: other cash 94,400.000, Shanghai 150,000.000 in two records, the second 0
+    ∷ record {
+      got = redeemReply (compared 3_072 3_000) ++ redeemList (compared 3_072 3_000);
+      want =
+          0 ∷ 0 ∷ 8
+          ∷ 510_300 ∷ 2 ∷ 1_000_000 ∷ 0 ∷ 0
+          ∷ 600_000 ∷ 1 ∷ 5_200 ∷ 0 ∷ 0
+          ∷ 600_036 ∷ 1 ∷ 3_000 ∷ 0 ∷ 0
+          ∷ 510_305 ∷ 2 ∷ 1_000_000 ∷ 94 ∷ 94_000_000
+          ∷ 510_305 ∷ 2 ∷ 1 ∷ 400_000 ∷ 400_000
+          ∷ 510_302 ∷ 2 ∷ 1_000_000 ∷ 150 ∷ 150_000_000
+          ∷ 510_302 ∷ 2 ∷ 1 ∷ 0 ∷ 0
+          ∷ 510_301 ∷ 2 ∷ 1_000_000 ∷ 0 ∷ 0
+          ∷ [];
+    }
+    -- (g) cash 999.999 is one record, 1,000.000 two
+    ∷ record {
+      got = cashOf 999_999 ++ cashOf 1_000_000;
+      want =
+          510_302 ∷ 1 ∷ 1 ∷ 999_999 ∷ 999_999
+          ∷ 510_302 ∷ 1 ∷ 1_000_000 ∷ 1 ∷ 1_000_000
+          ∷ 510_302 ∷ 1 ∷ 1 ∷ 0 ∷ 0
+          ∷ [];
+    }
+    -- (h) v = 5, r = 10,000 gives 6
+    ∷ record { got = premium 5 10_000 ∷ []; want = 6 ∷ [] }
+    -- (i) r = 9,999 gives 5
+    ∷ record { got = premium 5 9_999 ∷ []; want = 5 ∷ [] }
+    ∷ []
+
+pub cases : all right rows ≡ true
+unfolding sumBelow anyBelow allBelow firstBelow joinBelow tabulate every inside answered passes isAccepted stretchOf over
+    rounded premium discount ratioBound flagTable entry cashInRange limitInRange limitsInRange fundInRange limitOf
+    outsideGroup zeroUnless componentInRange fits faultAt componentFault componentAt headAt lotsAt headTotal lineTotal
+    codeOf quantity column creationRate redemptionRate creationAmount redemptionAmount priceOf
+    cashOpened heldOpened openedTotal openedCash overAt totalFault dayChecks componentsOpened lengthsFit openingReply openedDay openedStretch openedBook
+    lentFits opens fundStill isSound isInvestor worthAt lacksPrice cashAdded cashTaken worthBefore referenceValue hasValue valueChecks worthReply
+    cashParts cashRecords stockRecord orderRecords flatten roomIn withRecords
+    baskets wholeBaskets formChecks switchAllows withinLimit countOf fundCount withinLimits permissionChecks need shanghaiCash otherCash
+    available handedIn isShort missing missingWorth isMissing creationCash creationDue ratioPassed creationRecords firstShort creationMeans creationChecks creationReply createdList
+    delivered redemptionCash redemptionPaid unitsAvailable fundLacks firstLacking redemptionRecords redemptionMeans redemptionChecks redemptionReply redeemedList
+cases = refl
