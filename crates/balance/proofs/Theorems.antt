@@ -10,7 +10,7 @@ use Rattle.rules.specs.declared.Day.{Day}
 use Rattle.rules.specs.Sound.{isSound, onSoundDay}
 use Rattle.rules.specs.Opening.{Opening, openingReply}
 use Rattle.rules.specs.Price.{priceChecks, priceReply, pricedPrices}
-use Rattle.rules.specs.Trade.{tradeChecks, tradeReply, tradedBook}
+use Rattle.rules.specs.Trade.{tradeMeans, tradeChecks, tradeReply, tradedBook}
 use Rattle.rules.specs.Value.{valueChecks, worthReply}
 use Rattle.rules.specs.Orders.{formChecks, permissionChecks}
 use Rattle.rules.specs.Creation.{creationMeans, creationChecks, creationReply, createdBook, createdList}
@@ -39,7 +39,7 @@ unfolding answered
 sound-answer d b ps cs v e t q = never-answered 5 cs v tt t (rw e at q)
 
 pub never-five : (s : State) (c : Call) (lent : Lent) → KeptState s → step s c lent .reply .number ≡ 5 → ⊥
-unfolding step priceReply priceChecks tradeReply tradeChecks worthReply valueChecks creationReply creationChecks redemptionReply redemptionChecks formChecks permissionChecks creationMeans redemptionMeans
+unfolding step priceReply priceChecks tradeReply tradeChecks tradeMeans worthReply valueChecks creationReply creationChecks redemptionReply redemptionChecks formChecks permissionChecks creationMeans redemptionMeans
 never-five s (price line p) lent k q = sound-answer _ _ _ (priceChecks (s .day .count) line p) _ (sound-true _ _ _ (k .sound)) tt q
 never-five s (trade line n p seller buyer) lent k q = sound-answer _ _ _ (tradeChecks (s .day .accounts) (s .day .count) (s .book) line n p seller buyer) _ (sound-true _ _ _ (k .sound)) tt q
 never-five s (create a units) lent k q = sound-answer _ _ _ (creationChecks (s .day) (s .book) (s .prices) a units _) _ (sound-true _ _ _ (k .sound)) tt q

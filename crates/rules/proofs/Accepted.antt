@@ -16,7 +16,7 @@ use Rattle.rules.specs.declared.Day.{Day}
 use Rattle.rules.specs.Book.{cash, headAt, lotsAt, account}
 use Rattle.rules.specs.Sound.{isSound, onSoundDay, mostPrice}
 use Rattle.rules.specs.Price.{priceChecks, priceReply}
-use Rattle.rules.specs.Trade.{isInvestor, tradeChecks, tradeReply}
+use Rattle.rules.specs.Trade.{isInvestor, tradeMeans, tradeChecks, tradeReply}
 use Rattle.rules.specs.Value.{hasValue, valueChecks, worthReply}
 use Rattle.rules.specs.Orders.{creation, redemption, baskets, mostBaskets, wholeBaskets, formChecks, switchAllows, withinLimit, countOf, fundCount, withinLimits, permissionChecks}
 use Rattle.rules.specs.Creation.{firstShort, isShort, creationDue, creationRecords, creationMeans, creationChecks, creationReply}
@@ -64,7 +64,7 @@ pub record Trades (d : Day) (b ps : List ℕ) (line q price seller buyer : ℕ) 
   pub money : q * price ≤ headAt (account d b buyer) cash
 
 pub trade-facts : (d : Day) (b ps : List ℕ) (line q price seller buyer : ℕ) → isAccepted (tradeReply d b ps line q price seller buyer) ≡ true → Trades d b ps line q price seller buyer
-unfolding tradeReply tradeChecks
+unfolding tradeReply tradeChecks tradeMeans
 trade-facts d b ps line q price seller buyer e =
     let p = all-passed (onSoundDay d b ps (tradeChecks (d .accounts) (d .count) b line q price seller buyer)) 0 tt e in
     let sound = sound-facts d b ps (not-false _ (p .0)) in

@@ -1,4 +1,5 @@
 pub mod Account
+pub mod Replies
 pub mod SoundDay
 pub mod OpenedDay
 pub mod Sides

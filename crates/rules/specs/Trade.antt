@@ -16,7 +16,13 @@ use Rattle.rules.specs.Sound.{onSoundDay, mostPrice}
 unfoldable pub isInvestor : ℕ → ℕ → Bool
 isInvestor accounts a = inside 1 (accounts - 1) a
 
--- in a fund of n components
+-- in a fund of n components; the means are the seller's stock and the buyer's cash for the amount
+unfoldable pub tradeMeans : ℕ → List ℕ → ℕ → ℕ → ℕ → ℕ → ℕ → List Check
+tradeMeans n b line q amount seller buyer =
+    check (ltb (sellable (lotsAt (stretchOf (widthOf n) b seller) line)) q) 9 0
+    ∷ check (ltb (headAt (stretchOf (widthOf n) b buyer) cash) amount) 10 0
+    ∷ []
+
 unfoldable pub tradeChecks : ℕ → ℕ → List ℕ → ℕ → ℕ → ℕ → ℕ → ℕ → List Check
 tradeChecks accounts n b line q price seller buyer =
     check (ltb n line) 6 0
@@ -25,9 +31,7 @@ tradeChecks accounts n b line q price seller buyer =
     ∷ check (not (isInvestor accounts seller)) 8 0
     ∷ check (not (isInvestor accounts buyer)) 8 0
     ∷ check (eqb seller buyer) 8 0
-    ∷ check (ltb (sellable (lotsAt (stretchOf (widthOf n) b seller) line)) q) 9 0
-    ∷ check (ltb (headAt (stretchOf (widthOf n) b buyer) cash) (q * price)) 10 0
-    ∷ []
+    ∷ tradeMeans n b line q (q * price) seller buyer
 
 unfoldable pub tradeReply : Day → List ℕ → List ℕ → ℕ → ℕ → ℕ → ℕ → ℕ → Reply
 tradeReply d b ps line q price seller buyer = answered (onSoundDay d b ps (tradeChecks (d .accounts) (d .count) b line q price seller buyer)) 0

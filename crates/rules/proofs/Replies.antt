@@ -1,0 +1,63 @@
+-- Answers and replies: Done is accepted and every refusal is not, so what a call leaves follows from its answer.
+use mathlib.Core.Path.{_≡_, refl, sym, ap, _∙_}
+use mathlib.Core.Bool.{Bool, true, false, not}
+use mathlib.Core.List.{List, _∷_}
+use Prim.Native.Nat.{ℕ}
+use Rattle.lists.specs.Checks.{Check, Reply, reply, isAccepted, answered}
+use Rattle.rules.specs.declared.Day.{Day}
+use Rattle.rules.specs.declared.Refusal.{Refusal}
+use Rattle.rules.specs.declared.Refusal.the-variants.{Sizes, FundField, Component, Total, UnsoundDay, NoSuchLine, QuantityOrPrice, Account, ShortOfStock, ShortOfCash, NotWholeBaskets, Switch, Limit, NoReferenceValue, CashRatio, ListTooShort, FundShort, TextLine, TextField, RecordCount}
+use Rattle.rules.specs.Replies.{refusalReply, ifAccepted}
+use Rattle.rules.specs.Sound.{isSound, onSoundDay}
+
+pub refused : (why : Refusal) → isAccepted (refusalReply why) ≡ false
+unfolding isAccepted
+refused Sizes = refl
+refused FundField = refl
+refused (Component place) = refl
+refused (Total place) = refl
+refused UnsoundDay = refl
+refused NoSuchLine = refl
+refused QuantityOrPrice = refl
+refused Account = refl
+refused (ShortOfStock place) = refl
+refused ShortOfCash = refl
+refused NotWholeBaskets = refl
+refused Switch = refl
+refused Limit = refl
+refused NoReferenceValue = refl
+refused CashRatio = refl
+refused ListTooShort = refl
+refused (FundShort place) = refl
+refused (TextLine place) = refl
+refused (TextField place) = refl
+refused RecordCount = refl
+
+pub accepted : (v : ℕ) → isAccepted (reply 0 0 v) ≡ true
+unfolding isAccepted
+accepted v = refl
+
+-- a reply that is an accepted one, or a refusal's
+pub is-accepted : (v : ℕ) (r : Reply) → reply 0 0 v ≡ r → isAccepted r ≡ true
+is-accepted v r e = ap isAccepted (sym e) ∙ accepted v
+
+pub is-refused : (why : Refusal) (r : Reply) → refusalReply why ≡ r → isAccepted r ≡ false
+is-refused why r e = ap isAccepted (sym e) ∙ refused why
+
+-- what the call leaves
+module _ {A : Type 0} (after before : A) where
+  pub leaves-after : (v : ℕ) (r : Reply) → reply 0 0 v ≡ r → after ≡ ifAccepted r after before
+  leaves-after v r e = rw (is-accepted v r e)
+
+  pub leaves-before : (why : Refusal) (r : Reply) → refusalReply why ≡ r → before ≡ ifAccepted r after before
+  leaves-before why r e = rw (is-refused why r e)
+
+-- refusal 5, and the call's own tests where the day is sound
+module _ (d : Day) (b ps : List ℕ) (cs : List Check) (v : ℕ) where
+  pub on-sound : isSound d b ps ≡ true → answered (onSoundDay d b ps cs) v ≡ answered cs v
+  unfolding answered
+  on-sound e = rw e
+
+  pub on-unsound : isSound d b ps ≡ false → answered (onSoundDay d b ps cs) v ≡ reply 5 0 0
+  unfolding answered
+  on-unsound e = rw e
