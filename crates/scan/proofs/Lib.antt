@@ -1,0 +1,4 @@
+pub mod OneLine
+pub mod Lines
+pub mod Ready
+pub mod Counts

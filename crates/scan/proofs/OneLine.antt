@@ -1,0 +1,144 @@
+-- One component in an order: its numbers are small, and the parts that the code finds make its line.
+use mathlib.Core.Path.{_≡_, refl, ap, _∙_}
+use mathlib.Core.Bool.{Bool, true, false, cond, not, _||_}
+use mathlib.Core.List.{[], _∷_}
+use Prim.Native.Nat.{ℕ, _+_, _-_, _*_, _≤_, min, zero-le}
+use native.Mathlib.Nat.{le-trans, sub-le}
+use native.Mathlib.Omega.{arith}
+use lib.Dec.{ltb, lit≤}
+use Rattle.lists.specs.Below.{cond-le}
+use Rattle.lists.specs.Every.{every}
+use Rattle.units.specs.declared.Money.{Money}
+use Rattle.units.specs.Units.{premium, discount}
+use Rattle.units.proofs.Laws.{under, premium-le, discount-le}
+use Rattle.flags.specs.Table.{entry, stockMoves, shortageInCash, shanghai}
+use Rattle.fund.specs.declared.Component.{Component}
+use Rattle.rules.specs.Sound.{mostPrice}
+use Rattle.rules.specs.Orders.{mostBaskets}
+use Rattle.scan.specs.declared.Line.{Line}
+use Rattle.scan.specs.declared.Scan.{Scan}
+use Rattle.scan.specs.Lines.{money, missingOf, worthOf, creationLine, redemptionLine, stockCount, nextShort, withLine}
+use Rattle.scan.specs.Ready.{Ranged}
+
+-- Bounds.
+
+-- what a line adds to the sums at most
+pub record Small (x : Line) : Type 0 where
+  pub worth : x .worth .0 ≤ 20_000_000_000_000_000
+  pub cash : x .cash .0 ≤ 40_000_000_000_000_000
+
+pub chosen-le : (b : Bool) (x y : Money) (n : ℕ) → x .0 ≤ n → y .0 ≤ n → cond b x y .0 ≤ n
+chosen-le true x y n p q = p
+chosen-le false x y n p q = q
+
+pub missing-le : (b : Bool) (need have : ℕ) → cond b (need - have) 0 ≤ need
+missing-le b need have = cond-le b (sub-le need have) zero-le
+
+module _ (c : Component) (m : ℕ) (r : Ranged c) (few : m ≤ mostBaskets) where
+  pub need-le : m * c .quantity ≤ 1_999_999_980
+  need-le = under 20 99_999_999 few (r .quantity)
+
+  pub amount-le : m * c .amount .0 ≤ 1_999_999_999_980
+  amount-le = under 20 99_999_999_999 few (r .amount)
+
+  -- the worth of what is missing of the need
+  pub worth-le : (x price : ℕ) → x ≤ m * c .quantity → price ≤ mostPrice → x * price ≤ 20_000_000_000_000_000
+  worth-le x price h p = le-trans (under 1_999_999_980 9_999_999 (le-trans h need-le) p) (lit≤ tt)
+
+  creation-worth-le : (have price : ℕ) → price ≤ mostPrice → worthOf c have price m ≤ 20_000_000_000_000_000
+  unfolding worthOf missingOf
+  creation-worth-le have price p = worth-le (missingOf c have m) price (missing-le (entry (c .flag) shortageInCash) (m * c .quantity) have) p
+
+  pub creation-small : (have price : ℕ) → price ≤ mostPrice → Small (creationLine c have price m)
+  unfolding creationLine
+  creation-small have price p =
+      let base : cond (entry (c .flag) stockMoves) (worthOf c have price m) (m * c .amount .0) ≤ 20_000_000_000_000_000 =
+      cond-le (entry (c .flag) stockMoves) (creation-worth-le have price p) (le-trans amount-le (lit≤ tt)) in
+      record {
+        worth = creation-worth-le have price p;
+        cash = omega (arith, premium-le (cond (entry (c .flag) stockMoves) (worthOf c have price m) (m * c .amount .0)) (c .rate .0) (r .rate));
+      }
+
+  pub redemption-small : (have : ℕ) → Small (redemptionLine c have m)
+  unfolding redemptionLine
+  redemption-small have =
+      record {
+        worth = zero-le;
+        cash = cond-le (entry (c .flag) stockMoves) zero-le (omega (arith, amount-le, discount-le (m * c .amount .0) (c .rate .0)));
+      }
+
+-- Parts.
+
+-- an amount chosen by a test is the number chosen by it
+chosen-number : (b : Bool) (x y : Money) → cond b x y .0 ≡ cond b (x .0) (y .0)
+chosen-number true x y = refl
+chosen-number false x y = refl
+
+abbrev line : Bool → ℕ → ℕ → ℕ → Bool → ℕ → Line
+line short missing worth cash shanghai moved =
+    record { short = short; missing = missing; worth = money worth; cash = money cash; shanghai = shanghai; moved = moved }
+
+line-eq : {a a′ e e′ : Bool} {b b′ c c′ d d′ f f′ : ℕ} → a ≡ a′ → b ≡ b′ → c ≡ c′ → d ≡ d′ → e ≡ e′ → f ≡ f′ → line a b c d e f ≡ line a′ b′ c′ d′ e′ f′
+line-eq p q r s t u = cc
+
+-- a creation's line from its parts
+pub creation-parts : (c : Component) (have price m : ℕ) (moves in-cash inside short : Bool) (missing moved : ℕ) (base cash : Money)
+    → moves ≡ entry (c .flag) stockMoves → in-cash ≡ entry (c .flag) shortageInCash → inside ≡ entry (c .flag) shanghai
+    → missing ≡ cond in-cash (m * c .quantity - have) 0
+    → base ≡ cond moves (money (missing * price)) (money (m * c .amount .0))
+    → cash .0 ≡ premium (base .0) (c .rate .0)
+    → short ≡ every (moves ∷ not in-cash ∷ ltb have (m * c .quantity) ∷ [])
+    → moved ≡ cond moves (min (m * c .quantity) have) 0
+    → line short missing (missing * price) (cash .0) inside moved ≡ creationLine c have price m
+unfolding creationLine worthOf missingOf
+creation-parts c have price m moves in-cash inside short missing moved base cash em ec ei es eb ep et eq =
+    let same : missing ≡ cond (entry (c .flag) shortageInCash) (m * c .quantity - have) 0 = es ∙ ap (λ (b : Bool). cond b (m * c .quantity - have) 0) ec in
+    let number : base .0 ≡ cond moves (missing * price) (m * c .amount .0) = ap (λ (x : Money). x .0) eb ∙ chosen-number moves _ _ in
+    line-eq
+    (et ∙ rw (em, ec))
+    same
+    (ap (λ (x : ℕ). x * price) same)
+    (ep ∙ rw (number, em, same))
+    ei
+    (eq ∙ rw em)
+
+min-self : (x : ℕ) → min x x ≡ x
+min-self x = omega arith
+
+-- a redemption's
+pub redemption-parts : (c : Component) (have m : ℕ) (moves inside : Bool) (moved : ℕ) (paid cash : Money)
+    → moves ≡ entry (c .flag) stockMoves → inside ≡ entry (c .flag) shanghai
+    → moved ≡ cond moves (min (m * c .quantity) (m * c .quantity)) 0
+    → paid .0 ≡ discount (m * c .amount .0) (c .rate .0)
+    → cash ≡ cond moves (money 0) paid
+    → line (ltb have moved) 0 0 (cash .0) inside moved ≡ redemptionLine c have m
+unfolding redemptionLine
+redemption-parts c have m moves inside moved paid cash em ei eq ep ec =
+    let same : moved ≡ cond (entry (c .flag) stockMoves) (m * c .quantity) 0 = eq ∙ rw (em, min-self (m * c .quantity)) in
+    let number : cash .0 ≡ cond moves 0 (paid .0) = ap (λ (x : Money). x .0) ec ∙ chosen-number moves _ _ in
+    line-eq (ap (λ (x : ℕ). ltb have x) same) refl refl (number ∙ rw (em, ep)) ei same
+
+abbrev scan : ℕ → Bool → ℕ → ℕ → ℕ → ℕ → Scan
+scan short missing worth other shanghai records =
+    record { short = short; missing = missing; «missing_worth» = money worth; other = money other; shanghai = money shanghai; «stock_records» = records }
+
+scan-eq : {b b′ : Bool} {a a′ c c′ d d′ e e′ f f′ : ℕ} → a ≡ a′ → b ≡ b′ → c ≡ c′ → d ≡ d′ → e ≡ e′ → f ≡ f′ → scan a b c d e f ≡ scan a′ b′ c′ d′ e′ f′
+scan-eq p q r s t u = cc
+
+-- a scan with one line more, from its parts
+pub scan-parts : (t : Scan) (i : ℕ) (x : Line) (short records : ℕ) (missing : Bool) (worth other there shanghai here : Money)
+    → short ≡ nextShort (t .short) i (x .short)
+    → missing ≡ (t .missing || ltb 0 (x .missing))
+    → worth .0 ≡ t .«missing_worth» .0 + x .worth .0
+    → there ≡ cond (x .shanghai) (money 0) (x .cash)
+    → other .0 ≡ t .other .0 + there .0
+    → here ≡ cond (x .shanghai) (x .cash) (money 0)
+    → shanghai .0 ≡ t .shanghai .0 + here .0
+    → records ≡ stockCount (x .moved)
+    → scan short missing (worth .0) (other .0) (shanghai .0) (t .«stock_records» + records) ≡ withLine t i x
+unfolding withLine
+scan-parts t i x short records missing worth other there shanghai here es em ew et eo eh ei er =
+    scan-eq es em ew
+    (eo ∙ ap (λ (y : ℕ). t .other .0 + y) (ap (λ (y : Money). y .0) et ∙ chosen-number (x .shanghai) _ _))
+    (ei ∙ ap (λ (y : ℕ). t .shanghai .0 + y) (ap (λ (y : Money). y .0) eh ∙ chosen-number (x .shanghai) _ _))
+    (ap (λ (y : ℕ). t .«stock_records» + y) er)

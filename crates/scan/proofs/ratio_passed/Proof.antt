@@ -1,0 +1,13 @@
+-- `scan::ratio_passed` meets its contract: `ratio_bound` gives the bound's own definition.
+use borrow.Author.Needs.{needs}
+use Rattle.scan.proofs.ratio_passed.Statement.{statement}
+use Rattle.scan.proofs.ratio_passed.Tie as tie
+
+ratio-bound-requires : tie.Need-ratio-bound-requires
+ratio-bound-requires c κs = search needs
+
+returns : tie.Need-returns
+returns c = rw (c .before .before .ratio-bound .ensures)
+
+pub ratio-passed-spec : {M : Type 1} → statement M
+ratio-passed-spec = tie.close (tie.spec ratio-bound-requires returns)

@@ -1,0 +1,190 @@
+-- The totals over the accounts: those of the first a accounts, each below 2^62, and what one or three stretches more make of them.
+use mathlib.Core.Path.{_≡_, refl, sym, ap, _∙_, subst}
+use mathlib.Core.Bool.{Bool, true, false, not, _||_, false≢true}
+use mathlib.Core.List.{List}
+use mathlib.Core.Logic.{⊎-elim}
+use Prim.Native.Nat.{ℕ, zero, suc, _+_, _-_, _*_, _%_, _^_, _≤_, _<_}
+use native.Mathlib.Nat.{le-trans, le-of-eq, le-step, lt-suc-self, suc-mul, mul-le-mul-right, not-suc-le-zero, eq-or-lt-of-le, le-of-suc-le-suc, add-zero}
+use native.Mathlib.Numerals.{add-one}
+use native.Mathlib.Omega.{arith}
+use lib.ListN.{length, getD}
+use borrow.Author.Tests.{lt-leb, leb-false, not-true}
+use Rattle.lists.specs.Below.{sumBelow, sum-none, sum-more, anyBelow}
+use Rattle.sound.specs.Totals.{widest, top, plusOne, plusThree, reaches, placeAt, total, Low}
+
+or-left : (a b : Bool) → (a || b) ≡ false → a ≡ false
+or-left true b e = e
+or-left false b e = refl
+
+or-right : (a b : Bool) → (a || b) ≡ false → b ≡ false
+or-right true b e = absurd (false≢true (sym e))
+or-right false b e = e
+
+both-off : (a b : Bool) → a ≡ false → b ≡ false → (a || b) ≡ false
+both-off a b e f = ap (λ (x : Bool). x || b) e ∙ f
+
+-- none passes
+any-off : (f : ℕ → Bool) (n : ℕ) → anyBelow f n ≡ false → (k : ℕ) → k < n → f k ≡ false
+unfolding anyBelow
+any-off f zero e k l = absurd (not-suc-le-zero l)
+any-off f (suc n) e k l =
+    ⊎-elim
+    (λ q. ap f q ∙ or-right (anyBelow f n) (f n) e)
+    (λ h. any-off f n (or-left (anyBelow f n) (f n) e) k h)
+    (eq-or-lt-of-le (le-of-suc-le-suc l))
+
+off-any : (f : ℕ → Bool) (n : ℕ) → ((k : ℕ) → k < n → f k ≡ false) → anyBelow f n ≡ false
+unfolding anyBelow
+off-any f zero e = refl
+off-any f (suc n) e = both-off (anyBelow f n) (f n) (off-any f n (λ k h. e k (le-step h))) (e n (lt-suc-self n))
+
+-- no total reaches 2^62
+module _ (f : ℕ → ℕ) (w : ℕ) where
+  pub none-reaches : anyBelow (reaches f) w ≡ false → (k : ℕ) → k < w → f k < top
+  unfolding reaches
+  none-reaches e k h = leb-false top (f k) (any-off (reaches f) w e k h)
+
+  pub reaches-none : ((k : ℕ) → k < w → f k < top) → anyBelow (reaches f) w ≡ false
+  unfolding reaches
+  reaches-none low = off-any (reaches f) w (λ k h. lt-leb top (f k) (low k h))
+
+  -- where one does, not all are below
+  pub some-reaches : anyBelow (reaches f) w ≡ true → ((k : ℕ) → k < w → f k < top) → ⊥
+  some-reaches e low = false≢true (sym (reaches-none low) ∙ e)
+
+-- Sums over more accounts.
+
+sum-grows : (f : ℕ → ℕ) (m d : ℕ) → sumBelow f m ≤ sumBelow f (m + d)
+sum-grows f m zero = le-of-eq (ap (sumBelow f) (sym (add-zero m)))
+sum-grows f m (suc d) =
+    let e : m + suc d ≡ m + d + 1 = omega arith in
+    omega (arith, sum-grows f m d, ap (sumBelow f) e, sum-more f (m + d))
+
+pub total-none : (b : List ℕ) (w k : ℕ) → total b w 0 k ≡ 0
+unfolding total
+total-none b w k = sum-none (placeAt b w k)
+
+pub total-more : (b : List ℕ) (w a k : ℕ) → total b w (a + 1) k ≡ total b w a k + getD b (a * w + k) 0
+unfolding total placeAt
+total-more b w a k = sum-more _ a
+
+pub total-grows : (b : List ℕ) (w a n k : ℕ) → a ≤ n → total b w a k ≤ total b w n k
+unfolding total
+total-grows b w a n k h =
+    let e : a + (n - a) ≡ n = omega (arith, h) in
+    subst (λ (m : ℕ). sumBelow (placeAt b w k) a ≤ sumBelow (placeAt b w k) m) e (sum-grows (placeAt b w k) a (n - a))
+
+-- a sum s over the first a accounts with one account more: the next total, at most the whole
+pub total-step : (b : List ℕ) (w a n k s : ℕ) → s ≡ total b w a k → a < n
+    → (s + getD b (a * w + k) 0 ≡ total b w (a + 1) k) × (s + getD b (a * w + k) 0 ≤ total b w n k)
+total-step b w a n k s e h =
+    let m = total-more b w a k in
+    (omega arith, omega (arith, total-grows b w (a + 1) n k (omega arith)))
+
+next : (w a c : ℕ) → a + 1 ≡ c → a * w + w ≡ c * w
+next w a c e = sym (suc-mul a w) ∙ ap (λ (n : ℕ). n * w) (sym (add-one a) ∙ e)
+
+two : (w a : ℕ) → a * w + w + w ≡ (a + 2) * w
+two w a = ap (λ (n : ℕ). n + w) (next w a (a + 1) refl) ∙ next w (a + 1) (a + 2) (omega arith)
+
+-- three stretches lie within the first n of them
+pub within-three : (w a n : ℕ) → a + 3 ≤ n → a * w + w + w + w ≤ n * w
+within-three w a n h =
+    le-trans (le-of-eq (ap (λ (k : ℕ). k + w) (two w a) ∙ next w (a + 2) (a + 3) (omega arith))) (mul-le-mul-right w h)
+
+plus-one : (t b : List ℕ) (w a k : ℕ) → getD t k 0 ≡ total b w a k → plusOne t b (a * w) k ≡ total b w (a + 1) k
+unfolding plusOne
+plus-one t b w a k e = ap (λ (n : ℕ). n + getD b (a * w + k) 0) e ∙ sym (total-more b w a k)
+
+more : (f : ℕ → ℕ) (a c : ℕ) → a + 1 ≡ c → sumBelow f c ≡ sumBelow f a + f a
+more f a c e = ap (sumBelow f) (sym e) ∙ sum-more f a
+
+plus-three : (t b : List ℕ) (w a k : ℕ) → getD t k 0 ≡ total b w a k → plusThree t b (a * w) w k ≡ total b w (a + 3) k
+unfolding plusThree total placeAt
+plus-three t b w a k e =
+    let y : getD b (a * w + w + k) 0 ≡ getD b ((a + 1) * w + k) 0 = ap (λ (n : ℕ). getD b (n + k) 0) (next w a (a + 1) refl) in
+    let z : getD b (a * w + w + w + k) 0 ≡ getD b ((a + 2) * w + k) 0 = ap (λ (n : ℕ). getD b (n + k) 0) (two w a) in
+    omega (arith, e, y, z, more (placeAt b w k) a (a + 1) refl, more (placeAt b w k) (a + 1) (a + 2) (omega arith), more (placeAt b w k) (a + 2) (a + 3) (omega arith))
+
+-- t holds the totals of the first a accounts, each below 2^62
+pub record Counted (t b : List ℕ) (w a : ℕ) : Type 0 where
+  pub same : (k : ℕ) → k < w → getD t k 0 ≡ total b w a k
+  pub low : (k : ℕ) → k < w → total b w a k < top
+  pub size : length t ≡ widest
+
+pub counted-none : (t b : List ℕ) (w : ℕ) → ((k : ℕ) → k < w → getD t k 0 ≡ 0) → length t ≡ widest → Counted t b w 0
+counted-none t b w z e =
+    record {
+      same = λ k h. z k h ∙ sym (total-none b w k);
+      low = λ k h. omega (arith, total-none b w k);
+      size = e;
+    }
+
+pub counted-low : {t b : List ℕ} {w a : ℕ} → Counted t b w a → Low w t
+counted-low q k h = omega (arith, q .same k h, q .low k h)
+
+-- no total reaches 2^62
+pub counted-fine : {t b : List ℕ} {w a : ℕ} → Counted t b w a → anyBelow (reaches (total b w a)) w ≡ false
+counted-fine {t} {b} {w} {a} q = reaches-none (total b w a) w (q .low)
+
+-- F are the totals of the first c accounts
+module _ (b : List ℕ) (w c : ℕ) (F : ℕ → ℕ) (same : (k : ℕ) → k < w → F k ≡ total b w c k) where
+  -- t became F, wrapped
+  counted-next : (t : List ℕ) → anyBelow (reaches F) w ≡ false → length t ≡ widest → ((k : ℕ) → k < w → getD t k 0 ≡ F k % 2 ^ 64) → Counted t b w c
+  counted-next t off e got =
+      let low = none-reaches F w off in
+      record {
+        same = λ k h. omega (arith, low k h, got k h, same k h);
+        low = λ k h. omega (arith, low k h, same k h);
+        size = e;
+      }
+
+  -- one reaches 2^62: so does one of more accounts
+  reached : (n : ℕ) → c ≤ n → anyBelow (reaches F) w ≡ true → anyBelow (reaches (total b w n)) w ≡ true
+  reached n le on = pick (anyBelow (reaches (total b w n)) w) refl
+    where
+      low : anyBelow (reaches (total b w n)) w ≡ false → (k : ℕ) → k < w → F k < top
+      low q k h = omega (arith, same k h, total-grows b w c n k le, none-reaches (total b w n) w q k h)
+
+      pick : (x : Bool) → anyBelow (reaches (total b w n)) w ≡ x → x ≡ true
+      pick true q = refl
+      pick false q = absurd (some-reaches F w on (low q))
+
+pub reached-before : (b : List ℕ) (w a n : ℕ) → a ≤ n → anyBelow (reaches (total b w a)) w ≡ true → anyBelow (reaches (total b w n)) w ≡ true
+reached-before b w a n = reached b w a (total b w a) (λ k h. refl) n
+
+-- one stretch more, and three
+module _ {t b : List ℕ} {w a : ℕ} (q : Counted t b w a) where
+  pub counted-one : (t′ : List ℕ) → anyBelow (reaches (plusOne t b (a * w))) w ≡ false → length t′ ≡ widest
+      → ((k : ℕ) → k < w → getD t′ k 0 ≡ plusOne t b (a * w) k % 2 ^ 64) → Counted t′ b w (a + 1)
+  counted-one t′ = counted-next b w (a + 1) (plusOne t b (a * w)) (λ k h. plus-one t b w a k (q .same k h)) t′
+
+  pub reached-one : (n : ℕ) → a + 1 ≤ n → anyBelow (reaches (plusOne t b (a * w))) w ≡ true → anyBelow (reaches (total b w n)) w ≡ true
+  reached-one = reached b w (a + 1) (plusOne t b (a * w)) (λ k h. plus-one t b w a k (q .same k h))
+
+  pub counted-three : (t′ : List ℕ) → anyBelow (reaches (plusThree t b (a * w) w)) w ≡ false → length t′ ≡ widest
+      → ((k : ℕ) → k < w → getD t′ k 0 ≡ plusThree t b (a * w) w k % 2 ^ 64) → Counted t′ b w (a + 3)
+  counted-three t′ = counted-next b w (a + 3) (plusThree t b (a * w) w) (λ k h. plus-three t b w a k (q .same k h)) t′
+
+  pub reached-three : (n : ℕ) → a + 3 ≤ n → anyBelow (reaches (plusThree t b (a * w) w)) w ≡ true → anyBelow (reaches (total b w n)) w ≡ true
+  reached-three = reached b w (a + 3) (plusThree t b (a * w) w) (λ k h. plus-three t b w a k (q .same k h))
+
+-- What the code answers of the totals t of the first n accounts: r, false where one reaches 2^62.
+abbrev pub Answer : Bool → List ℕ → List ℕ → ℕ → ℕ → Type 0
+Answer r t b w n =
+    (r ≡ not (anyBelow (reaches (total b w n)) w)) × ((length t ≡ widest) × (r ≡ true → (k : ℕ) → k < w → getD t k 0 ≡ total b w n k))
+
+pub answer-true : {t b : List ℕ} {w a : ℕ} → Counted t b w a → (n : ℕ) → a ≡ n → Answer true t b w n
+answer-true {t} {b} {w} {a} q n e =
+    subst (λ (m : ℕ). Answer true t b w m) e (ap not (sym (counted-fine q)), (q .size, (λ _. q .same)))
+
+pub answer-false : (t b : List ℕ) (w n : ℕ) → anyBelow (reaches (total b w n)) w ≡ true → length t ≡ widest → Answer false t b w n
+answer-false t b w n on e = (ap not (sym on), (e, (λ q. absurd (false≢true q))))
+
+pub answered : (r : Bool) (t b : List ℕ) (w n : ℕ) → Answer r t b w n → r ≡ true → Counted t b w n
+answered r t b w n q e =
+    record {
+      same = q .1 .1 e;
+      low = none-reaches (total b w n) w (not-true _ (sym (q .0) ∙ e));
+      size = q .1 .0;
+    }

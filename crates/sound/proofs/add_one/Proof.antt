@@ -1,0 +1,87 @@
+-- `sound::add_one` meets its contract. The loop's invariant: `Pass`, with the places below `j` done. Adding the stretch's number wraps a
+-- total only where that number reaches 2^62 itself, and then the or does.
+use mathlib.Core.Path.{ap, _∙_}
+use Prim.Native.Nat.{ℕ, _+_, _-_, _%_, _^_}
+use native.Mathlib.Nat.{le-refl}
+use native.Mathlib.Omega.{arith}
+use lib.ListN.{getD}
+use borrow.Author.Needs.{needs}
+use Rattle.sound.specs.Totals.{plusOne}
+use Rattle.sound.proofs.Top.{or-one}
+use Rattle.sound.proofs.Rows.{Pass, pass-none, pass-more, pass-end}
+use Rattle.sound.proofs.add_one.Statement.{statement}
+use Rattle.sound.proofs.add_one.Tie as tie
+
+abbrev Inv-loop : tie.InvT-loop
+Inv-loop totals₀ book from width high₀ j₀ totals high j = Pass totals₀ (plusOne totals₀ book from) width j totals high
+
+abbrev μ-loop : tie.MeasureT-loop
+μ-loop totals₀ book from width high₀ j₀ totals high j = width - j
+
+loop-holds : tie.Need-loop-holds Inv-loop μ-loop
+loop-holds c = pass-none _ _ _ (c .before .pre .3)
+
+add-x : tie.Need-add-x Inv-loop μ-loop
+add-x c = omega arith
+
+mul-x : tie.Need-mul-x Inv-loop μ-loop
+mul-x c = omega arith
+
+shared-slice-read-x : tie.Need-shared-slice-read-x Inv-loop μ-loop
+shared-slice-read-x c = omega arith
+
+mul-wrapping-add-u64 : tie.Need-mul-wrapping-add-u64 Inv-loop μ-loop
+mul-wrapping-add-u64 c = omega arith
+
+element-copy-out-wrapping-add-u64 : tie.Need-element-copy-out-wrapping-add-u64 Inv-loop μ-loop
+element-copy-out-wrapping-add-u64 c = omega arith
+
+wrapping-add-u64-requires : tie.Need-wrapping-add-u64-requires Inv-loop μ-loop
+wrapping-add-u64-requires c κs = search needs
+
+mul-totals : tie.Need-mul-totals Inv-loop μ-loop
+mul-totals c = omega arith
+
+element-write-totals : tie.Need-element-write-totals Inv-loop μ-loop
+element-write-totals c = omega arith
+
+add-j : tie.Need-add-j Inv-loop μ-loop
+add-j c = omega arith
+
+loop-less : tie.Need-loop-less Inv-loop μ-loop
+loop-less c = omega arith
+
+loop-again : tie.Need-loop-again Inv-loop μ-loop
+unfolding plusOne
+loop-again c =
+    let s = c .before .before .before .before .before .before in
+    let l = c .before .before .before .before .loop in
+    let x : ℕ = getD (s .args .book .now) (s .args .from + l .j) 0 in
+    let e = c .wrapping-add-u64 .ensures ∙ ap (λ (n : ℕ). (n + x) % 2 ^ 64) (l .inv .rest (l .j) (le-refl (l .j))) in
+    pass-more (l .inv) _ _ (c .before .before .before .loop-test .taken) (s .pre .0) e
+    (or-one (l .high) (getD (s .args .totals .now) (l .j) 0) x (c .wrapping-add-u64 .result) (s .pre .2 (l .j) (c .before .before .before .loop-test .taken)) e)
+
+returns : tie.Need-returns Inv-loop μ-loop
+returns c =
+    let p = pass-end (c .before .loop .inv) (omega arith) in
+    (p .0, (p .1, p .2))
+
+pub add-one-spec : {M : Type 1} → statement M
+add-one-spec =
+    tie.close
+    (tie.spec
+    Inv-loop
+    μ-loop
+    loop-holds
+    add-x
+    mul-x
+    shared-slice-read-x
+    mul-wrapping-add-u64
+    element-copy-out-wrapping-add-u64
+    wrapping-add-u64-requires
+    mul-totals
+    element-write-totals
+    add-j
+    loop-less
+    loop-again
+    returns)

@@ -1,0 +1,42 @@
+-- The totals of a book's places: for each place of a stretch the sum over the accounts, and whether one reaches 2^62.
+use mathlib.Core.Bool.{Bool}
+use mathlib.Core.List.{List}
+use Prim.Native.Nat.{ℕ, _+_, _*_, _<_}
+use lib.Dec.{leb}
+use lib.ListN.{getD}
+use Rattle.lists.specs.Below.{sumBelow}
+
+-- the widest stretch: 300 components
+abbrev pub widest : ℕ
+widest = 906
+
+-- 2^62: above every limit, and four numbers below it add up without wrapping
+abbrev pub top : ℕ
+top = 4_611_686_018_427_387_904
+
+-- the number at a place of a list
+unfoldable pub numberAt : List ℕ → ℕ → ℕ
+numberAt s k = getD s k 0
+
+-- the number at place k of account a's stretch, w wide
+unfoldable pub placeAt : List ℕ → ℕ → ℕ → ℕ → ℕ
+placeAt b w k a = getD b (a * w + k) 0
+
+-- the total at place k over the first n accounts
+unfoldable pub total : List ℕ → ℕ → ℕ → ℕ → ℕ
+total b w n k = sumBelow (placeAt b w k) n
+
+-- the total at place k once the stretch at `from` is added to the totals t
+unfoldable pub plusOne : List ℕ → List ℕ → ℕ → ℕ → ℕ
+plusOne t b from k = getD t k 0 + getD b (from + k) 0
+
+-- the same once the three stretches from there on, each w wide, are added
+unfoldable pub plusThree : List ℕ → List ℕ → ℕ → ℕ → ℕ → ℕ
+plusThree t b from w k = getD t k 0 + getD b (from + k) 0 + getD b (from + w + k) 0 + getD b (from + w + w + k) 0
+
+unfoldable pub reaches : (ℕ → ℕ) → ℕ → Bool
+reaches f k = leb top (f k)
+
+-- the first w of these numbers are below 2^62
+abbrev pub Low : ℕ → List ℕ → Type 0
+Low w t = (k : ℕ) → k < w → getD t k 0 < top

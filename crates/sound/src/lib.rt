@@ -1,0 +1,302 @@
+// Refusal 5: whether a day, its book and its prices are sound. And whether they have what every call keeps.
+ghost use mathlib.Core.Path.{_≡_};
+ghost use mathlib.Core.Bool.{not, true};
+ghost use Prim.Native.Nat.{ℕ, _+_, _*_, _%_, _^_, _≤_, _<_};
+ghost use lib.ListN.{length, getD};
+ghost use Rattle.lists.specs.Below.{anyBelow, allBelow};
+ghost use Rattle.rules.specs.Book.{widthOf};
+ghost use Rattle.rules.specs.Sound.{isSound, isKept};
+ghost use Rattle.sound.specs.Totals.{widest, top, numberAt, total, plusOne, plusThree, reaches, Low};
+ghost use Rattle.sound.specs.Parts.{sizesFit, mostOf, lineFits, totalsFit, lineStill, stretchStill, priceFits, roomLeft};
+use rules::Day;
+
+// The most that a line, the unit's line and cash may total.
+pub const MOST_OF_LINE: u64 = 1_000_000_000_000_000_000;
+
+pub const MOST_UNITS: u64 = 2_000_000_000_000_000_000;
+
+pub const MOST_CASH: u64 = 4_000_000_000_000_000_000;
+
+// 2^62: above every limit, and four numbers below it add up without wrapping.
+const TOP: u64 = 4_611_686_018_427_387_904;
+
+// The width of an account's stretch.
+pub fn width_of(n: usize) -> usize
+    requires { ⌜ n ≤ 300 ⌝ }
+    ensures { λ r. ⌜ r ≡ widthOf n ⌝ }
+{
+    3 + 3 * (n + 1)
+}
+
+// Adds the stretch at `from` to the totals. False where a total reaches 2^62, which is seen on the number added where the total wraps.
+fn add_one(totals: &mut [u64; 906], book: &[u64], from: usize, width: usize) -> bool
+    requires { ⌜ (width ≤ widest) × (from + width ≤ length (now book)) × Low width (now totals) × (length (now totals) ≡ widest) ⌝ }
+    ensures { λ r. ⌜ r ≡ not (anyBelow (reaches (plusOne (now (totals .entry)) (now (book .entry)) from)) width) ⌝ }
+    ensures long { λ r. ⌜ length (now (totals .exit)) ≡ widest ⌝ }
+    ensures sums { λ r. ⌜ ((k : ℕ) → k < width → getD (now (totals .exit)) k 0 ≡ plusOne (now (totals .entry)) (now (book .entry)) from k % 2 ^ 64) ⌝ }
+{
+    let mut high: u64 = 0;
+    let mut j = 0;
+    while j < width {
+        let x = book[from + j];
+        let t = std::num::wrapping_add_u64(totals[j], x);
+        totals[j] = t;
+        high = high | x | t;
+        j += 1;
+    }
+    high < TOP
+}
+
+// The same for the three stretches from there on, in one pass.
+fn add_three(totals: &mut [u64; 906], book: &[u64], from: usize, width: usize) -> bool
+    requires { ⌜ (width ≤ widest) × (from + width + width + width ≤ length (now book)) × Low width (now totals) × (length (now totals) ≡ widest) ⌝ }
+    ensures { λ r. ⌜ r ≡ not (anyBelow (reaches (plusThree (now (totals .entry)) (now (book .entry)) from width)) width) ⌝ }
+    ensures long { λ r. ⌜ length (now (totals .exit)) ≡ widest ⌝ }
+    ensures sums { λ r. ⌜ ((k : ℕ) → k < width → getD (now (totals .exit)) k 0 ≡ plusThree (now (totals .entry)) (now (book .entry)) from width k % 2 ^ 64) ⌝ }
+{
+    let second = from + width;
+    let third = second + width;
+    let mut high: u64 = 0;
+    let mut j = 0;
+    while j < width {
+        let x = book[from + j];
+        let y = book[second + j];
+        let z = book[third + j];
+        let xy = std::num::wrapping_add_u64(x, y);
+        let zt = std::num::wrapping_add_u64(z, totals[j]);
+        let t = std::num::wrapping_add_u64(xy, zt);
+        totals[j] = t;
+        high = high | x | y | z | t;
+        j += 1;
+    }
+    high < TOP
+}
+
+// Fills the totals, zeros at first, with those of the first `end` accounts, three at a time. False where one reaches 2^62.
+fn add_threes(totals: &mut [u64; 906], book: &[u64], end: usize, width: usize) -> bool
+    requires { ⌜ (width ≤ widest) × (end % 3 ≡ 0) × (end * width ≤ length (now book)) × ((k : ℕ) → k < width → getD (now totals) k 0 ≡ 0) × (length (now totals) ≡ widest) ⌝ }
+    ensures { λ r. ⌜ r ≡ not (anyBelow (reaches (total (now (book .entry)) width end)) width) ⌝ }
+    ensures long { λ r. ⌜ length (now (totals .exit)) ≡ widest ⌝ }
+    ensures sums { λ r. ⌜ (r ≡ true → (k : ℕ) → k < width → getD (now (totals .exit)) k 0 ≡ total (now (book .entry)) width end k) ⌝ }
+{
+    let mut a = 0;
+    while a < end {
+        if !add_three(totals, book, a * width, width) {
+            return false;
+        }
+        a += 3;
+    }
+    true
+}
+
+// Fills the totals, zeros at first, with those of all accounts. False where one reaches 2^62.
+fn add_all(totals: &mut [u64; 906], book: &[u64], accounts: usize, width: usize) -> bool
+    requires { ⌜ (width ≤ widest) × (length (now book) ≡ accounts * width) × ((k : ℕ) → k < width → getD (now totals) k 0 ≡ 0) × (length (now totals) ≡ widest) ⌝ }
+    ensures { λ r. ⌜ r ≡ not (anyBelow (reaches (total (now (book .entry)) width accounts)) width) ⌝ }
+    ensures long { λ r. ⌜ length (now (totals .exit)) ≡ widest ⌝ }
+    ensures sums { λ r. ⌜ (r ≡ true → (k : ℕ) → k < width → getD (now (totals .exit)) k 0 ≡ total (now (book .entry)) width accounts k) ⌝ }
+{
+    let mut a = accounts - accounts % 3;
+    if !add_threes(totals, book, a, width) {
+        return false;
+    }
+    while a < accounts {
+        if !add_one(totals, book, a * width, width) {
+            return false;
+        }
+        a += 1;
+    }
+    true
+}
+
+// The most that a line may total. Line `n` is the unit.
+fn most_of(n: usize, line: usize) -> u64
+    ensures { λ r. ⌜ r ≡ mostOf n line ⌝ }
+{
+    if line < n {
+        return MOST_OF_LINE;
+    }
+    MOST_UNITS
+}
+
+fn line_fits(totals: &[u64; 906], n: usize, line: usize) -> bool
+    requires { ⌜ (n ≤ 300) × (line ≤ n) × Low (widthOf n) (now totals) × (length (now totals) ≡ widest) ⌝ }
+    ensures { λ r. ⌜ r ≡ lineFits n (numberAt (now (totals .entry))) line ⌝ }
+{
+    let at = 3 + 3 * line;
+    totals[at] + totals[at + 1] + totals[at + 2] <= most_of(n, line)
+}
+
+// Whether cash, the counters and every line are within their limits.
+fn totals_fit(totals: &[u64; 906], n: usize) -> bool
+    requires { ⌜ (n ≤ 300) × Low (widthOf n) (now totals) × (length (now totals) ≡ widest) ⌝ }
+    ensures { λ r. ⌜ r ≡ totalsFit n (numberAt (now (totals .entry))) ⌝ }
+{
+    if MOST_CASH < totals[0] {
+        return false;
+    }
+    if fund::CEILING < totals[1] {
+        return false;
+    }
+    if fund::CEILING < totals[2] {
+        return false;
+    }
+    let mut line = 0;
+    while line <= n {
+        if !line_fits(totals, n, line) {
+            return false;
+        }
+        line += 1;
+    }
+    true
+}
+
+// The same of the totals of a book. One that reaches 2^62 is above its limit.
+fn book_fits(book: &[u64], accounts: usize, n: usize) -> bool
+    requires { ⌜ (n ≤ 300) × (length (now book) ≡ accounts * widthOf n) ⌝ }
+    ensures { λ r. ⌜ r ≡ totalsFit n (total (now (book .entry)) (widthOf n) accounts) ⌝ }
+{
+    let mut totals = [0u64; 906];
+    if !add_all(&mut totals, book, accounts, width_of(n)) {
+        return false;
+    }
+    totals_fit(&totals, n)
+}
+
+fn line_still(book: &[u64], line: usize) -> bool
+    requires { ⌜ (line ≤ 300) × (5 + 3 * line < length (now book)) ⌝ }
+    ensures { λ r. ⌜ r ≡ lineStill (now (book .entry)) line ⌝ }
+{
+    let at = 3 + 3 * line;
+    if book[at + 1] != 0 {
+        return false;
+    }
+    book[at + 2] == 0
+}
+
+// Whether the fund, the first account, has no units, and counters and bought and got lots of 0.
+fn fund_still(book: &[u64], n: usize) -> bool
+    requires { ⌜ (n ≤ 300) × (widthOf n ≤ length (now book)) ⌝ }
+    ensures { λ r. ⌜ r ≡ stretchStill n (now (book .entry)) ⌝ }
+{
+    if book[1] != 0 {
+        return false;
+    }
+    if book[2] != 0 {
+        return false;
+    }
+    if book[3 + 3 * n] != 0 {
+        return false;
+    }
+    let mut line = 0;
+    while line <= n {
+        if !line_still(book, line) {
+            return false;
+        }
+        line += 1;
+    }
+    true
+}
+
+fn prices_fit(prices: &[u64], n: usize) -> bool
+    requires { ⌜ length (now prices) ≡ n ⌝ }
+    ensures { λ r. ⌜ r ≡ allBelow (priceFits (now (prices .entry))) n ⌝ }
+{
+    let mut i = 0;
+    while i < n {
+        if rules::MOST_PRICE < prices[i] {
+            return false;
+        }
+        i += 1;
+    }
+    true
+}
+
+// A, N and the lengths of the book and of the prices.
+fn sizes_fit(accounts: usize, n: usize, book: usize, prices: usize) -> bool
+    ensures { λ r. ⌜ r ≡ sizesFit accounts n book prices ⌝ }
+{
+    if accounts < 2 {
+        return false;
+    }
+    if 64 < accounts {
+        return false;
+    }
+    if n < 1 {
+        return false;
+    }
+    if 300 < n {
+        return false;
+    }
+    if book != accounts * width_of(n) {
+        return false;
+    }
+    prices == n
+}
+
+// Refusal 5's test.
+pub fn is_sound(d: Day, book: &[u64], prices: &[u64]) -> bool
+    ensures { λ r. ⌜ r ≡ isSound d (now (book .entry)) (now (prices .entry)) ⌝ }
+{
+    let accounts = d.accounts;
+    let n = d.count;
+    let f = d.fund;
+    let components = d.components;
+    if !sizes_fit(accounts, n, book.len(), prices.len()) {
+        return false;
+    }
+    if !fund::fund_in_range(f) {
+        return false;
+    }
+    if fund::component_fault(f.first_code, components, n) < n {
+        return false;
+    }
+    if !prices_fit(prices, n) {
+        return false;
+    }
+    if !fund_still(book, n) {
+        return false;
+    }
+    book_fits(book, accounts, n)
+}
+
+// The total of one place over all accounts.
+fn place_total(book: &[u64], accounts: usize, width: usize, place: usize) -> u64
+    requires { ⌜ (place < width) × (length (now book) ≡ accounts * width) × (total (now book) width accounts place < top) ⌝ }
+    ensures { λ r. ⌜ r ≡ total (now (book .entry)) width accounts place ⌝ }
+    ensures small { λ r. ⌜ r < top ⌝ }
+{
+    let mut sum: u64 = 0;
+    let mut a = 0;
+    while a < accounts {
+        sum += book[a * width + place];
+        a += 1;
+    }
+    sum
+}
+
+// Whether there is room for all the units that the ceiling still lets be created.
+fn room_left(book: &[u64], accounts: usize, n: usize) -> bool
+    requires { ⌜ (n ≤ 300) × (length (now book) ≡ accounts * widthOf n) × (totalsFit n (total (now book) (widthOf n) accounts) ≡ true) ⌝ }
+    ensures { λ r. ⌜ r ≡ roomLeft n (total (now (book .entry)) (widthOf n) accounts) ⌝ }
+{
+    let width = width_of(n);
+    let at = 3 + 3 * n;
+    let old = place_total(book, accounts, width, at);
+    let bought = place_total(book, accounts, width, at + 1);
+    let got = place_total(book, accounts, width, at + 2);
+    let created = place_total(book, accounts, width, 1);
+    old + bought + got + (fund::CEILING - created) <= MOST_UNITS
+}
+
+// What every call keeps: sound, with that room.
+pub fn is_kept(d: Day, book: &[u64], prices: &[u64]) -> bool
+    ensures { λ r. ⌜ r ≡ isKept d (now (book .entry)) (now (prices .entry)) ⌝ }
+{
+    let accounts = d.accounts;
+    let n = d.count;
+    if !is_sound(d, book, prices) {
+        return false;
+    }
+    room_left(book, accounts, n)
+}
