@@ -10,7 +10,7 @@ use native.Mathlib.Decide.{ℕ-discrete}
 use native.Mathlib.Omega.{arith}
 use lib.Dec.{ltb, eqb}
 use lib.ListN.{length, getD, length-append, List·getD-append}
-use lib.Seq.{getD-at}
+use lib.Seq.{getD-at, ext-getD}
 use borrow.Author.Tests.{lt-ltb, le-ltb, ltb-false, eq-eqb, ne-eqb}
 
 -- f 0 + f 1 + .. + f (n - 1)
@@ -76,6 +76,16 @@ sum-part f (suc n) i h =
     (λ e. subst (λ (k : ℕ). f k ≤ sumBelow f n + f n) (sym e) (omega arith))
     (λ l. omega (arith, sum-part f n i l))
     (eq-or-lt-of-le (le-of-suc-le-suc h))
+
+-- a sum grows with its count
+pub sum-grows : (f : ℕ → ℕ) (i n : ℕ) → i ≤ n → sumBelow f i ≤ sumBelow f n
+unfolding sumBelow
+sum-grows f i zero h = let e : i ≡ 0 = omega arith in rw e (le-refl _)
+sum-grows f i (suc n) h =
+    ⊎-elim
+    (λ e. le-of-eq (ap (sumBelow f) e))
+    (λ l. omega (arith, sum-grows f i n (le-of-suc-le-suc l)))
+    (eq-or-lt-of-le h)
 
 -- two functions that agree below n
 pub sum-same : (f g : ℕ → ℕ) (n : ℕ) → ((k : ℕ) → k < n → f k ≡ g k) → sumBelow f n ≡ sumBelow g n
@@ -279,3 +289,9 @@ module _ {A : Type 0} where
       (λ e. subst (λ (i : ℕ). getD (tabulate f n ++ (f n ∷ [])) i d ≡ f i) (sym e) (getD-at (tabulate f n) (f n) [] d n (table-length f n)))
       (λ h. List·getD-append (tabulate f n) (f n ∷ []) d k (rw table-length h) ∙ table-at f n k d h)
       (eq-or-lt-of-le (le-of-suc-le-suc l))
+
+  -- a list of n elements whose k-th is f k
+  pub table-ext : (f : ℕ → A) (n : ℕ) (d : A) (l : List A) → length l ≡ n → ((k : ℕ) → k < n → getD l k d ≡ f k) → l ≡ tabulate f n
+  table-ext f n d l e all =
+      ext-getD d l (tabulate f n) (e ∙ sym (table-length f n))
+      (λ k h. let below : k < n = omega arith in all k below ∙ sym (table-at f n k d below))

@@ -3,12 +3,12 @@ use mathlib.Core.Path.{_≡_, refl, sym, ap, _∙_, subst⁻¹}
 use mathlib.Core.List.{List, [], _∷_, _++_, append-assoc}
 use mathlib.Core.Logic.{⊎-elim}
 use Prim.Native.Nat.{ℕ, zero, suc, _+_, _-_, _*_, _≤_, _<_}
-use native.Mathlib.Nat.{suc-mul, add-sub-cancel-left, mul-le-mul-right, not-suc-le-zero, eq-or-lt-of-le, le-of-suc-le-suc}
+use native.Mathlib.Nat.{zero-mul, suc-mul, le-step, lt-suc-self, add-sub-cancel-left, mul-le-mul-right, not-suc-le-zero, eq-or-lt-of-le, le-of-suc-le-suc}
 use native.Mathlib.Decide.{decLt}
 use native.Mathlib.Omega.{arith}
 use lib.ListN.{length, getD, take, drop, length-append, length-drop, take-append-drop}
-use lib.Seq.{length-take-le, take-all, take-at, drop-at, take-append-le, drop-append-le, drop-drop, getD-take, getD-drop}
-use borrow.Rule.Slice.PartMut.{same-len-mid}
+use lib.Seq.{length-take-le, take-all, take-at, drop-at, take-append-le, drop-append-le, drop-drop, take-add, getD-take, getD-drop}
+use borrow.Rule.Slice.PartMut.{same-len-mid, put-same}
 use Rattle.lists.specs.Below.{sumBelow, sum-one, sum-two, joinBelow, join-length}
 
 -- the a-th stretch of w elements of b
@@ -43,6 +43,17 @@ pub stretch-put-same : (w : ℕ) (b : List ℕ) (a : ℕ) (s : List ℕ) → a *
 unfolding putStretch stretchOf
 stretch-put-same w b a s h e =
     rw (drop-at (take (a * w) b) _ (a * w) (length-take-le (a * w) b (omega arith))) (take-at s _ w e)
+
+-- a stretch put back as it was, and one put twice
+pub put-back : (w : ℕ) (b : List ℕ) (a : ℕ) → putStretch w b a (stretchOf w b a) ≡ b
+unfolding putStretch stretchOf
+put-back w b a = put-same (a * w) w b
+
+pub put-again : (w : ℕ) (b : List ℕ) (a : ℕ) (s t : List ℕ) → a * w + w ≤ length b → length s ≡ w → putStretch w (putStretch w b a s) a t ≡ putStretch w b a t
+unfolding putStretch
+put-again w b a s t h e =
+    let front : length (take (a * w) b) ≡ a * w = length-take-le (a * w) b (omega arith) in
+    rw (take-at (take (a * w) b) _ (a * w) front, drop-at (take (a * w) b) _ (a * w) front, drop-at s _ w e)
 
 -- the k elements from p on, where they lie before the part that changed
 before-mid : (p k a : ℕ) (b s : List ℕ) → p + k ≤ a → a ≤ length b → take k (drop p (take a b ++ s)) ≡ take k (drop p b)
@@ -99,6 +110,17 @@ stretch-join f (suc n) w a all l =
     (λ e. subst⁻¹ (λ (i : ℕ). stretchOf w (joinBelow f n ++ f n) i ≡ f i) e (join-last (joinBelow f n) (f n) n w (join-length f n w all) (all n)))
     (λ h. join-front (joinBelow f n) (f n) n w a (join-length f n w all) h ∙ stretch-join f n w a all h)
     (eq-or-lt-of-le (le-of-suc-le-suc l))
+
+-- the first n stretches, where the a-th is f a
+take-join : (f : ℕ → List ℕ) (n w : ℕ) (b : List ℕ) → ((a : ℕ) → a < n → stretchOf w b a ≡ f a) → take (n * w) b ≡ joinBelow f n
+unfolding joinBelow stretchOf
+take-join f zero w b all = rw zero-mul
+take-join f (suc n) w b all =
+    rw (suc-mul, take-add (n * w) w b, take-join f n w b (λ a h. all a (le-step h)), all n (lt-suc-self n))
+
+-- a list of n stretches whose a-th is f a
+pub join-ext : (f : ℕ → List ℕ) (n w : ℕ) (b : List ℕ) → length b ≡ n * w → ((a : ℕ) → a < n → stretchOf w b a ≡ f a) → b ≡ joinBelow f n
+join-ext f n w b e all = sym (take-all (n * w) b (omega arith)) ∙ take-join f n w b all
 
 -- one stretch is replaced: the sum changes by that stretch's number
 pub over-put : (w k : ℕ) (g : List ℕ → ℕ) (b : List ℕ) (a : ℕ) (s : List ℕ) → a < k → a * w + w ≤ length b → length s ≡ w → over w k g (putStretch w b a s) + g (stretchOf w b a) ≡ over w k g b + g s

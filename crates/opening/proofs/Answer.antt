@@ -1,0 +1,147 @@
+-- Opening's answer, stage by stage.
+use mathlib.Core.Path.{_≡_, refl, sym, ap, _∙_}
+use mathlib.Core.Bool.{Bool, true, false, not, _&&_, true≢false}
+use mathlib.Core.List.{List, [], _∷_}
+use Prim.Native.Nat.{ℕ, _+_, _≤_, _<_}
+use native.Mathlib.Omega.{arith}
+use lib.Dec.{ltb}
+use lib.ListN.{length, replicate}
+use borrow.Author.Tests.{lt-ltb, le-ltb, eqb-true}
+use Rattle.lists.specs.Below.{joinBelow}
+use Rattle.lists.specs.Every.{every, every-at, inside}
+use Rattle.lists.specs.Checks.{Check, check, reply, answered, isAccepted}
+use Rattle.fund.specs.declared.Component.{Component}
+use Rattle.fund.specs.Fund.{fundInRange}
+use Rattle.fund.specs.Components.{componentFault}
+use Rattle.rules.specs.declared.Day.{Day}
+use Rattle.rules.specs.declared.Refusal.{Refusal}
+use Rattle.rules.specs.declared.Answer.{Answer}
+use Rattle.rules.specs.declared.Answer.the-variants.{Done, Refused}
+use Rattle.rules.specs.Replies.{answerReply}
+use Rattle.rules.specs.Opening.{Opening, holdingsOf, componentsOpened, lengthsFit, openedTotal, openedCash, totalFault, dayChecks, openingReply, blankDay, openedDay, openedStretch, openedBook, openedPrices}
+use Rattle.rules.proofs.Replies.{refused}
+use Rattle.rules.proofs.OpenedDay.{opened-opens, opened-day, opened-book, opened-prices}
+use Rattle.opening.specs.Given.{Outcome, sizesFit, placesOf, overOpened, faultOpened}
+use Rattle.opening.proofs.Sizes.{Sizes}
+
+-- refusal 1's three tests on plain truth values
+sizes-fail : (a n l : Bool) (cs : List Check) → (a && (n && l)) ≡ false → answered (check (not a) 1 0 ∷ check (not n) 1 0 ∷ check (not l) 1 0 ∷ cs) 0 ≡ reply 1 0 0
+unfolding answered
+sizes-fail true true true cs e = absurd (true≢false e)
+sizes-fail true true false cs e = refl
+sizes-fail true false l cs e = refl
+sizes-fail false n l cs e = refl
+
+sizes-pass : (a n l : Bool) (cs : List Check) → (a && (n && l)) ≡ true → answered (check (not a) 1 0 ∷ check (not n) 1 0 ∷ check (not l) 1 0 ∷ cs) 0 ≡ answered cs 0
+unfolding answered
+sizes-pass true true true cs e = refl
+sizes-pass true true false cs e = absurd (true≢false (sym e))
+sizes-pass true false l cs e = absurd (true≢false (sym e))
+sizes-pass false n l cs e = absurd (true≢false (sym e))
+
+module _ (o : Opening) where
+  -- refusal 1's test and its facts, and the places that refusals 3 and 4 name
+  abbrev pub sizesOf : Bool
+  sizesOf = sizesFit (o .accounts) (o .count) (length (o .components)) (length (o .holdings)) (length (o .book)) (length (o .prices))
+
+  abbrev pub LentSizes : Type 0
+  LentSizes = Sizes (o .accounts) (o .count) (length (o .components)) (length (o .holdings)) (length (o .book)) (length (o .prices))
+
+  abbrev pub componentPlace : ℕ
+  componentPlace = componentFault (o .fund .«first_code») (componentsOpened o) (o .count)
+
+  abbrev pub linePlace : ℕ
+  linePlace = faultOpened (o .accounts) (o .count) (o .holdings)
+
+  -- the tests after refusal 1's
+  abbrev laterChecks : List Check
+  laterChecks =
+      check (not (fundInRange (o .fund))) 2 0
+      ∷ check (ltb componentPlace (o .count)) 3 componentPlace
+      ∷ check (ltb linePlace (o .count + 2)) 4 linePlace
+      ∷ []
+
+  pub answer-sizes : sizesOf ≡ false → reply 1 0 0 ≡ openingReply o
+  unfolding openingReply dayChecks sizesFit lengthsFit every
+  answer-sizes e = sym (sizes-fail (inside 2 64 (o .accounts)) (inside 1 300 (o .count)) (lengthsFit o) _ e)
+
+  later : sizesOf ≡ true → answered laterChecks 0 ≡ openingReply o
+  unfolding openingReply dayChecks totalFault faultOpened overOpened openedTotal openedCash sizesFit lengthsFit every
+  later e = sym (sizes-pass (inside 2 64 (o .accounts)) (inside 1 300 (o .count)) (lengthsFit o) _ e)
+
+  pub answer-fund : sizesOf ≡ true → fundInRange (o .fund) ≡ false → reply 2 0 0 ≡ openingReply o
+  unfolding answered
+  answer-fund e f = rw (← later e, f)
+
+  pub answer-component : (fault : ℕ) → sizesOf ≡ true → fundInRange (o .fund) ≡ true → fault ≡ componentPlace → fault < o .count → reply 3 fault 0 ≡ openingReply o
+  unfolding answered
+  answer-component fault e f p c =
+      let low : componentPlace < o .count = omega arith in
+      rw (← later e, f, lt-ltb componentPlace (o .count) low, p)
+
+  pub answer-total : (fault line : ℕ) → sizesOf ≡ true → fundInRange (o .fund) ≡ true → fault ≡ componentPlace → o .count ≤ fault
+      → line ≡ linePlace → line < o .count + 2 → reply 4 line 0 ≡ openingReply o
+  unfolding answered
+  answer-total fault line e f p c q t =
+      let past : o .count ≤ componentPlace = omega arith in
+      let low : linePlace < o .count + 2 = omega arith in
+      rw (← later e, f, le-ltb componentPlace (o .count) past, lt-ltb linePlace (o .count + 2) low, q)
+
+  pub answer-done : (fault line : ℕ) → sizesOf ≡ true → fundInRange (o .fund) ≡ true → fault ≡ componentPlace → o .count ≤ fault
+      → line ≡ linePlace → o .count + 2 ≤ line → reply 0 0 0 ≡ openingReply o
+  unfolding answered
+  answer-done fault line e f p c q t =
+      let past : o .count ≤ componentPlace = omega arith in
+      let end : o .count + 2 ≤ linePlace = omega arith in
+      rw (← later e, f, le-ltb componentPlace (o .count) past, le-ltb linePlace (o .count + 2) end)
+
+  pub places-fault : (places : List Component) (fault : ℕ) → places ≡ placesOf (o .components) (o .count) → fault ≡ componentFault (o .fund .«first_code») places (o .count) → fault ≡ componentPlace
+  unfolding componentsOpened placesOf
+  places-fault places fault e p = p ∙ ap (λ (cs : List Component). componentFault (o .fund .«first_code») cs (o .count)) e
+
+  -- what an accepted opening says of the lent lengths
+  accepted-sizes : isAccepted (openingReply o) ≡ true → LentSizes
+  unfolding lengthsFit
+  accepted-sizes e =
+      let p = opened-opens o e in
+      let at = every-at _ (p .lengths) in
+      record {
+        sized = record { accounts-low = p .accounts-low; accounts-high = p .accounts-high; count-low = p .count-low; count-high = p .count-high };
+        components-size = eqb-true _ _ (at 0);
+        holdings-size = eqb-true _ _ (at 1);
+        book-size = eqb-true _ _ (at 2);
+        prices-size = eqb-true _ _ (at 3);
+      }
+
+  module _ (answer : Answer) (said : answerReply answer ≡ openingReply o) where
+    done : answer ≡ Done → isAccepted (openingReply o) ≡ true
+    unfolding isAccepted
+    done e = rw (← said, e)
+
+    pub done-sizes : answer ≡ Done → LentSizes
+    done-sizes e = accepted-sizes (done e)
+
+    -- an accepted opening
+    pub outcome-done : (places : List Component) (book prices : List ℕ) → answer ≡ Done → places ≡ placesOf (o .components) (o .count)
+        → book ≡ joinBelow (λ a. openedStretch (o .count) (holdingsOf o a)) (o .accounts) → prices ≡ replicate (length (o .prices)) 0
+        → Outcome o (record { day = record { accounts = o .accounts; count = o .count; fund = o .fund; components = places }; answer = answer }) book prices
+    unfolding componentsOpened placesOf
+    outcome-done places book prices e p b q =
+        record {
+          answer-is = said;
+          day-is = rw p (sym (opened-day o (done e)));
+          book-is = b ∙ sym (opened-book o (done e));
+          prices-is = q ∙ ap (λ (n : ℕ). replicate n 0) (done-sizes e .prices-size) ∙ sym (opened-prices o (done e));
+        }
+
+    -- a refused one
+    pub outcome-refused : (why : Refusal) (day : Day) → answer ≡ Refused why → day ≡ blankDay → Outcome o (record { day = day; answer = answer }) (o .book) (o .prices)
+    unfolding openedDay openedBook openedPrices
+    outcome-refused why day e d =
+        let no : isAccepted (openingReply o) ≡ false = rw (← said, e) (refused why) in
+        record {
+          answer-is = said;
+          day-is = rw no d;
+          book-is = rw no;
+          prices-is = rw no;
+        }

@@ -1,0 +1,6 @@
+pub mod Totals
+pub mod Sizes
+pub mod Front
+pub mod Answer
+pub mod Places
+pub mod Filled

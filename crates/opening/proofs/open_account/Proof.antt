@@ -1,0 +1,80 @@
+-- `opening::open_account` meets its contract. The loop's invariant: the stretch is opened as far as line `l`.
+use mathlib.Core.Path.{sym, _∙_}
+use Prim.Native.Nat.{_+_, _-_, _≤_}
+use native.Mathlib.Omega.{arith}
+use Rattle.opening.proofs.Front.{Fronted, fronted-none, fronted-more, fronted-all}
+use Rattle.opening.proofs.open_account.Statement.{statement}
+use Rattle.opening.proofs.open_account.Tie as tie
+
+abbrev Inv-loop : tie.InvT-loop
+Inv-loop stretch₀ held count l₀ stretch l = (l ≤ count + 1) × Fronted count held l stretch
+
+abbrev μ-loop : tie.MeasureT-loop
+μ-loop stretch₀ held count l₀ stretch l = count + 1 - l
+
+shared-slice-read-put-three : tie.Need-shared-slice-read-put-three Inv-loop μ-loop
+shared-slice-read-put-three c = omega arith
+
+put-three-requires : tie.Need-put-three-requires Inv-loop μ-loop
+put-three-requires c κs = omega arith
+
+loop-holds : tie.Need-loop-holds Inv-loop μ-loop
+loop-holds c = (omega arith, fronted-none _ _ _ _ (c .before .before .before .before .before .before .before .pre .0) (c .before .before .put-three .ensures))
+
+add-loop : tie.Need-add-loop Inv-loop μ-loop
+add-loop c = omega arith
+
+mul-put-three : tie.Need-mul-put-three Inv-loop μ-loop
+mul-put-three c = omega arith
+
+add-put-three : tie.Need-add-put-three Inv-loop μ-loop
+add-put-three c = omega arith
+
+add-put-three-2 : tie.Need-add-put-three-2 Inv-loop μ-loop
+add-put-three-2 c = omega arith
+
+mul-put-three-2 : tie.Need-mul-put-three-2 Inv-loop μ-loop
+mul-put-three-2 c = omega arith
+
+shared-slice-read-put-three-2 : tie.Need-shared-slice-read-put-three-2 Inv-loop μ-loop
+shared-slice-read-put-three-2 c = omega arith
+
+put-three-requires-2 : tie.Need-put-three-requires-2 Inv-loop μ-loop
+put-three-requires-2 c κs = omega (arith, c .before .before .before .loop .inv .1 .size)
+
+add-l : tie.Need-add-l Inv-loop μ-loop
+add-l c = omega arith
+
+loop-less : tie.Need-loop-less Inv-loop μ-loop
+loop-less c = omega arith
+
+loop-again : tie.Need-loop-again Inv-loop μ-loop
+loop-again c = (omega arith, fronted-more _ _ _ _ _ (omega arith) (c .before .before .put-three2 .ensures) (c .before .before .before .before .before .before .loop .inv .1))
+
+same-length : tie.Need-same-length Inv-loop μ-loop
+same-length c = c .before .loop .inv .1 .size ∙ sym (c .before .before .before .before .before .before .before .before .before .pre .0)
+
+returns : tie.Need-returns Inv-loop μ-loop
+returns c = fronted-all _ _ _ _ (omega arith) (c .before .loop .inv .1)
+
+pub open-account-spec : {M : Type 1} → statement M
+open-account-spec =
+    tie.close
+    (tie.spec
+    Inv-loop
+    μ-loop
+    shared-slice-read-put-three
+    put-three-requires
+    loop-holds
+    add-loop
+    mul-put-three
+    add-put-three
+    add-put-three-2
+    mul-put-three-2
+    shared-slice-read-put-three-2
+    put-three-requires-2
+    add-l
+    loop-less
+    loop-again
+    same-length
+    returns)

@@ -1,0 +1,298 @@
+// Opening: its tests, refusals 1 to 4, and the book and prices that an accepted opening leaves.
+ghost use mathlib.Core.Path.{_≡_};
+ghost use Prim.Native.Nat.{_+_, _*_, _≤_, _<_, min};
+ghost use lib.ListN.{length, replicate};
+ghost use Rattle.lists.specs.Below.{joinBelow};
+ghost use Rattle.lists.specs.Stretch.{stretchOf, putStretch};
+ghost use Rattle.rules.specs.Book.{widthOf};
+ghost use Rattle.rules.specs.Replies.{answerReply};
+ghost use Rattle.rules.specs.Opening.{openingReply, blankFund, blankDay, openedStretch};
+ghost use Rattle.opening.specs.Given.{given, Outcome, Sized, sizesFit, placesOf, cappedTotal, overOpened, faultOpened, putThree};
+use fund::Component;
+use fund::Fund;
+use rules::Answer;
+use rules::Day;
+use rules::Opened;
+use rules::Refusal;
+use units::Rate;
+
+// The most that a line may total, the unit too.
+const MOST_OF_LINE: u64 = 1_000_000_000_000_000_000;
+
+// The most that cash may total.
+const MOST_CASH: u64 = 4_000_000_000_000_000_000;
+
+// total + x, or cap where that is more.
+fn add_capped(total: u64, x: u64, cap: u64) -> u64
+    requires { ⌜ total ≤ cap ⌝ }
+    ensures { λ r. ⌜ r ≡ min (total + x) cap ⌝ }
+{
+    if cap - total < x {
+        return cap;
+    }
+    total + x
+}
+
+// The total of a column over all accounts, as far as a cap.
+fn column_total(run: &[u64], w: usize, accounts: usize, column: usize, cap: u64) -> u64
+    requires { ⌜ column < w ⌝ }
+    requires { ⌜ length (now run) ≡ accounts * w ⌝ }
+    ensures { λ r. ⌜ r ≡ cappedTotal w (now (run .entry)) accounts column cap ⌝ }
+{
+    let mut total: u64 = 0;
+    let mut a = 0;
+    while a < accounts {
+        total = add_capped(total, run[a * w + column], cap);
+        a += 1;
+    }
+    total
+}
+
+// Refusal 4 at a place: a line, of which `count` is the unit, or one past it for cash.
+fn over_at(holdings: &[u64], accounts: usize, count: usize, place: usize) -> bool
+    requires { ⌜ Sized accounts count ⌝ }
+    requires { ⌜ length (now holdings) ≡ accounts * (count + 2) ⌝ }
+    requires { ⌜ place < count + 2 ⌝ }
+    ensures { λ r. ⌜ r ≡ overOpened accounts count (now (holdings .entry)) place ⌝ }
+{
+    let w = count + 2;
+    if count < place {
+        return MOST_CASH < column_total(holdings, w, accounts, 0, MOST_CASH + 1);
+    }
+    if place == count {
+        if 0 < holdings[count + 1] {
+            return true;
+        }
+    }
+    MOST_OF_LINE < column_total(holdings, w, accounts, 1 + place, MOST_OF_LINE + 1)
+}
+
+// The lowest place at which refusal 4 holds, and `count` + 2 where there is none.
+fn total_fault(holdings: &[u64], accounts: usize, count: usize) -> usize
+    requires { ⌜ Sized accounts count ⌝ }
+    requires { ⌜ length (now holdings) ≡ accounts * (count + 2) ⌝ }
+    ensures { λ r. ⌜ r ≡ faultOpened accounts count (now (holdings .entry)) ⌝ }
+{
+    let places = count + 2;
+    let mut place = 0;
+    while place < places {
+        if over_at(holdings, accounts, count, place) {
+            return place;
+        }
+        place += 1;
+    }
+    place
+}
+
+// Refusal 1's test. The ranges come first, so that no product is too large.
+fn sizes_fit(
+    accounts: usize,
+    count: usize,
+    components: usize,
+    holdings: usize,
+    book: usize,
+    prices: usize,
+) -> bool
+    ensures { λ r. ⌜ r ≡ sizesFit accounts count components holdings book prices ⌝ }
+{
+    if accounts < 2 {
+        return false;
+    }
+    if 64 < accounts {
+        return false;
+    }
+    if count < 1 {
+        return false;
+    }
+    if fund::MOST_COMPONENTS < count {
+        return false;
+    }
+    if components != fund::COMPONENT_WIDTH * count {
+        return false;
+    }
+    if holdings != accounts * (count + 2) {
+        return false;
+    }
+    if book != accounts * (3 + 3 * (count + 1)) {
+        return false;
+    }
+    prices == count
+}
+
+// The day's 300 component places: those of the run, then blank ones.
+fn components_of(run: &[u64], count: usize) -> [Component; 300]
+    requires { ⌜ count ≤ 300 ⌝ }
+    requires { ⌜ length (now run) ≡ 5 * count ⌝ }
+    ensures { λ r. ⌜ r ≡ placesOf (now (run .entry)) count ⌝ }
+{
+    let blank = fund::blank_component();
+    let mut components = [blank; 300];
+    let mut i = 0;
+    while i < count {
+        components[i] = fund::component_at(run, i);
+        i += 1;
+    }
+    components
+}
+
+// The answer, which changes nothing.
+fn opening_answer(
+    accounts: usize,
+    count: usize,
+    fund: Fund,
+    components: &[u64],
+    holdings: &[u64],
+    book: &[u64],
+    prices: &[u64],
+) -> Answer
+    ensures { λ r. ⌜ answerReply r ≡ openingReply (given accounts count fund (now (components .entry)) (now (holdings .entry)) (now (book .entry)) (now (prices .entry))) ⌝ }
+{
+    if !sizes_fit(
+        accounts,
+        count,
+        components.len(),
+        holdings.len(),
+        book.len(),
+        prices.len(),
+    ) {
+        return Answer::Refused(Refusal::Sizes);
+    }
+    if !fund::fund_in_range(fund) {
+        return Answer::Refused(Refusal::FundField);
+    }
+    let places = components_of(components, count);
+    let fault = fund::component_fault(fund.first_code, places, count);
+    if fault < count {
+        return Answer::Refused(Refusal::Component(fault));
+    }
+    let over = total_fault(holdings, accounts, count);
+    if over < count + 2 {
+        return Answer::Refused(Refusal::Total(over));
+    }
+    Answer::Done
+}
+
+// Three numbers from a place on.
+fn put_three(stretch: &mut [u64], at: usize, a: u64, b: u64, c: u64)
+    requires { ⌜ at + 2 < length (now stretch) ⌝ }
+    ensures { λ _. ⌜ now (stretch .exit) ≡ putThree at a b c (now (stretch .entry)) ⌝ }
+{
+    stretch[at] = a;
+    stretch[at + 1] = b;
+    stretch[at + 2] = c;
+}
+
+// An account's stretch: its cash and no counters, then each line's holding in old.
+fn open_account(stretch: &mut [u64], held: &[u64], count: usize)
+    requires { ⌜ length (now stretch) ≡ widthOf count ⌝ }
+    requires { ⌜ length (now held) ≡ count + 2 ⌝ }
+    ensures { λ _. ⌜ now (stretch .exit) ≡ openedStretch count (now (held .entry)) ⌝ }
+{
+    put_three(stretch, 0, held[0], 0, 0);
+    let mut l = 0;
+    while l < count + 1 {
+        put_three(stretch, 3 + 3 * l, held[1 + l], 0, 0);
+        l += 1;
+    }
+}
+
+// Account a's stretch of the book, from its part of the holdings.
+fn open_part(book: &mut [u64], holdings: &[u64], count: usize, a: usize)
+    requires { ⌜ a * widthOf count + widthOf count ≤ length (now book) ⌝ }
+    requires { ⌜ a * (count + 2) + (count + 2) ≤ length (now holdings) ⌝ }
+    ensures { λ _. ⌜ now (book .exit) ≡ putStretch (widthOf count) (now (book .entry)) a (openedStretch count (stretchOf (count + 2) (now (holdings .entry)) a)) ⌝ }
+{
+    let w = 3 + 3 * (count + 1);
+    let h = count + 2;
+    let start = a * w;
+    let end = start + w;
+    let from = a * h;
+    let to = from + h;
+    open_account(&mut book[start..end], &holdings[from..to], count);
+}
+
+// Every account's stretch.
+fn open_book(book: &mut [u64], holdings: &[u64], accounts: usize, count: usize)
+    requires { ⌜ length (now book) ≡ accounts * widthOf count ⌝ }
+    requires { ⌜ length (now holdings) ≡ accounts * (count + 2) ⌝ }
+    ensures { λ _. ⌜ now (book .exit) ≡ joinBelow (λ a. openedStretch count (stretchOf (count + 2) (now (holdings .entry)) a)) accounts ⌝ }
+{
+    let mut a = 0;
+    while a < accounts {
+        open_part(book, holdings, count, a);
+        a += 1;
+    }
+}
+
+// No prices yet.
+fn clear(prices: &mut [u64])
+    ensures { λ _. ⌜ now (prices .exit) ≡ replicate (length (now (prices .entry))) 0 ⌝ }
+{
+    let mut i = 0;
+    while i < prices.len() {
+        prices[i] = 0;
+        i += 1;
+    }
+}
+
+// The fund of the blank day.
+fn blank_fund() -> Fund
+    ensures { λ r. ⌜ r ≡ blankFund ⌝ }
+{
+    Fund {
+        first_code: 0,
+        basket_size: 0,
+        max_cash_ratio: Rate(0),
+        switch: 0,
+        estimated_cash: 0,
+        limits: [0; 8],
+    }
+}
+
+// The day that a refused opening hands back.
+fn blank_day() -> Day
+    ensures { λ r. ⌜ r ≡ blankDay ⌝ }
+{
+    let blank = fund::blank_component();
+    let fund = blank_fund();
+    let components = [blank; 300];
+    Day {
+        accounts: 0,
+        count: 0,
+        fund,
+        components,
+    }
+}
+
+// Opening: the answer and the day, with the book and the prices filled. A refused opening changes nothing, and its day is blank.
+pub fn open(
+    accounts: usize,
+    count: usize,
+    fund: Fund,
+    components: &[u64],
+    holdings: &[u64],
+    book: &mut [u64],
+    prices: &mut [u64],
+) -> Opened
+    ensures { λ r. ⌜ Outcome (given accounts count fund (now (components .entry)) (now (holdings .entry)) (now (book .entry)) (now (prices .entry))) r (now (book .exit)) (now (prices .exit)) ⌝ }
+{
+    let answer = opening_answer(accounts, count, fund, components, holdings, book, prices);
+    match answer {
+        Answer::Done => {
+            open_book(book, holdings, accounts, count);
+            clear(prices);
+            let places = components_of(components, count);
+            let day = Day {
+                accounts,
+                count,
+                fund,
+                components: places,
+            };
+            Opened { day, answer }
+        }
+        Answer::Refused(_) => {
+            let day = blank_day();
+            Opened { day, answer }
+        }
+    }
+}
