@@ -3,3 +3,4 @@ pub mod Every
 pub mod Checks
 pub mod Stretch
 pub mod Same
+pub mod Runs

@@ -1,0 +1,5 @@
+pub mod Stock
+pub mod Trade
+pub mod Turns
+pub mod Whole
+pub mod Ready

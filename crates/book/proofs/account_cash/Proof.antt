@@ -1,0 +1,25 @@
+-- `book::account_cash` meets its contract: a creation takes the cash, a redemption gives it.
+use mathlib.Core.Path.{sym}
+use Rattle.rules.specs.Kinds.{accountCash}
+use Rattle.book.proofs.Stock.{by-creation, by-redemption}
+use borrow.Author.Needs.{needs}
+use native.Mathlib.Omega.{arith}
+use Rattle.book.proofs.account_cash.Statement.{statement}
+use Rattle.book.proofs.account_cash.Tie as tie
+
+sub-result : tie.Need-sub-result
+sub-result c = omega (arith, c .before .before .pre .0 (c .before .if1 .taken))
+
+returns : tie.Need-returns
+unfolding accountCash
+returns c = sym (by-creation _ _ (c .before .if1 .taken))
+
+add-result : tie.Need-add-result
+add-result c = search needs
+
+returns-2 : tie.Need-returns-2
+unfolding accountCash
+returns-2 c = sym (by-redemption _ _ (c .before .if1 .left))
+
+pub account-cash-spec : {M : Type 1} → statement M
+account-cash-spec = tie.close (tie.spec sub-result returns add-result returns-2)

@@ -1,0 +1,25 @@
+-- `book::fund_cash` meets its contract: a creation gives the cash, a redemption takes it.
+use mathlib.Core.Path.{sym}
+use Rattle.rules.specs.Kinds.{fundCash}
+use Rattle.book.proofs.Stock.{by-creation, by-redemption}
+use borrow.Author.Needs.{needs}
+use native.Mathlib.Omega.{arith}
+use Rattle.book.proofs.fund_cash.Statement.{statement}
+use Rattle.book.proofs.fund_cash.Tie as tie
+
+add-result : tie.Need-add-result
+add-result c = search needs
+
+returns : tie.Need-returns
+unfolding fundCash
+returns c = sym (by-creation _ _ (c .before .if1 .taken))
+
+sub-result : tie.Need-sub-result
+sub-result c = omega (arith, c .before .before .pre .0 (c .before .if1 .left))
+
+returns-2 : tie.Need-returns-2
+unfolding fundCash
+returns-2 c = sym (by-redemption _ _ (c .before .if1 .left))
+
+pub fund-cash-spec : {M : Type 1} → statement M
+fund-cash-spec = tie.close (tie.spec add-result returns sub-result returns-2)

@@ -1,0 +1,25 @@
+-- `book::fund_line` meets its contract: the lots read are what the contract speaks of, and those stored are made of them.
+use Rattle.rules.specs.Book.{onLine}
+use borrow.Author.Needs.{needs}
+use Rattle.book.proofs.fund_line.Statement.{statement}
+use Rattle.book.proofs.fund_line.Tie as tie
+
+lots-at-requires : tie.Need-lots-at-requires
+lots-at-requires c κs = search needs
+
+fund-lots-requires : tie.Need-fund-lots-requires
+fund-lots-requires c κs = rw (c .lots-at .ensures) (c .before .before .before .pre .1 .0, c .before .before .before .pre .1 .1)
+
+put-lots-requires : tie.Need-put-lots-requires
+put-lots-requires c κs = search needs
+
+same-length : tie.Need-same-length
+same-length c = search needs
+
+returns : tie.Need-returns
+unfolding onLine
+returns c = cc
+
+pub fund-line-spec : {M : Type 1} → statement M
+fund-line-spec =
+    tie.close (tie.spec lots-at-requires fund-lots-requires put-lots-requires same-length returns)

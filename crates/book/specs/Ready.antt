@@ -1,0 +1,55 @@
+-- What the moves ask of the book: stock and cash are there, and no sum passes 64 bits.
+use Prim.Native.Nat.{ℕ, _+_, _*_, _^_, _≤_, _<_}
+use mathlib.Core.Path.{_≡_}
+use mathlib.Core.List.{List}
+use lib.ListN.{length}
+use Rattle.lists.specs.Stretch.{stretchOf}
+use Rattle.lots.specs.Lots.{sellable, handable, lotsTotal}
+use Rattle.rules.specs.declared.Day.{Day}
+use Rattle.rules.specs.Book.{cash, headAt, lotsAt, widthOf, width, account}
+use Rattle.rules.specs.Lines.{componentOf}
+use Rattle.rules.specs.Orders.{creation}
+use Rattle.rules.specs.Kinds.{movedBy}
+
+-- a trade, in a fund of n components
+pub record Tradable (n : ℕ) (b : List ℕ) (line q price seller buyer : ℕ) : Type 0 where
+  pub count-high : n ≤ 300
+  pub line-in : line ≤ n
+  pub seller-in : seller * widthOf n + widthOf n ≤ length b
+  pub buyer-in : buyer * widthOf n + widthOf n ≤ length b
+  pub two : buyer ≡ seller → ⊥
+  pub stock : q ≤ sellable (lotsAt (stretchOf (widthOf n) b seller) line)
+  pub lots-fit : lotsAt (stretchOf (widthOf n) b buyer) line .bought + q < 2 ^ 64
+  pub money : q * price ≤ headAt (stretchOf (widthOf n) b buyer) cash
+  pub cash-fits : headAt (stretchOf (widthOf n) b seller) cash + q * price < 2 ^ 64
+
+-- the components' lots of an account, with the stretch s, in an order of m baskets
+pub record StockReady (d : Day) (s : List ℕ) (m : ℕ) : Type 0 where
+  pub count-high : d .count ≤ 300
+  pub wide : width d ≤ length s
+  pub needs : (i : ℕ) → i < d .count → m * componentOf d i .quantity < 2 ^ 62
+  pub held : (i : ℕ) → i < d .count → lotsTotal (lotsAt s i) < 2 ^ 62
+
+-- all of the account's side, with the cash c
+pub record AccountReady (kind : ℕ) (d : Day) (s : List ℕ) (units m c : ℕ) : Type 0 where
+  pub kind-in : kind < 2
+  pub stock : StockReady d s m
+  pub handed : (kind ≡ creation → ⊥) → units ≤ handable (lotsAt s (d .count))
+  pub units-fit : lotsAt s (d .count) .got + units < 2 ^ 64
+  pub pays : kind ≡ creation → c ≤ headAt s cash
+  pub cash-fits : headAt s cash + c < 2 ^ 64
+  pub count-fits : headAt s (1 + kind) + units < 2 ^ 64
+
+-- the fund's lots, with the stretch f
+pub record FundReady (kind : ℕ) (d : Day) (s f : List ℕ) (m : ℕ) : Type 0 where
+  pub room : (i : ℕ) → i < d .count → lotsAt f i .old < 2 ^ 62
+  pub delivers : (kind ≡ creation → ⊥) → (i : ℕ) → i < d .count → movedBy kind d s m i ≤ lotsAt f i .old
+
+-- an order of an account other than the fund
+pub record OrderReady (kind : ℕ) (d : Day) (b : List ℕ) (a units m c : ℕ) : Type 0 where
+  pub account-low : 0 < a
+  pub account-in : a * width d + width d ≤ length b
+  pub side : AccountReady kind d (account d b a) units m c
+  pub fund : FundReady kind d (account d b a) (account d b 0) m
+  pub fund-pays : (kind ≡ creation → ⊥) → c ≤ headAt (account d b 0) cash
+  pub fund-fits : headAt (account d b 0) cash + c < 2 ^ 64

@@ -1,0 +1,394 @@
+// The book's lots and cash: read, and moved. Each change is written through the lent part of the account that it touches.
+ghost use mathlib.Core.Path.{_≡_};
+ghost use Prim.Native.Nat.{_+_, _*_, _≤_, _<_, _^_};
+ghost use lib.ListN.{length};
+ghost use Rattle.lists.specs.Stretch.{stretchOf, onStretch};
+ghost use Rattle.lots.specs.Lots.{sellable, handable, lotsTotal};
+ghost use Rattle.rules.specs.Book.{cash, widthOf, width, account, headAt, putHead, lotsAt, putLots, onLine, eachLine};
+ghost use Rattle.rules.specs.Trade.{sellSide, buySide, tradeMoves};
+ghost use Rattle.rules.specs.Orders.{creation};
+ghost use Rattle.rules.specs.Kinds.{stockLots, fundLots, unitLots, accountCash, fundCash, orderMoves};
+ghost use Rattle.book.specs.Moved.{movedOf, stockBy, fundBy, sideBy};
+ghost use Rattle.book.specs.Ready.{Tradable, StockReady, AccountReady, FundReady, OrderReady};
+use fund::Component;
+use lots::Lots;
+use rules::Day;
+use units::Money;
+
+// The fund's account.
+const FUND: usize = 0;
+
+// The places at the head of a stretch: cash, and then a counter for each kind of order.
+const CASH: usize = 0;
+
+const COUNTERS: usize = 1;
+
+// How many numbers stand there, and how many lots a line has.
+const HEAD: usize = 3;
+
+const LOTS: usize = 3;
+
+// The width of an account's stretch in a fund of `count` components.
+pub fn width_of(count: usize) -> usize
+    requires { ⌜ count ≤ 300 ⌝ }
+    ensures { λ r. ⌜ r ≡ widthOf count ⌝ }
+{
+    HEAD + LOTS * (count + 1)
+}
+
+// The lots of a line, read off a stretch.
+pub fn lots_at(stretch: &[u64], line: usize) -> Lots
+    requires { ⌜ 3 * line + 5 < length (now stretch) ⌝ }
+    ensures { λ r. ⌜ r ≡ lotsAt (now (stretch .entry)) line ⌝ }
+{
+    let at = HEAD + LOTS * line;
+    Lots {
+        old: stretch[at],
+        bought: stretch[at + 1],
+        got: stretch[at + 2],
+    }
+}
+
+pub fn put_lots(stretch: &mut [u64], line: usize, x: Lots)
+    requires { ⌜ 3 * line + 5 < length (now stretch) ⌝ }
+    ensures { λ _. ⌜ now (stretch .exit) ≡ putLots (now (stretch .entry)) line x ⌝ }
+{
+    let at = HEAD + LOTS * line;
+    stretch[at] = x.old;
+    stretch[at + 1] = x.bought;
+    stretch[at + 2] = x.got;
+}
+
+// The lots of a line of account `a`, read off the whole book.
+pub fn lots_of(book: &[u64], w: usize, a: usize, line: usize) -> Lots
+    requires { ⌜ a * w + w ≤ length (now book) ⌝ }
+    requires { ⌜ 3 * line + 5 < w ⌝ }
+    ensures { λ r. ⌜ r ≡ lotsAt (stretchOf w (now (book .entry)) a) line ⌝ }
+{
+    let start = a * w;
+    let end = start + w;
+    lots_at(&book[start..end], line)
+}
+
+// What a trade makes of the seller's stretch.
+fn sell_side(stretch: &mut [u64], line: usize, q: u64, amount: Money)
+    requires { ⌜ 3 * line + 5 < length (now stretch) ⌝ }
+    requires { ⌜ q ≤ sellable (lotsAt (now stretch) line) ⌝ }
+    requires { ⌜ headAt (now stretch) cash + amount .0 < 2 ^ 64 ⌝ }
+    ensures { λ _. ⌜ now (stretch .exit) ≡ sellSide line q (amount .0) (now (stretch .entry)) ⌝ }
+{
+    let held = stretch[CASH];
+    let x = lots_at(stretch, line);
+    let left = x.sell(q);
+    put_lots(stretch, line, left);
+    stretch[CASH] = held + amount.0;
+}
+
+// What a trade makes of the buyer's stretch.
+fn buy_side(stretch: &mut [u64], line: usize, q: u64, amount: Money)
+    requires { ⌜ 3 * line + 5 < length (now stretch) ⌝ }
+    requires { ⌜ lotsAt (now stretch) line .bought + q < 2 ^ 64 ⌝ }
+    requires { ⌜ amount .0 ≤ headAt (now stretch) cash ⌝ }
+    ensures { λ _. ⌜ now (stretch .exit) ≡ buySide line q (amount .0) (now (stretch .entry)) ⌝ }
+{
+    let held = stretch[CASH];
+    let x = lots_at(stretch, line);
+    let more = x.buy(q);
+    put_lots(stretch, line, more);
+    stretch[CASH] = held - amount.0;
+}
+
+fn sell_from(book: &mut [u64], w: usize, seller: usize, line: usize, q: u64, amount: Money)
+    requires { ⌜ seller * w + w ≤ length (now book) ⌝ }
+    requires { ⌜ 3 * line + 5 < w ⌝ }
+    requires { ⌜ q ≤ sellable (lotsAt (stretchOf w (now book) seller) line) ⌝ }
+    requires { ⌜ headAt (stretchOf w (now book) seller) cash + amount .0 < 2 ^ 64 ⌝ }
+    ensures { λ _. ⌜ now (book .exit) ≡ onStretch w seller (sellSide line q (amount .0)) (now (book .entry)) ⌝ }
+{
+    let start = seller * w;
+    let end = start + w;
+    sell_side(&mut book[start..end], line, q, amount);
+}
+
+fn buy_into(book: &mut [u64], w: usize, buyer: usize, line: usize, q: u64, amount: Money)
+    requires { ⌜ buyer * w + w ≤ length (now book) ⌝ }
+    requires { ⌜ 3 * line + 5 < w ⌝ }
+    requires { ⌜ lotsAt (stretchOf w (now book) buyer) line .bought + q < 2 ^ 64 ⌝ }
+    requires { ⌜ amount .0 ≤ headAt (stretchOf w (now book) buyer) cash ⌝ }
+    ensures { λ _. ⌜ now (book .exit) ≡ onStretch w buyer (buySide line q (amount .0)) (now (book .entry)) ⌝ }
+{
+    let start = buyer * w;
+    let end = start + w;
+    buy_side(&mut book[start..end], line, q, amount);
+}
+
+// Both sides of a trade, in a fund of `count` components.
+pub fn move_trade(
+    book: &mut [u64],
+    count: usize,
+    line: usize,
+    q: u64,
+    price: Money,
+    seller: usize,
+    buyer: usize,
+)
+    requires { ⌜ Tradable count (now book) line q (price .0) seller buyer ⌝ }
+    ensures { λ _. ⌜ now (book .exit) ≡ tradeMoves count line q (price .0) seller buyer (now (book .entry)) ⌝ }
+{
+    let w = width_of(count);
+    let amount = Money(q * price.0);
+    sell_from(book, w, seller, line, q, amount);
+    buy_into(book, w, buyer, line, q, amount);
+}
+
+// The stock of component `c` that an order of `m` baskets moves, for an account with the lots `x` of it.
+pub fn stock_moved(kind: usize, c: Component, m: u64, x: Lots) -> u64
+    requires { ⌜ m * c .quantity < 2 ^ 62 ⌝ }
+    requires { ⌜ handable x < 2 ^ 62 ⌝ }
+    ensures { λ r. ⌜ r ≡ movedOf kind c m x ⌝ }
+{
+    if !flags::entry_of(c.flag, flags::STOCK_MOVES) {
+        return 0;
+    }
+    let needed = m * c.quantity;
+    if kind != rules::CREATION {
+        return needed;
+    }
+    let there = x.bought + x.old;
+    if needed < there { needed } else { there }
+}
+
+// What stock makes of the account's lots.
+fn stock_lots(kind: usize, x: Lots, q: u64) -> Lots
+    requires { ⌜ (kind ≡ creation → q ≤ handable x) ⌝ }
+    requires { ⌜ x .got + q < 2 ^ 64 ⌝ }
+    ensures { λ r. ⌜ r ≡ stockLots kind x q ⌝ }
+{
+    if kind == rules::CREATION {
+        return x.hand_in(q);
+    }
+    x.get(q)
+}
+
+// What it makes of the fund's.
+fn fund_lots(kind: usize, x: Lots, q: u64) -> Lots
+    requires { ⌜ ((kind ≡ creation → ⊥) → q ≤ x .old) ⌝ }
+    requires { ⌜ x .old + q < 2 ^ 64 ⌝ }
+    ensures { λ r. ⌜ r ≡ fundLots kind x q ⌝ }
+{
+    if kind == rules::CREATION {
+        return x.take_in(q);
+    }
+    x.pay_out(q)
+}
+
+// What units make of the account's.
+fn unit_lots(kind: usize, x: Lots, q: u64) -> Lots
+    requires { ⌜ ((kind ≡ creation → ⊥) → q ≤ handable x) ⌝ }
+    requires { ⌜ x .got + q < 2 ^ 64 ⌝ }
+    ensures { λ r. ⌜ r ≡ unitLots kind x q ⌝ }
+{
+    if kind == rules::CREATION {
+        return x.get(q);
+    }
+    x.hand_in(q)
+}
+
+// What the cash `c` of an order makes of the cash that the account holds.
+fn account_cash(kind: usize, held: u64, c: Money) -> u64
+    requires { ⌜ (kind ≡ creation → c .0 ≤ held) ⌝ }
+    requires { ⌜ held + c .0 < 2 ^ 64 ⌝ }
+    ensures { λ r. ⌜ r ≡ accountCash kind held (c .0) ⌝ }
+{
+    if kind == rules::CREATION {
+        return held - c.0;
+    }
+    held + c.0
+}
+
+// What it makes of the fund's.
+fn fund_cash(kind: usize, held: u64, c: Money) -> u64
+    requires { ⌜ ((kind ≡ creation → ⊥) → c .0 ≤ held) ⌝ }
+    requires { ⌜ held + c .0 < 2 ^ 64 ⌝ }
+    ensures { λ r. ⌜ r ≡ fundCash kind held (c .0) ⌝ }
+{
+    if kind == rules::CREATION {
+        return held + c.0;
+    }
+    held - c.0
+}
+
+// The fund's part of an order: its lots of one line.
+fn fund_line(kind: usize, stretch: &mut [u64], line: usize, q: u64)
+    requires { ⌜ 3 * line + 5 < length (now stretch) ⌝ }
+    requires { ⌜ ((kind ≡ creation → ⊥) → q ≤ lotsAt (now stretch) line .old) ⌝ }
+    requires { ⌜ lotsAt (now stretch) line .old + q < 2 ^ 64 ⌝ }
+    ensures { λ _. ⌜ now (stretch .exit) ≡ onLine (λ x. fundLots kind x q) line (now (stretch .entry)) ⌝ }
+{
+    let x = lots_at(stretch, line);
+    let y = fund_lots(kind, x, q);
+    put_lots(stretch, line, y);
+}
+
+fn fund_line_of(kind: usize, book: &mut [u64], w: usize, fund: usize, line: usize, q: u64)
+    requires { ⌜ fund * w + w ≤ length (now book) ⌝ }
+    requires { ⌜ 3 * line + 5 < w ⌝ }
+    requires { ⌜ ((kind ≡ creation → ⊥) → q ≤ lotsAt (stretchOf w (now book) fund) line .old) ⌝ }
+    requires { ⌜ lotsAt (stretchOf w (now book) fund) line .old + q < 2 ^ 64 ⌝ }
+    ensures { λ _. ⌜ now (book .exit) ≡ onStretch w fund (onLine (λ x. fundLots kind x q) line) (now (book .entry)) ⌝ }
+{
+    let start = fund * w;
+    let end = start + w;
+    fund_line(kind, &mut book[start..end], line, q);
+}
+
+// And its cash.
+fn fund_head(kind: usize, stretch: &mut [u64], c: Money)
+    requires { ⌜ 0 < length (now stretch) ⌝ }
+    requires { ⌜ ((kind ≡ creation → ⊥) → c .0 ≤ headAt (now stretch) cash) ⌝ }
+    requires { ⌜ headAt (now stretch) cash + c .0 < 2 ^ 64 ⌝ }
+    ensures { λ _. ⌜ now (stretch .exit) ≡ putHead cash (fundCash kind (headAt (now (stretch .entry)) cash) (c .0)) (now (stretch .entry)) ⌝ }
+{
+    let held = stretch[CASH];
+    let left = fund_cash(kind, held, c);
+    stretch[CASH] = left;
+}
+
+fn fund_head_of(kind: usize, book: &mut [u64], w: usize, fund: usize, c: Money)
+    requires { ⌜ fund * w + w ≤ length (now book) ⌝ }
+    requires { ⌜ 0 < w ⌝ }
+    requires { ⌜ ((kind ≡ creation → ⊥) → c .0 ≤ headAt (stretchOf w (now book) fund) cash) ⌝ }
+    requires { ⌜ headAt (stretchOf w (now book) fund) cash + c .0 < 2 ^ 64 ⌝ }
+    ensures { λ _. ⌜ now (book .exit) ≡ onStretch w fund (λ f. putHead cash (fundCash kind (headAt f cash) (c .0)) f) (now (book .entry)) ⌝ }
+{
+    let start = fund * w;
+    let end = start + w;
+    fund_head(kind, &mut book[start..end], c);
+}
+
+// What the stock of one component makes of the account's stretch: the lots on a line are read at its turn.
+fn account_line(kind: usize, c: Component, stretch: &mut [u64], m: u64, line: usize)
+    requires { ⌜ 3 * line + 5 < length (now stretch) ⌝ }
+    requires { ⌜ m * c .quantity < 2 ^ 62 ⌝ }
+    requires { ⌜ lotsTotal (lotsAt (now stretch) line) < 2 ^ 62 ⌝ }
+    ensures { λ _. ⌜ now (stretch .exit) ≡ onLine (λ x. stockLots kind x (movedOf kind c m x)) line (now (stretch .entry)) ⌝ }
+{
+    let x = lots_at(stretch, line);
+    let q = stock_moved(kind, c, m, x);
+    let y = stock_lots(kind, x, q);
+    put_lots(stretch, line, y);
+}
+
+// What the units make of it.
+fn unit_line(kind: usize, stretch: &mut [u64], line: usize, units: u64)
+    requires { ⌜ 3 * line + 5 < length (now stretch) ⌝ }
+    requires { ⌜ ((kind ≡ creation → ⊥) → units ≤ handable (lotsAt (now stretch) line)) ⌝ }
+    requires { ⌜ lotsAt (now stretch) line .got + units < 2 ^ 64 ⌝ }
+    ensures { λ _. ⌜ now (stretch .exit) ≡ onLine (λ x. unitLots kind x units) line (now (stretch .entry)) ⌝ }
+{
+    let x = lots_at(stretch, line);
+    let y = unit_lots(kind, x, units);
+    put_lots(stretch, line, y);
+}
+
+// Its cash, and the counter of the order's kind.
+fn account_head(kind: usize, stretch: &mut [u64], units: u64, c: Money)
+    requires { ⌜ (kind < 2) × (2 < length (now stretch)) ⌝ }
+    requires { ⌜ (kind ≡ creation → c .0 ≤ headAt (now stretch) cash) ⌝ }
+    requires { ⌜ headAt (now stretch) cash + c .0 < 2 ^ 64 ⌝ }
+    requires { ⌜ headAt (now stretch) (1 + kind) + units < 2 ^ 64 ⌝ }
+    ensures { λ _. ⌜ now (stretch .exit) ≡ putHead (1 + kind) (headAt (now (stretch .entry)) (1 + kind) + units) (putHead cash (accountCash kind (headAt (now (stretch .entry)) cash) (c .0)) (now (stretch .entry))) ⌝ }
+{
+    let held = stretch[CASH];
+    let left = account_cash(kind, held, c);
+    let at = COUNTERS + kind;
+    let count = stretch[at] + units;
+    stretch[CASH] = left;
+    stretch[at] = count;
+}
+
+// One line of the fund's stock: what moves is read off the account's stretch, which the fund's changes leave as it is.
+fn fund_turn(kind: usize, c: Component, book: &mut [u64], w: usize, a: usize, m: u64, line: usize)
+    requires { ⌜ a * w + w ≤ length (now book) ⌝ }
+    requires { ⌜ 3 * line + 5 < w ⌝ }
+    requires { ⌜ m * c .quantity < 2 ^ 62 ⌝ }
+    requires { ⌜ lotsTotal (lotsAt (stretchOf w (now book) a) line) < 2 ^ 62 ⌝ }
+    requires { ⌜ lotsAt (stretchOf w (now book) 0) line .old < 2 ^ 62 ⌝ }
+    requires { ⌜ ((kind ≡ creation → ⊥) → movedOf kind c m (lotsAt (stretchOf w (now book) a) line) ≤ lotsAt (stretchOf w (now book) 0) line .old) ⌝ }
+    ensures { λ _. ⌜ now (book .exit) ≡ onStretch w 0 (onLine (λ x. fundLots kind x (movedOf kind c m (lotsAt (stretchOf w (now (book .entry)) a) line))) line) (now (book .entry)) ⌝ }
+{
+    let x = lots_of(book, w, a, line);
+    let q = stock_moved(kind, c, m, x);
+    fund_line_of(kind, book, w, FUND, line, q);
+}
+
+// All of the fund's stock.
+fn fund_stock(kind: usize, d: Day, book: &mut [u64], a: usize, m: u64)
+    requires { ⌜ (0 < a) × (a * width d + width d ≤ length (now book)) ⌝ }
+    requires { ⌜ StockReady d (account d (now book) a) m ⌝ }
+    requires { ⌜ FundReady kind d (account d (now book) a) (account d (now book) 0) m ⌝ }
+    ensures { λ _. ⌜ now (book .exit) ≡ onStretch (width d) 0 (eachLine (fundBy kind d (account d (now (book .entry)) a) m) (d .count)) (now (book .entry)) ⌝ }
+{
+    let w = width_of(d.count);
+    let mut i: usize = 0;
+    while i < d.count {
+        let c = d.components[i];
+        fund_turn(kind, c, book, w, a, m, i);
+        i += 1;
+    }
+}
+
+// All of the account's stock.
+fn account_stock(kind: usize, d: Day, stretch: &mut [u64], m: u64)
+    requires { ⌜ StockReady d (now stretch) m ⌝ }
+    ensures { λ _. ⌜ now (stretch .exit) ≡ eachLine (stockBy kind d (now (stretch .entry)) m) (d .count) (now (stretch .entry)) ⌝ }
+{
+    let mut i: usize = 0;
+    while i < d.count {
+        let c = d.components[i];
+        account_line(kind, c, stretch, m, i);
+        i += 1;
+    }
+}
+
+// The account's side of an order: stock, units, cash and counter.
+fn account_side(kind: usize, d: Day, stretch: &mut [u64], units: u64, m: u64, c: Money)
+    requires { ⌜ AccountReady kind d (now stretch) units m (c .0) ⌝ }
+    ensures { λ _. ⌜ now (stretch .exit) ≡ sideBy kind d units m (c .0) (now (stretch .entry)) (now (stretch .entry)) ⌝ }
+{
+    let count = d.count;
+    account_stock(kind, d, stretch, m);
+    unit_line(kind, stretch, count, units);
+    account_head(kind, stretch, units, c);
+}
+
+fn account_side_of(
+    kind: usize,
+    d: Day,
+    book: &mut [u64],
+    w: usize,
+    a: usize,
+    units: u64,
+    m: u64,
+    c: Money,
+)
+    requires { ⌜ a * w + w ≤ length (now book) ⌝ }
+    requires { ⌜ AccountReady kind d (stretchOf w (now book) a) units m (c .0) ⌝ }
+    ensures { λ _. ⌜ now (book .exit) ≡ onStretch w a (sideBy kind d units m (c .0) (stretchOf w (now (book .entry)) a)) (now (book .entry)) ⌝ }
+{
+    let start = a * w;
+    let end = start + w;
+    account_side(kind, d, &mut book[start..end], units, m, c);
+}
+
+// Both sides of an order of account `a` for `units` in `m` baskets, with the cash `c`: the fund's side first, which reads what moves
+// off the account's lots as they are before the order.
+pub fn move_order(kind: usize, d: Day, book: &mut [u64], a: usize, units: u64, m: u64, c: Money)
+    requires { ⌜ OrderReady kind d (now book) a units m (c .0) ⌝ }
+    ensures { λ _. ⌜ now (book .exit) ≡ orderMoves kind d a units m (c .0) (now (book .entry)) ⌝ }
+{
+    let w = width_of(d.count);
+    fund_stock(kind, d, book, a, m);
+    fund_head_of(kind, book, w, FUND, c);
+    account_side_of(kind, d, book, w, a, units, m, c);
+}

@@ -1,0 +1,206 @@
+-- Laws of records written one list behind another, and of the parts of an order's records.
+use mathlib.Core.Path.{_≡_, refl, sym, ap, _∙_}
+use mathlib.Core.List.{List, [], _∷_, _++_}
+use Prim.Native.Nat.{ℕ, zero, suc, _+_, _*_, _/_, _%_, _^_, _≤_, _<_}
+use native.Mathlib.Nat.{not-suc-le-zero, le-of-suc-le-suc}
+use native.Mathlib.Numerals.{add-one}
+use native.Mathlib.Omega.{arith}
+use lib.ListN.{length, getD, set, drop, length-append}
+use lib.Seq.{length-sets}
+use borrow.Author.Tests.{lt-ltb, le-ltb, eq-eqb, ne-eqb}
+use Rattle.lists.specs.Below.{joinBelow, join-none, join-more}
+use Rattle.lists.specs.Runs.{sets-append, sets-front, join-grows}
+use Rattle.units.specs.Units.{splitSize}
+use Rattle.units.proofs.Laws.{under}
+use Rattle.lots.specs.declared.Lots.{Lots}
+use Rattle.lots.specs.Lots.{handable}
+use Rattle.fund.specs.declared.Component.{Component}
+use Rattle.rules.specs.declared.Day.{Day}
+use Rattle.rules.specs.declared.Record.{Record}
+use Rattle.rules.specs.Book.{lotsAt}
+use Rattle.rules.specs.Lines.{componentOf, codeOf}
+use Rattle.rules.specs.Records.{recordOf, cashParts, cashRecords, stockRecord, orderRecords, recordWidth, flatRecord, flatten, withRecords}
+use Rattle.rules.specs.Kinds.{movedBy, stockSide, restSide, recordsBy}
+use Rattle.book.specs.Moved.{movedOf, moved-of}
+use Rattle.records.specs.Written.{recordAt, behind, written, Fits, Wrote, lineRecord, stockRecords, recordsAfterStock}
+use Rattle.records.specs.Ready.{Movable, Writable}
+
+-- The flat run of records.
+
+pub flatten-append : (rs qs : List Record) → flatten (rs ++ qs) ≡ flatten rs ++ flatten qs
+unfolding flatten
+flatten-append [] qs = refl
+flatten-append (r ∷ rs) qs = ap (λ (t : List ℕ). flatRecord r ++ t) (flatten-append rs qs)
+
+pub flatten-length : (rs : List Record) → length (flatten rs) ≡ recordWidth * length rs
+unfolding flatten
+flatten-length [] = refl
+flatten-length (r ∷ rs) = omega (arith, flatten-length rs)
+
+-- the record behind the first is the first of the rest
+record-behind : (r : Record) (xs : List ℕ) (k : ℕ) → recordAt (flatRecord r ++ xs) (suc k) ≡ recordAt xs k
+unfolding recordAt
+record-behind r xs k =
+    let code : recordWidth * suc k ≡ suc (suc (suc (suc (suc (recordWidth * k))))) = omega arith in
+    let side : recordWidth * suc k + 1 ≡ suc (suc (suc (suc (suc (recordWidth * k + 1))))) = omega arith in
+    let quantity : recordWidth * suc k + 2 ≡ suc (suc (suc (suc (suc (recordWidth * k + 2))))) = omega arith in
+    let price : recordWidth * suc k + 3 ≡ suc (suc (suc (suc (suc (recordWidth * k + 3))))) = omega arith in
+    let amount : recordWidth * suc k + 4 ≡ suc (suc (suc (suc (suc (recordWidth * k + 4))))) = omega arith in
+    rw (amount, price, quantity, side, code)
+
+record-in : (rs : List Record) (xs : List ℕ) (k : ℕ) (r : Record) → k < length rs → recordAt (flatten rs ++ xs) k ≡ getD rs k r
+unfolding flatten recordAt
+record-in [] xs k r h = absurd (not-suc-le-zero h)
+record-in (q ∷ rs) xs zero r h = refl
+record-in (q ∷ rs) xs (suc k) r h = record-behind q (flatten rs ++ xs) k ∙ record-in rs xs k r (le-of-suc-le-suc h)
+
+-- what was written is read
+pub record-read : (rs : List Record) (list : List ℕ) (k : ℕ) (r : Record) → k < length rs → recordAt (withRecords rs list) k ≡ getD rs k r
+unfolding withRecords
+record-read rs list k r h = record-in rs (drop (recordWidth * length rs) list) k r h
+
+-- Records written.
+
+pub written-length : (rs : List Record) (p : ℕ) (list : List ℕ) → length (written rs p list) ≡ length list
+unfolding written
+written-length rs p list = length-sets list p (flatten rs)
+
+-- rs, and qs behind them
+pub written-append : (rs qs : List Record) (p : ℕ) (list : List ℕ) → written qs (behind rs p) (written rs p list) ≡ written (rs ++ qs) p list
+unfolding written
+written-append rs qs p list =
+    rw (← flatten-length rs, flatten-append rs qs) (sets-append (flatten rs) (flatten qs) list p)
+
+-- from the first place on, where there is room
+pub written-first : (rs : List Record) (list : List ℕ) → behind rs 0 ≤ length list → written rs 0 list ≡ withRecords rs list
+unfolding written withRecords
+written-first rs list h =
+    sets-front (flatten rs) list (omega (arith, flatten-length rs))
+    ∙ ap (λ (k : ℕ). flatten rs ++ drop k list) (flatten-length rs)
+
+-- five stores write one record
+pub one-written : (list : List ℕ) (p : ℕ) (r : Record)
+    → Wrote (r ∷ []) p list (set (set (set (set (set list p (r .code)) (p + 1) (r .side)) (p + 2) (r .quantity)) (p + 3) (r .price .0)) (p + 4) (r .amount .0)) (p + 5)
+unfolding written flatten
+one-written list p r =
+    let two : p + 2 ≡ suc (suc p) = omega arith in
+    let three : p + 3 ≡ suc (suc (suc p)) = omega arith in
+    let four : p + 4 ≡ suc (suc (suc (suc p))) = omega arith in
+    record { list = rw (add-one p, two, three, four); place = omega arith }
+
+pub wrote-none : (p : ℕ) (list : List ℕ) → Wrote [] p list list p
+unfolding written flatten
+wrote-none p list = record { list = refl; place = omega arith }
+
+pub wrote-then : {rs qs : List Record} {p next end : ℕ} {old mid new : List ℕ} → Wrote rs p old mid next → Wrote qs next mid new end → Wrote (rs ++ qs) p old new end
+wrote-then {rs} {qs} {p} {next} {end} {old} {mid} {new} u v =
+    record {
+      list = v .list ∙ rw (u .list, u .place) (written-append rs qs p old);
+      place = v .place ∙ rw (u .place, length-append rs qs) (omega arith);
+    }
+
+-- the same records by another text
+pub wrote-as : {rs qs : List Record} {p next : ℕ} {old new : List ℕ} → rs ≡ qs → Wrote rs p old new next → Wrote qs p old new next
+wrote-as e w = rw e at w
+
+pub wrote-one : {r q : Record} {p next : ℕ} {old new : List ℕ} → r ≡ q → Wrote (r ∷ []) p old new next → Wrote (q ∷ []) p old new next
+wrote-one e w = rw e at w
+
+pub wrote-length : {rs : List Record} {p next : ℕ} {old new : List ℕ} → Wrote rs p old new next → length new ≡ length old
+wrote-length {rs} {p} {next} {old} {new} w = ap length (w .list) ∙ written-length rs p old
+
+-- of records that have room, those in front have, and those behind have once these are written
+pub fits-first : {rs : List Record} (qs : List Record) {p : ℕ} {list : List ℕ} → Fits (rs ++ qs) p list → Fits rs p list
+fits-first {rs} qs f = record { room = omega (arith, f .room, length-append rs qs) }
+
+pub fits-next : {rs qs : List Record} {p next : ℕ} {old mid : List ℕ} → Wrote rs p old mid next → Fits (rs ++ qs) p old → Fits qs next mid
+fits-next {rs} {qs} w f = record { room = omega (arith, f .room, length-append rs qs, w .place, wrote-length w) }
+
+pub fits-as : {rs qs : List Record} {p : ℕ} {list : List ℕ} → rs ≡ qs → Fits rs p list → Fits qs p list
+fits-as e f = rw e at f
+
+pub fits-one : {r q : Record} {p : ℕ} {list : List ℕ} → Fits (r ∷ []) p list → Fits (q ∷ []) p list
+fits-one f = record { room = f .room }
+
+-- The records of cash.
+
+pub cash-none : (code side c : ℕ) → c ≡ 0 → cashRecords code side c ≡ []
+unfolding cashRecords cashParts
+cash-none code side c e = rw (eq-eqb c 0 e)
+
+pub cash-one : (code side c : ℕ) → (c ≡ 0 → ⊥) → c < splitSize → cashRecords code side c ≡ recordOf code side 1 c ∷ []
+unfolding cashRecords cashParts
+cash-one code side c n l = rw (ne-eqb c 0 n, lt-ltb c splitSize l)
+
+pub cash-two : (code side c : ℕ) → (c ≡ 0 → ⊥) → splitSize ≤ c
+    → cashRecords code side c ≡ (recordOf code side splitSize (c / splitSize) ∷ []) ++ (recordOf code side 1 (c % splitSize) ∷ [])
+unfolding cashRecords cashParts
+cash-two code side c n l = rw (ne-eqb c 0 n, le-ltb c splitSize l)
+
+-- The records of stock.
+
+pub line-none : (kind : ℕ) (c : Component) (m : ℕ) (x : Lots) → movedOf kind c m x ≡ 0 → lineRecord kind c m x ≡ []
+unfolding lineRecord
+line-none kind c m x e = rw (le-ltb 0 (movedOf kind c m x) (omega arith))
+
+pub line-one : (kind : ℕ) (c : Component) (m : ℕ) (x : Lots) (side q : ℕ) → side ≡ stockSide kind → q ≡ movedOf kind c m x → (q ≡ 0 → ⊥)
+    → lineRecord kind c m x ≡ recordOf (c .code) side q 0 ∷ []
+unfolding lineRecord
+line-one kind c m x side q e f n = rw (lt-ltb 0 (movedOf kind c m x) (omega arith), e, f)
+
+module _ (kind : ℕ) (d : Day) (s : List ℕ) (m : ℕ) where
+  -- the records of the components below i
+  unfoldable pub stockBelow : ℕ → List Record
+  stockBelow i = joinBelow (stockRecord d (stockSide kind) (movedBy kind d s m)) i
+
+  pub stock-none : stockBelow 0 ≡ []
+  unfolding stockBelow
+  stock-none = join-none _
+
+  line-record : (i : ℕ) → stockRecord d (stockSide kind) (movedBy kind d s m) i ≡ lineRecord kind (componentOf d i) m (lotsAt s i)
+  unfolding stockRecord lineRecord codeOf
+  line-record i = rw (moved-of kind d s m i)
+
+  pub stock-more : (i : ℕ) → stockBelow (i + 1) ≡ stockBelow i ++ lineRecord kind (componentOf d i) m (lotsAt s i)
+  unfolding stockBelow
+  stock-more i = join-more _ i ∙ ap (λ (r : List Record). stockBelow i ++ r) (line-record i)
+
+  pub stock-all : stockBelow (d .count) ≡ stockRecords kind d s m
+  unfolding stockBelow stockRecords
+  stock-all = refl
+
+  -- where all of them have room, the i-th line's have behind those below it
+  pub line-room : {i p next : ℕ} {old mid : List ℕ} → i < d .count → Fits (stockRecords kind d s m) p old → Wrote (stockBelow i) p old mid next
+      → Fits (lineRecord kind (componentOf d i) m (lotsAt s i)) next mid
+  unfolding stockBelow stockRecords
+  line-room {i} l f w =
+      let grows = join-grows (stockRecord d (stockSide kind) (movedBy kind d s m)) (d .count) (i + 1) (omega arith) in
+      let more = simp length-append at (ap length (stock-more i)) in
+      record { room = omega (arith, f .room, w .place, wrote-length w) }
+
+  -- no product or sum of a line passes 64 bits
+  pub line-fits : Movable kind d s m → (i : ℕ) → i < d .count → (m * componentOf d i .quantity < 2 ^ 62) × (handable (lotsAt s i) < 2 ^ 62)
+  line-fits r i l =
+      let q : m * componentOf d i .quantity ≤ 20 * 99_999_999 = under 20 99_999_999 (r .baskets-high) (r .quantities i l) in
+      (omega arith, omega (arith, r .held i l))
+
+-- An order's records: the unit, stock, and what is behind it.
+
+module _ {kind : ℕ} {d : Day} {s : List ℕ} {units m other shanghai side : ℕ} {unit : Record} {list : List ℕ}
+    (rest : side ≡ restSide kind) (made : unit ≡ recordOf (d .fund .«first_code») side units 0) (w : Writable kind d s units m other shanghai list) where
+  abbrev parts : List Record
+  parts = (unit ∷ []) ++ (stockRecords kind d s m ++ recordsAfterStock (d .fund .«first_code») side units other shanghai)
+
+  parts-are : parts ≡ recordsBy kind d s units m other shanghai
+  unfolding recordsBy orderRecords stockRecords recordsAfterStock
+  parts-are = rw (made, rest)
+
+  pub order-fits : Fits parts 0 list
+  order-fits = fits-as (sym parts-are) (record { room = omega (arith, w .room) })
+
+  -- all of them written from the first place on
+  pub order-written : {new : List ℕ} {end : ℕ} → Wrote parts 0 list new end
+      → (end / 5 ≡ length (recordsBy kind d s units m other shanghai)) × (new ≡ withRecords (recordsBy kind d s units m other shanghai) list)
+  order-written {new} {end} u =
+      let v = wrote-as parts-are u in
+      (omega (arith, v .place), v .list ∙ written-first (recordsBy kind d s units m other shanghai) list (omega (arith, w .room)))

@@ -1,0 +1,52 @@
+-- `records::put_after_stock` meets its contract: the two cash parts and the unit are written one behind another.
+use mathlib.Core.Path.{_∙_}
+use native.Mathlib.Omega.{arith}
+use Rattle.records.specs.Written.{recordsAfterStock}
+use Rattle.records.proofs.Laws.{wrote-one, wrote-then, wrote-length, fits-first, fits-next, fits-one}
+use Rattle.records.proofs.put_after_stock.Statement.{statement}
+use Rattle.records.proofs.put_after_stock.Tie as tie
+
+add-put-cash : tie.Need-add-put-cash
+add-put-cash c = omega arith
+
+put-cash-requires : tie.Need-put-cash-requires
+unfolding recordsAfterStock
+put-cash-requires c κs = fits-first _ (c .before .before .pre .1)
+
+add-put-cash-2 : tie.Need-add-put-cash-2
+add-put-cash-2 c = omega arith
+
+put-cash-requires-2 : tie.Need-put-cash-requires-2
+unfolding recordsAfterStock
+put-cash-requires-2 c κs = fits-first _ (fits-next (c .before .before .before .put-cash .ensures) (c .before .before .before .before .before .before .pre .1))
+
+add-record-of : tie.Need-add-record-of
+add-record-of c = omega arith
+
+record-of-requires : tie.Need-record-of-requires
+record-of-requires c κs = omega arith
+
+put-record-requires : tie.Need-put-record-requires
+unfolding recordsAfterStock
+put-record-requires c κs = fits-one (fits-next (c .before .before .before .before .put-cash2 .ensures) (fits-next (c .before .before .before .before .before .before .before .before .put-cash .ensures) (c .before .before .before .before .before .before .before .before .before .before .before .pre .1)))
+
+same-length : tie.Need-same-length
+same-length c = wrote-length (c .before .before .put-record .ensures) ∙ wrote-length (c .before .before .before .before .before .before .before .put-cash2 .ensures) ∙ wrote-length (c .before .before .before .before .before .before .before .before .before .before .before .put-cash .ensures)
+
+returns : tie.Need-returns
+unfolding recordsAfterStock
+returns c = wrote-then (c .before .before .before .before .before .before .before .before .before .before .before .put-cash .ensures) (wrote-then (c .before .before .before .before .before .before .before .put-cash2 .ensures) (wrote-one (c .before .before .before .before .record-of .ensures) (c .before .before .put-record .ensures)))
+
+pub put-after-stock-spec : {M : Type 1} → statement M
+put-after-stock-spec =
+    tie.close
+    (tie.spec
+    add-put-cash
+    put-cash-requires
+    add-put-cash-2
+    put-cash-requires-2
+    add-record-of
+    record-of-requires
+    put-record-requires
+    same-length
+    returns)

@@ -1,0 +1,14 @@
+-- `records::record_of` meets its contract: the amount is the quantity times the price, which fits.
+use mathlib.Core.Path.{refl}
+use native.Mathlib.Omega.{arith}
+use Rattle.records.proofs.record_of.Statement.{statement}
+use Rattle.records.proofs.record_of.Tie as tie
+
+mul-t5 : tie.Need-mul-t5
+mul-t5 c = omega arith
+
+returns : tie.Need-returns
+returns c = refl
+
+pub record-of-spec : {M : Type 1} → statement M
+record-of-spec = tie.close (tie.spec mul-t5 returns)

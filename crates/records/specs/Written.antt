@@ -1,0 +1,57 @@
+-- Records in a flat run of numbers: read off it, and written to it from a place on.
+use Prim.Native.Nat.{ℕ, _+_, _*_, _≤_}
+use mathlib.Core.Path.{_≡_}
+use mathlib.Core.Bool.{cond}
+use mathlib.Core.List.{List, [], _∷_, _++_}
+use lib.Dec.{ltb}
+use lib.ListN.{length, getD}
+use lib.Seq.{sets}
+use Rattle.lists.specs.Below.{joinBelow}
+use Rattle.lots.specs.declared.Lots.{Lots}
+use Rattle.fund.specs.declared.Component.{Component}
+use Rattle.rules.specs.declared.Day.{Day}
+use Rattle.rules.specs.declared.Record.{Record}
+use Rattle.rules.specs.Kinds.{movedBy, stockSide}
+use Rattle.rules.specs.Records.{recordOf, cashRecords, stockRecord, recordWidth, flatten}
+use Rattle.book.specs.Moved.{movedOf}
+
+-- the k-th record of a run
+unfoldable pub recordAt : List ℕ → ℕ → Record
+recordAt list k =
+    record {
+      code = getD list (recordWidth * k) 0;
+      side = getD list (recordWidth * k + 1) 0;
+      quantity = getD list (recordWidth * k + 2) 0;
+      price = record { 0 = getD list (recordWidth * k + 3) 0 };
+      amount = record { 0 = getD list (recordWidth * k + 4) 0 };
+    }
+
+-- the first place behind the records rs, which stand from the place p on
+abbrev pub behind : List Record → ℕ → ℕ
+behind rs p = p + recordWidth * length rs
+
+-- the run with the records rs from the place p on
+unfoldable pub written : List Record → ℕ → List ℕ → List ℕ
+written rs p list = sets list p (flatten rs)
+
+-- they have room there
+pub record Fits (rs : List Record) (p : ℕ) (list : List ℕ) : Type 0 where
+  pub room : behind rs p ≤ length list
+
+-- one run became the other as the records rs were written from the place p on; `next` is the first place behind them
+pub record Wrote (rs : List Record) (p : ℕ) (old new : List ℕ) (next : ℕ) : Type 0 where
+  pub list : new ≡ written rs p old
+  pub place : next ≡ behind rs p
+
+-- the record of a component c in an order of m baskets by an account with the lots x: one where stock moves
+unfoldable pub lineRecord : ℕ → Component → ℕ → Lots → List Record
+lineRecord kind c m x = cond (ltb 0 (movedOf kind c m x)) (recordOf (c .code) (stockSide kind) (movedOf kind c m x) 0 ∷ []) []
+
+-- an order's records of stock
+unfoldable pub stockRecords : ℕ → Day → List ℕ → ℕ → List Record
+stockRecords kind d s m = joinBelow (stockRecord d (stockSide kind) (movedBy kind d s m)) (d .count)
+
+-- its records behind those of stock: other cash, Shanghai cash and the second unit, in a fund with the first code g
+unfoldable pub recordsAfterStock : ℕ → ℕ → ℕ → ℕ → ℕ → List Record
+recordsAfterStock g side units other shanghai =
+    cashRecords (g + 5) side other ++ (cashRecords (g + 2) side shanghai ++ (recordOf (g + 1) side units 0 ∷ []))

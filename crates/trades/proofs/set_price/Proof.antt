@@ -1,0 +1,55 @@
+-- `trades::set_price` meets its contract: the tests have the answer, and only an accepted one is written.
+use mathlib.Core.Path.{_≡_, sym, ap, _∙_}
+use Prim.Native.Nat.{_<_}
+use native.Mathlib.Omega.{arith}
+use borrow.Author.Needs.{needs}
+use Rattle.rules.specs.Replies.{answerReply}
+use Rattle.rules.proofs.Replies.{leaves-after, leaves-before}
+use Rattle.trades.proofs.Laws.{priced-line}
+use Rattle.trades.proofs.set_price.Statement.{statement}
+use Rattle.trades.proofs.set_price.Tie as tie
+
+price-answer-requires : tie.Need-price-answer-requires
+price-answer-requires c κs = search needs
+
+enum-told : tie.Need-enum-told
+enum-told c = search needs
+
+-- an accepted price has its component
+inside : (c : tie.After-enum-told) → c .before .before .before .before .args .line < c .before .before .before .before .args .count
+inside c = priced-line _ _ _ (ap answerReply (sym (c .enum-told .given .1)) ∙ c .before .before .price-answer .ensures)
+
+mul-prices : tie.Need-mul-prices
+mul-prices c = omega (arith, inside c)
+
+slice-write-prices : tie.Need-slice-write-prices
+slice-write-prices c = omega (arith, inside c)
+
+enum-known-answer : tie.Need-enum-known-answer
+enum-known-answer c = search needs
+
+same-length : tie.Need-same-length
+same-length c = search needs
+
+returns : tie.Need-returns
+returns c =
+    let e = ap answerReply (sym (c .enum-told .given .1)) ∙ c .before .before .price-answer .ensures in
+    (e, leaves-after _ _ 0 _ e)
+
+returns-2 : tie.Need-returns-2
+returns-2 c =
+    let e = ap answerReply (sym (c .before .answer .given .1)) ∙ c .before .before .before .price-answer .ensures in
+    (e, leaves-before _ _ (c .before .answer .given .0 .0) _ e)
+
+pub set-price-spec : {M : Type 1} → statement M
+set-price-spec =
+    tie.close
+    (tie.spec
+    price-answer-requires
+    enum-told
+    mul-prices
+    slice-write-prices
+    enum-known-answer
+    same-length
+    returns
+    returns-2)

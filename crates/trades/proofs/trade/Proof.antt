@@ -1,0 +1,51 @@
+-- `trades::trade` meets its contract: the tests have the answer, and only an accepted trade is moved.
+use mathlib.Core.Path.{sym, ap, _∙_}
+use borrow.Author.Needs.{needs}
+use Rattle.rules.specs.Replies.{answerReply}
+use Rattle.rules.proofs.Replies.{leaves-after, leaves-before}
+use Rattle.trades.proofs.Laws.{tradable}
+use Rattle.trades.proofs.trade.Statement.{statement}
+use Rattle.trades.proofs.trade.Tie as tie
+
+trade-answer-requires : tie.Need-trade-answer-requires
+trade-answer-requires c κs = search needs
+
+enum-told : tie.Need-enum-told
+enum-told c = search needs
+
+move-trade-requires : tie.Need-move-trade-requires
+move-trade-requires c κs =
+    let b = c .before .before .before .before .before .before in
+    tradable _ _ _ _ _ _ _ _ (b .pre) (ap answerReply (sym (c .before .enum-told .given .1)) ∙ c .before .before .before .trade-answer .ensures)
+
+enum-known-answer : tie.Need-enum-known-answer
+enum-known-answer c = search needs
+
+same-length : tie.Need-same-length
+same-length c = search needs
+
+returns : tie.Need-returns
+returns c =
+    let e = ap answerReply (sym (c .before .before .before .before .enum-told .given .1)) ∙ c .before .before .before .before .before .before .trade-answer .ensures in
+    (e, c .before .before .move-trade .ensures ∙ leaves-after _ _ 0 _ e)
+
+same-length-2 : tie.Need-same-length-2
+same-length-2 c = search needs
+
+returns-2 : tie.Need-returns-2
+returns-2 c =
+    let e = ap answerReply (sym (c .before .answer .given .1)) ∙ c .before .before .before .trade-answer .ensures in
+    (e, leaves-before _ _ (c .before .answer .given .0 .0) _ e)
+
+pub trade-spec : {M : Type 1} → statement M
+trade-spec =
+    tie.close
+    (tie.spec
+    trade-answer-requires
+    enum-told
+    move-trade-requires
+    enum-known-answer
+    same-length
+    returns
+    same-length-2
+    returns-2)
