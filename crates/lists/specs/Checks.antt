@@ -133,3 +133,15 @@ answered-stop (c ∷ cs) ds v w e = go (c .fails) e (answered-stop cs ds v w)
         → cond f (reply (c .number) (c .place) 0) (answered (cs ++ ds) v) ≡ cond f (reply (c .number) (c .place) 0) (answered cs w)
     go true e rest = refl
     go false e rest = rest e
+
+-- an accepted list has passed, and a refused one has not
+pub accepted-passes : (cs : List Check) (v : ℕ) → T (numbered cs) → isAccepted (answered cs v) ≡ true → passes cs ≡ true
+accepted-passes cs v t e = passes-all cs (all-passed cs v t e)
+
+pub refused-stops : (cs : List Check) (v : ℕ) → isAccepted (answered cs v) ≡ false → passes cs ≡ false
+unfolding isAccepted
+refused-stops cs v e = go (passes cs) refl
+  where
+    go : (b : Bool) → passes cs ≡ b → passes cs ≡ false
+    go true q = absurd (false≢true (sym e ∙ ap (λ (r : Reply). eqb (r .number) 0) (answered-passed cs v q)))
+    go false q = q

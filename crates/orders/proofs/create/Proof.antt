@@ -1,0 +1,65 @@
+-- `orders::create` meets its contract: the tests have the answer, and only an accepted order is written and moved.
+use mathlib.Core.Path.{sym, ap, _∙_}
+use borrow.Author.Needs.{needs}
+use denote.Ref.{now}
+use Rattle.rules.specs.Records.{roomIn}
+use Rattle.rules.specs.Replies.{orderReply}
+use Rattle.rules.proofs.Replies.{is-accepted, leaves-after, leaves-before}
+use Rattle.orders.proofs.Laws.{creation-makes, creation-made}
+use Rattle.orders.proofs.create.Statement.{statement}
+use Rattle.orders.proofs.create.Tie as tie
+
+creation-tested-requires : tie.Need-creation-tested-requires
+creation-tested-requires c κs = search needs
+
+enum-known-answer : tie.Need-enum-known-answer
+enum-known-answer c = search needs
+
+make-order-requires : tie.Need-make-order-requires
+unfolding roomIn
+make-order-requires c κs =
+    let b = c .before .before .before .before .before .before .before .before .before .before in
+    let made = ap orderReply (sym (c .before .before .before .answer .given .1)) ∙ c .before .before .before .before .before .creation-tested .ensures .0 in
+    creation-makes _ (now (b .args .book)) (now (b .args .prices)) _ _ (c .before .before .before .answer .given .0 .0) (now (b .args .list)) _ _ (b .pre) made (c .before .before .before .before .before .creation-tested .ensures .1 (is-accepted _ _ made))
+
+enum-known-answer-2 : tie.Need-enum-known-answer-2
+enum-known-answer-2 c = search needs
+
+same-length : tie.Need-same-length
+same-length c = search needs
+
+same-length-2 : tie.Need-same-length-2
+same-length-2 c = search needs
+
+returns : tie.Need-returns
+unfolding roomIn
+returns c =
+    let b = c .before .before .before .before .before .before .before .before .before .before .before .before .before .before .before in
+    let made = ap orderReply (sym (c .before .before .before .before .before .before .before .before .answer .given .1)) ∙ c .before .before .before .before .before .before .before .before .before .before .creation-tested .ensures .0 in
+    let found = c .before .before .before .before .before .before .before .before .before .before .creation-tested .ensures .1 (is-accepted _ _ made) in
+    let done = creation-made _ (now (b .args .book)) (now (b .args .prices)) _ _ (c .before .before .before .before .before .before .before .before .answer .given .0 .0) (now (b .args .list)) _ _ (b .pre) made found _ _ (c .before .before .before .before .make-order .ensures .0) (c .before .before .before .before .make-order .ensures .1) in
+    (made, (done .0 ∙ leaves-after _ _ _ _ made, done .1 ∙ leaves-after _ _ _ _ made))
+
+same-length-3 : tie.Need-same-length-3
+same-length-3 c = search needs
+
+returns-2 : tie.Need-returns-2
+unfolding roomIn
+returns-2 c =
+    let why = c .before .answer2 .given .0 .0 in
+    let e = ap orderReply (sym (c .before .answer2 .given .1)) ∙ c .before .before .before .creation-tested .ensures .0 in
+    (e, (leaves-before _ _ why _ e, leaves-before _ _ why _ e))
+
+pub create-spec : {M : Type 1} → statement M
+create-spec =
+    tie.close
+    (tie.spec
+    creation-tested-requires
+    enum-known-answer
+    make-order-requires
+    enum-known-answer-2
+    same-length
+    same-length-2
+    returns
+    same-length-3
+    returns-2)

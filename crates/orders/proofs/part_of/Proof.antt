@@ -1,0 +1,50 @@
+-- `orders::part_of` meets its contract: the part from the account's start on, of the width of a stretch.
+use mathlib.Core.Path.{_≡_, ap}
+use Prim.Native.Nat.{ℕ, _*_}
+use native.Mathlib.Nat.{add-sub-cancel-left}
+use native.Mathlib.Omega.{arith}
+use borrow.Author.Needs.{needs}
+use Rattle.lists.specs.Stretch.{stretchOf, part-is}
+use Rattle.rules.specs.Book.{widthOf}
+use Rattle.orders.proofs.part_of.Statement.{statement}
+use Rattle.orders.proofs.part_of.Tie as tie
+
+width-of-requires : tie.Need-width-of-requires
+width-of-requires c κs = search needs
+
+place : (c : tie.After-width-of) → c .before .before .args .a * c .width-of .result ≡ c .before .before .args .a * widthOf (c .before .before .args .count)
+place c = ap (λ (w : ℕ). c .before .before .args .a * w) (c .width-of .ensures)
+
+mul-start : tie.Need-mul-start
+mul-start c = omega (arith, place c)
+
+add-end : tie.Need-add-end
+add-end c = omega (arith, place c)
+
+mul-result : tie.Need-mul-result
+mul-result c = omega (arith, place c)
+
+sub-result : tie.Need-sub-result
+sub-result c = search needs
+
+part-result-start : tie.Need-part-result-start
+part-result-start c = search needs
+
+part-result-end : tie.Need-part-result-end
+part-result-end c = omega (arith, place c)
+
+returns : tie.Need-returns
+returns c = rw (c .before .width-of .ensures) (part-is _ _ _)
+
+pub part-of-spec : {M : Type 1} → statement M
+part-of-spec =
+    tie.close
+    (tie.spec
+    width-of-requires
+    mul-start
+    add-end
+    mul-result
+    sub-result
+    part-result-start
+    part-result-end
+    returns)
