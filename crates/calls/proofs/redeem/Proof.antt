@@ -1,0 +1,43 @@
+-- `calls::redeem` meets its contract: 5 where the day is not sound, and else what the core answers and leaves.
+use mathlib.Core.Path.{sym, _∙_}
+use borrow.Author.Needs.{needs}
+use borrow.Author.Tests.{not-true, not-false}
+use Rattle.calls.proofs.Laws.{redeem-five, redemption-own, redeem-own}
+use Rattle.calls.proofs.redeem.Statement.{statement}
+use Rattle.calls.proofs.redeem.Tie as tie
+
+sound-day-requires : tie.Need-sound-day-requires
+sound-day-requires c κs = search needs
+
+same-length : tie.Need-same-length
+same-length c = search needs
+
+returns : tie.Need-returns
+returns c = redeem-five _ _ _ (sym (c .before .sound-day .ensures) ∙ not-true _ (c .if1 .taken)) _ _ _
+
+redeem-requires : tie.Need-redeem-requires
+redeem-requires c κs = sym (c .before .before .before .sound-day .ensures) ∙ not-false _ (c .before .before .if1 .left)
+
+same-length-2 : tie.Need-same-length-2
+same-length-2 c = search needs
+
+same-length-3 : tie.Need-same-length-3
+same-length-3 c = search needs
+
+returns-2 : tie.Need-returns-2
+returns-2 c =
+    let sound = (sym (c .before .before .before .before .before .before .before .before .sound-day .ensures) ∙ not-false _ (c .before .before .before .before .before .before .before .if1 .left)) in
+    let left = redeem-own _ _ _ sound _ _ _ in
+    (c .before .before .before .before .redeem .ensures .0 ∙ redemption-own _ _ _ sound _ _ _, (c .before .before .before .before .redeem .ensures .1 .0 ∙ left .0, c .before .before .before .before .redeem .ensures .1 .1 ∙ left .1))
+
+pub redeem-spec : {M : Type 1} → statement M
+redeem-spec =
+    tie.close
+    (tie.spec
+    sound-day-requires
+    same-length
+    returns
+    redeem-requires
+    same-length-2
+    same-length-3
+    returns-2)

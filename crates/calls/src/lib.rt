@@ -1,0 +1,122 @@
+// The calls on a day that is known to be sound or is to be tested: 5 where it is not sound, and else the core's answer.
+// `known` says that the day is sound, so that a list of calls tests it once.
+ghost use mathlib.Core.Path.{_≡_};
+ghost use mathlib.Core.Bool.{true};
+ghost use Rattle.rules.specs.Replies.{answerReply, orderReply, valueReply};
+ghost use Rattle.rules.specs.Price.{priceReply, pricedPrices};
+ghost use Rattle.rules.specs.Trade.{tradeReply, tradedBook};
+ghost use Rattle.rules.specs.Value.{worthReply};
+ghost use Rattle.rules.specs.Records.{roomIn};
+ghost use Rattle.rules.specs.Creation.{creationReply, createdBook, createdList};
+ghost use Rattle.rules.specs.Redemption.{redemptionReply, redeemedBook, redeemedList};
+ghost use Rattle.rules.specs.Sound.{isSound};
+use rules::Answer;
+use rules::Day;
+use rules::OrderAnswer;
+use rules::Refusal;
+use rules::ValueAnswer;
+
+// Whether the day is sound: known, or tested.
+fn sound_day(known: bool, d: Day, book: &[u64], prices: &[u64]) -> bool
+    requires { ⌜ (known ≡ true → isSound d (now book) (now prices) ≡ true) ⌝ }
+    ensures { λ r. ⌜ r ≡ isSound d (now (book .entry)) (now (prices .entry)) ⌝ }
+{
+    if known {
+        return true;
+    }
+    sound::is_sound(d, book, prices)
+}
+
+// Sets a component's price.
+pub fn price(
+    known: bool,
+    d: Day,
+    book: &[u64],
+    prices: &mut [u64],
+    line: usize,
+    price: u64,
+) -> Answer
+    requires { ⌜ (known ≡ true → isSound d (now book) (now prices) ≡ true) ⌝ }
+    ensures { λ r. ⌜ answerReply r ≡ priceReply d (now (book .entry)) (now (prices .entry)) line price ⌝ }
+    ensures prices { λ r. ⌜ now (prices .exit) ≡ pricedPrices d (now (book .entry)) (now (prices .entry)) line price ⌝ }
+{
+    if !sound_day(known, d, book, prices) {
+        return Answer::Refused(Refusal::UnsoundDay);
+    }
+    trades::set_price(d.count, prices, line, price)
+}
+
+// Trades a quantity of a line at a price.
+pub fn trade(
+    known: bool,
+    d: Day,
+    book: &mut [u64],
+    prices: &[u64],
+    line: usize,
+    q: u64,
+    price: u64,
+    seller: usize,
+    buyer: usize,
+) -> Answer
+    requires { ⌜ (known ≡ true → isSound d (now book) (now prices) ≡ true) ⌝ }
+    ensures { λ r. ⌜ answerReply r ≡ tradeReply d (now (book .entry)) (now (prices .entry)) line q price seller buyer ⌝ }
+    ensures book { λ r. ⌜ now (book .exit) ≡ tradedBook d (now (book .entry)) (now (prices .entry)) line q price seller buyer ⌝ }
+{
+    if !sound_day(known, d, book, prices) {
+        return Answer::Refused(Refusal::UnsoundDay);
+    }
+    trades::trade(d.accounts, d.count, book, line, q, price, seller, buyer)
+}
+
+// The reference value at this moment.
+pub fn reference_value(known: bool, d: Day, book: &[u64], prices: &[u64]) -> ValueAnswer
+    requires { ⌜ (known ≡ true → isSound d (now book) (now prices) ≡ true) ⌝ }
+    ensures { λ r. ⌜ valueReply r ≡ worthReply d (now (book .entry)) (now (prices .entry)) ⌝ }
+{
+    if !sound_day(known, d, book, prices) {
+        return ValueAnswer::Refused(Refusal::UnsoundDay);
+    }
+    value::reference_value(d, prices)
+}
+
+// Creates units for an account; the records go to the lent list.
+pub fn create(
+    known: bool,
+    d: Day,
+    book: &mut [u64],
+    prices: &[u64],
+    a: usize,
+    units: u64,
+    list: &mut [u64],
+) -> OrderAnswer
+    requires { ⌜ (known ≡ true → isSound d (now book) (now prices) ≡ true) ⌝ }
+    ensures { λ r. ⌜ orderReply r ≡ creationReply d (now (book .entry)) (now (prices .entry)) a units (roomIn (now (list .entry))) ⌝ }
+    ensures book { λ r. ⌜ now (book .exit) ≡ createdBook d (now (book .entry)) (now (prices .entry)) a units (roomIn (now (list .entry))) ⌝ }
+    ensures list { λ r. ⌜ now (list .exit) ≡ createdList d (now (book .entry)) (now (prices .entry)) a units (now (list .entry)) ⌝ }
+{
+    if !sound_day(known, d, book, prices) {
+        return OrderAnswer::Refused(Refusal::UnsoundDay);
+    }
+    orders::create(d, book, prices, a, units, list)
+}
+
+// Redeems units of an account; the records go to the lent list.
+pub fn redeem(
+    known: bool,
+    d: Day,
+    book: &mut [u64],
+    prices: &[u64],
+    a: usize,
+    units: u64,
+    list: &mut [u64],
+) -> OrderAnswer
+    requires { ⌜ (known ≡ true → isSound d (now book) (now prices) ≡ true) ⌝ }
+    ensures { λ r. ⌜ orderReply r ≡ redemptionReply d (now (book .entry)) (now (prices .entry)) a units (roomIn (now (list .entry))) ⌝ }
+    ensures book { λ r. ⌜ now (book .exit) ≡ redeemedBook d (now (book .entry)) (now (prices .entry)) a units (roomIn (now (list .entry))) ⌝ }
+    ensures list { λ r. ⌜ now (list .exit) ≡ redeemedList d (now (book .entry)) (now (prices .entry)) a units (now (list .entry)) ⌝ }
+{
+    if !sound_day(known, d, book, prices) {
+        return OrderAnswer::Refused(Refusal::UnsoundDay);
+    }
+    orders::redeem(d, book, prices, a, units, list)
+}

@@ -1,0 +1,17 @@
+-- `day::trade` meets its contract: the call, with nothing known of the day.
+use mathlib.Core.Bool.{false≢true}
+use borrow.Author.Needs.{needs}
+use Rattle.day.proofs.trade.Statement.{statement}
+use Rattle.day.proofs.trade.Tie as tie
+
+trade-requires : tie.Need-trade-requires
+trade-requires c κs = λ q. absurd (false≢true q)
+
+same-length : tie.Need-same-length
+same-length c = search needs
+
+returns : tie.Need-returns
+returns c = search needs
+
+pub trade-spec : {M : Type 1} → statement M
+trade-spec = tie.close (tie.spec trade-requires same-length returns)

@@ -1,0 +1,5 @@
+pub mod Parts
+pub mod Rows
+pub mod Going
+pub mod Whole
+pub mod Sizes

@@ -1,0 +1,29 @@
+-- `run::run_public` meets its contract: the rows, with nothing known of the day, and demand 3 of what they leave.
+use mathlib.Core.Bool.{false≢true}
+use Rattle.run.proofs.Whole.{run-meets}
+use borrow.Author.Needs.{needs}
+use Rattle.run.proofs.run_public.Statement.{statement}
+use Rattle.run.proofs.run_public.Tie as tie
+
+run-rows-requires : tie.Need-run-rows-requires
+run-rows-requires c κs = λ e. absurd (false≢true e)
+
+same-length : tie.Need-same-length
+same-length c = search needs
+
+same-length-2 : tie.Need-same-length-2
+same-length-2 c = search needs
+
+same-length-3 : tie.Need-same-length-3
+same-length-3 c = search needs
+
+same-length-4 : tie.Need-same-length-4
+same-length-4 c = search needs
+
+returns : tie.Need-returns
+returns c = let done = c .before .before .before .before .before .before .before .before .run-rows .ensures in (done .0, (done .1, run-meets _ _ _ (done .1)))
+
+pub run-public-spec : {M : Type 1} → statement M
+run-public-spec =
+    tie.close
+    (tie.spec run-rows-requires same-length same-length-2 same-length-3 same-length-4 returns)

@@ -1,0 +1,73 @@
+-- The driver's whole list of calls: the definitions' run over its rows, and its events.
+use Prim.Native.Nat.{ℕ, zero, suc, _*_, _/_}
+use mathlib.Core.Path.{_≡_}
+use mathlib.Core.Bool.{Bool, true, cond, not}
+use mathlib.Core.List.{List, [], _∷_}
+use lib.Dec.{eqb}
+use lib.ListN.{length}
+use Rattle.lists.specs.Checks.{Reply, check, answered, isAccepted}
+use Rattle.lists.specs.Every.{every}
+use Rattle.rules.specs.declared.Day.{Day}
+use Rattle.rules.specs.Opening.{Opening, openingReply}
+use Rattle.balance.specs.Calls.{State, Event, Happened}
+use Rattle.balance.specs.Balanced.{opened, Balanced}
+use Rattle.run.specs.Rows.{Row, call, none, rowAt, Work, lentTo, resultOf, rowReply, rowLeaves, putReply}
+
+-- what the driver is lent: the work and the answers
+pub record Batch : Type 0 where
+  pub work : Work
+  pub answers : List ℕ
+
+abbrev pub stateOf : Day → List ℕ → List ℕ → State
+stateOf d book prices = record { day = d; book = book; prices = prices }
+
+abbrev pub workOf : Day → List ℕ → List ℕ → List ℕ → Work
+workOf d book prices records = record { state = stateOf d book prices; records = records }
+
+abbrev pub batchOf : Day → List ℕ → List ℕ → List ℕ → List ℕ → Batch
+batchOf d book prices records answers = record { work = workOf d book prices records; answers = answers }
+
+-- one row: the work that it leaves, and its answer in its place
+abbrev pub rowDone : Batch → Row → ℕ → Batch
+rowDone b row i =
+    record { work = rowLeaves (b .work) row; answers = putReply (b .answers) i (rowReply (b .work) row) }
+
+-- n rows from the i-th on, each on what the one before left
+unfoldable pub runFrom : List ℕ → ℕ → ℕ → Batch → Batch
+runFrom rows i zero b = b
+runFrom rows i (suc n) b = runFrom rows (suc i) n (rowDone b (rowAt rows i) i)
+
+-- the event of a row before those of the rest; a row that names no call has none
+unfoldable pub withEvent : Work → Row → List Event → List Event
+withEvent w (call c start len) es = record { call = c; lent = lentTo w start len; result = resultOf w c start len } ∷ es
+withEvent w none es = es
+
+unfoldable pub eventsFrom : List ℕ → ℕ → ℕ → Batch → List Event
+eventsFrom rows i zero b = []
+eventsFrom rows i (suc n) b = withEvent (b .work) (rowAt rows i) (eventsFrom rows (suc i) n (rowDone b (rowAt rows i) i))
+
+-- so many rows, and refusal 1: the rows are not whole, or have not an answer each
+abbrev pub rowsIn : List ℕ → ℕ
+rowsIn rows = length rows / 6
+
+unfoldable pub rowsFit : ℕ → ℕ → Bool
+rowsFit rows answers = every (eqb rows (6 * (rows / 6)) ∷ eqb answers (3 * (rows / 6)) ∷ [])
+
+abbrev pub fits : List ℕ → Batch → Bool
+fits rows b = rowsFit (length rows) (length (b .answers))
+
+unfoldable pub runReply : List ℕ → Batch → Reply
+runReply rows b = answered (check (not (fits rows b)) 1 0 ∷ []) 0
+
+-- what the driver leaves, and its events
+unfoldable pub ran : List ℕ → Batch → Batch
+ran rows b = cond (fits rows b) (runFrom rows 0 (rowsIn rows) b) b
+
+unfoldable pub eventsOf : List ℕ → Batch → List Event
+eventsOf rows b = cond (fits rows b) (eventsFrom rows 0 (rowsIn rows) b) []
+
+-- Demand 3 of a run: its events lead from the state at its start to the one at its end, and they balance from every accepted
+-- opening that left the state at its start
+pub record Demand3 (s : State) (es : List Event) (t : State) : Type 0 where
+  pub happened : Happened s es t
+  pub balanced : (o : Opening) → isAccepted (openingReply o) ≡ true → opened o ≡ s → Balanced o es t
