@@ -1,0 +1,637 @@
+#!/usr/bin/env python3
+"""Writes test vectors at the edges of document 01, with answers worked out from the paper.
+
+    edge_vectors.py OUT
+
+OUT gets openings.jsonl, days.jsonl, broken_days.jsonl and chains.jsonl, in the form that vector_text.py reads. The small
+rows have answers by hand, with the arithmetic beside them. The day of full size is worked out by `Model` below, which is
+written from the paper alone and shares nothing with the day book.
+"""
+import argparse
+import json
+from pathlib import Path
+
+B, S = 1, 2  # the sides of a record
+CEILING = 999_999_999_999
+E18 = 10**18
+
+# ---- rows by hand: one component, code 1, one share to a basket, stock moves (flag 0); baskets of one unit
+
+ONE = [[1, 1, 0, 0, 0]]
+
+
+def fund(**fields):
+    return {"first_code": 500_000, "basket_size": 1, "max_cash_ratio": 0, "switch": 1, "estimated_cash": 0,
+            "limits": [0] * 8, **fields}
+
+
+def made(call, reply, records=None):
+    """A call, its reply, and the numbers that an accepted order writes."""
+    c = {"call": call, "reply": reply}
+    return c if records is None else {**c, "records": [x for r in records for x in r]}
+
+
+def state(accounts, calls, components=ONE, prices=(1,), **fields):
+    """accounts: for each its cash, created, redeemed, then old, bought, got of each line."""
+    return {"accounts": len(accounts), "count": len(components), "fund": fund(**fields), "components": components,
+            "book": [x for a in accounts for x in a], "prices": list(prices), "calls": calls}
+
+
+# the fund has 50 of the component
+FUND = [0, 0, 0, 50, 0, 0, 0, 0, 0]
+
+
+def holder(cash=100, created=0, redeemed=0, stock=(5, 0, 0), units=(5, 0, 0)):
+    return [cash, created, redeemed, *stock, *units]
+
+
+# One basket: the unit record, 1 share, no cash, the second unit record. One share at 1 a unit: value 1 x 10 / 1 = 10.
+CREATED = [[500_000, B, 1, 0, 0], [1, S, 1, 0, 0], [500_001, B, 1, 0, 0]]
+REDEEMED = [[500_000, S, 1, 0, 0], [1, B, 1, 0, 0], [500_001, S, 1, 0, 0]]
+VALUE, PRICE, TRADE = ["value"], ["price", 0, 5], ["trade", 0, 1, 1, 1, 2]
+CREATE, REDEEM = ["create", 1, 1, 20], ["redeem", 1, 1, 20]
+CREATES, REDEEMS = made(CREATE, [0, 0, 3], CREATED), made(REDEEM, [0, 0, 3], REDEEMED)
+SOUND = [made(VALUE, [0, 0, 10]), CREATES, REDEEMS, made(PRICE, [0, 0, 0])]
+BROKEN = [made(c, [5, 0, 0]) for c in (VALUE, CREATE, REDEEM, PRICE, TRADE)]
+
+
+def orders(creation, redemption):
+    """Both orders of one basket, refused with these numbers or, at 0, made."""
+    return [made(CREATE, [creation, 0, 0]) if creation else CREATES,
+            made(REDEEM, [redemption, 0, 0]) if redemption else REDEEMS]
+
+
+def sound_ends():
+    """Refusal 5 at the ends of its ranges: just kept, then just passed."""
+    def stock(fund_old, old, bought, got):
+        return [[0, 0, 0, fund_old, 0, 0, 0, 0, 0], holder(stock=(old, bought, got))]
+
+    def units(*lots):
+        return [FUND, holder(units=lots)]
+
+    def cash(a, b):
+        return [[a, *FUND[1:]], holder(cash=b)]
+
+    half, quarter, eighth = E18 // 2, E18 // 4, E18 // 8
+    # units total 2 x 10^18 over the three lots, a line 10^18 with the fund's, cash 4 x 10^18 with the fund's
+    yield state(units(2 * E18, 0, 0), SOUND)
+    yield state(units(2 * E18, 1, 0), BROKEN)
+    yield state(units(E18, half, half), SOUND)
+    yield state(units(E18, half, half + 1), BROKEN)
+    yield state(stock(half, quarter, eighth, eighth), SOUND)
+    yield state(stock(half, quarter, eighth, eighth + 1), BROKEN)
+    yield state(cash(2 * E18, 2 * E18), SOUND)
+    yield state(cash(2 * E18, 2 * E18 + 1), BROKEN)
+    # sums that do not fit 64 bits: 2^64 - 1 of cash and more
+    yield state(cash(2**64 - 1, 100), BROKEN)
+    yield state([FUND, holder(cash=2**63), holder(cash=2**63)], BROKEN)
+    # fund-wide counters to 999,999,999,999; one unit more is past the ceiling, 13
+    yield state([FUND, holder(created=CEILING)], [made(VALUE, [0, 0, 10]), *orders(13, 0)])
+    yield state([FUND, holder(created=CEILING + 1)], BROKEN)
+    yield state([FUND, holder(redeemed=CEILING)], [made(VALUE, [0, 0, 10]), *orders(0, 13)])
+    yield state([FUND, holder(redeemed=CEILING + 1)], BROKEN)
+    yield state([FUND, holder(created=CEILING - 1), holder(created=1)], orders(13, 0))
+    yield state([FUND, holder(created=CEILING), holder(created=1)], BROKEN)
+    yield state([FUND, holder(redeemed=CEILING - 1), holder(redeemed=1)], orders(0, 13))
+    yield state([FUND, holder(redeemed=CEILING), holder(redeemed=1)], BROKEN)
+    yield state([FUND, holder(created=CEILING - 1)], orders(0, 0))
+    # a price to 9,999,999: the value is 99,999,990, past its own bound
+    yield state([FUND, holder()], [made(VALUE, [14, 0, 0]), made(PRICE, [0, 0, 0])], prices=(9_999_999,))
+    yield state([FUND, holder()], BROKEN, prices=(10_000_000,))
+    # the fund's own counters, bought, got and units are 0
+    for place in (1, 2, 4, 5, 6, 7, 8):
+        yield state([[*FUND[:place], 1, *FUND[place + 1:]], holder()], BROKEN)
+    # lengths other than A and N need; A and N out of range; a fund field; a component
+    sound = state([FUND, holder()], BROKEN)
+    yield {**sound, "book": sound["book"] + [0]}
+    yield {**sound, "book": sound["book"][:-1]}
+    yield {**sound, "prices": [1, 1]}
+    yield {**sound, "prices": []}
+    yield {**sound, "accounts": 1, "book": FUND}
+    yield {**sound, "count": 0, "components": [], "book": [0] * 12, "prices": []}
+    yield {**sound, "count": 301, "book": [0] * 2 * (3 + 3 * 302), "prices": [1] * 301}
+    yield state([FUND, holder()], BROKEN, basket_size=0)
+    yield state([FUND, holder()], BROKEN, components=[[500_003, 1, 0, 0, 0]])
+    # not tested: a counter above a limit, a counter that is no multiple of U, a price on an unpriced flag
+    yield state([FUND, holder(created=9)], [made(PRICE, [0, 0, 0])], limits=[4] * 8, basket_size=2)
+    yield state([[0] * 9, [0] * 9], [made(PRICE, [0, 0, 0])], components=[[1, 7, 2, 0, 5]], prices=(3,))
+
+
+def trades():
+    """Got and old sell, bought does not: 4 + 3 of 3, 9, 4. Account 2 has 70 in cash."""
+    def t(*args):
+        return ["trade", *args]
+
+    accounts = [FUND, holder(cash=0, stock=(3, 9, 4)), holder(cash=70, stock=(0, 0, 0))]
+    replies = [(t(0, 7, 10, 1, 2), 0), (t(0, 8, 1, 1, 2), 9), (t(0, 7, 11, 1, 2), 10), (t(1, 5, 14, 1, 2), 0),
+               (t(1, 6, 1, 1, 2), 9), (t(2, 0, 0, 0, 0), 6), (t(0, 0, 0, 0, 0), 7), (t(0, 1, 0, 1, 2), 7),
+               (t(0, 999_999_999, 9_999_999, 1, 2), 9), (t(0, 10**9, 1, 1, 2), 7), (t(0, 1, 10**7, 1, 2), 7),
+               (t(0, 1, 1, 0, 1), 8), (t(0, 1, 1, 1, 0), 8), (t(0, 1, 1, 3, 1), 8), (t(0, 1, 1, 1, 3), 8),
+               (t(0, 1, 1, 1, 1), 8), (["price", 1, 1], 6), (["price", 0, 0], 7), (["price", 0, 9_999_999], 0),
+               (["price", 0, 10**7], 7),
+               # arguments that no day has
+               (t(2**64 - 1, 1, 1, 1, 2), 6), (t(0, 2**64 - 1, 1, 1, 2), 7), (t(0, 1, 2**64 - 1, 1, 2), 7),
+               (t(0, 1, 1, 2**64 - 1, 2), 8), (["price", 2**64 - 1, 1], 6), (["price", 0, 2**64 - 1], 7)]
+    yield state(accounts, [made(c, [r, 0, 0]) for c, r in replies])
+
+
+def limits():
+    """Each of the eight limits just kept and just passed by account 1's order of one unit."""
+    more = [FUND, holder(created=5, redeemed=3), holder(created=7, redeemed=1)]
+    less = [FUND, holder(created=3, redeemed=5), holder(created=1, redeemed=7)]
+    # after a creation on `more`: 13 created in all, 6 by account 1, net 13 - 4 = 9 in all, net 6 - 3 = 3 by account 1;
+    # a redemption on `less` likewise. The list text's order: creation and redemption in turn, cumulative before net.
+    for side, accounts in ((0, more), (1, less)):
+        for kind, after in enumerate((13, 6, 9, 3)):
+            kept, passed = ([0] * 8 for _ in range(2))
+            kept[2 * kind + side], passed[2 * kind + side] = after, after - 1
+            yield state(accounts, [orders(0, 0)[side]], limits=kept)
+            yield state(accounts, [orders(13, 13)[side]], limits=passed)
+    # a negative net passes no limit: creation on `less` and redemption on `more` leave nets below 0
+    for side, accounts in ((0, less), (1, more)):
+        for kind in (2, 3):
+            one = [0] * 8
+            one[2 * kind + side] = 1
+            yield state(accounts, [orders(0, 0)[side]], limits=one)
+
+
+def switches_and_baskets():
+    # 0 neither, 1 both, 2 creation only, 3 redemption only
+    for switch, creation, redemption in ((0, 12, 12), (1, 0, 0), (2, 0, 12), (3, 12, 0)):
+        yield state([FUND, holder()], orders(creation, redemption), switch=switch)
+    # U = 2: 0 units, 3 and 42 (21 baskets) are 11; 40 are 20 baskets and take 20 shares
+    full = [[500_000, B, 40, 0, 0], [1, S, 20, 0, 0], [500_001, B, 40, 0, 0]]
+    calls = [made(["create", 1, u, 20], [11, 0, 0]) for u in (0, 3, 42, 2**64 - 2)] + [made(["create", 1, 40, 20], [0, 0, 3], full)]
+    yield state([FUND, holder(stock=(999, 0, 0), units=(999, 0, 0))], calls, basket_size=2)
+
+
+def values():
+    """One unpriced component with P: value (P + 10 E) x 10 / 20 = (P + 10 E) / 2, halves up."""
+    for p, e, reply in ((19_999_998, 0, [0, 0, 9_999_999]),  # the bound itself
+                        (19_999_997, 0, [0, 0, 9_999_999]),  # 9,999,998.5
+                        (19_999_999, 0, [14, 0, 0]),         # 9,999,999.5 is 10,000,000 once rounded
+                        (9, -1, [14, 0, 0]),                 # the sum is -1: none, although it would round to 0
+                        (10, -1, [0, 0, 0]),                 # the sum is 0
+                        (11, -1, [0, 0, 1]),                 # 0.5
+                        (0, 1, [0, 0, 5])):
+        yield state([[0] * 9, [0] * 9], [made(VALUE, reply)], components=[[1, 7, 4, 0, p]], prices=(0,), basket_size=20,
+                    estimated_cash=e)
+    # a priced component with Q = 0 needs no price; with Q above 0 it does
+    for q, reply in ((0, [0, 0, 0]), (1, [14, 0, 0])):
+        yield state([[0] * 9, [0] * 9], [made(VALUE, reply)], components=[[1, q, 0, 0, 0]], prices=(0,))
+
+
+def ratios():
+    """One basket needs 10 of component 1 (flag 1); component 2 (flag 4) has P 99,990,000; U 1,000,000; X 1.
+    At a price of 1,000 the sum is 100,000,000 and the value 1,000, so missing stock may cost
+    1 x 1,000,000 x 1,000 x 1 / 1,000,000 = 1,000. Other cash is 99 x 1,000,000 + 990,000."""
+    def row(stock, price, reply, records=None):
+        accounts = [[0] * 12, [10**12, 0, 0, *stock, 0, 0, 0, 0, 0, 0]]
+        return state(accounts, [made(["create", 1, 1_000_000, 30], reply, records)], prices=(price, 0),
+                     components=[[1, 10, 1, 0, 0], [2, 0, 4, 0, 99_990_000]], basket_size=1_000_000, max_cash_ratio=1)
+
+    def records(handed_in, *shanghai):
+        return [[500_000, B, 1_000_000, 0, 0], [1, S, handed_in, 0, 0], [500_005, B, 1_000_000, 99, 99_000_000],
+                [500_005, B, 1, 990_000, 990_000], *shanghai, [500_001, B, 1_000_000, 0, 0]]
+
+    yield row((4, 5, 0), 1000, [0, 0, 6], records(9, [500_002, B, 1, 1000, 1000]))  # one missing, equality passes
+    yield row((4, 5, 0), 1001, [15, 0, 0])  # value 1,000.0001, so still 1,000
+    yield row((4, 5, 99), 1001, [15, 0, 0])  # the got lot does not count
+    yield row((9, 1, 0), 0, [0, 0, 5], records(10))  # nothing missing: no value needed
+    yield row((9, 0, 0), 0, [14, 0, 0])
+
+
+def places():
+    """17 at a component and at cash (place N), 16 at one number too few, redemption's 9 without the got lot."""
+    two = [[1, 1, 0, 0, 0], [2, 3, 4, 0, 6]]
+    units = [0, 0, 0, 0, 0, 0, 0, 0, 0, 2, 3, 4]  # 5 may be handed in
+
+    def row(cash, stock, calls):
+        return state([[cash, 0, 0, stock, 0, 0, 0, 0, 0, 0, 0, 0], units], calls, components=two, prices=(0, 0))
+
+    def redeem(u, room, *reply):
+        return made(["redeem", 1, u, room], list(reply))
+
+    written = [[500_000, S, 1, 0, 0], [1, B, 1, 0, 0], [500_005, S, 1, 6, 6], [500_001, S, 1, 0, 0]]
+    yield row(5, 50, [redeem(1, 99, 17, 2, 0)])  # 6 of cash due
+    yield row(6, 50, [made(["redeem", 1, 1, 20], [0, 0, 4], written), redeem(1, 19, 16, 0, 0), redeem(6, 99, 9, 0, 0),
+                      redeem(5, 99, 17, 2, 0)])
+    yield row(6, 0, [redeem(1, 99, 17, 0, 0)])
+    # places in the middle: 9 and 17 at component 2
+    three = [[1, 1, 0, 0, 0], [2, 1, 1, 0, 0], [3, 1, 0, 0, 0]]
+    have = [0, 0, 0, 5, 0, 0, 5, 0, 0, 0, 0, 0, 5, 0, 0]
+    fund_has = [0, 0, 0, 5, 0, 0, 5, 0, 0, 0, 0, 0, 0, 0, 0]
+    yield state([fund_has, have], [made(["create", 1, 1, 99], [9, 2, 0]), made(["redeem", 1, 1, 99], [17, 2, 0])],
+                components=three, prices=(1, 1, 1))
+
+
+def meetings():
+    """Calls that two or more refusals would turn back: the one that stands first in the paper's order is given.
+    Flag 0 needs 1 of component 1, flag 1 needs 10 of component 2, at a price of 1."""
+    parts = [[1, 1, 0, 0, 0], [2, 10, 1, 0, 0]]
+
+    def row(account, calls, prices=(0, 1), fund_stock=(50, 50), fund_cash=0, **fields):
+        first = [fund_cash, 0, 0, fund_stock[0], 0, 0, fund_stock[1], 0, 0, 0, 0, 0]
+        return state([first, account], calls, components=parts, prices=prices, **fields)
+
+    def create(a, u, room, number, place=0):
+        return made(["create", a, u, room], [number, place, 0])
+
+    def redeem(a, u, room, number, place=0):
+        return made(["redeem", a, u, room], [number, place, 0])
+
+    poor = [0] * 12
+    counted = [0, 5, 5, *[0] * 9]
+    stocked = [0, 0, 0, 1, 0, 0, 9, 0, 0, 0, 0, 0]
+    # price and trade: line, then price and quantity, then accounts, then stock, then cash
+    yield row(poor, [made(["price", 2, 0], [6, 0, 0]), made(["trade", 3, 0, 0, 0, 0], [6, 0, 0]),
+                     made(["trade", 2, 0, 1, 0, 0], [7, 0, 0]), made(["trade", 2, 1, 0, 0, 0], [7, 0, 0]),
+                     made(["trade", 2, 1, 1, 0, 0], [8, 0, 0])])
+    yield state([[0] * 12, poor, poor], [made(["trade", 2, 1, 1, 1, 2], [9, 0, 0])], components=parts, prices=(0, 1))
+    # 8 before 11; 11 before 12; 12 before 13; 13 before 9
+    yield row(counted, [create(0, 0, 0, 8), create(2, 0, 0, 8), create(1, 0, 0, 11), create(1, 21, 0, 11), create(1, 1, 0, 12),
+                        redeem(0, 0, 0, 8), redeem(2, 0, 0, 8), redeem(1, 0, 0, 11), redeem(1, 21, 0, 11), redeem(1, 1, 0, 12)],
+              switch=0, limits=[5, 5, 0, 0, 0, 0, 0, 0])
+    yield row(counted, [create(1, 1, 0, 13), redeem(1, 1, 0, 13)], limits=[5, 5, 0, 0, 0, 0, 0, 0])
+    # 9 before 14: no price; 14 before 10 and 16: one missing, no price of component 1; 15 before 10 and 16: X is 0
+    yield row(poor, [create(1, 1, 0, 9)], prices=(0, 0))
+    yield row([0, 0, 0, 0, 0, 7, 9, 0, 0, 0, 0, 0], [create(1, 1, 0, 9)])
+    yield row(stocked, [create(1, 1, 0, 14)])
+    yield row(stocked, [create(1, 1, 0, 15)], prices=(1, 1))
+    # X 100,000: sum 1 + 10 = 11, value 110, bound 110 x 100,000 / 1,000,000 = 11, missing costs 1; 10 before 16
+    yield row(stocked, [create(1, 1, 0, 10)], prices=(1, 1), max_cash_ratio=100_000)
+    yield row([1, *stocked[1:]], [create(1, 1, 24, 16)], prices=(1, 1), max_cash_ratio=100_000)
+    # redemption: 9 before 17, stock before cash, the lower component first, 17 before 16
+    yield row(poor, [redeem(1, 1, 0, 9)], fund_stock=(0, 0))
+    units = [0, 0, 0, 0, 0, 0, 0, 0, 0, 5, 0, 0]
+    yield row(units, [redeem(1, 1, 0, 17, 0)], fund_stock=(0, 0))
+    yield row(units, [redeem(1, 1, 0, 17, 1)], fund_stock=(1, 9))
+    yield row(units, [redeem(1, 1, 19, 16)], fund_stock=(1, 10))
+    # 5 before everything
+    yield row(poor, [made(["price", 9, 0], [5, 0, 0]), made(["trade", 9, 0, 0, 0, 0], [5, 0, 0]), create(0, 0, 0, 5),
+                     redeem(0, 0, 0, 5), made(VALUE, [5, 0, 0])], switch=4)
+
+
+def paper_cases():
+    """The paper's day to compare with, (a) to (i)."""
+    parts = [[1, 8000, 3, 10_000, 96_000_000], [2, 1000, 4, 0, 8_000_000], [600_000, 5200, 1, 10_000, 0],
+             [600_036, 3000, 0, 0, 0], [600_519, 100, 2, 0, 150_000_000]]
+    fields = {"first_code": 510_300, "basket_size": 1_000_000, "max_cash_ratio": 5000, "estimated_cash": -33_122}
+
+    def row(stock_1, stock_0, calls):
+        rich = [10**12, 0, 0, *[10**6, 0, 0] * 5, 0, 0, 0]
+        one = [10**12, 0, 0, *[0] * 6, stock_1, 0, 0, stock_0, 0, 0, 0, 0, 0, 10**7, 0, 0]
+        return state([rich, one], calls, components=parts, prices=(12_000, 0, 10_000, 40_000, 0), **fields)
+
+    def order(name, reply, records=None):
+        return made([name, 1, 1_000_000, 40], reply, records)
+
+    # (e) other cash 96,000,000 x 1.1 + 8,000,000 = 113,600,000; Shanghai 21,280,000 x 1.1 + 150,000,000 = 173,408,000
+    e = [[510_300, B, 1_000_000, 0, 0], [600_000, S, 3072, 0, 0], [600_036, S, 3000, 0, 0],
+         [510_305, B, 1_000_000, 113, 113_000_000], [510_305, B, 1, 600_000, 600_000],
+         [510_302, B, 1_000_000, 173, 173_000_000], [510_302, B, 1, 408_000, 408_000], [510_301, B, 1_000_000, 0, 0]]
+    # (f) other cash 96,000,000 x 0.9 + 8,000,000 = 94,400,000; Shanghai 150,000,000
+    f = [[510_300, S, 1_000_000, 0, 0], [600_000, B, 5200, 0, 0], [600_036, B, 3000, 0, 0],
+         [510_305, S, 1_000_000, 94, 94_000_000], [510_305, S, 1, 400_000, 400_000],
+         [510_302, S, 1_000_000, 150, 150_000_000], [510_302, S, 1, 0, 0], [510_301, S, 1_000_000, 0, 0]]
+    yield row(3072, 3000, [made(VALUE, [0, 0, 4257]), order("create", [0, 0, 8], e), order("redeem", [0, 0, 8], f)])
+    yield row(3071, 3000, [order("create", [15, 0, 0])])
+    yield row(3072, 2999, [order("create", [9, 3, 0])])
+    # (g) cash 999.999 is one record, 1,000.000 two
+    for cash, split in ((999_999, [[1, 999_999]]), (1_000_000, [[1_000_000, 1], [1, 0]])):
+        records = [[500_000, B, 1, 0, 0], *([500_005, B, q, p, q * p] for q, p in split), [500_001, B, 1, 0, 0]]
+        yield state([[0] * 9, [10**6, *[0] * 8]], [made(["create", 1, 1, 20], [0, 0, len(records)], records)],
+                    components=[[1, 0, 4, 0, cash]], prices=(0,))
+    # (h), (i) v = 5: 5.5 is 6, 5.49995 is 5. Value 50, bound 50 x 100,000 / 1,000,000 = 5.
+    for rate, cash in ((10_000, 6), (9_999, 5)):
+        records = [[500_000, B, 1, 0, 0], [500_002, B, 1, cash, cash], [500_001, B, 1, 0, 0]]
+        yield state([[0] * 9, [cash, *[0] * 8]], [made(["create", 1, 1, 15], [0, 0, 3], records)],
+                    components=[[1, 1, 1, rate, 0]], prices=(5,), max_cash_ratio=100_000)
+
+
+def full_states():
+    """64 accounts and 300 components, all empty but for the last account's units: 2 x 10^18, then one more."""
+    parts = [[i, 1, 0, 0, 0] for i in range(300)]
+    for over, reply in ((0, [0, 0, 0]), (1, [5, 0, 0])):
+        accounts = [[0] * 906 for _ in range(64)]
+        accounts[63][905] = 2 * E18 + over  # the got lot of the unit
+        yield state(accounts, [made(["price", 299, 1], reply), made(["trade", 300, 999_999_999, 1, 63, 1], [reply[0] or 10, 0, 0])],
+                    components=parts, prices=[0] * 300)
+
+
+# ---- openings
+
+
+def opening(accounts, count, reply, **changed):
+    held = [1] * (count + 1) + [0] + [1] * ((accounts - 1) * (count + 2)) if accounts else []
+    return {"accounts": accounts, "count": count, "fund": fund(), "components": [[i, 1, 0, 0, 0] for i in range(count)],
+            "holdings": held, "book_length": accounts * (3 + 3 * (count + 1)), "prices_length": count, "reply": reply, **changed}
+
+
+def openings():
+    # A and N at and past their ends, with fitting lengths
+    for accounts, count, number in ((2, 1, 0), (1, 1, 1), (0, 1, 1), (64, 1, 0), (65, 1, 1), (2, 300, 0), (2, 301, 1), (2, 0, 1)):
+        yield opening(accounts, count, [number, 0])
+    # lengths one off
+    for name in ("book_length", "prices_length"):
+        for change in (-1, 1):
+            v = opening(2, 2, [1, 0])
+            yield {**v, name: v[name] + change}
+    v = opening(2, 2, [1, 0])
+    yield {**v, "holdings": v["holdings"][:-1]}
+    yield {**v, "holdings": v["holdings"] + [0]}
+    yield {**v, "components": v["components"][:-1]}
+    yield {**v, "components": v["components"] + [[9, 1, 0, 0, 0]]}
+    # fund fields at and past their ends
+    for fields in ({"first_code": 999_994}, {"basket_size": 99_999_999}, {"max_cash_ratio": 100_000}, {"switch": 3},
+                   {"estimated_cash": -999_999_999}, {"estimated_cash": 9_999_999_999}, {"limits": [CEILING] * 8}):
+        yield opening(2, 1, [0, 0], fund=fund(**fields))
+    for fields in ({"first_code": 999_995}, {"basket_size": 100_000_000}, {"basket_size": 0}, {"max_cash_ratio": 100_001},
+                   {"switch": 4}, {"estimated_cash": -1_000_000_000}, {"estimated_cash": 10_000_000_000},
+                   {"limits": [0] * 7 + [CEILING + 1]}, {"basket_size": 2, "limits": [0] * 7 + [3]},
+                   {"estimated_cash": -(2**63 - 1)}, {"first_code": 2**64 - 1}, {"limits": [2**64 - 1] * 8}):
+        yield opening(2, 1, [2, 0], fund=fund(**fields))
+    # a component at and past its ends; the group is 500,000 to 500,005
+    for part, number in (([499_999, 99_999_999, 4, 0, 99_999_999_999], 0), ([500_000, 1, 0, 0, 0], 3), ([500_005, 1, 0, 0, 0], 3),
+                         ([500_006, 1, 3, 100_000, 5], 0), ([999_999, 1, 1, 5, 0], 0), ([10**6, 1, 1, 5, 0], 3),
+                         ([1, 10**8, 1, 5, 0], 3), ([1, 1, 5, 0, 0], 3), ([1, 1, 1, 100_001, 0], 3), ([1, 1, 2, 0, 10**11], 3),
+                         ([1, 1, 0, 1, 0], 3), ([1, 1, 2, 1, 0], 3), ([1, 1, 1, 0, 1], 3), ([1, 1, 0, 0, 1], 3),
+                         ([1, 1, 4, 1, 0], 3)):
+        yield opening(2, 1, [number, 0], components=[part])
+    # order: equal codes are at fault at the second, whatever the first is; the last of 300
+    yield opening(2, 3, [3, 2], components=[[1, 1, 0, 0, 0], [2, 1, 0, 0, 0], [2, 1, 0, 0, 0]])
+    yield opening(2, 2, [3, 1], components=[[7, 1, 0, 0, 0], [6, 1, 0, 0, 0]])
+    yield opening(2, 300, [3, 299], components=[[i, 1, 0, 0, 0] for i in range(299)] + [[298, 1, 0, 0, 0]])
+    # totals: a line, the unit (N), cash (N + 1), at their ends and one past; sums past 64 bits
+    for held, reply in (([0, E18 - 1, 0, 0, 1, 0], [0, 0]), ([0, E18, 0, 0, 1, 0], [4, 0]), ([0, 0, 0, 0, 0, E18], [0, 0]),
+                        ([0, 0, 0, 0, 0, E18 + 1], [4, 1]), ([0, 0, 1, 0, 0, 0], [4, 1]), ([2 * E18, 0, 0, 2 * E18, 0, 0], [0, 0]),
+                        ([2 * E18, 0, 0, 2 * E18 + 1, 0, 0], [4, 2]), ([2**63, 0, 0, 2**63, 0, 0], [4, 2]),
+                        ([0, 2**63, 0, 0, 2**63, 0], [4, 0]), ([2**64 - 1, 0, 0, 1, 0, 0], [4, 2])):
+        yield opening(2, 1, reply, holdings=held)
+    # refusals that meet: 1 before 2, 2 before 3, 3 before 4, the lower place first
+    bad_part, bad_held = [[500_000, 1, 0, 0, 0]], [5 * E18, 2 * E18, 1, 0, 0, 0]
+    yield opening(2, 1, [1, 0], fund=fund(basket_size=0), components=bad_part, holdings=bad_held, prices_length=2)
+    yield opening(2, 1, [2, 0], fund=fund(basket_size=0), components=bad_part, holdings=bad_held)
+    yield opening(2, 1, [3, 0], components=bad_part, holdings=bad_held)
+    yield opening(2, 1, [4, 0], holdings=bad_held)
+    yield opening(2, 1, [4, 1], holdings=[5 * E18, 0, 1, 0, 0, 0])
+    yield opening(2, 3, [3, 1], components=[[1, 1, 0, 0, 0], [0, 1, 0, 0, 0], [3, 1, 9, 0, 0]])
+
+
+# ---- calls in order on a state that no opening leaves
+
+
+def chains():
+    # units total 2 x 10^18: nothing refuses a creation, and then every call is 5. The fund gets the share; account 1 has
+    # 1 created, 4 shares and one unit in got.
+    before = state([FUND, holder(units=(2 * E18, 0, 0))], [CREATES, *BROKEN])
+    after = [0, 0, 0, 51, 0, 0, 0, 0, 0, 100, 1, 0, 4, 0, 0, 2 * E18, 0, 1]
+    yield {**before, "after": {"book": after, "prices": [1]}}
+    # a redemption first: 2 x 10^18 - 1, then back, and once more
+    before = state([FUND, holder(units=(2 * E18, 0, 0))], [REDEEMS, CREATES, made(VALUE, [0, 0, 10]), CREATES, *BROKEN])
+    # shares: 1 got, 2 handed in of old; units: 1 of old redeemed, 2 got
+    after = [0, 0, 0, 51, 0, 0, 0, 0, 0, 100, 2, 1, 3, 0, 1, 2 * E18 - 1, 0, 2]
+    yield {**before, "after": {"book": after, "prices": [1]}}
+
+
+# ---- the day of full size
+
+
+def rounded(x, by):
+    """To the nearest whole, halves up."""
+    return (2 * x + by) // (2 * by)
+
+
+# the columns of the flag table: stock moves, shortage in cash, r used, P used, Shanghai, priced
+MOVES, IN_CASH, SHANGHAI, PRICED = {0, 1}, {1}, {0, 1, 2}, {0, 1, 3}
+
+
+class Model:
+    """The day after an accepted opening, by the paper. Python's numbers have no upper end."""
+
+    def __init__(self, accounts, fund, parts, holdings):
+        width = len(parts) + 2
+        rows = [holdings[a * width:(a + 1) * width] for a in range(accounts)]
+        self.fund, self.parts, self.accounts, self.n = fund, parts, accounts, len(parts)
+        self.cash = [r[0] for r in rows]
+        self.created, self.redeemed = [0] * accounts, [0] * accounts
+        self.lots = [[[h, 0, 0] for h in r[1:]] for r in rows]
+        self.prices = [0] * self.n
+
+    def book(self):
+        return [x for a in range(self.accounts)
+                for x in [self.cash[a], self.created[a], self.redeemed[a], *(y for lots in self.lots[a] for y in lots)]]
+
+    def price(self, line, p):
+        if line >= self.n:
+            return [6, 0, 0]
+        if not 1 <= p <= 9_999_999:
+            return [7, 0, 0]
+        self.prices[line] = p
+        return [0, 0, 0]
+
+    def trade(self, line, q, p, seller, buyer):
+        if line > self.n:
+            return [6, 0, 0]
+        if not (1 <= q <= 999_999_999 and 1 <= p <= 9_999_999):
+            return [7, 0, 0]
+        if not (1 <= seller < self.accounts and 1 <= buyer < self.accounts) or seller == buyer:
+            return [8, 0, 0]
+        lots = self.lots[seller][line]
+        if q > lots[2] + lots[0]:
+            return [9, 0, 0]
+        if self.cash[buyer] < q * p:
+            return [10, 0, 0]
+        from_got = min(q, lots[2])
+        lots[2] -= from_got
+        lots[0] -= q - from_got
+        self.lots[buyer][line][1] += q
+        self.cash[buyer] -= q * p
+        self.cash[seller] += q * p
+        return [0, 0, 0]
+
+    def reference(self):
+        """The reference value, None where it doesn't exist."""
+        total = 10 * self.fund["estimated_cash"]
+        for (_, q, flag, _, amount), p in zip(self.parts, self.prices):
+            if flag in PRICED and q > 0 and p == 0:
+                return None
+            total += q * p if flag in PRICED else amount
+        if total < 0:
+            return None
+        value = rounded(total * 10, self.fund["basket_size"])
+        return value if value <= 9_999_999 else None
+
+    def value(self):
+        value = self.reference()
+        return [14, 0, 0] if value is None else [0, 0, value]
+
+    def stopped(self, a, units, creates):
+        """8, 11, 12, 13."""
+        size = self.fund["basket_size"]
+        if not 1 <= a < self.accounts:
+            return 8
+        if units % size or not 1 <= units // size <= 20:
+            return 11
+        if self.fund["switch"] not in ((1, 2) if creates else (1, 3)):
+            return 12
+        counts, others = (self.created, self.redeemed) if creates else (self.redeemed, self.created)
+        wide, own = sum(counts) + units, counts[a] + units
+        after = [wide, own, wide - sum(others), own - others[a]]
+        limit = self.fund["limits"][0 if creates else 1::2]
+        if wide > CEILING or any(x > top > 0 for x, top in zip(after, limit)):
+            return 13
+        return 0
+
+    def records(self, units, moved, cash, creates):
+        """moved: the stock of each component; cash: Shanghai and other."""
+        g, stock, rest = self.fund["first_code"], S if creates else B, B if creates else S
+        out = [[g, rest, units, 0, 0]]
+        out += [[part[0], stock, q, 0, 0] for part, q in zip(self.parts, moved) if q > 0]
+        for code, c in ((g + 5, cash[False]), (g + 2, cash[True])):
+            split = [] if c == 0 else [[1, c]] if c < 10**6 else [[10**6, c // 10**6], [1, c % 10**6]]
+            out += [[code, rest, q, p, q * p] for q, p in split]
+        return out + [[g + 1, rest, units, 0, 0]]
+
+    def create(self, a, units, room):
+        if number := self.stopped(a, units, True):
+            return [number, 0, 0], []
+        m = units // self.fund["basket_size"]
+        moved, cash, missing = [0] * self.n, {True: 0, False: 0}, 0
+        short = [max(0, m * q - self.lots[a][i][0] - self.lots[a][i][1]) for i, (_, q, *_) in enumerate(self.parts)]
+        for i, (_, q, flag, rate, amount) in enumerate(self.parts):
+            if flag in MOVES and flag not in IN_CASH and short[i]:
+                return [9, i, 0], []
+        for i, (_, q, flag, rate, amount) in enumerate(self.parts):
+            if flag in MOVES:
+                moved[i] = m * q - short[i]
+                missing += short[i] * self.prices[i]
+                amount = short[i] * self.prices[i]
+            else:
+                amount *= m
+            cash[flag in SHANGHAI] += rounded(amount * (100_000 + rate), 100_000)
+        if any(short[i] for i, part in enumerate(self.parts) if part[2] in IN_CASH):
+            value = self.reference()
+            if value is None:
+                return [14, 0, 0], []
+            if missing * 10**6 > units * value * self.fund["max_cash_ratio"]:
+                return [15, 0, 0], []
+        due = cash[True] + cash[False]
+        if self.cash[a] < due:
+            return [10, 0, 0], []
+        records = self.records(units, moved, cash, True)
+        if room < 5 * len(records):
+            return [16, 0, 0], []
+        for i, q in enumerate(moved):
+            lots = self.lots[a][i]
+            from_bought = min(q, lots[1])
+            lots[1] -= from_bought
+            lots[0] -= q - from_bought
+            self.lots[0][i][0] += q
+        self.cash[a] -= due
+        self.cash[0] += due
+        self.created[a] += units
+        self.lots[a][self.n][2] += units
+        return [0, 0, len(records)], records
+
+    def redeem(self, a, units, room):
+        if number := self.stopped(a, units, False):
+            return [number, 0, 0], []
+        m = units // self.fund["basket_size"]
+        lots = self.lots[a][self.n]
+        if units > lots[0] + lots[1]:
+            return [9, 0, 0], []
+        moved, cash = [0] * self.n, {True: 0, False: 0}
+        for i, (_, q, flag, rate, amount) in enumerate(self.parts):
+            if flag in MOVES:
+                moved[i] = m * q
+            else:
+                cash[flag in SHANGHAI] += rounded(m * amount * (100_000 - rate), 100_000)
+        for i, q in enumerate(moved):
+            if self.lots[0][i][0] < q:
+                return [17, i, 0], []
+        paid = cash[True] + cash[False]
+        if self.cash[0] < paid:
+            return [17, self.n, 0], []
+        records = self.records(units, moved, cash, False)
+        if room < 5 * len(records):
+            return [16, 0, 0], []
+        for i, q in enumerate(moved):
+            self.lots[0][i][0] -= q
+            self.lots[a][i][2] += q
+        self.cash[0] -= paid
+        self.cash[a] += paid
+        from_bought = min(units, lots[1])
+        lots[1] -= from_bought
+        lots[0] -= units - from_bought
+        self.redeemed[a] += units
+        return [0, 0, len(records)], records
+
+
+def played(model, calls):
+    """The calls with the model's replies."""
+    for name, *args in calls:
+        answer = getattr(model, name)(*args)
+        reply, records = answer if name in ("create", "redeem") else (answer, None)
+        yield made([name, *args], reply, records or None)
+
+
+def full_day():
+    """64 accounts, 300 components of all flags, orders of 20 baskets."""
+    n, size = 300, 900_000
+    f = fund(first_code=700_000, basket_size=size, max_cash_ratio=60_000, estimated_cash=-12_345,
+             limits=[60 * size, 50 * size, 40 * size, 0, 0, 0, 0, 20 * size])
+    # codes rise by 3,001 and pass over the group; quantities 40 to 139; rates and amounts where the flag uses them
+    flags = [(0, 1, 1, 3, 0, 2, 1, 4)[i % 8] for i in range(n)]
+    parts = [[3001 * i + 11, 40 + 37 * i % 100, flag, 997 * i % 100_001 if flag in (1, 3) else 0,
+              1_000_003 * (i + 1) if flag in (2, 3, 4) else 0] for i, flag in enumerate(flags)]
+    # stock for 20 baskets and a little more, but account 3 lacks all of one flag 1 line in six, and account 4 one share of
+    # component 297 (flag 1) and of 296 (flag 0). Account 3's creation makes 181 records, 905 numbers.
+    def held(a, i):
+        if i == n:
+            return 0 if a == 0 else 25 * size + a
+        need = 20 * parts[i][1]
+        if a == 3 and flags[i] == 1 and i % 6 == 1:
+            return 0
+        if a == 4 and i in (296, 297):
+            return need - 1
+        return 3 * need + i if a == 0 else need + (17 * a + i) % 90
+    holdings = [x for a in range(64) for x in [10**14 + a, *(held(a, i) for i in range(n + 1))]]
+    calls = [["value"], ["create", 3, 20 * size, 1600]]
+    calls += [["price", i, 5000 + 61 * i % 20_000] for i in range(n)]
+    calls += [["value"], ["trade", 2, 30, 5000, 9, 3], ["trade", n, 7, 900_000, 63, 1], ["trade", n, 26 * size, 1, 63, 1]]
+    calls += [["create", 4, 20 * size, 1600], ["trade", 296, 1, 1, 63, 4], ["create", 4, 20 * size, 1600]]
+    calls += [["create", 3, 20 * size, 904], ["create", 3, 20 * size, 905], ["create", 3, size, 1600]]
+    calls += [["redeem", 63, 20 * size, 1600], ["redeem", 63, 20 * size, 1600], ["redeem", 62, 20 * size, 1600]]
+    calls += [["redeem", 61, 20 * size, 1600], ["create", 63, size, 1600], ["create", 62, 20 * size, 1600]]
+    calls += [["trade", 0, 5, 77, 62, 61], ["trade", n, 100, 77, 4, 61], ["value"]]
+    model = Model(64, f, parts, holdings)
+    done = list(played(model, calls))
+    return {"accounts": 64, "count": n, "fund": f, "components": parts, "holdings": holdings, "opening": [0, 0, 0],
+            "calls": done, "book": model.book(), "prices": model.prices}
+
+
+def is_covered(files):
+    """Every refusal from 1 to 17, and a place above 0 for each that has places."""
+    replies = [tuple(v["reply"][:2]) for v in files["openings"]]
+    replies += [tuple(c["reply"][:2]) for name in files for v in files[name] for c in v.get("calls", [])]
+    numbers, placed = {n for n, _ in replies}, {n for n, place in replies if place > 0}
+    return numbers == set(range(18)) and placed == {3, 4, 9, 17}
+
+
+def main():
+    parser = argparse.ArgumentParser()
+    parser.add_argument("out", type=Path)
+    args = parser.parse_args()
+    states = (sound_ends, trades, limits, switches_and_baskets, values, ratios, places, meetings, paper_cases, full_states)
+    files = {"openings": list(openings()), "days": [full_day()], "broken_days": [v for rows in states for v in rows()],
+             "chains": list(chains())}
+    assert is_covered(files)
+    args.out.mkdir(parents=True, exist_ok=True)
+    for name, rows in files.items():
+        (args.out / f"{name}.jsonl").write_text("".join(json.dumps(v) + "\n" for v in rows))
+        print(f"{name}: {len(rows)} rows, {sum(len(v.get('calls', [])) for v in rows)} calls")
+
+
+if __name__ == "__main__":
+    main()

@@ -1,0 +1,147 @@
+#!/usr/bin/env python3
+"""Writes test vectors as the standard input of a replay program, and what it has to print.
+
+    vector_text.py VECTORS OUT [--bad-end]
+
+VECTORS has openings.jsonl, days.jsonl, broken_days.jsonl and chains.jsonl, or some of them, one JSON object to a line.
+The script writes OUT/stdin and OUT/stdout. What is expected comes from the vectors alone.
+
+The input is items of unsigned numbers: a tag, how many numbers follow, and these (the library crate `replayer` reads
+them). An opening and a state start with a head: row, accounts, count, first code, basket size, maximum cash ratio,
+switch, estimated cash as sign (1 is minus) and size, eight limits, and the lengths of components, book and prices.
+
+A row is an opening with what it is answered (openings.jsonl); an opening, its calls in order, the book and the prices at
+the end (days.jsonl); a state and calls that are each made on it anew (broken_days.jsonl); or a state, its calls in order,
+and `after`, the book and the prices at the end (chains.jsonl).
+
+Printed is, for each row, its number and then
+
+    opening NUMBER PLACE VALUE      the reply
+    price, trade or value ..        the reply of a call
+    test ..                         the reply of an order's test alone
+    create or redeem ..             the reply of the order
+    list ..                         the whole lent list after the order, or `list same` where it is a long one, unchanged
+    same                            where the call is refused: the book and the prices are what they were
+    book .., prices ..              both, whole: behind an accepted opening with no calls, and at the end of a row in order
+
+--bad-end adds a malformed item, for which `bad input` is printed, and one more item, which is then not read.
+"""
+import argparse
+import json
+from pathlib import Path
+
+TAGS = {"opening": 1, "anew": 2, "state": 3, "price": 4, "trade": 5, "create": 6, "redeem": 7, "value": 8, "show": 9}
+
+FILES = ["openings", "days", "broken_days", "chains"]
+
+# A refused order's list is printed whole up to this length.
+WHOLE = 100
+
+
+def line(*words):
+    return " ".join(map(str, words))
+
+
+def item(name, *parts):
+    """An item, each part on a line of its own."""
+    numbers = sum(len(p) for p in parts)
+    return [line(TAGS[name], numbers), *(line(*p) for p in parts if p)]
+
+
+def cut(numbers, width):
+    """A run in lines of a width."""
+    return [numbers[i:i + width] for i in range(0, len(numbers), width)]
+
+
+def head(row, v, book, prices):
+    f = v["fund"]
+    e = f["estimated_cash"]
+    return [row, v["accounts"], v["count"], f["first_code"], f["basket_size"], f["max_cash_ratio"], f["switch"],
+            int(e < 0), abs(e), *f["limits"], 5 * len(v["components"]), book, prices]
+
+
+def opening(row, v, reply, book, prices):
+    """An opening on lent runs of two lengths: the item, and what is printed."""
+    into = item("opening", head(row, v, book, prices), *v["components"], *cut(v["holdings"], v["count"] + 2))
+    return into, [line("row", row), line("opening", *reply), *(["same"] if reply[0] else [])]
+
+
+def opened(v):
+    """The book that an accepted opening leaves: the cash, no counters, and each line's holding in old."""
+    stretches = cut(v["holdings"], v["count"] + 2)
+    return [x for cash, *held in stretches for x in [cash, 0, 0, *(y for h in held for y in (h, 0, 0))]]
+
+
+def state(row, v, name):
+    into = item(name, head(row, v, len(v["book"]), len(v["prices"])), *v["components"],
+                *cut(v["book"], 3 * v["count"] + 6), v["prices"])
+    return into, [line("row", row)]
+
+
+def order_list(c, room):
+    """Whether the list is printed whole, and what is printed of it. Place k holds k + 1 before the call."""
+    accepted = c["reply"][0] == 0
+    if accepted and "records" not in c:
+        return 0, []
+    if not accepted and room > WHOLE:
+        return 0, ["list same"]
+    records = c.get("records", [])
+    assert len(records) == 5 * c["reply"][2] <= room or not accepted
+    return 1, [line("list", *records, *range(len(records) + 1, room + 1))]
+
+
+def call(c):
+    name, *args = c["call"]
+    reply = c["reply"]
+    same = ["same"] if reply[0] else []
+    if name not in ("create", "redeem"):
+        return item(name, args), [line(name, *reply), *same]
+    shown, listed = order_list(c, args[-1])
+    return item(name, [*args, shown]), [line("test", *reply), line(name, *reply), *listed, *same]
+
+
+def show(book, prices):
+    return item("show"), [line("book", *book), line("prices", *prices)]
+
+
+def parts(file, row, v):
+    """A row's items, each with what is printed for it."""
+    calls = [call(c) for c in v.get("calls", [])]
+    if file == "openings":
+        reply = [*v["reply"], 0]
+        first = opening(row, v, reply, v["book_length"], v["prices_length"])
+        return [first] if reply[0] else [first, show(opened(v), [0] * v["count"])]
+    if file == "days":
+        return [opening(row, v, v["opening"], len(v["book"]), len(v["prices"])), *calls, show(v["book"], v["prices"])]
+    if file == "broken_days":
+        return [state(row, v, "anew"), *calls]
+    return [state(row, v, "state"), *calls, show(v["after"]["book"], v["after"]["prices"])]
+
+
+def main():
+    parser = argparse.ArgumentParser()
+    parser.add_argument("vectors", type=Path)
+    parser.add_argument("out", type=Path)
+    parser.add_argument("--bad-end", action="store_true")
+    args = parser.parse_args()
+    into, out, row = [], [], 0
+    for file in FILES:
+        path = args.vectors / f"{file}.jsonl"
+        vectors = [json.loads(text) for text in path.read_text().splitlines()] if path.exists() else []
+        for row, v in enumerate(vectors, row + 1):
+            for given, printed in parts(file, row, v):
+                into += given
+                out += printed
+        print(f"{file}: {len(vectors)} rows, to row {row}")
+    if args.bad_end:
+        # a price call takes two numbers
+        into += [line(TAGS["price"], 1), "0", *item("show")]
+        out += ["bad input"]
+    for name, lines in (("stdin", into), ("stdout", out)):
+        text = "".join(x + "\n" for x in lines)
+        (args.out / name).write_text(text)
+        print(f"{name}: {len(text)} bytes")
+
+
+if __name__ == "__main__":
+    main()
