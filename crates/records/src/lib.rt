@@ -39,7 +39,7 @@ pub fn record_at(list: &[u64], k: usize) -> Record
 }
 
 // A record whose amount is its quantity times its price.
-fn record_of(code: u64, side: u64, quantity: u64, price: Money) -> Record
+pub fn record_of(code: u64, side: u64, quantity: u64, price: Money) -> Record
     requires { ⌜ quantity * price .0 < 2 ^ 64 ⌝ }
     ensures { λ r. ⌜ r ≡ recordOf code side quantity (price .0) ⌝ }
 {
@@ -53,7 +53,7 @@ fn record_of(code: u64, side: u64, quantity: u64, price: Money) -> Record
 }
 
 // The side of an order's stock, and of the rest.
-fn stock_side(kind: usize) -> u64
+pub fn stock_side(kind: usize) -> u64
     ensures { λ r. ⌜ r ≡ stockSide kind ⌝ }
 {
     if kind == rules::CREATION {
@@ -62,7 +62,7 @@ fn stock_side(kind: usize) -> u64
     rules::SIDE_B
 }
 
-fn rest_side(kind: usize) -> u64
+pub fn rest_side(kind: usize) -> u64
     ensures { λ r. ⌜ r ≡ restSide kind ⌝ }
 {
     if kind == rules::CREATION {

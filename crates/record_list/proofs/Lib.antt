@@ -1,0 +1,4 @@
+pub mod Laws
+pub mod Held
+pub mod Filled
+pub mod Called

@@ -1,0 +1,15 @@
+-- Records in a lent list.
+use Prim.Native.Nat.{ℕ, _+_}
+use mathlib.Core.List.{List, _++_}
+use lib.ListN.{set, take, drop}
+use denote.Ref.{now, at-last}
+use Rattle.rules.specs.declared.Record.{Record}
+use Rattle.record_list.specs.declared.Writer.{Writer}
+
+-- the same borrow, with r at the writer's place, and the next place
+abbrev pub pushed : Writer → Record → Writer
+pushed w r = record { list = at-last (w .list) (set (now (w .list)) (w .at) r); at = w .at + 1 }
+
+-- the list with the first n of the records rs: places past the last stay
+unfoldable pub withFirst : ℕ → List Record → List Record → List Record
+withFirst n rs list = take n rs ++ drop n list
