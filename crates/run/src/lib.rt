@@ -54,19 +54,27 @@ fn create_row(
     book: &mut [u64],
     prices: &[u64],
     records: &mut [u64],
-    a: usize,
+    a: u64,
     units: u64,
-    start: usize,
-    length: usize,
+    start: u64,
+    length: u64,
 ) -> Numbers
     requires { ⌜ (known ≡ true → isSound d (now book) (now prices) ≡ true) ⌝ }
     ensures { λ r. ⌜ replyOf r ≡ resultOf (workOf d (now (book .entry)) (now (prices .entry)) (now (records .entry))) (create a units) start length .reply ⌝ }
     ensures left { λ r. ⌜ workOf d (now (book .exit)) (now (prices .entry)) (now (records .exit)) ≡ rowLeaves (workOf d (now (book .entry)) (now (prices .entry)) (now (records .entry))) (call (create a units) start length) ⌝ }
 {
-    let part = part_in(records.len(), start, length);
+    let part = part_in(records.len(), start as usize, length as usize);
     let from = part.start;
     let end = from + part.length;
-    let answer = calls::create(known, d, book, prices, a, units, &mut records[from..end]);
+    let answer = calls::create(
+        known,
+        d,
+        book,
+        prices,
+        a as usize,
+        units,
+        &mut records[from..end],
+    );
     numbers::of_order(answer)
 }
 
@@ -77,19 +85,27 @@ fn redeem_row(
     book: &mut [u64],
     prices: &[u64],
     records: &mut [u64],
-    a: usize,
+    a: u64,
     units: u64,
-    start: usize,
-    length: usize,
+    start: u64,
+    length: u64,
 ) -> Numbers
     requires { ⌜ (known ≡ true → isSound d (now book) (now prices) ≡ true) ⌝ }
     ensures { λ r. ⌜ replyOf r ≡ resultOf (workOf d (now (book .entry)) (now (prices .entry)) (now (records .entry))) (redeem a units) start length .reply ⌝ }
     ensures left { λ r. ⌜ workOf d (now (book .exit)) (now (prices .entry)) (now (records .exit)) ≡ rowLeaves (workOf d (now (book .entry)) (now (prices .entry)) (now (records .entry))) (call (redeem a units) start length) ⌝ }
 {
-    let part = part_in(records.len(), start, length);
+    let part = part_in(records.len(), start as usize, length as usize);
     let from = part.start;
     let end = from + part.length;
-    let answer = calls::redeem(known, d, book, prices, a, units, &mut records[from..end]);
+    let answer = calls::redeem(
+        known,
+        d,
+        book,
+        prices,
+        a as usize,
+        units,
+        &mut records[from..end],
+    );
     numbers::of_order(answer)
 }
 
@@ -128,30 +144,10 @@ fn row_call(
         ));
     }
     if kind == 3 {
-        return create_row(
-            known,
-            d,
-            book,
-            prices,
-            records,
-            x1 as usize,
-            x2,
-            x3 as usize,
-            x4 as usize,
-        );
+        return create_row(known, d, book, prices, records, x1, x2, x3, x4);
     }
     if kind == 4 {
-        return redeem_row(
-            known,
-            d,
-            book,
-            prices,
-            records,
-            x1 as usize,
-            x2,
-            x3 as usize,
-            x4 as usize,
-        );
+        return redeem_row(known, d, book, prices, records, x1, x2, x3, x4);
     }
     if kind == 5 {
         return numbers::of_value(calls::reference_value(known, d, book, prices));
