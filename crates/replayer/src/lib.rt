@@ -2,9 +2,9 @@
 // leaves. `scripts/vector_text.py` writes the items, and what is to be printed.
 ghost use Prim.Native.Nat.{_<_};
 
-mod calls;
-mod replies;
-mod state;
+mod call_items;
+pub mod replies;
+pub mod state;
 
 use items::input;
 use items::input::Item;
@@ -34,8 +34,8 @@ fn obey(
         OPENING => state::opening_item(s, item, book, prices),
         STATE_ANEW => state::state_item(s, item, true, book, prices),
         STATE => state::state_item(s, item, false, book, prices),
-        SHOW => calls::show_item(s, book, prices),
-        _ => calls::call_item(s, tag, item, book, prices, kept, list),
+        SHOW => call_items::show_item(s, book, prices),
+        _ => call_items::call_item(s, tag, item, book, prices, kept, list),
     }
 }
 
@@ -77,7 +77,7 @@ fn turn(
 }
 
 // One turn fewer, or none where the session stops.
-fn turns_after(turns: u64, s: Session) -> u64
+pub fn turns_after(turns: u64, s: Session) -> u64
     requires { ⌜ 0 < turns ⌝ }
     ensures { λ r. ⌜ r < turns ⌝ }
 {
