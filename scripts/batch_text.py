@@ -23,11 +23,10 @@ Printed is, for each batch,
     same                                          they left the same, or else the places that differ
 """
 import argparse
-import json
 from pathlib import Path
 
 import vector_text
-from vector_text import cut, item, line, opening, state
+from vector_text import cut, item, line, opening, save, state, texts
 
 vector_text.TAGS["batch"] = 10
 
@@ -164,19 +163,7 @@ def main():
     parser.add_argument("vectors", type=Path)
     parser.add_argument("out", type=Path)
     args = parser.parse_args()
-    into, out, row = [], [], 0
-    for file in ["days", "broken_days"]:
-        path = args.vectors / f"{file}.jsonl"
-        vectors = [json.loads(text) for text in path.read_text().splitlines()] if path.exists() else []
-        for row, v in enumerate(vectors, row + 1):
-            for given, printed in parts(file, row, v):
-                into += given
-                out += printed
-        print(f"{file}: {len(vectors)} rows, to row {row}")
-    for name, lines in (("stdin", into), ("stdout", out)):
-        text = "".join(x + "\n" for x in lines)
-        (args.out / name).write_text(text)
-        print(f"{name}: {len(text)} bytes")
+    save(args.out, *texts(args.vectors, ["days", "broken_days"], parts))
 
 
 if __name__ == "__main__":

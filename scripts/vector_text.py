@@ -118,29 +118,39 @@ def parts(file, row, v):
     return [state(row, v, "state"), *calls, show(v["after"]["book"], v["after"]["prices"])]
 
 
-def main():
-    parser = argparse.ArgumentParser()
-    parser.add_argument("vectors", type=Path)
-    parser.add_argument("out", type=Path)
-    parser.add_argument("--bad-end", action="store_true")
-    args = parser.parse_args()
+def texts(folder, files, parts):
+    """The lines of standard input and output of all rows of the files that the folder has."""
     into, out, row = [], [], 0
-    for file in FILES:
-        path = args.vectors / f"{file}.jsonl"
+    for file in files:
+        path = folder / f"{file}.jsonl"
         vectors = [json.loads(text) for text in path.read_text().splitlines()] if path.exists() else []
         for row, v in enumerate(vectors, row + 1):
             for given, printed in parts(file, row, v):
                 into += given
                 out += printed
         print(f"{file}: {len(vectors)} rows, to row {row}")
+    return into, out
+
+
+def save(folder, into, out):
+    for name, lines in (("stdin", into), ("stdout", out)):
+        text = "".join(x + "\n" for x in lines)
+        (folder / name).write_text(text)
+        print(f"{name}: {len(text)} bytes")
+
+
+def main():
+    parser = argparse.ArgumentParser()
+    parser.add_argument("vectors", type=Path)
+    parser.add_argument("out", type=Path)
+    parser.add_argument("--bad-end", action="store_true")
+    args = parser.parse_args()
+    into, out = texts(args.vectors, FILES, parts)
     if args.bad_end:
         # a price call takes two numbers
         into += [line(TAGS["price"], 1), "0", *item("show")]
         out += ["bad input"]
-    for name, lines in (("stdin", into), ("stdout", out)):
-        text = "".join(x + "\n" for x in lines)
-        (args.out / name).write_text(text)
-        print(f"{name}: {len(text)} bytes")
+    save(args.out, into, out)
 
 
 if __name__ == "__main__":
