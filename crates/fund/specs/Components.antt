@@ -1,10 +1,10 @@
 -- The components and refusal 3: a component out of range, order or flag use, with its place.
 use Prim.Native.Nat.{ℕ, _+_, _-_, _*_}
-use mathlib.Core.Bool.{Bool, not, _||_}
+use mathlib.Core.Bool.{Bool, cond, not, _||_}
 use mathlib.Core.List.{List, [], _∷_}
 use lib.Dec.{leb, ltb, eqb}
 use lib.ListN.{getD}
-use Rattle.lists.specs.Below.{firstBelow}
+use Rattle.lists.specs.Below.{firstBelow, tabulate}
 use Rattle.lists.specs.Every.{every}
 use Rattle.flags.specs.Table.{entry, rateUsed, amountUsed}
 use Rattle.fund.specs.declared.Component.{Component}
@@ -61,3 +61,10 @@ componentAt run i =
       rate = record { 0 = getD run (componentWidth * i + 3) 0 };
       amount = record { 0 = getD run (componentWidth * i + 4) 0 };
     }
+
+unfoldable pub componentNumbers : Component → List ℕ
+componentNumbers c = c .code ∷ c .quantity ∷ c .flag ∷ c .rate .0 ∷ c .amount .0 ∷ []
+
+-- a day's 300 places: n components, then blank ones
+unfoldable pub placesOf : (ℕ → Component) → ℕ → List Component
+placesOf component n = tabulate (λ i. cond (ltb i n) (component i) blank) 300

@@ -1,9 +1,10 @@
 // The fund and its components, and the tests of refusals 2 and 3.
 ghost use mathlib.Core.Path.{_≡_};
-ghost use Prim.Native.Nat.{_+_, _*_, _<_};
+ghost use Prim.Native.Nat.{_+_, _*_, _≤_, _<_};
 ghost use lib.ListN.{length};
+ghost use lib.Seq.{sets};
 ghost use Rattle.fund.specs.Fund.{cashInRange, limitInRange, limitsInRange, fundInRange};
-ghost use Rattle.fund.specs.Components.{blank, outsideGroup, zeroUnless, componentInRange, fits, componentFault, componentAt};
+ghost use Rattle.fund.specs.Components.{blank, outsideGroup, zeroUnless, componentInRange, fits, componentFault, componentAt, componentNumbers, placesOf};
 use units::Money;
 use units::Rate;
 
@@ -48,7 +49,7 @@ pub fn blank_component() -> Component
     }
 }
 
-// The i-th component of a run: the one place that knows a run's width and order.
+// The i-th component of a run. With `put_component` it is the one place that knows a run's width and order.
 pub fn component_at(run: &[u64], i: usize) -> Component
     requires { ⌜ 5 * i + 4 < length (now run) ⌝ }
     ensures { λ r. ⌜ r ≡ componentAt (now (run .entry)) i ⌝ }
@@ -61,6 +62,35 @@ pub fn component_at(run: &[u64], i: usize) -> Component
         rate: Rate(run[at + 3]),
         amount: Money(run[at + 4]),
     }
+}
+
+// Stores a component as the i-th of a run.
+pub fn put_component(run: &mut [u64], i: usize, c: Component)
+    requires { ⌜ 5 * i + 4 < length (now run) ⌝ }
+    ensures { λ _. ⌜ now (run .exit) ≡ sets (now (run .entry)) (5 * i) (componentNumbers c) ⌝ }
+{
+    let at = COMPONENT_WIDTH * i;
+    run[at] = c.code;
+    run[at + 1] = c.quantity;
+    run[at + 2] = c.flag;
+    run[at + 3] = c.rate.0;
+    run[at + 4] = c.amount.0;
+}
+
+// A day's 300 component places: those of the run, then blank ones.
+pub fn components_of(run: &[u64], count: usize) -> [Component; 300]
+    requires { ⌜ count ≤ 300 ⌝ }
+    requires { ⌜ length (now run) ≡ 5 * count ⌝ }
+    ensures { λ r. ⌜ r ≡ placesOf (componentAt (now (run .entry))) count ⌝ }
+{
+    let blank = blank_component();
+    let mut components = [blank; 300];
+    let mut i = 0;
+    while i < count {
+        components[i] = component_at(run, i);
+        i += 1;
+    }
+    components
 }
 
 pub fn cash_in_range(e: i64) -> bool

@@ -12,7 +12,7 @@ use Rattle.lists.specs.Every.{every, every-at, inside}
 use Rattle.lists.specs.Checks.{Check, check, reply, answered, isAccepted}
 use Rattle.fund.specs.declared.Component.{Component}
 use Rattle.fund.specs.Fund.{fundInRange}
-use Rattle.fund.specs.Components.{componentFault}
+use Rattle.fund.specs.Components.{componentFault, componentAt, placesOf}
 use Rattle.rules.specs.declared.Day.{Day}
 use Rattle.rules.specs.declared.Refusal.{Refusal}
 use Rattle.rules.specs.declared.Answer.{Answer}
@@ -21,7 +21,7 @@ use Rattle.rules.specs.Replies.{answerReply}
 use Rattle.rules.specs.Opening.{Opening, holdingsOf, componentsOpened, lengthsFit, openedTotal, openedCash, totalFault, dayChecks, openingReply, blankDay, openedDay, openedStretch, openedBook, openedPrices}
 use Rattle.rules.proofs.Replies.{refused}
 use Rattle.rules.proofs.OpenedDay.{opened-opens, opened-day, opened-book, opened-prices}
-use Rattle.opening.specs.Given.{Outcome, sizesFit, placesOf, overOpened, faultOpened}
+use Rattle.opening.specs.Given.{Outcome, sizesFit, overOpened, faultOpened}
 use Rattle.opening.proofs.Sizes.{Sizes}
 
 -- refusal 1's three tests on plain truth values
@@ -95,8 +95,8 @@ module _ (o : Opening) where
       let end : o .count + 2 ≤ linePlace = omega arith in
       rw (← later e, f, le-ltb componentPlace (o .count) past, le-ltb linePlace (o .count + 2) end)
 
-  pub places-fault : (places : List Component) (fault : ℕ) → places ≡ placesOf (o .components) (o .count) → fault ≡ componentFault (o .fund .«first_code») places (o .count) → fault ≡ componentPlace
-  unfolding componentsOpened placesOf
+  pub places-fault : (places : List Component) (fault : ℕ) → places ≡ placesOf (componentAt (o .components)) (o .count) → fault ≡ componentFault (o .fund .«first_code») places (o .count) → fault ≡ componentPlace
+  unfolding componentsOpened
   places-fault places fault e p = p ∙ ap (λ (cs : List Component). componentFault (o .fund .«first_code») cs (o .count)) e
 
   -- what an accepted opening says of the lent lengths
@@ -122,10 +122,10 @@ module _ (o : Opening) where
     done-sizes e = accepted-sizes (done e)
 
     -- an accepted opening
-    pub outcome-done : (places : List Component) (book prices : List ℕ) → answer ≡ Done → places ≡ placesOf (o .components) (o .count)
+    pub outcome-done : (places : List Component) (book prices : List ℕ) → answer ≡ Done → places ≡ placesOf (componentAt (o .components)) (o .count)
         → book ≡ joinBelow (λ a. openedStretch (o .count) (holdingsOf o a)) (o .accounts) → prices ≡ replicate (length (o .prices)) 0
         → Outcome o (record { day = record { accounts = o .accounts; count = o .count; fund = o .fund; components = places }; answer = answer }) book prices
-    unfolding componentsOpened placesOf
+    unfolding componentsOpened
     outcome-done places book prices e p b q =
         record {
           answer-is = said;

@@ -2,5 +2,5 @@ pub mod Totals
 pub mod Sizes
 pub mod Front
 pub mod Answer
-pub mod Places
+pub mod Blank
 pub mod Filled

@@ -47,10 +47,6 @@ sizesFit accounts count components holdings book prices =
     ∷ eqb prices count
     ∷ [])
 
--- the day's 300 component places: the first of a run, then blank ones
-unfoldable pub placesOf : List ℕ → ℕ → List Component
-placesOf run count = tabulate (λ i. cond (ltb i count) (componentAt run i) blank) 300
-
 -- the total of a column over the first k rows of w numbers, as far as a cap
 unfoldable pub cappedTotal : ℕ → List ℕ → ℕ → ℕ → ℕ → ℕ
 cappedTotal w run k column cap = min (over w k (λ h. getD h column 0) run) cap

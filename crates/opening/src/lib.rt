@@ -7,8 +7,7 @@ ghost use Rattle.lists.specs.Stretch.{stretchOf, putStretch};
 ghost use Rattle.rules.specs.Book.{widthOf};
 ghost use Rattle.rules.specs.Replies.{answerReply};
 ghost use Rattle.rules.specs.Opening.{openingReply, blankFund, blankDay, openedStretch};
-ghost use Rattle.opening.specs.Given.{given, Outcome, Sized, sizesFit, placesOf, cappedTotal, overOpened, faultOpened, putThree};
-use fund::Component;
+ghost use Rattle.opening.specs.Given.{given, Outcome, Sized, sizesFit, cappedTotal, overOpened, faultOpened, putThree};
 use fund::Fund;
 use rules::Answer;
 use rules::Day;
@@ -119,22 +118,6 @@ fn sizes_fit(
     prices == count
 }
 
-// The day's 300 component places: those of the run, then blank ones.
-fn components_of(run: &[u64], count: usize) -> [Component; 300]
-    requires { ⌜ count ≤ 300 ⌝ }
-    requires { ⌜ length (now run) ≡ 5 * count ⌝ }
-    ensures { λ r. ⌜ r ≡ placesOf (now (run .entry)) count ⌝ }
-{
-    let blank = fund::blank_component();
-    let mut components = [blank; 300];
-    let mut i = 0;
-    while i < count {
-        components[i] = fund::component_at(run, i);
-        i += 1;
-    }
-    components
-}
-
 // The answer, which changes nothing.
 fn opening_answer(
     accounts: usize,
@@ -160,7 +143,7 @@ fn opening_answer(
     if !fund::fund_in_range(fund) {
         return Answer::Refused(Refusal::FundField);
     }
-    let places = components_of(components, count);
+    let places = fund::components_of(components, count);
     let fault = fund::component_fault(fund.first_code, places, count);
     if fault < count {
         return Answer::Refused(Refusal::Component(fault));
@@ -281,7 +264,7 @@ pub fn open(
         Answer::Done => {
             open_book(book, holdings, accounts, count);
             clear(prices);
-            let places = components_of(components, count);
+            let places = fund::components_of(components, count);
             let day = Day {
                 accounts,
                 count,

@@ -16,6 +16,7 @@ use Rattle.lots.specs.declared.Lots.{Lots}
 use Rattle.lots.specs.Lots.{lotsTotal}
 use Rattle.lots.proofs.Laws.{lots, lots-eq}
 use Rattle.fund.specs.Components.{blank, componentAt, componentWidth}
+use Rattle.fund.proofs.Places.{places-at}
 use Rattle.rules.specs.declared.Day.{Day}
 use Rattle.rules.specs.Book.{widthOf, cash, created, redeemed, headAt, lotsAt, width, account, headTotal, lineTotal}
 use Rattle.rules.specs.Lines.{componentOf, priceOf}
@@ -87,10 +88,7 @@ module _ (o : Opening) (accepted : isAccepted (openingReply o) ≡ true) where
   -- a component's place in the opened day
   component-is : (i : ℕ) → i < o .count → getD (componentsOpened o) i blank ≡ componentAt (o .components) i
   unfolding componentsOpened
-  component-is i h =
-      let most = opened-opens .count-high in
-      table-at (λ i. cond (ltb i (o .count)) (componentAt (o .components) i) blank) 300 i blank (omega arith)
-      ∙ rw (lt-ltb i (o .count) h)
+  component-is i h = places-at (componentAt (o .components)) (o .count) i h (opened-opens .count-high)
 
   pub opened-component : (i : ℕ) → i < o .count → componentOf (openedDay o) i ≡ componentAt (o .components) i
   opened-component i h = rw opened-day (component-is i h)

@@ -14,7 +14,7 @@ use Rattle.units.specs.Units.{rounded, premium, discount, ratioBound}
 use Rattle.flags.specs.Table.{flagTable, entry}
 use Rattle.fund.specs.declared.Fund.{Fund}
 use Rattle.fund.specs.Fund.{cashInRange, limitInRange, limitsInRange, fundInRange, limitOf}
-use Rattle.fund.specs.Components.{outsideGroup, zeroUnless, componentInRange, fits, faultAt, componentFault, componentAt}
+use Rattle.fund.specs.Components.{outsideGroup, zeroUnless, componentInRange, fits, faultAt, componentFault, componentAt, placesOf}
 use Rattle.rules.specs.Book.{headAt, lotsAt, headTotal, lineTotal}
 use Rattle.rules.specs.Lines.{codeOf, quantity, column, creationRate, redemptionRate, creationAmount, redemptionAmount, priceOf}
 use Rattle.rules.specs.Opening.{Opening, cashOpened, heldOpened, openedTotal, openedCash, overAt, totalFault, dayChecks, componentsOpened, lengthsFit, openingReply, openedDay, openedStretch, openedBook}
@@ -170,7 +170,7 @@ unfolding sumBelow anyBelow allBelow firstBelow joinBelow tabulate every inside 
     rounded premium discount ratioBound flagTable entry cashInRange limitInRange limitsInRange fundInRange limitOf
     outsideGroup zeroUnless componentInRange fits faultAt componentFault componentAt headAt lotsAt headTotal lineTotal
     codeOf quantity column creationRate redemptionRate creationAmount redemptionAmount priceOf
-    cashOpened heldOpened openedTotal openedCash overAt totalFault dayChecks componentsOpened lengthsFit openingReply openedDay openedStretch openedBook
+    cashOpened heldOpened openedTotal openedCash overAt totalFault dayChecks componentsOpened placesOf lengthsFit openingReply openedDay openedStretch openedBook
     lentFits opens fundStill isSound isInvestor worthAt lacksPrice cashAdded cashTaken worthBefore referenceValue hasValue valueChecks worthReply
     cashParts cashRecords stockRecord orderRecords flatten roomIn withRecords
     baskets wholeBaskets formChecks switchAllows withinLimit countOf fundCount withinLimits permissionChecks need shanghaiCash otherCash

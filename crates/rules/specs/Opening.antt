@@ -5,14 +5,14 @@ use mathlib.Core.List.{List, [], _∷_, _++_}
 use lib.Dec.{leb, ltb, eqb}
 use lib.IntN.{ℤ, pos}
 use lib.ListN.{length, getD, replicate}
-use Rattle.lists.specs.Below.{firstBelow, joinBelow, tabulate}
+use Rattle.lists.specs.Below.{firstBelow, joinBelow}
 use Rattle.lists.specs.Every.{every, inside}
 use Rattle.lists.specs.Checks.{Check, check, Reply, answered}
 use Rattle.lists.specs.Stretch.{stretchOf, over}
 use Rattle.fund.specs.declared.Fund.{Fund}
 use Rattle.fund.specs.declared.Component.{Component}
 use Rattle.fund.specs.Fund.{fundInRange}
-use Rattle.fund.specs.Components.{blank, componentFault, componentWidth, componentAt}
+use Rattle.fund.specs.Components.{blank, componentFault, componentWidth, componentAt, placesOf}
 use Rattle.rules.specs.declared.Day.{Day}
 use Rattle.rules.specs.Replies.{ifAccepted}
 use Rattle.rules.specs.Book.{widthOf}
@@ -75,7 +75,7 @@ dayChecks accounts n fits fund components total mostUnits fundUnits cashTotal =
 
 -- the day's 300 component places: those of the run, then blank ones
 unfoldable pub componentsOpened : Opening → List Component
-componentsOpened o = tabulate (λ i. cond (ltb i (o .count)) (componentAt (o .components) i) blank) 300
+componentsOpened o = placesOf (componentAt (o .components)) (o .count)
 
 -- each lent length is what A and N need
 unfoldable pub lengthsFit : Opening → Bool

@@ -1,6 +1,6 @@
 -- `opening::blank_day` meets its contract: its component and its fund are the blank ones.
 use borrow.Author.Needs.{needs}
-use Rattle.opening.proofs.Places.{blank-is}
+use Rattle.opening.proofs.Blank.{blank-is}
 use Rattle.opening.proofs.blank_day.Statement.{statement}
 use Rattle.opening.proofs.blank_day.Tie as tie
 

@@ -1,12 +1,13 @@
--- `opening::components_of` meets its contract. The loop's invariant: the first `i` places hold the run's components, the others none.
+-- `fund::components_of` meets its contract. The loop's invariant: the first `i` places hold the run's components, the others none.
 use Prim.Native.Nat.{_-_, _≤_}
 use native.Mathlib.Omega.{arith}
-use Rattle.opening.proofs.Places.{Placed, placed-none, placed-more, placed-all}
-use Rattle.opening.proofs.components_of.Statement.{statement}
-use Rattle.opening.proofs.components_of.Tie as tie
+use Rattle.fund.specs.Components.{componentAt}
+use Rattle.fund.proofs.Places.{Placed, placed-none, placed-more, placed-all}
+use Rattle.fund.proofs.components_of.Statement.{statement}
+use Rattle.fund.proofs.components_of.Tie as tie
 
 abbrev Inv-loop : tie.InvT-loop
-Inv-loop run count components₀ i₀ components i = (i ≤ count) × Placed run i components
+Inv-loop run count components₀ i₀ components i = (i ≤ count) × Placed (componentAt run) i components
 
 abbrev μ-loop : tie.MeasureT-loop
 μ-loop run count components₀ i₀ components i = count - i
