@@ -1,0 +1,6 @@
+pub mod Read
+pub mod Put
+pub mod Count
+pub mod Sign
+pub mod Write
+pub mod Trip
