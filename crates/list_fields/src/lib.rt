@@ -1,0 +1,228 @@
+// The fields of a list: dates, signed figures, the fields from the head's figures and back, and their ranges.
+ghost use mathlib.Core.Path.{_≡_};
+ghost use Prim.Native.Nat.{ℕ, _+_, _≤_, _<_};
+ghost use mathlib.Core.Bool.{true};
+ghost use lib.ListN.{getD};
+ghost use Rattle.lists.specs.Below.{tabulate};
+ghost use Rattle.fund.specs.Fund.{cashInRange};
+ghost use Rattle.digits.specs.Digits.{cap, plain};
+ghost use Rattle.list_rules.specs.Dates.{isLeap, daysIn, isDate};
+ghost use Rattle.list_rules.specs.Fields.{signedOf, signedFigure, fieldsFrom, figureAt, fieldsInRange, blankFields};
+use digits::Figure;
+use fund::Fund;
+use list_rules::ListFields;
+use units::Rate;
+
+fn is_leap(year: u64) -> bool
+    ensures { λ r. ⌜ r ≡ isLeap year ⌝ }
+{
+    if year % 4 != 0 {
+        return false;
+    }
+    if year % 100 != 0 {
+        return true;
+    }
+    year % 400 == 0
+}
+
+fn days_in(year: u64, month: u64) -> u64
+    ensures { λ r. ⌜ r ≡ daysIn year month ⌝ }
+{
+    match month {
+        2 => {
+            if is_leap(year) {
+                return 29;
+            }
+            28
+        }
+        4 | 6 | 9 | 11 => 30,
+        _ => 31,
+    }
+}
+
+// Whether year, month and day in eight digits are a day of the Gregorian calendar.
+pub fn is_date(d: u64) -> bool
+    ensures { λ r. ⌜ r ≡ isDate d ⌝ }
+{
+    let year = d / 10_000;
+    let month = d / 100 % 100;
+    let day = d % 100;
+    if year < 1 {
+        return false;
+    }
+    if 9_999 < year {
+        return false;
+    }
+    if month < 1 {
+        return false;
+    }
+    if 12 < month {
+        return false;
+    }
+    if day < 1 {
+        return false;
+    }
+    day <= days_in(year, month)
+}
+
+// A figure as a signed number.
+pub fn signed_of(z: Figure) -> i64
+    requires { ⌜ z .size ≤ cap ⌝ }
+    ensures { λ r. ⌜ r ≡ signedOf z ⌝ }
+{
+    let size = z.size as i64;
+    if z.negative {
+        return 0 - size;
+    }
+    size
+}
+
+// A signed number as a figure.
+pub fn figure_of(e: i64) -> Figure
+    requires { ⌜ cashInRange e ≡ true ⌝ }
+    ensures { λ r. ⌜ r ≡ signedFigure e ⌝ }
+{
+    if e < 0 {
+        let size = (0 - e) as u64;
+        return Figure {
+            negative: true,
+            size,
+        };
+    }
+    Figure {
+        negative: false,
+        size: e as u64,
+    }
+}
+
+// A number that is not below zero as a figure.
+fn plain_of(size: u64) -> Figure
+    ensures { λ r. ⌜ r ≡ plain size ⌝ }
+{
+    Figure {
+        negative: false,
+        size,
+    }
+}
+
+// The eight limits among the head's figures.
+fn limits_of(figures: [Figure; 20]) -> [u64; 8]
+    ensures { λ r. ⌜ r ≡ tabulate (λ k. getD figures (12 + k) (plain 0) .size) 8 ⌝ }
+{
+    [
+        figures[12].size,
+        figures[13].size,
+        figures[14].size,
+        figures[15].size,
+        figures[16].size,
+        figures[17].size,
+        figures[18].size,
+        figures[19].size,
+    ]
+}
+
+// The fields that the head's figures say.
+pub fn fields_of(figures: [Figure; 20]) -> ListFields
+    requires { ⌜ 1 ≤ getD figures 0 (plain 0) .size ⌝ }
+    requires { ⌜ ((k : ℕ) → k < 20 → getD figures k (plain 0) .size ≤ cap) ⌝ }
+    ensures { λ r. ⌜ r ≡ fieldsFrom (λ k. getD figures k (plain 0)) ⌝ }
+{
+    let fund = Fund {
+        first_code: figures[0].size - 1,
+        basket_size: figures[1].size,
+        max_cash_ratio: Rate(figures[2].size),
+        switch: figures[4].size,
+        estimated_cash: signed_of(figures[6]),
+        limits: limits_of(figures),
+    };
+    ListFields {
+        fund,
+        publish: figures[3].size,
+        trading_day: figures[7].size,
+        pre_trading_day: figures[8].size,
+        cash_component: signed_of(figures[9]),
+        nav_per_cu: figures[10].size,
+        nav: figures[11].size,
+        count: figures[5].size as usize,
+    }
+}
+
+// Refusal 2's test.
+pub fn fields_in_range(l: ListFields) -> bool
+    ensures { λ r. ⌜ r ≡ fieldsInRange l ⌝ }
+{
+    if !fund::fund_in_range(l.fund) {
+        return false;
+    }
+    if 1 < l.publish {
+        return false;
+    }
+    if !is_date(l.trading_day) {
+        return false;
+    }
+    if !is_date(l.pre_trading_day) {
+        return false;
+    }
+    if !fund::cash_in_range(l.cash_component) {
+        return false;
+    }
+    if 99_999_999_999 < l.nav_per_cu {
+        return false;
+    }
+    l.nav <= 9_999_999
+}
+
+// The head's figures that say the fields.
+pub fn figures_of(l: ListFields) -> [Figure; 20]
+    requires { ⌜ fieldsInRange l ≡ true ⌝ }
+    ensures { λ r. ⌜ r ≡ tabulate (figureAt l) 20 ⌝ }
+{
+    let fund = l.fund;
+    let limits = fund.limits;
+    [
+        plain_of(fund.first_code + 1),
+        plain_of(fund.basket_size),
+        plain_of(fund.max_cash_ratio.0),
+        plain_of(l.publish),
+        plain_of(fund.switch),
+        plain_of(l.count as u64),
+        figure_of(fund.estimated_cash),
+        plain_of(l.trading_day),
+        plain_of(l.pre_trading_day),
+        figure_of(l.cash_component),
+        plain_of(l.nav_per_cu),
+        plain_of(l.nav),
+        plain_of(limits[0]),
+        plain_of(limits[1]),
+        plain_of(limits[2]),
+        plain_of(limits[3]),
+        plain_of(limits[4]),
+        plain_of(limits[5]),
+        plain_of(limits[6]),
+        plain_of(limits[7]),
+    ]
+}
+
+// The fields that a refused reading hands back.
+pub fn blank_fields() -> ListFields
+    ensures { λ r. ⌜ r ≡ blankFields ⌝ }
+{
+    let fund = Fund {
+        first_code: 0,
+        basket_size: 0,
+        max_cash_ratio: Rate(0),
+        switch: 0,
+        estimated_cash: 0,
+        limits: [0; 8],
+    };
+    ListFields {
+        fund,
+        publish: 0,
+        trading_day: 0,
+        pre_trading_day: 0,
+        cash_component: 0,
+        nav_per_cu: 0,
+        nav: 0,
+        count: 0,
+    }
+}

@@ -1,0 +1,104 @@
+-- The fields of a list and the figures of its head say the same.
+use mathlib.Core.Path.{_≡_, refl, sym, ap, ap₂, _∙_, subst⁻¹}
+use mathlib.Core.Bool.{Bool, true, false, cond, _||_}
+use mathlib.Core.Logic.{_⊎_, ⊎-elim}
+use Prim.Native.Nat.{ℕ, zero, suc, _+_, _-_, _≤_, _<_}
+use native.Mathlib.Nat.{not-suc-le-zero, add-sub-cancel}
+use native.Mathlib.Omega.{arith}
+use lib.Dec.{eqb}
+use lib.IntN.{ℤ, pos, negsuc}
+use lib.ListN.{length, getD}
+use borrow.Author.Tests.{eqb-true, eqb-false}
+use Rattle.lists.specs.Below.{tabulate, table-length, table-at, table-ext}
+use Rattle.lists.specs.Every.{false-of}
+use Rattle.digits.specs.declared.Figure.{Figure}
+use Rattle.digits.specs.Digits.{plain}
+use Rattle.list_rules.specs.declared.ListFields.{ListFields}
+use Rattle.list_rules.specs.Fields.{minus, signedOf, signedFigure, fieldsFrom, figureAt}
+
+-- Signed numbers.
+
+-- the number of a number's figure
+pub signed-figure : (e : ℤ) → signedOf (signedFigure e) ≡ e
+unfolding signedOf signedFigure minus
+signed-figure (pos n) = refl
+signed-figure (negsuc n) = refl
+
+-- a figure by its sign and its size
+figure-parts : (b : Bool) (n : ℕ) → (b ≡ true → 0 < n) → signedFigure (cond b (minus n) (pos n)) ≡ record { negative = b; size = n }
+unfolding signedFigure minus
+figure-parts false n h = refl
+figure-parts true zero h = absurd (not-suc-le-zero (h refl))
+figure-parts true (suc n) h = refl
+
+-- a figure that is negative only above zero
+pub figure-signed : (z : Figure) → (z .negative ≡ true → 0 < z .size) → signedFigure (signedOf z) ≡ z
+unfolding signedOf
+figure-signed z h = figure-parts (z .negative) (z .size) h
+
+-- a figure that is not negative
+figure-plain : (z : Figure) (n : ℕ) → (z .negative ≡ true → ⊥) → n ≡ z .size → plain n ≡ z
+figure-plain z n h e = ap₂ {C = Figure} (λ (b : Bool) (m : ℕ). record { negative = b; size = m }) (sym (false-of (z .negative) h)) e
+
+-- Fields and back.
+
+-- the limits of the figures of the fields
+limits-back : (l : ListFields) → length (l .fund .limits) ≡ 8 → tabulate (λ k. figureAt l (12 + k) .size) 8 ≡ l .fund .limits
+unfolding figureAt tabulate
+limits-back l e = sym (table-ext (λ k. getD (l .fund .limits) k 0) 8 0 (l .fund .limits) e (λ k h. refl))
+
+-- the fields of the figures of the fields
+pub fields-figures : (l : ListFields) → length (l .fund .limits) ≡ 8 → fieldsFrom (figureAt l) ≡ l
+unfolding fieldsFrom figureAt
+fields-figures l e = simp (add-sub-cancel, signed-figure, limits-back l e)
+
+-- Figures and back.
+
+-- the fields look at no figure but the 20
+fields-table : (f : ℕ → Figure) → fieldsFrom f ≡ fieldsFrom (λ k. getD (tabulate f 20) k (plain 0))
+unfolding fieldsFrom tabulate
+fields-table f = refl
+
+-- two functions that agree below n
+table-same : (f g : ℕ → Figure) (n : ℕ) → ((k : ℕ) → k < n → f k ≡ g k) → tabulate f n ≡ tabulate g n
+table-same f g n h = table-ext g n (plain 0) (tabulate f n) (table-length f n) (λ k l. table-at f n k (plain 0) l ∙ h k l)
+
+-- figures that agree say the same fields
+pub fields-same : (f g : ℕ → Figure) → ((k : ℕ) → k < 20 → f k ≡ g k) → fieldsFrom f ≡ fieldsFrom g
+fields-same f g h =
+    fields-table f
+    ∙ ap (λ t. fieldsFrom (λ k. getD t k (plain 0))) (table-same f g 20 h)
+    ∙ sym (fields-table g)
+
+-- what the k-th figure z is after its way through the fields: 6 and 9 keep their sign, and of 0 the fields hold one less
+abbrev returned : ℕ → Figure → Figure
+returned k z = cond (eqb k 6 || eqb k 9) (signedFigure (signedOf z)) (plain (cond (eqb k 0) (z .size - 1 + 1) (z .size)))
+
+figures-returned : (f : ℕ → Figure) → tabulate (figureAt (fieldsFrom f)) 20 ≡ tabulate (λ k. returned k (f k)) 20
+unfolding tabulate figureAt fieldsFrom
+figures-returned f = refl
+
+module _ (k : ℕ) (z : Figure) (first : k ≡ 0 → 1 ≤ z .size) (sign : z .negative ≡ true → ((k ≡ 6) ⊎ (k ≡ 9)) × (0 < z .size)) where
+  size-returned : (b : Bool) → eqb k 0 ≡ b → cond b (z .size - 1 + 1) (z .size) ≡ z .size
+  size-returned true p = let low : 1 ≤ z .size = first (eqb-true k 0 p) in omega arith
+  size-returned false p = refl
+
+  -- the way changes nothing
+  figure-returned : (b c : Bool) → eqb k 6 ≡ b → eqb k 9 ≡ c
+      → cond (b || c) (signedFigure (signedOf z)) (plain (cond (eqb k 0) (z .size - 1 + 1) (z .size))) ≡ z
+  figure-returned true c p q = figure-signed z (λ h. sign h .1)
+  figure-returned false true p q = figure-signed z (λ h. sign h .1)
+  figure-returned false false p q =
+      figure-plain z _
+      (λ h. ⊎-elim (eqb-false k 6 p) (eqb-false k 9 q) (sign h .0))
+      (size-returned (eqb k 0) refl)
+
+-- the figures of the fields of figures, where only 6 and 9 may be negative, and only above zero
+pub figures-fields : (figure : ℕ → Figure) → 1 ≤ figure 0 .size
+    → ((k : ℕ) → k < 20 → figure k .negative ≡ true → ((k ≡ 6) ⊎ (k ≡ 9)) × (0 < figure k .size))
+    → (k : ℕ) → k < 20 → figureAt (fieldsFrom figure) k ≡ figure k
+figures-fields figure first sign k l =
+    sym (table-at (figureAt (fieldsFrom figure)) 20 k (plain 0) l)
+    ∙ ap (λ t. getD t k (plain 0)) (figures-returned figure)
+    ∙ table-at (λ i. returned i (figure i)) 20 k (plain 0) l
+    ∙ figure-returned k (figure k) (λ e. subst⁻¹ (λ (i : ℕ). 1 ≤ figure i .size) e first) (sign k l) _ _ refl refl

@@ -1,0 +1,86 @@
+-- What the tests of a date and of the fields of a list say.
+use mathlib.Core.Path.{_≡_}
+use mathlib.Core.Bool.{true, false}
+use Prim.Native.Nat.{ℕ, _/_, _%_, _≤_}
+use borrow.Author.Tests.{le-leb, leb-true}
+use Rattle.lists.specs.Every.{every-none, every-more, every-at, false-of, inside-true, inside-facts}
+use Rattle.fund.specs.Fund.{cashInRange, fundInRange}
+use Rattle.list_rules.specs.declared.ListFields.{ListFields}
+use Rattle.list_rules.specs.Dates.{daysIn, isDate}
+use Rattle.list_rules.specs.Fields.{fieldsInRange}
+
+-- A date.
+
+pub record DateRanges (d : ℕ) : Type 0 where
+  pub year-low : 1 ≤ d / 10_000
+  pub year-high : d / 10_000 ≤ 9_999
+  pub month-low : 1 ≤ d / 100 % 100
+  pub month-high : d / 100 % 100 ≤ 12
+  pub day-low : 1 ≤ d % 100
+  pub day-high : d % 100 ≤ daysIn (d / 10_000) (d / 100 % 100)
+
+module _ (d : ℕ) where
+  pub date-true : DateRanges d → isDate d ≡ true
+  unfolding isDate
+  date-true r =
+      every-more _ _ (inside-true 1 9_999 _ (r .year-low) (r .year-high))
+      (every-more _ _ (inside-true 1 12 _ (r .month-low) (r .month-high))
+      (every-more _ _ (inside-true 1 _ _ (r .day-low) (r .day-high)) every-none))
+
+  pub date-sound : isDate d ≡ true → DateRanges d
+  unfolding isDate
+  date-sound e =
+      let at = every-at _ e in
+      let year = inside-facts 1 9_999 (d / 10_000) (at 0) in
+      let month = inside-facts 1 12 (d / 100 % 100) (at 1) in
+      let day = inside-facts 1 (daysIn (d / 10_000) (d / 100 % 100)) (d % 100) (at 2) in
+      record {
+        year-low = year .0;
+        year-high = year .1;
+        month-low = month .0;
+        month-high = month .1;
+        day-low = day .0;
+        day-high = day .1;
+      }
+
+  pub date-false : (DateRanges d → ⊥) → isDate d ≡ false
+  date-false h = false-of (isDate d) (λ e. h (date-sound e))
+
+-- The fields.
+
+pub record FieldRanges (l : ListFields) : Type 0 where
+  pub fund : fundInRange (l .fund) ≡ true
+  pub publish : l .publish ≤ 1
+  pub trading-day : isDate (l .«trading_day») ≡ true
+  pub pre-trading-day : isDate (l .«pre_trading_day») ≡ true
+  pub cash : cashInRange (l .«cash_component») ≡ true
+  pub nav-per-cu : l .«nav_per_cu» ≤ 99_999_999_999
+  pub nav : l .nav ≤ 9_999_999
+
+module _ (l : ListFields) where
+  pub fields-true : FieldRanges l → fieldsInRange l ≡ true
+  unfolding fieldsInRange
+  fields-true r =
+      every-more _ _ (r .fund)
+      (every-more _ _ (le-leb _ _ (r .publish))
+      (every-more _ _ (r .trading-day)
+      (every-more _ _ (r .pre-trading-day)
+      (every-more _ _ (r .cash)
+      (every-more _ _ (le-leb _ _ (r .nav-per-cu)) (every-more _ _ (le-leb _ _ (r .nav)) every-none))))))
+
+  pub fields-sound : fieldsInRange l ≡ true → FieldRanges l
+  unfolding fieldsInRange
+  fields-sound e =
+      let at = every-at _ e in
+      record {
+        fund = at 0;
+        publish = leb-true _ _ (at 1);
+        trading-day = at 2;
+        pre-trading-day = at 3;
+        cash = at 4;
+        nav-per-cu = leb-true _ _ (at 5);
+        nav = leb-true _ _ (at 6);
+      }
+
+  pub fields-false : (FieldRanges l → ⊥) → fieldsInRange l ≡ false
+  fields-false h = false-of (fieldsInRange l) (λ e. h (fields-sound e))

@@ -1,0 +1,96 @@
+-- The fields of a list: from the figures of the head, as figures of the head, and their ranges.
+use Prim.Native.Nat.{ℕ, zero, suc, _+_, _-_}
+use mathlib.Core.Bool.{Bool, true, false, cond}
+use mathlib.Core.List.{List, [], _∷_}
+use lib.Dec.{leb}
+use lib.IntN.{ℤ, pos, negsuc}
+use lib.ListN.{getD}
+use Rattle.lists.specs.Below.{tabulate}
+use Rattle.lists.specs.Every.{every}
+use Rattle.fund.specs.Fund.{cashInRange, fundInRange}
+use Rattle.digits.specs.declared.Figure.{Figure}
+use Rattle.digits.specs.Digits.{plain}
+use Rattle.rules.specs.Opening.{blankFund}
+use Rattle.list_rules.specs.declared.ListFields.{ListFields}
+use Rattle.list_rules.specs.Dates.{isDate}
+
+-- a figure as a signed number, and a signed number as a figure
+unfoldable pub minus : ℕ → ℤ
+minus zero = pos 0
+minus (suc n) = negsuc n
+
+unfoldable pub signedOf : Figure → ℤ
+signedOf z = cond (z .negative) (minus (z .size)) (pos (z .size))
+
+unfoldable pub signedFigure : ℤ → Figure
+signedFigure (pos n) = plain n
+signedFigure (negsuc n) = record { negative = true; size = suc n }
+
+-- the fields that the head's figures say, by the order of the names: Fundid1 is the code of creation, g + 1
+unfoldable pub fieldsFrom : (ℕ → Figure) → ListFields
+fieldsFrom figure =
+    record {
+      fund =
+          record {
+            «first_code» = figure 0 .size - 1;
+            «basket_size» = figure 1 .size;
+            «max_cash_ratio» = record { 0 = figure 2 .size };
+            switch = figure 4 .size;
+            «estimated_cash» = signedOf (figure 6);
+            limits = tabulate (λ k. figure (12 + k) .size) 8;
+          };
+      publish = figure 3 .size;
+      «trading_day» = figure 7 .size;
+      «pre_trading_day» = figure 8 .size;
+      «cash_component» = signedOf (figure 9);
+      «nav_per_cu» = figure 10 .size;
+      nav = figure 11 .size;
+      count = figure 5 .size;
+    }
+
+-- the head's figures that say the fields
+unfoldable pub figureAt : ListFields → ℕ → Figure
+figureAt l k =
+    getD
+    (plain (l .fund .«first_code» + 1)
+    ∷ plain (l .fund .«basket_size»)
+    ∷ plain (l .fund .«max_cash_ratio» .0)
+    ∷ plain (l .publish)
+    ∷ plain (l .fund .switch)
+    ∷ plain (l .count)
+    ∷ signedFigure (l .fund .«estimated_cash»)
+    ∷ plain (l .«trading_day»)
+    ∷ plain (l .«pre_trading_day»)
+    ∷ signedFigure (l .«cash_component»)
+    ∷ plain (l .«nav_per_cu»)
+    ∷ plain (l .nav)
+    ∷ [])
+    k
+    (plain (getD (l .fund .limits) (k - 12) 0))
+
+-- refusal 2 looks at all of these
+unfoldable pub fieldsInRange : ListFields → Bool
+fieldsInRange l =
+    every
+    (fundInRange (l .fund)
+    ∷ leb (l .publish) 1
+    ∷ isDate (l .«trading_day»)
+    ∷ isDate (l .«pre_trading_day»)
+    ∷ cashInRange (l .«cash_component»)
+    ∷ leb (l .«nav_per_cu») 99_999_999_999
+    ∷ leb (l .nav) 9_999_999
+    ∷ [])
+
+-- the fields that a refused reading hands back
+abbrev pub blankFields : ListFields
+blankFields =
+    record {
+      fund = blankFund;
+      publish = 0;
+      «trading_day» = 0;
+      «pre_trading_day» = 0;
+      «cash_component» = pos 0;
+      «nav_per_cu» = 0;
+      nav = 0;
+      count = 0;
+    }
