@@ -1,0 +1,74 @@
+-- What the tests of writing say of a list that passes them.
+use mathlib.Core.Path.{_≡_, sym, ap, _∙_, subst}
+use mathlib.Core.Bool.{true, not, and-eq-true-iff}
+use mathlib.Core.List.{List}
+use Prim.Native.Nat.{ℕ, _*_, _≤_, _<_}
+use native.Mathlib.Nat.{le-antisymm, mul-comm}
+use native.Mathlib.Omega.{arith}
+use lib.ListN.{length}
+use borrow.Author.Tests.{ltb-false, eqb-true, not-false}
+use Rattle.lists.specs.Below.{first-le, first-all}
+use Rattle.lists.specs.Every.{every-at, inside-facts}
+use Rattle.lists.specs.Checks.{passes, passed-all}
+use Rattle.lists.specs.Stretch.{stretchOf, within, stretch-length}
+use Rattle.fund.specs.Components.{componentFault, componentAt, placesOf}
+use Rattle.fund.proofs.Laws.{ComponentRanges, components-fine}
+use Rattle.fund.proofs.Places.{places-at}
+use Rattle.lines.specs.Lines.{nameByte, allBytes}
+use Rattle.list_rules.specs.Head.{isLetters}
+use Rattle.list_rules.specs.Fields.{fieldsInRange}
+use Rattle.list_rules.specs.Writing.{Listing, nameAt, sizesFit, nameFault, writeFault, listChecks}
+
+-- the j-th name is a stretch of eight bytes
+pub name-stretch : (names : List ℕ) (j : ℕ) → stretchOf 8 names j ≡ nameAt names j
+unfolding stretchOf nameAt
+name-stretch names j = rw (mul-comm j 8)
+
+-- sizes, ranges, components and names
+pub record Passing (l : Listing) : Type 0 where
+  pub some : 1 ≤ l .fields .count
+  pub few : l .fields .count ≤ 300
+  pub run-length : length (l .run) ≡ 5 * l .fields .count
+  pub names-length : length (l .names) ≡ 8 * l .fields .count
+  pub ranges : fieldsInRange (l .fields) ≡ true
+  pub letters : isLetters (l .letters) ≡ true
+  pub components :
+      componentFault (l .fields .fund .«first_code») (placesOf (componentAt (l .run)) (l .fields .count)) (l .fields .count)
+      ≡ l .fields .count
+  pub names : nameFault (l .names) (l .fields .count) ≡ l .fields .count
+
+pub passing : (l : Listing) → passes (listChecks l) ≡ true → Passing l
+unfolding listChecks sizesFit writeFault componentFault nameFault
+passing l e =
+    let p = passed-all (listChecks l) e in
+    let size = every-at _ (not-false (sizesFit l) (p .0)) in
+    let count = inside-facts 1 300 (l .fields .count) (size 0) in
+    let both = and-eq-true-iff (fieldsInRange (l .fields)) (isLetters (l .letters)) .0 (not-false _ (p .1 .0)) in
+    let low = ltb-false (writeFault l) (l .fields .count) (p .1 .1 .0) in
+    record {
+      some = count .0;
+      few = count .1;
+      run-length = eqb-true _ _ (size 1);
+      names-length = eqb-true _ _ (size 2);
+      ranges = both .0;
+      letters = both .1;
+      components = le-antisymm (first-le _ _) (omega arith);
+      names = le-antisymm (first-le _ _) (omega arith);
+    }
+
+module _ (l : Listing) (p : Passing l) where
+  -- each component is in its ranges
+  pub component-fine : (j : ℕ) → j < l .fields .count → ComponentRanges (l .fields .fund .«first_code») (componentAt (l .run) j)
+  component-fine j h =
+      subst (ComponentRanges (l .fields .fund .«first_code»)) (places-at (componentAt (l .run)) (l .fields .count) j h (p .few))
+      (components-fine _ _ _ (p .components) j h)
+
+  -- each name has eight bytes that a name may have
+  pub name-fine : (j : ℕ) → j < l .fields .count → allBytes nameByte (nameAt (l .names) j) ≡ true
+  unfolding nameFault
+  name-fine j h = not-false _ (first-all (λ i. not (allBytes nameByte (nameAt (l .names) i))) (l .fields .count) (p .names) j h)
+
+  pub name-eight : (j : ℕ) → j < l .fields .count → length (nameAt (l .names) j) ≡ 8
+  name-eight j h =
+      ap length (sym (name-stretch (l .names) j))
+      ∙ stretch-length 8 (l .names) j (omega (arith, p .names-length, within 8 j (l .fields .count) h))

@@ -1,0 +1,36 @@
+-- Components of a run: its stretches are their numbers, and the places of a day go by the components alone.
+use mathlib.Core.Path.{_≡_, _∙_}
+use mathlib.Core.Bool.{cond}
+use mathlib.Core.List.{List}
+use Prim.Native.Nat.{ℕ, _+_, _*_, _<_}
+use native.Mathlib.Nat.{add-zero, mul-comm}
+use native.Mathlib.Decide.{decLt}
+use native.Mathlib.Omega.{arith}
+use lib.Dec.{ltb}
+use lib.ListN.{length, getD}
+use borrow.Author.Tests.{lt-ltb, le-ltb}
+use Rattle.lists.specs.Below.{tabulate, table-length, table-at, table-ext}
+use Rattle.lists.specs.Stretch.{stretchOf, within, stretch-length, stretch-at}
+use Rattle.fund.specs.declared.Component.{Component}
+use Rattle.fund.specs.Components.{blank, componentAt, componentNumbers, placesOf}
+
+-- the a-th stretch of five numbers of a run is its a-th component
+pub run-stretch : (run : List ℕ) (n a : ℕ) → length run ≡ 5 * n → a < n → stretchOf 5 run a ≡ componentNumbers (componentAt run a)
+unfolding tabulate componentNumbers componentAt
+run-stretch run n a e h =
+    table-ext (λ k. getD run (5 * a + k) 0) 5 0 (stretchOf 5 run a)
+    (stretch-length 5 run a (omega (arith, within 5 a n h)))
+    (λ k l. stretch-at 5 run a k l ∙ rw (mul-comm a 5))
+    ∙ rw (add-zero (5 * a))
+
+-- components that agree below n have the same places
+pub places-same : (f g : ℕ → Component) (n : ℕ) → ((k : ℕ) → k < n → f k ≡ g k) → placesOf f n ≡ placesOf g n
+unfolding placesOf
+places-same f g n all =
+    table-ext (λ i. cond (ltb i n) (g i) blank) 300 blank (tabulate (λ i. cond (ltb i n) (f i) blank) 300)
+    (table-length (λ i. cond (ltb i n) (f i) blank) 300)
+    (λ k h. table-at (λ i. cond (ltb i n) (f i) blank) 300 k blank h ∙ case k (decLt k n))
+  where
+    case : (k : ℕ) → Dec (k < n) → cond (ltb k n) (f k) blank ≡ cond (ltb k n) (g k) blank
+    case k (yes l) = rw (lt-ltb k n l) (all k l)
+    case k (no l) = rw (le-ltb k n (omega arith))
