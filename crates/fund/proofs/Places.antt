@@ -1,5 +1,5 @@
 -- A day's component places as they fill.
-use mathlib.Core.Path.{_≡_, ap, _∙_, subst⁻¹}
+use mathlib.Core.Path.{_≡_, _∙_, subst⁻¹}
 use mathlib.Core.Bool.{cond}
 use mathlib.Core.List.{List}
 use Prim.Native.Nat.{ℕ, _+_, _≤_, _<_}

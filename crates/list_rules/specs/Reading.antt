@@ -1,9 +1,9 @@
 -- "Reading": the places of a text, the tests 18, 19, 20, 2, 3 and 16 in this order, and what is handed back.
-use Prim.Native.Nat.{ℕ, zero, suc, _+_, _-_, _*_, _/_}
-use mathlib.Core.Bool.{Bool, true, false, cond, not, _&&_}
+use Prim.Native.Nat.{ℕ, zero, suc, _+_, _*_, _/_}
+use mathlib.Core.Bool.{Bool, cond, not, _&&_}
 use mathlib.Core.List.{List, [], _∷_, _++_}
 use lib.Dec.{leb, ltb, eqb}
-use lib.ListN.{length, getD, take, drop}
+use lib.ListN.{length, take, drop}
 use Rattle.lists.specs.Below.{firstBelow, joinBelow}
 use Rattle.lists.specs.Every.{every, inside}
 use Rattle.lists.specs.Checks.{Check, check, Reply, answered, passes}

@@ -1,5 +1,5 @@
 -- "Writing": a list, its text as one list of bytes, and the tests 1, 2, 3 and 16 in this order.
-use Prim.Native.Nat.{ℕ, _+_, _*_, min}
+use Prim.Native.Nat.{ℕ, _*_, min}
 use mathlib.Core.Bool.{Bool, not, _&&_}
 use mathlib.Core.List.{List, [], _∷_, _++_}
 use lib.Dec.{ltb, eqb}

@@ -1,16 +1,15 @@
 -- What the code of opening is given, and the parts of its work.
 use Prim.Native.Nat.{ℕ, _+_, _*_, _≤_, min}
 use mathlib.Core.Path.{_≡_}
-use mathlib.Core.Bool.{Bool, cond}
+use mathlib.Core.Bool.{Bool}
 use mathlib.Core.List.{List, [], _∷_}
-use lib.Dec.{ltb, eqb}
+use lib.Dec.{eqb}
 use lib.ListN.{getD, set}
-use Rattle.lists.specs.Below.{firstBelow, tabulate}
+use Rattle.lists.specs.Below.{firstBelow}
 use Rattle.lists.specs.Every.{every, inside}
 use Rattle.lists.specs.Stretch.{stretchOf, over}
 use Rattle.fund.specs.declared.Fund.{Fund}
-use Rattle.fund.specs.declared.Component.{Component}
-use Rattle.fund.specs.Components.{blank, componentAt, componentWidth}
+use Rattle.fund.specs.Components.{componentWidth}
 use Rattle.rules.specs.Book.{widthOf}
 use Rattle.rules.specs.declared.Opened.{Opened}
 use Rattle.rules.specs.Replies.{answerReply}

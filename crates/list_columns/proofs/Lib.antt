@@ -1,0 +1,4 @@
+pub mod Entries
+pub mod Turns
+pub mod Cells
+pub mod Texts

@@ -1,0 +1,74 @@
+-- `list_rows::name_fault` meets its contract. The loop's invariant: no name below `j` is at fault.
+use Prim.Native.Nat.{_-_}
+use mathlib.Core.Path.{sym, _∙_}
+use borrow.Author.Needs.{needs}
+use Rattle.list_columns.proofs.Turns.{Sought, sought-start, sought-again, sought-found, sought-end}
+use Rattle.list_rows.proofs.Lines.{badAt, bad-here, bad-first}
+use Rattle.list_rows.proofs.name_fault.Statement.{statement}
+use Rattle.list_rows.proofs.name_fault.Tie as tie
+
+abbrev Inv-loop : tie.InvT-loop
+Inv-loop names count j₀ j = Sought (badAt names) count j
+
+abbrev μ-loop : tie.MeasureT-loop
+μ-loop names count j₀ j = count - j
+
+loop-holds : tie.Need-loop-holds Inv-loop μ-loop
+loop-holds c = sought-start _ _
+
+mul-at : tie.Need-mul-at Inv-loop μ-loop
+mul-at c = search needs
+
+add-is-name : tie.Need-add-is-name Inv-loop μ-loop
+add-is-name c = search needs
+
+sub-is-name : tie.Need-sub-is-name Inv-loop μ-loop
+sub-is-name c = search needs
+
+part-is-name-start : tie.Need-part-is-name-start Inv-loop μ-loop
+part-is-name-start c = search needs
+
+part-is-name-end : tie.Need-part-is-name-end Inv-loop μ-loop
+part-is-name-end c = search needs
+
+is-name-requires : tie.Need-is-name-requires Inv-loop μ-loop
+is-name-requires c κs = search needs
+
+returns : tie.Need-returns Inv-loop μ-loop
+returns c =
+    let t = c .before .before .before in
+    sought-found _ _ _ (t .before .loop .inv) (t .loop-test .taken) (sym (bad-here _ _ (c .before .is-name .ensures)) ∙ c .if1 .taken)
+    ∙ bad-first _ _
+
+add-j : tie.Need-add-j Inv-loop μ-loop
+add-j c = search needs
+
+loop-less : tie.Need-loop-less Inv-loop μ-loop
+loop-less c = search needs
+
+loop-again : tie.Need-loop-again Inv-loop μ-loop
+loop-again c =
+    let t = c .before .before .before in
+    sought-again _ _ _ (t .before .loop .inv) (t .loop-test .taken) (sym (bad-here _ _ (c .before .is-name .ensures)) ∙ c .if1 .left)
+
+returns-2 : tie.Need-returns-2 Inv-loop μ-loop
+returns-2 c = sought-end _ _ _ (c .before .loop .inv) (c .loop-test .left) ∙ bad-first _ _
+
+pub name-fault-spec : {M : Type 1} → statement M
+name-fault-spec =
+    tie.close
+    (tie.spec
+    Inv-loop
+    μ-loop
+    loop-holds
+    mul-at
+    add-is-name
+    sub-is-name
+    part-is-name-start
+    part-is-name-end
+    is-name-requires
+    returns
+    add-j
+    loop-less
+    loop-again
+    returns-2)

@@ -1,0 +1,157 @@
+// The component lines of a list text: how many there are, what they say, and the lines written.
+ghost use mathlib.Core.Path.{_≡_};
+ghost use mathlib.Core.List.{_++_};
+ghost use Prim.Native.Nat.{_+_, _*_, _≤_, _<_};
+ghost use lib.ListN.{length, drop};
+ghost use Rattle.fund.specs.Components.{placesOf};
+ghost use Rattle.digits.specs.Written.{Written};
+ghost use Rattle.list_rules.specs.Columns.{isRow, columnFault};
+ghost use Rattle.list_rules.specs.Reading.{startOf, lineStands, rowCount, rowOf, wrongRow, columnPlace, componentRead, nameFrom};
+ghost use Rattle.list_rules.specs.Writing.{nameFault};
+ghost use Rattle.list_rows.specs.Rows.{rowFrom, numbersOf, rowBytes};
+use fund::Component;
+use list_rules::NAME_WIDTH;
+use list_rules::ROW_PITCH;
+use list_rules::ROW_WIDTH;
+
+// Whether a component line with its end stands at a place.
+fn row_stands(text: &[u8], at: usize) -> bool
+    requires { ⌜ at ≤ length (now text) ⌝ }
+    ensures { λ r. ⌜ r ≡ lineStands isRow (now (text .entry)) at ⌝ }
+{
+    let n = lines::line_len(&text[at..]);
+    if text.len() - at <= n {
+        return false;
+    }
+    list_columns::is_row(&text[at..at + n])
+}
+
+// How many component lines stand before the first line that is none.
+pub fn row_count(text: &[u8], start: usize) -> usize
+    requires { ⌜ (start ≡ startOf (now text) 22) × (start ≤ length (now text)) ⌝ }
+    ensures { λ r. ⌜ (r ≡ rowCount (now (text .entry))) × (start + 50 * r ≤ length (now (text .entry))) ⌝ }
+{
+    let mut at = start;
+    let mut j = 0;
+    while row_stands(text, at) {
+        at = at + ROW_PITCH;
+        j += 1;
+    }
+    j
+}
+
+// The j-th component line behind a place.
+fn row_part(text: &[u8], start: usize, j: usize) -> &[u8]
+    requires { ⌜ start + (50 * j + 48) ≤ length (now text) ⌝ }
+    ensures { λ r. ⌜ now r ≡ rowFrom (now (text .entry)) start j ⌝ }
+{
+    let at = start + ROW_PITCH * j;
+    &text[at..at + ROW_WIDTH]
+}
+
+// The first of so many component lines with a column at fault, and their count where there is none.
+pub fn wrong_row(text: &[u8], start: usize, count: usize) -> usize
+    requires { ⌜ start + 50 * count ≤ length (now text) ⌝ }
+    requires { ⌜ (start ≡ startOf (now text) 22) × (count ≡ rowCount (now text)) ⌝ }
+    ensures { λ r. ⌜ r ≡ wrongRow (now (text .entry)) ⌝ }
+{
+    let mut j = 0;
+    while j < count {
+        if list_columns::column_fault(row_part(text, start, j)) < list_columns::COLUMNS {
+            return j;
+        }
+        j += 1;
+    }
+    j
+}
+
+// The place of the first column at fault of the j-th component line.
+pub fn column_place(text: &[u8], start: usize, j: usize) -> usize
+    requires { ⌜ start + (50 * j + 48) ≤ length (now text) ⌝ }
+    requires { ⌜ start ≡ startOf (now text) 22 ⌝ }
+    requires { ⌜ columnFault (rowOf (now text) j) < 6 ⌝ }
+    ensures { λ r. ⌜ r ≡ columnPlace (now (text .entry)) j ⌝ }
+{
+    let k = list_columns::column_fault(row_part(text, start, j));
+    (start + ROW_PITCH * j) + list_columns::column_start(k)
+}
+
+// The components of a text's lines, then blank ones.
+pub fn components_read(text: &[u8], start: usize, count: usize) -> [Component; 300]
+    requires { ⌜ (count ≤ 300) × (start + 50 * count ≤ length (now text)) ⌝ }
+    requires { ⌜ (start ≡ startOf (now text) 22) × (count ≡ rowCount (now text)) ⌝ }
+    requires { ⌜ wrongRow (now text) ≡ count ⌝ }
+    ensures { λ r. ⌜ r ≡ placesOf (componentRead (now (text .entry))) count ⌝ }
+{
+    let blank = fund::blank_component();
+    let mut components = [blank; 300];
+    let mut j = 0;
+    while j < count {
+        components[j] = list_columns::component_of(row_part(text, start, j));
+        j += 1;
+    }
+    components
+}
+
+// Stores so many components at the front of a run.
+pub fn store_components(run: &mut [u64], components: [Component; 300], count: usize)
+    requires { ⌜ (count ≤ 300) × (5 * count ≤ length (now run)) ⌝ }
+    ensures { λ _. ⌜ now (run .exit) ≡ numbersOf components count ++ drop (5 * count) (now (run .entry)) ⌝ }
+{
+    let mut j = 0;
+    while j < count {
+        fund::put_component(run, j, components[j]);
+        j += 1;
+    }
+}
+
+// The name of the j-th component line behind a place, as that part of the text; an empty part where the text has no such bytes.
+pub fn name_from(text: &[u8], first: usize, j: usize) -> &[u8]
+    ensures { λ r. ⌜ now r ≡ nameFrom (now (text .entry)) first j ⌝ }
+{
+    if text.len() < first {
+        return &text[..0];
+    }
+    if (text.len() - first) / ROW_PITCH <= j {
+        return &text[..0];
+    }
+    let at = (first + ROW_PITCH * j) + list_columns::column_start(1);
+    &text[at..at + NAME_WIDTH]
+}
+
+// The first of so many names with a byte that no name has, and their count where there is none.
+pub fn name_fault(names: &[u8], count: usize) -> usize
+    requires { ⌜ 8 * count ≤ length (now names) ⌝ }
+    ensures { λ r. ⌜ r ≡ nameFault (now (names .entry)) count ⌝ }
+{
+    let mut j = 0;
+    while j < count {
+        let at = NAME_WIDTH * j;
+        if !lines::is_name(&names[at..at + NAME_WIDTH]) {
+            return j;
+        }
+        j += 1;
+    }
+    j
+}
+
+// Writes so many component lines.
+pub fn put_rows(dst: &mut [u8], at: usize, run: &[u64], names: &[u8], count: usize) -> usize
+    requires { ⌜ (5 * count ≤ length (now run)) × (8 * count ≤ length (now names)) ⌝ }
+    requires { ⌜ at + length (rowBytes (now run) (now names) count) ≤ length (now dst) ⌝ }
+    ensures { λ r. ⌜ Written (now (dst .entry)) at (rowBytes (now (run .entry)) (now (names .entry)) count) (now (dst .exit)) r ⌝ }
+{
+    let mut p = at;
+    let mut j = 0;
+    while j < count {
+        let m = NAME_WIDTH * j;
+        p = list_columns::put_row(
+            dst,
+            p,
+            fund::component_at(run, j),
+            &names[m..m + NAME_WIDTH],
+        );
+        j += 1;
+    }
+    p
+}
