@@ -1,0 +1,27 @@
+-- `list_head::field_form` meets its contract: three entries of the table make the form, and no entry is past its bound.
+use native.Mathlib.Omega.{arith}
+use Rattle.list_head.proofs.Names.{entry-facts, form-is}
+use borrow.Author.Needs.{needs}
+use Rattle.list_head.proofs.field_form.Statement.{statement}
+use Rattle.list_head.proofs.field_form.Tie as tie
+
+table-entry-requires : tie.Need-table-entry-requires
+table-entry-requires c κs = search needs
+
+table-entry-requires-2 : tie.Need-table-entry-requires-2
+table-entry-requires-2 c κs = search needs
+
+table-entry-requires-3 : tie.Need-table-entry-requires-3
+table-entry-requires-3 c κs = search needs
+
+returns : tie.Need-returns
+returns c =
+    let s = c .before .before .before in
+    let e = entry-facts (s .args .k) (s .pre) in (
+      form-is _ _ _ _ (c .before .before .table-entry .ensures) (c .before .table-entry2 .ensures) (c .table-entry3 .ensures),
+      (omega arith, omega arith),
+    )
+
+pub field-form-spec : {M : Type 1} → statement M
+field-form-spec =
+    tie.close (tie.spec table-entry-requires table-entry-requires-2 table-entry-requires-3 returns)

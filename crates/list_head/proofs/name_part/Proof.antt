@@ -1,0 +1,49 @@
+-- `list_head::name_part` meets its contract: from one start to the next the names have field `k`'s.
+use mathlib.Core.Path.{ap}
+use native.Mathlib.Omega.{arith}
+use lib.ListN.{length}
+use Rattle.list_head.proofs.Names.{name-rises, name-within, name-part}
+use borrow.Author.Needs.{needs}
+use Rattle.list_head.proofs.name_part.Statement.{statement}
+use Rattle.list_head.proofs.name_part.Tie as tie
+
+name-start-requires : tie.Need-name-start-requires
+name-start-requires c κs = search needs
+
+add-name-start : tie.Need-add-name-start
+add-name-start c = search needs
+
+name-start-requires-2 : tie.Need-name-start-requires-2
+name-start-requires-2 c κs = search needs
+
+sub-result : tie.Need-sub-result
+sub-result c =
+    let s = c .before .before .before in
+    omega (arith, name-rises (s .args .k) (s .pre .1))
+
+part-result-start : tie.Need-part-result-start
+part-result-start c =
+    let s = c .before .before .before in
+    omega (arith, name-rises (s .args .k) (s .pre .1))
+
+part-result-end : tie.Need-part-result-end
+part-result-end c =
+    let s = c .before .before .before in
+    omega (arith, name-within (s .args .k) (s .pre .1), ap length (s .pre .0))
+
+returns : tie.Need-returns
+returns c =
+    let s = c .before .before .before .before in
+    name-part _ (s .pre .1) _ _ _ (s .pre .0) (c .before .before .name-start .ensures) (c .before .name-start2 .ensures)
+
+pub name-part-spec : {M : Type 1} → statement M
+name-part-spec =
+    tie.close
+    (tie.spec
+    name-start-requires
+    add-name-start
+    name-start-requires-2
+    sub-result
+    part-result-start
+    part-result-end
+    returns)

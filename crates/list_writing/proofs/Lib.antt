@@ -1,0 +1,3 @@
+pub mod Replies
+pub mod Sizes
+pub mod Tests

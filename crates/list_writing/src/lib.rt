@@ -1,0 +1,117 @@
+// Writing the list text.
+ghost use mathlib.Core.Path.{_≡_};
+ghost use mathlib.Core.Bool.{true};
+ghost use Prim.Native.Nat.{_*_, _≤_, min};
+ghost use lib.ListN.{length};
+ghost use Rattle.lists.specs.Checks.{passes};
+ghost use Rattle.fund.specs.Components.{componentAt, componentFault, placesOf};
+ghost use Rattle.digits.specs.Written.{put};
+ghost use Rattle.list_rules.specs.Replies.{listReply};
+ghost use Rattle.list_rules.specs.Writing.{listing, listChecks, nameFault, textOf, writeReply};
+ghost use Rattle.list_writing.specs.Outcome.{WriteOutcome, lengthsFit};
+use list_rules::ListAnswer;
+use list_rules::ListFields;
+use rules::Refusal;
+
+// How many bytes the last line takes with its end.
+const END_SIZE: usize = 11;
+
+// Refusal 1's test. The range comes first, so that no product is too large.
+fn lengths_fit(count: usize, run: usize, names: usize) -> bool
+    ensures { λ r. ⌜ r ≡ lengthsFit count run names ⌝ }
+{
+    if count < 1 {
+        return false;
+    }
+    if fund::MOST_COMPONENTS < count {
+        return false;
+    }
+    if run != fund::COMPONENT_WIDTH * count {
+        return false;
+    }
+    names == list_rules::NAME_WIDTH * count
+}
+
+// The first component at fault, by its numbers or by its name, and `count` where there is none.
+fn write_fault(first_code: u64, run: &[u64], names: &[u8], count: usize) -> usize
+    requires { ⌜ (count ≤ 300) × (length (now run) ≡ 5 * count) × (length (now names) ≡ 8 * count) ⌝ }
+    ensures { λ r. ⌜ r ≡ min (componentFault «first_code» (placesOf (componentAt (now (run .entry))) count) count) (nameFault (now (names .entry)) count) ⌝ }
+{
+    let components = fund::components_of(run, count);
+    let fault = fund::component_fault(first_code, components, count);
+    let name = list_rows::name_fault(names, count);
+    if fault < name {
+        return fault;
+    }
+    name
+}
+
+// How many bytes the text takes.
+fn text_size(fields: ListFields, run: &[u64], names: &[u8], letters: &[u8]) -> usize
+    requires { ⌜ passes (listChecks (listing fields (now run) (now names) (now letters))) ≡ true ⌝ }
+    ensures { λ r. ⌜ r ≡ length (textOf (listing fields (now (run .entry)) (now (names .entry)) (now (letters .entry)))) ⌝ }
+{
+    let figures = list_fields::figures_of(fields);
+    list_head::head_size(letters, figures) + (list_rules::ROW_PITCH * fields.count + END_SIZE)
+}
+
+// The answer, which changes nothing.
+fn write_answer(
+    fields: ListFields,
+    run: &[u64],
+    names: &[u8],
+    letters: &[u8],
+    room: usize,
+) -> ListAnswer
+    ensures { λ r. ⌜ listReply r ≡ writeReply (listing fields (now (run .entry)) (now (names .entry)) (now (letters .entry))) room ⌝ }
+{
+    let count = fields.count;
+    if !lengths_fit(count, run.len(), names.len()) {
+        return ListAnswer::Refused(Refusal::Sizes);
+    }
+    if !list_fields::fields_in_range(fields) {
+        return ListAnswer::Refused(Refusal::FundField);
+    }
+    if !list_head::is_letters(letters) {
+        return ListAnswer::Refused(Refusal::FundField);
+    }
+    let fault = write_fault(fields.fund.first_code, run, names, count);
+    if fault < count {
+        return ListAnswer::Refused(Refusal::Component(fault));
+    }
+    let size = text_size(fields, run, names, letters);
+    if room < size {
+        return ListAnswer::Refused(Refusal::ListTooShort);
+    }
+    ListAnswer::Done(size)
+}
+
+// Writes the text of a list that no test refuses.
+fn put_list(output: &mut [u8], fields: ListFields, run: &[u64], names: &[u8], letters: &[u8])
+    requires { ⌜ passes (listChecks (listing fields (now run) (now names) (now letters))) ≡ true ⌝ }
+    requires { ⌜ length (textOf (listing fields (now run) (now names) (now letters))) ≤ length (now output) ⌝ }
+    ensures { λ _. ⌜ now (output .exit) ≡ put (now (output .entry)) 0 (textOf (listing fields (now (run .entry)) (now (names .entry)) (now (letters .entry)))) ⌝ }
+{
+    let figures = list_fields::figures_of(fields);
+    let p = list_head::put_head(output, 0, letters, figures);
+    let q = list_rows::put_rows(output, p, run, names, fields.count);
+    digits::put_bytes(output, q, b"ENDENDEND\r\n");
+}
+
+// Writes a list at the front of the lent output, and answers how many bytes it takes. A refusal changes nothing.
+pub fn write(
+    fields: ListFields,
+    run: &[u64],
+    names: &[u8],
+    letters: &[u8],
+    output: &mut [u8],
+) -> ListAnswer
+    ensures { λ r. ⌜ WriteOutcome (listing fields (now (run .entry)) (now (names .entry)) (now (letters .entry))) (now (output .entry)) r (now (output .exit)) ⌝ }
+{
+    let answer = write_answer(fields, run, names, letters, output.len());
+    match answer {
+        ListAnswer::Done(_) => put_list(output, fields, run, names, letters),
+        ListAnswer::Refused(_) => {}
+    }
+    answer
+}
