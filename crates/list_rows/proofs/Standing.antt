@@ -15,14 +15,14 @@ use Rattle.list_rules.specs.Reading.{startOf, lineOf, lineStands, rowStart, row
 
 -- What the code's tests say of a line at a place, n its length.
 
-module _ (text : List ℕ) (at n : ℕ) (e : n ≡ lineLen (take (length text - at) (drop at text))) where
-  pub stands-open : length text - at ≤ n → false ≡ lineStands isRow text at
+module _ (test : List ℕ → Bool) (text : List ℕ) (at n : ℕ) (e : n ≡ lineLen (take (length text - at) (drop at text))) where
+  pub stands-open : length text - at ≤ n → false ≡ lineStands test text at
   unfolding lineStands
   stands-open h = rw (part-open text at n e h)
 
-  pub stands-row : n < length text - at → {b : Bool} → b ≡ isRow (take (at + n - at) (drop at text)) → b ≡ lineStands isRow text at
+  pub stands-ended : n < length text - at → {b : Bool} → b ≡ test (take (at + n - at) (drop at text)) → b ≡ lineStands test text at
   unfolding lineStands lineOf
-  stands-row h f = f ∙ rw (part-first text at n e, part-ended text at n e h)
+  stands-ended h f = f ∙ rw (part-first text at n e, part-ended text at n e h)
 
 -- a component line and its end take 50 bytes
 row-length : (l : List ℕ) → isRow l ≡ true → length l ≡ rowWidth

@@ -4,12 +4,12 @@ use mathlib.Core.Bool.{Bool, true, false, cond}
 use mathlib.Core.List.{List, [], _∷_, _++_}
 use mathlib.Core.Logic.{⊎-elim}
 use Prim.Native.Nat.{ℕ, zero, suc, _*_, _<_}
-use native.Mathlib.Nat.{not-suc-le-zero, eq-or-lt-of-le, le-of-suc-le-suc, le-step, lt-suc-self}
+use native.Mathlib.Nat.{lt-irrefl, not-suc-le-zero, eq-or-lt-of-le, le-of-suc-le-suc, le-step, lt-suc-self}
 use native.Mathlib.Decide.{decLt}
 use native.Mathlib.Omega.{arith}
 use lib.Dec.{ltb}
 use lib.ListN.{length, getD, replicate, length-replicate}
-use borrow.Author.Tests.{lt-ltb, le-ltb}
+use borrow.Author.Tests.{lt-ltb, le-ltb, ltb-true}
 use Rattle.lists.specs.Below.{allBelow, firstBelow, joinBelow, tabulate, all-at, first-all, first-stops, join-length}
 use Rattle.lists.specs.Stretch.{stretchOf, stretch-join}
 
@@ -26,6 +26,18 @@ pub first-before : (f : ℕ → Bool) (n k : ℕ) → k < firstBelow f n → f k
 unfolding firstBelow
 first-before f zero k h = absurd (not-suc-le-zero h)
 first-before f (suc n) k h = before-cases f n k (ltb (firstBelow f n) n) (f n) refl refl (first-before f n k) h
+
+-- the first that passes passes
+found-cases : (f : ℕ → Bool) (n : ℕ) (t b : Bool) → ltb (firstBelow f n) n ≡ t → f n ≡ b → (firstBelow f n < n → f (firstBelow f n) ≡ true)
+    → cond t (firstBelow f n) (cond b n (suc n)) < suc n → f (cond t (firstBelow f n) (cond b n (suc n))) ≡ true
+found-cases f n true b p q rest l = rest (ltb-true _ _ p)
+found-cases f n false true p q rest l = q
+found-cases f n false false p q rest l = absurd (lt-irrefl (suc n) l)
+
+pub first-found : (f : ℕ → Bool) (n : ℕ) → firstBelow f n < n → f (firstBelow f n) ≡ true
+unfolding firstBelow
+first-found f zero h = absurd (not-suc-le-zero h)
+first-found f (suc n) h = found-cases f n (ltb (firstBelow f n) n) (f n) refl refl (first-found f n) h
 
 -- a test that each index below n passes where it passes another
 pub implied : (p q : ℕ → Bool) (n k : ℕ) → allBelow (λ i. cond (p i) (q i) true) n ≡ true → k < n → p k ≡ true → q k ≡ true

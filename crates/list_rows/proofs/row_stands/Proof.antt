@@ -1,6 +1,7 @@
 -- `list_rows::row_stands` meets its contract: the line has its end, and it is a component line.
 use borrow.Author.Needs.{needs}
-use Rattle.list_rows.proofs.Standing.{stands-open, stands-row}
+use Rattle.list_rules.specs.Columns.{isRow}
+use Rattle.list_rows.proofs.Standing.{stands-open, stands-ended}
 use Rattle.list_rows.proofs.row_stands.Statement.{statement}
 use Rattle.list_rows.proofs.row_stands.Tie as tie
 
@@ -20,7 +21,7 @@ sub-if1 : tie.Need-sub-if1
 sub-if1 c = search needs
 
 returns : tie.Need-returns
-returns c = stands-open _ _ _ (c .before .line-len .ensures .0) (c .if1 .taken)
+returns c = stands-open isRow _ _ _ (c .before .line-len .ensures .0) (c .if1 .taken)
 
 add-is-row : tie.Need-add-is-row
 add-is-row c = search needs
@@ -38,7 +39,7 @@ is-row-requires : tie.Need-is-row-requires
 is-row-requires c κs = search needs
 
 returns-2 : tie.Need-returns-2
-returns-2 c = stands-row _ _ _ (c .before .before .before .line-len .ensures .0) (c .before .before .if1 .left) (c .is-row .ensures)
+returns-2 c = stands-ended isRow _ _ _ (c .before .before .before .line-len .ensures .0) (c .before .before .if1 .left) (c .is-row .ensures)
 
 pub row-stands-spec : {M : Type 1} → statement M
 row-stands-spec =

@@ -1,0 +1,4 @@
+pub mod Replies
+pub mod Tests
+pub mod Stages
+pub mod Handed

@@ -1,0 +1,22 @@
+-- Refusal 20's test.
+use mathlib.Core.Path.{_≡_}
+use mathlib.Core.Bool.{false}
+use Prim.Native.Nat.{ℕ, _≤_, _<_}
+use lib.Dec.{eqb}
+use borrow.Author.Tests.{le-leb, lt-leb}
+use Rattle.lists.specs.Every.{inside}
+use Rattle.list_rules.specs.Reading.{isCounted}
+
+module _ (recordnum rows : ℕ) where
+  pub count-low : recordnum < 1 → false ≡ isCounted recordnum rows
+  unfolding isCounted inside
+  count-low h = rw (lt-leb 1 recordnum h)
+
+  module _ (low : 1 ≤ recordnum) where
+    pub count-high : 300 < recordnum → false ≡ isCounted recordnum rows
+    unfolding isCounted inside
+    count-high h = rw (le-leb 1 recordnum low, lt-leb recordnum 300 h)
+
+    pub count-same : recordnum ≤ 300 → eqb recordnum rows ≡ isCounted recordnum rows
+    unfolding isCounted inside
+    count-same h = rw (le-leb 1 recordnum low, le-leb recordnum 300 h)

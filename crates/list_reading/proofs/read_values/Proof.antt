@@ -1,0 +1,94 @@
+-- `list_reading::read_values` meets its contract: each return is the reply of a law for what was tested before it.
+use mathlib.Core.Path.{_≡_, sym, ap, _∙_}
+use mathlib.Core.Bool.{true}
+use Prim.Native.Nat.{ℕ, _<_}
+use native.Mathlib.Omega.{arith}
+use lib.ListN.{getD}
+use borrow.Author.Needs.{needs}
+use borrow.Author.Tests.{not-true, not-false}
+use Rattle.digits.specs.declared.Figure.{Figure}
+use Rattle.digits.specs.Digits.{plain}
+use Rattle.list_rules.specs.Reading.{figureRead, fieldsRead, isCounted}
+use Rattle.list_reading.proofs.Handed.{refused-with, figure-at, figures-capped, fields-are, count-reply, first-reply, range-reply, ranged}
+use Rattle.list_reading.proofs.read_values.Statement.{statement}
+use Rattle.list_reading.proofs.read_values.Tie as tie
+
+-- the count is well, and the fields are the text's
+counted : (c : tie.Else1) → let a = c .before .before .before .before .args in isCounted (getD (a .t4) 5 (plain 0) .size) (a .count) ≡ true
+counted c = sym (c .before .is-counted .ensures) ∙ not-false _ (c .if1 .left)
+
+figure : (c : tie.Start) (k : ℕ) → k < 20 → getD (c .args .t4) k (plain 0) .size ≡ figureRead (c .args .text .now) k .size
+figure c k h = ap (λ (z : Figure). z .size) (figure-at _ _ _ _ (c .pre) k (plain 0) h)
+
+fields : (c : tie.After-fields-of) → c .fields-of .result ≡ fieldsRead (c .before .before .before .before .before .before .args .text .now)
+fields c = fields-are _ _ _ _ (c .before .before .before .before .before .before .pre) _ (c .fields-of .ensures)
+
+element-copy-out-is-counted : tie.Need-element-copy-out-is-counted
+element-copy-out-is-counted c = search needs
+
+is-counted-requires : tie.Need-is-counted-requires
+is-counted-requires c κs = search needs
+
+refused-requires : tie.Need-refused-requires
+refused-requires c κs = search needs
+
+returns : tie.Need-returns
+returns c =
+    refused-with _ _ _ _ (c .refused .ensures)
+    (count-reply _ _ _ _ (c .before .before .before .before .before .pre) _ (figure (c .before .before .before .before .before) 5 (omega arith)) _ (sym (c .before .before .is-counted .ensures) ∙ not-true _ (c .before .if1 .taken)))
+
+element-copy-out-if2 : tie.Need-element-copy-out-if2
+element-copy-out-if2 c = search needs
+
+refused-requires-2 : tie.Need-refused-requires-2
+refused-requires-2 c κs = search needs
+
+returns-2 : tie.Need-returns-2
+returns-2 c =
+    refused-with _ _ _ _ (c .refused2 .ensures)
+    (first-reply _ _ _ _ (c .before .before .before .before .before .before .pre) _ (figure (c .before .before .before .before .before .before) 5 (omega arith)) (counted (c .before .before)) _ _ (figure (c .before .before .before .before .before .before) 0 (omega arith)) (c .before .if2 .taken))
+
+fields-of-requires : tie.Need-fields-of-requires
+fields-of-requires c κs = (c .if2 .left, figures-capped _ _ _ _ (c .before .before .before .before .before .pre))
+
+fields-in-range-requires : tie.Need-fields-in-range-requires
+fields-in-range-requires c κs = search needs
+
+refused-requires-3 : tie.Need-refused-requires-3
+refused-requires-3 c κs = search needs
+
+returns-3 : tie.Need-returns-3
+returns-3 c =
+    refused-with _ _ _ _ (c .refused3 .ensures)
+    (range-reply _ _ _ _ (c .before .before .before .before .before .before .before .before .before .pre) _ (figure (c .before .before .before .before .before .before .before .before .before) 5 (omega arith)) (counted (c .before .before .before .before .before)) _ (figure (c .before .before .before .before .before .before .before .before .before) 0 (omega arith)) (c .before .before .before .before .if2 .left) _ (fields (c .before .before .before)) _
+    (sym (c .before .before .fields-in-range .ensures) ∙ not-true _ (c .before .if3 .taken)))
+
+read-components-requires : tie.Need-read-components-requires
+read-components-requires c κs =
+    ranged _ _ _ _ (c .before .before .before .before .before .before .before .before .before .pre) _ (figure (c .before .before .before .before .before .before .before .before .before) 5 (omega arith)) (counted (c .before .before .before .before .before)) _ (figure (c .before .before .before .before .before .before .before .before .before) 0 (omega arith)) (c .before .before .before .before .if2 .left) _ (fields (c .before .before .before))
+    (sym (c .before .before .fields-in-range .ensures) ∙ not-false _ (c .before .if3 .left))
+
+same-length : tie.Need-same-length
+same-length c = search needs
+
+returns-4 : tie.Need-returns-4
+returns-4 c = search needs
+
+pub read-values-spec : {M : Type 1} → statement M
+read-values-spec =
+    tie.close
+    (tie.spec
+    element-copy-out-is-counted
+    is-counted-requires
+    refused-requires
+    returns
+    element-copy-out-if2
+    refused-requires-2
+    returns-2
+    fields-of-requires
+    fields-in-range-requires
+    refused-requires-3
+    returns-3
+    read-components-requires
+    same-length
+    returns-4)

@@ -1,0 +1,215 @@
+// Reading the list text.
+ghost use mathlib.Core.Path.{_≡_};
+ghost use Prim.Native.Nat.{_≤_};
+ghost use lib.ListN.{length};
+ghost use Rattle.lines.specs.Lines.{same};
+ghost use Rattle.list_rules.specs.Head.{endWord};
+ghost use Rattle.list_rules.specs.Reading.{startOf, lineStands, wrongLine, isCounted, nameRead, lettersRead, nameFrom};
+ghost use Rattle.list_reading.specs.Outcome.{ReadOutcome, Rows, Shaped, wrongAt, Spelled, Ranged, refusedRead};
+use digits::Figure;
+use list_rules::ListAnswer;
+use list_rules::ListFields;
+use list_rules::ListRead;
+use rules::Refusal;
+
+// What refusal 18's tests find: its place, or where the component lines start and how many there are.
+pub struct Shape {
+    pub wrong: bool,
+    pub place: usize,
+    pub start: usize,
+    pub count: usize,
+}
+
+// How many bytes the last line takes with its end.
+const END_SIZE: usize = 11;
+
+fn wrong_at(place: usize) -> Shape
+    ensures { λ r. ⌜ r ≡ wrongAt place ⌝ }
+{
+    Shape {
+        wrong: true,
+        place,
+        start: 0,
+        count: 0,
+    }
+}
+
+// Whether ENDENDEND with its end stands at a place.
+fn end_stands(text: &[u8], at: usize) -> bool
+    requires { ⌜ at ≤ length (now text) ⌝ }
+    ensures { λ r. ⌜ r ≡ lineStands (λ l. same l endWord) (now (text .entry)) at ⌝ }
+{
+    let n = lines::line_len(&text[at..]);
+    if text.len() - at <= n {
+        return false;
+    }
+    lines::same_bytes(&text[at..at + n], b"ENDENDEND")
+}
+
+// Refusal 18 behind the head.
+fn body_shape(text: &[u8], start: usize) -> Shape
+    requires { ⌜ wrongLine (now text) ≡ 22 ⌝ }
+    requires { ⌜ (start ≡ startOf (now text) 22) × (start ≤ length (now text)) ⌝ }
+    ensures { λ r. ⌜ Shaped (now (text .entry)) r ⌝ }
+{
+    let count = list_rows::row_count(text, start);
+    let end = start + list_rules::ROW_PITCH * count;
+    if !end_stands(text, end) {
+        return wrong_at(end);
+    }
+    let behind = end + END_SIZE;
+    if behind < text.len() {
+        return wrong_at(behind);
+    }
+    Shape {
+        wrong: false,
+        place: 0,
+        start,
+        count,
+    }
+}
+
+// Refusal 18.
+fn shape_of(text: &[u8]) -> Shape
+    ensures { λ r. ⌜ Shaped (now (text .entry)) r ⌝ }
+{
+    let head = list_head::head_shape(text);
+    if head.wrong < list_head::LINES {
+        return wrong_at(head.place);
+    }
+    body_shape(text, head.place)
+}
+
+// A refused reading.
+fn refused(why: Refusal) -> ListRead
+    ensures { λ r. ⌜ r ≡ refusedRead why ⌝ }
+{
+    let answer = ListAnswer::Refused(why);
+    let fields = list_fields::blank_fields();
+    ListRead {
+        answer,
+        fields,
+        first_row: 0,
+    }
+}
+
+// Refusal 20's test.
+fn is_counted(recordnum: u64, count: usize) -> bool
+    ensures { λ r. ⌜ r ≡ isCounted recordnum count ⌝ }
+{
+    if recordnum < 1 {
+        return false;
+    }
+    if 300 < recordnum {
+        return false;
+    }
+    recordnum == count as u64
+}
+
+// Refusals 3 and 16, and the components stored.
+fn read_components(
+    text: &[u8],
+    start: usize,
+    count: usize,
+    fields: ListFields,
+    run: &mut [u64],
+) -> ListRead
+    requires { ⌜ Ranged (now text) start count fields ⌝ }
+    ensures { λ r. ⌜ ReadOutcome (now (text .entry)) (now (run .entry)) r (now (run .exit)) ⌝ }
+{
+    let components = list_rows::components_read(text, start, count);
+    let fault = fund::component_fault(fields.fund.first_code, components, count);
+    if fault < count {
+        return refused(Refusal::Component(fault));
+    }
+    if run.len() < fund::COMPONENT_WIDTH * count {
+        return refused(Refusal::ListTooShort);
+    }
+    list_rows::store_components(run, components, count);
+    ListRead {
+        answer: ListAnswer::Done(count),
+        fields,
+        first_row: start,
+    }
+}
+
+// Refusals 20 and 2, and what follows.
+fn read_values(
+    text: &[u8],
+    start: usize,
+    count: usize,
+    figures: [Figure; 20],
+    run: &mut [u64],
+) -> ListRead
+    requires { ⌜ Spelled (now text) start count figures ⌝ }
+    ensures { λ r. ⌜ ReadOutcome (now (text .entry)) (now (run .entry)) r (now (run .exit)) ⌝ }
+{
+    if !is_counted(figures[5].size, count) {
+        return refused(Refusal::RecordCount);
+    }
+    if figures[0].size < 1 {
+        return refused(Refusal::FundField);
+    }
+    let fields = list_fields::fields_of(figures);
+    if !list_fields::fields_in_range(fields) {
+        return refused(Refusal::FundField);
+    }
+    read_components(text, start, count, fields, run)
+}
+
+// Refusal 19, and what follows.
+fn read_fields(text: &[u8], start: usize, count: usize, run: &mut [u64]) -> ListRead
+    requires { ⌜ Rows (now text) start count ⌝ }
+    ensures { λ r. ⌜ ReadOutcome (now (text .entry)) (now (run .entry)) r (now (run .exit)) ⌝ }
+{
+    let head = list_head::head_fields(text);
+    if head.wrong < list_head::FIELDS {
+        return refused(Refusal::TextField(head.place));
+    }
+    let row = list_rows::wrong_row(text, start, count);
+    if row < count {
+        let place = list_rows::column_place(text, start, row);
+        return refused(Refusal::TextField(place));
+    }
+    let figures = head.figures;
+    read_values(text, start, count, figures, run)
+}
+
+// Reads a list: its fields, and its components at the front of the lent run. A refusal changes nothing, and its fields are blank.
+pub fn read(text: &[u8], run: &mut [u64]) -> ListRead
+    ensures { λ r. ⌜ ReadOutcome (now (text .entry)) (now (run .entry)) r (now (run .exit)) ⌝ }
+{
+    let shape = shape_of(text);
+    if shape.wrong {
+        return refused(Refusal::TextLine(shape.place));
+    }
+    read_fields(text, shape.start, shape.count, run)
+}
+
+// The letters of a text's first line, as that part of it; an empty part where the line is another.
+pub fn letters(text: &[u8]) -> &[u8]
+    ensures { λ r. ⌜ now r ≡ lettersRead (now (text .entry)) ⌝ }
+{
+    list_head::letters(text)
+}
+
+// The name of component j, as that part of the text; an empty part where the text has no such component line.
+pub fn name(text: &[u8], j: usize) -> &[u8]
+    ensures { λ r. ⌜ now r ≡ nameRead (now (text .entry)) j ⌝ }
+{
+    let shape = shape_of(text);
+    if shape.wrong {
+        return &text[..0];
+    }
+    if shape.count <= j {
+        return &text[..0];
+    }
+    list_rows::name_from(text, shape.start, j)
+}
+
+// The same without looking at the text's lines again: `first` is where reading found the first component line.
+pub fn name_from(text: &[u8], first: usize, j: usize) -> &[u8]
+    ensures { λ r. ⌜ now r ≡ nameFrom (now (text .entry)) first j ⌝ }
+{
+    list_rows::name_from(text, first, j)
+}
