@@ -4,3 +4,4 @@ pub mod Count
 pub mod Sign
 pub mod Write
 pub mod Trip
+pub mod Bytes

@@ -1,6 +1,6 @@
 -- The round trips: what is written reads back, and what is read is written again.
 use mathlib.Core.Path.{_≡_, refl, sym, ap, ap₂, _∙_}
-use mathlib.Core.Bool.{Bool, true, false, cond, not, _&&_, false≢true}
+use mathlib.Core.Bool.{Bool, true, false, not, false≢true}
 use mathlib.Core.List.{List, [], _∷_, _++_, append-nil}
 use Prim.Native.Nat.{ℕ, zero, suc, _+_, _-_, _/_, _^_, _≤_, _<_}
 use native.Mathlib.Omega.{arith}
@@ -10,16 +10,16 @@ use native.Mathlib.Nat.{pow-le-pow-right, mod-eq-of-lt, div-le-self, div-add-mod
 use lib.ListN.{length, getD, take, drop, replicate, length-append, length-drop, length-replicate, List·getD-append, List·getD-eq-default}
 use lib.Seq.{take-at, drop-at, drop-append-add, getD-at, split-at, drop-length}
 use lib.Arith.{digits-div}
-use lib.Dec.{leb, eqb}
-use borrow.Author.Tests.{le-leb, eq-eqb, ne-eqb, eqb-true, eqb-false, not-true}
+use lib.Dec.{eqb}
+use borrow.Author.Tests.{eq-eqb, ne-eqb, eqb-true, eqb-false, not-true}
 use Rattle.lists.specs.Every.{every, every-at}
 use Rattle.digits.specs.declared.Form.{Form}
 use Rattle.digits.specs.declared.Figure.{Figure}
 use Rattle.digits.specs.Digits.{plain, fixed, tens, decimal, wholeText, plainText, signedText, numberText, allDigits, from, spare, cap, capped, isWhole, pointAt, isPlain, plainSize, hasMinus, isSigned, signedFigure, blanks, allBlank, trimmed, isNumber, figureOf}
-use Rattle.digits.proofs.Read.{compare, both-pass, digit-bounds, capped-small, capped-within, capped-exact, from-grows, shaped, shaped-fixed, whole-true, whole-facts, whole-empty}
-use Rattle.digits.proofs.Count.{fixed-length, fixed-digits, from-fixed, from-shift, digits-cons, from-below, fixed-from, tens-wide, decimal-length, decimal-spare, decimal-digits, decimal-from, from-decimal}
+use Rattle.digits.proofs.Read.{compare, both-pass, capped-small, capped-within, capped-exact, from-grows, shaped, shaped-fixed, whole-true, whole-facts, whole-empty}
+use Rattle.digits.proofs.Count.{fixed-length, fixed-digits, from-fixed, from-shift, from-below, fixed-from, tens-wide, decimal-length, decimal-spare, decimal-digits, decimal-from, from-decimal}
 use Rattle.digits.proofs.Sign.{minus-first, minus-other}
-use Rattle.digits.proofs.Write.{whole-free, whole-fixed, plain-free, plain-pointed, plain-length, signed-below, signed-above, number-length}
+use Rattle.digits.proofs.Write.{whole-free, whole-fixed, plain-free, plain-pointed, signed-below, signed-above, number-length}
 
 -- the figure z can be written in the form f and read again
 pub record Fits (f : Form) (z : Figure) : Type 0 where
@@ -334,60 +334,6 @@ pub figure-capped : (f : Form) (s : List ℕ) → figureOf f s .size ≤ cap
 unfolding figureOf
 figure-capped f s = signed-capped f (trimmed f s) (hasMinus f (trimmed f s)) refl
 
--- ---- the bytes of a number
-
--- every byte is 32 or more
-unfoldable pub isHigh : List ℕ → Bool
-isHigh [] = true
-isHigh (b ∷ r) = leb 32 b && isHigh r
-
-pub high-append : (s t : List ℕ) → isHigh s ≡ true → isHigh t ≡ true → isHigh (s ++ t) ≡ true
-unfolding isHigh
-high-append [] t h k = k
-high-append (b ∷ r) t h k = let p = both-pass (leb 32 b) (isHigh r) h in rw (p .0) (high-append r t (p .1) k)
-
-pub high-blanks : (k : ℕ) → isHigh (replicate k 32) ≡ true
-unfolding isHigh
-high-blanks zero = refl
-high-blanks (suc k) = high-blanks k
-
-high-digits : (s : List ℕ) → allDigits s ≡ true → isHigh s ≡ true
-unfolding isHigh
-high-digits [] e = refl
-high-digits (b ∷ r) e =
-    let p = digits-cons b r e in
-    let d = digit-bounds b (p .0) in
-    rw (le-leb 32 b (omega arith)) (high-digits r (p .1))
-
-whole-high : (digits n : ℕ) → isHigh (wholeText digits n) ≡ true
-whole-high digits n =
-    elim (ℕ-discrete digits 0) [
-      | yes e ↦ rw (whole-free digits n e) (high-digits (decimal n) (decimal-digits n))
-      | no h ↦ rw (whole-fixed digits n h) (high-digits (fixed digits n) (fixed-digits digits n))
-    ]
-
-plain-high : (f : Form) (n : ℕ) → isHigh (plainText f n) ≡ true
-unfolding isHigh
-plain-high f n =
-    elim (ℕ-discrete (f .decimals) 0) [
-      | yes e ↦ rw (plain-free f n e) (whole-high (f .digits) n)
-      | no h ↦
-          rw (plain-pointed f n h)
-          (high-append (wholeText (f .digits) (n / 10 ^ (f .decimals))) (46 ∷ fixed (f .decimals) n)
-          (whole-high (f .digits) (n / 10 ^ (f .decimals))) (high-digits (fixed (f .decimals) n) (fixed-digits (f .decimals) n)))
-    ]
-
-signed-high : (f : Form) (z : Figure) (b : Bool) → z .negative ≡ b → isHigh (signedText f z) ≡ true
-unfolding isHigh
-signed-high f z true n = rw (signed-below f z n) (plain-high f (z .size))
-signed-high f z false n = rw (signed-above f z n) (plain-high f (z .size))
-
-pub number-high : (f : Form) (z : Figure) → isHigh (numberText f z) ≡ true
-unfolding numberText
-number-high f z =
-    high-append (replicate (f .width - length (signedText f z)) 32) (signedText f z)
-    (high-blanks (f .width - length (signedText f z))) (signed-high f z (z .negative) refl)
-
 -- ---- how long a number is
 
 pub decimal-short : (d n : ℕ) → n < 10 ^ suc d → d ≤ 18 → length (decimal n) ≤ suc d
@@ -399,27 +345,6 @@ decimal-short d n h l =
     (λ j. compare n 0
     (λ z. absurd (omega (arith, w .none (omega arith))))
     (λ z. let p : 10 ^ suc d ≤ 10 ^ tens n = pow-le-pow-right {n = 10} (omega arith) j in absurd (omega (arith, w .lower z))))
-
--- a number with as many digits as it has, at most so many before its point
-pub signed-short : (f : Form) (z : Figure) (d : ℕ) → f .digits ≡ 0 → z .size / 10 ^ (f .decimals) < 10 ^ suc d → d ≤ 18
-    → length (signedText f z) ≤ suc d + cond (eqb (f .decimals) 0) 0 (f .decimals + 1) + cond (z .negative) 1 0
-signed-short f z d free h l = case (z .negative) refl
-  where
-    whole : length (wholeText (f .digits) (z .size / 10 ^ (f .decimals))) ≤ suc d
-    whole = rw (whole-free (f .digits) (z .size / 10 ^ (f .decimals)) free) (decimal-short d (z .size / 10 ^ (f .decimals)) h l)
-
-    room : length (plainText f (z .size)) ≤ suc d + cond (eqb (f .decimals) 0) 0 (f .decimals + 1)
-    room =
-        elim (ℕ-discrete (f .decimals) 0) [
-          | yes e ↦
-              let one : z .size / 10 ^ (f .decimals) ≡ z .size = rw e (omega arith) in
-              rw (plain-free f (z .size) e, eq-eqb (f .decimals) 0 e) (omega (arith, rw one at whole))
-          | no e ↦ rw (plain-length f (z .size) e (10 ^ (f .decimals)) refl, ne-eqb (f .decimals) 0 e) (omega (arith, whole))
-        ]
-
-    case : (b : Bool) → z .negative ≡ b → length (signedText f z) ≤ suc d + cond (eqb (f .decimals) 0) 0 (f .decimals + 1) + cond (z .negative) 1 0
-    case true n = rw (signed-below f z n, n) (omega (arith, room))
-    case false n = rw (signed-above f z n, n) (omega (arith, room))
 
 -- ---- all blanks
 

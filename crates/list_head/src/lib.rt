@@ -2,7 +2,7 @@
 ghost use mathlib.Core.Path.{_≡_};
 ghost use mathlib.Core.List.{[], _∷_, _++_};
 ghost use Prim.Native.Nat.{_+_, _≤_, _<_};
-ghost use lib.ListN.{length, take, drop, getD};
+ghost use lib.ListN.{length};
 ghost use Rattle.lists.specs.Below.{tabulate};
 ghost use Rattle.digits.specs.Written.{Written};
 ghost use Rattle.digits.specs.Digits.{figureOf, reading, numberText, plain};
@@ -10,6 +10,9 @@ ghost use Rattle.lines.specs.Lines.{lineText, isNamed};
 ghost use Rattle.list_rules.specs.Head.{fieldName, fieldEntry, fieldForm, isKind, isField, isLetters, isOpening, isHeadLine, headLine};
 ghost use Rattle.list_rules.specs.Reading.{startOf, wrongLine, wrongField, fieldStart, figureRead, lettersRead};
 ghost use Rattle.list_head.specs.Tables.{allNames, nameStart, figureFor, headBytes};
+
+mod tables;
+
 use digits::Figure;
 use digits::Form;
 use digits::Reading;
@@ -18,58 +21,6 @@ use digits::Reading;
 pub const FIELDS: usize = 20;
 
 pub const LINES: usize = 22;
-
-// For each field: digits, decimals, 1 where a "-" may stand, kind.
-const TABLE: [[usize; 4]; 20] = [
-    [6, 0, 0, 0],
-    [0, 0, 0, 0],
-    [0, 5, 0, 0],
-    [0, 0, 0, 2],
-    [0, 0, 0, 0],
-    [0, 0, 0, 0],
-    [0, 2, 1, 0],
-    [8, 0, 0, 1],
-    [8, 0, 0, 1],
-    [0, 2, 1, 0],
-    [0, 2, 0, 0],
-    [0, 4, 0, 0],
-    [0, 0, 0, 0],
-    [0, 0, 0, 0],
-    [0, 0, 0, 0],
-    [0, 0, 0, 0],
-    [0, 0, 0, 0],
-    [0, 0, 0, 0],
-    [0, 0, 0, 0],
-    [0, 0, 0, 0],
-];
-
-// The names of the fields, one behind the other, and where each starts.
-const NAMES: [u8; 295] =
-    *b"Fundid1CreationRedemptionUnitMaxCashRatioPublishCreationRedemptionRecordnumEstimateCashComponentTradingDayPreTradingDayCashComponentNAVperCUNAVCreationLimitRedemptionLimitCreationLimitPerUserRedemptionLimitPerUserNetCreationLimitNetRedemptionLimitNetCreationLimitPerUserNetRedemptionLimitPerUser";
-
-const NAME_STARTS: [usize; 21] = [
-    0,
-    7,
-    29,
-    41,
-    48,
-    66,
-    75,
-    96,
-    106,
-    119,
-    132,
-    140,
-    143,
-    156,
-    171,
-    191,
-    213,
-    229,
-    247,
-    270,
-    295,
-];
 
 const DATE: usize = 1;
 
@@ -92,7 +43,7 @@ fn table_entry(k: usize, column: usize) -> usize
     requires { ⌜ (k < 20) × (column < 4) ⌝ }
     ensures { λ r. ⌜ r ≡ fieldEntry k column ⌝ }
 {
-    let table = TABLE;
+    let table = tables::TABLE;
     table[k][column]
 }
 
@@ -115,7 +66,7 @@ fn name_start(k: usize) -> usize
     requires { ⌜ k ≤ 20 ⌝ }
     ensures { λ r. ⌜ r ≡ nameStart k ⌝ }
 {
-    let starts = NAME_STARTS;
+    let starts = tables::NAME_STARTS;
     starts[k]
 }
 
@@ -142,7 +93,7 @@ fn is_field_line(k: usize, line: &[u8]) -> bool
     requires { ⌜ k < 20 ⌝ }
     ensures { λ r. ⌜ r ≡ isNamed (fieldName k) (now (line .entry)) ⌝ }
 {
-    let names = NAMES;
+    let names = tables::NAMES;
     lines::is_named(name_part(&names, k), line)
 }
 
@@ -370,7 +321,7 @@ fn put_field(dst: &mut [u8], at: usize, k: usize, z: Figure) -> usize
     requires { ⌜ at + length (lineText (fieldName k ++ 61 ∷ numberText (fieldForm k) z)) ≤ length (now dst) ⌝ }
     ensures { λ r. ⌜ Written (now (dst .entry)) at (lineText (fieldName k ++ 61 ∷ numberText (fieldForm k) z)) (now (dst .exit)) r ⌝ }
 {
-    let names = NAMES;
+    let names = tables::NAMES;
     let p = digits::put_bytes(dst, at, name_part(&names, k));
     let q = digits::put_byte(dst, p, 61);
     let r = digits::put_number(dst, q, field_form(k), z);

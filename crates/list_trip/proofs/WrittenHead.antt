@@ -17,7 +17,7 @@ use Rattle.digits.specs.Digits.{numberText}
 use Rattle.lines.specs.Lines.{same, isNamed, allBytes, letterByte}
 use Rattle.lines.proofs.Laws.{noCR, noCR-append, letters-noCR, same-refl, named-written, value-written}
 use Rattle.list_rules.specs.Head.{fieldNames, fieldName, fieldForm, openingWord, isLetters, lettersOf, isOpening, tagWord, isHeadLine, headLine}
-use Rattle.digits.proofs.Trip.{isHigh, number-high}
+use Rattle.digits.proofs.Bytes.{isHigh, number-high}
 
 -- both tests, where both pass
 both-true : (a b : Bool) → (a && b) ≡ true → (a ≡ true) × (b ≡ true)
