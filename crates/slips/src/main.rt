@@ -1,0 +1,106 @@
+// Reads a list text on standard input, opens its day for the fund and one account, sets the prices, creates one basket and prints
+// its records: code, side, quantity, price and amount. What turns it back is printed as `refused NUMBER PLACE`.
+mod given;
+mod printed;
+
+use items::output;
+use items::runs;
+use list_rules::ListAnswer;
+use list_rules::ListFields;
+use rules::Answer;
+use rules::Day;
+use rules::OrderAnswer;
+
+// The fund, and the account that creates.
+const ACCOUNTS: usize = 2;
+
+const ACCOUNT: usize = 1;
+
+// Creates one basket.
+fn create(d: Day, units: u64, book: &mut [u64], prices: &[u64]) {
+    let mut list = [0u64; 1530];
+    let answer = day::create(d, book, prices, ACCOUNT, units, &mut list);
+    match answer {
+        OrderAnswer::Made(count) => printed::records(&list, count),
+        OrderAnswer::Refused(why) => printed::refusal(why),
+    }
+}
+
+// Sets the prices, and creates.
+fn trade(d: Day, units: u64, components: &[u64], book: &mut [u64], prices: &mut [u64]) {
+    let answer = given::set_prices(d, components, book, prices);
+    match answer {
+        Answer::Done => create(d, units, book, prices),
+        Answer::Refused(why) => printed::refusal(why),
+    }
+}
+
+// Opens the day, and goes on.
+fn open(l: ListFields, components: &[u64], held: &[u64], book: &mut [u64], prices: &mut [u64]) {
+    let f = l.fund;
+    let opened = day::open(ACCOUNTS, l.count, f, components, held, book, prices);
+    let d = opened.day;
+    let answer = opened.answer;
+    match answer {
+        Answer::Done => trade(d, f.basket_size, components, book, prices),
+        Answer::Refused(why) => printed::refusal(why),
+    }
+}
+
+// Gives the holdings, and goes on.
+fn hold(l: ListFields, components: &[u64], held: &mut [u64], book: &mut [u64], prices: &mut [u64]) {
+    given::hold(components, held);
+    open(l, components, held, book, prices);
+}
+
+// The day of a list: the runs that opening is lent are as long as two accounts and its components need.
+fn play(l: ListFields, count: usize, run: &[u64]) {
+    let mut held = [0u64; 604];
+    let mut book = [0u64; 1812];
+    let mut prices = [0u64; 300];
+    if fund::MOST_COMPONENTS < count {
+        return;
+    }
+    let c = runs::cut(fund::COMPONENT_WIDTH * count, run);
+    let h = runs::cut(ACCOUNTS * (count + 2), &held);
+    let b = runs::cut(ACCOUNTS * (3 + 3 * (count + 1)), &book);
+    let p = runs::cut(count, &prices);
+    hold(
+        l,
+        &run[..c],
+        &mut held[..h],
+        &mut book[..b],
+        &mut prices[..p],
+    );
+}
+
+fn read(text: &[u8]) {
+    let mut run = [0u64; 1500];
+    let r = list_reading::read(text, &mut run);
+    let answer = r.answer;
+    let l = r.fields;
+    match answer {
+        ListAnswer::Done(count) => play(l, count, &run),
+        ListAnswer::Refused(why) => printed::refusal(why),
+    }
+}
+
+// Reads the input; where it fills the room, it is too long.
+fn read_input(room: &mut [u8]) {
+    let n = io::read_full(0, room);
+    if n == room.len() {
+        output::text(b"input too long\n");
+        return;
+    }
+    read(&room[..n]);
+}
+
+fn read_in(room: &mut [u8; 1048577]) {
+    read_input(room);
+}
+
+// There is room for a text of 1 MiB, and for the byte that says that it is longer.
+fn main() {
+    let mut room = [0u8; 1048577];
+    read_in(&mut room);
+}
