@@ -30,13 +30,14 @@ pub struct Item {
     pub cursor: Cursor,
 }
 
-struct Step {
-    byte: u64,
-    cursor: Cursor,
+// A byte of the input, or PAST_END, and what is still to be taken behind it.
+pub struct Step {
+    pub byte: u64,
+    pub cursor: Cursor,
 }
 
 // Stands for the end of the input, where a byte was asked for.
-const PAST_END: u64 = 256;
+pub const PAST_END: u64 = 256;
 
 fn wide(b: u8) -> u64 {
     b as u64
@@ -59,7 +60,8 @@ fn refill(buffer: &mut [u8]) -> Step {
     }
 }
 
-fn next(buffer: &mut [u8], c: Cursor) -> Step {
+// The next byte of the input.
+pub fn next(buffer: &mut [u8], c: Cursor) -> Step {
     let at = c.at;
     if at < c.end {
         if at < buffer.len() {

@@ -233,7 +233,7 @@ fn blank_fund() -> Fund
 }
 
 // The day that a refused opening hands back.
-fn blank_day() -> Day
+pub fn blank_day() -> Day
     ensures { λ r. ⌜ r ≡ blankDay ⌝ }
 {
     let blank = fund::blank_component();
