@@ -1,20 +1,20 @@
 -- The run and the names of a text that is read: each component and each name is the one of its line, and no test of writing
 -- refuses them.
-use mathlib.Core.Path.{_≡_, refl, sym, ap, ap₂, _∙_, subst}
+use mathlib.Core.Path.{_≡_, refl, ap, ap₂, _∙_, subst}
 use mathlib.Core.Bool.{Bool, true, false, cond, not}
 use mathlib.Core.List.{List}
-use Prim.Native.Nat.{ℕ, _+_, _*_, _<_}
-use native.Mathlib.Nat.{mul-comm, add-zero}
-use native.Mathlib.Omega.{arith}
+use Prim.Native.Nat.{ℕ, _*_, _<_}
+use native.Mathlib.Nat.{mul-comm}
 use lib.Dec.{ltb}
-use lib.ListN.{length, getD, take, drop}
+use lib.ListN.{length, take, drop}
 use borrow.Author.Tests.{lt-ltb, ltb-true}
 use Rattle.lists.specs.Below.{join-length, first-end}
-use Rattle.lists.specs.Stretch.{stretchOf, stretch-at, stretch-join}
+use Rattle.lists.specs.Stretch.{stretchOf, stretch-join}
 use Rattle.fund.specs.declared.Component.{Component}
 use Rattle.fund.specs.Components.{blank, componentAt, componentFault, componentNumbers, componentWidth, placesOf}
 use Rattle.fund.proofs.Laws.{ComponentRanges, components-fine}
 use Rattle.fund.proofs.Places.{places-at}
+use Rattle.fund.proofs.Stored.{numbers-length, component-is}
 use Rattle.lines.specs.Lines.{nameByte, allBytes}
 use Rattle.list_rules.specs.Columns.{isRow, nameOf, rowText}
 use Rattle.list_rules.specs.Reading.{rowStart, rowCount, rowOf, componentRead, fieldsRead, readFault, componentsRun, nameRead}
@@ -24,25 +24,6 @@ use Rattle.list_trip.proofs.Below.{table-same, length-below, stretch-be
 use Rattle.list_trip.proofs.ReadTests.{Reads, count-read}
 use Rattle.list_trip.proofs.ReadRows.{stands, row-is}
 use Rattle.list_trip.proofs.ReadColumns.{name-fine, name-length, row-again}
-
--- a component of a run, where its five numbers are those of c
-module _ (run : List ℕ) (j : ℕ) (c : Component) (e : stretchOf componentWidth run j ≡ componentNumbers c) where
-  number-at : (i : ℕ) → i < componentWidth → getD run (componentWidth * j + i) 0 ≡ getD (componentNumbers c) i 0
-  number-at i h =
-      ap (λ (k : ℕ). getD run (k + i) 0) (mul-comm componentWidth j)
-      ∙ sym (stretch-at componentWidth run j i h)
-      ∙ ap (λ (s : List ℕ). getD s i 0) e
-
-  component-is : componentAt run j ≡ c
-  unfolding componentAt componentNumbers
-  component-is =
-      let code = ap (λ (k : ℕ). getD run k 0) (sym (add-zero (componentWidth * j))) ∙ number-at 0 (omega arith) in
-      rw (code, number-at 1 (omega arith), number-at 2 (omega arith), number-at 3 (omega arith), number-at 4 (omega arith))
-
--- a component has five numbers
-numbers-length : (c : Component) → length (componentNumbers c) ≡ componentWidth
-unfolding componentNumbers
-numbers-length c = refl
 
 -- the places of components that agree below n
 places-cases : (f g : ℕ → Component) (n k : ℕ) (b : Bool) → ltb k n ≡ b → ((i : ℕ) → i < n → f i ≡ g i) → cond b (f k) blank ≡ cond b (g k) blank

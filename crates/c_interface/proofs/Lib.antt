@@ -1,0 +1,3 @@
+mod Laws
+pub mod Openings
+pub mod Texts

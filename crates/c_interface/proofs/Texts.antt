@@ -1,0 +1,105 @@
+-- Reading and writing through the flat layout: their outcomes from those of reading and writing.
+use mathlib.Core.Path.{_≡_, sym, ap, _∙_}
+use mathlib.Core.Bool.{true, cond}
+use mathlib.Core.List.{List}
+use Prim.Native.Nat.{ℕ}
+use lib.Dec.{eqb}
+use lib.ListN.{length}
+use borrow.Author.Tests.{eq-eqb, ne-eqb}
+use Rattle.lists.specs.Checks.{Reply, reply, isAccepted}
+use Rattle.fund.specs.Fund.{cashInRange}
+use Rattle.fund.proofs.Laws.{fund-sound}
+use Rattle.numbers.specs.declared.Numbers.{Numbers}
+use Rattle.numbers.specs.Numbers.{replyOf}
+use Rattle.list_rules.specs.declared.ListFields.{ListFields}
+use Rattle.list_rules.specs.declared.ListRead.{ListRead}
+use Rattle.list_rules.specs.declared.ListAnswer.{ListAnswer}
+use Rattle.list_rules.specs.Replies.{listReply}
+use Rattle.list_rules.specs.Reading.{fieldsRead, readReply, fieldsHanded, runAfter}
+use Rattle.list_rules.specs.Writing.{Listing, writeReply, outputAfter}
+use Rattle.list_rules.proofs.Ranges.{fields-sound}
+use Rattle.list_trip.proofs.ReadTests.{reads}
+use Rattle.list_reading.specs.Outcome.{ReadOutcome}
+use Rattle.list_writing.specs.Outcome.{WriteOutcome}
+use Rattle.flat.specs.Flat.{fieldsNumbers, Told}
+use Rattle.c_interface.specs.Text.{Taking, taking, ofWidth, takingReply, TextRead, TextWritten}
+use Rattle.c_interface.proofs.Laws.{told-as, kept}
+
+-- The width.
+
+module _ (fields : ℕ) (r : Reply) where
+  width-fits : fields ≡ 22 → ofWidth fields r ≡ r
+  unfolding ofWidth
+  width-fits e = rw (eq-eqb fields 22 e)
+
+  width-differs : (fields ≡ 22 → ⊥) → ofWidth fields r ≡ reply 1 0 0
+  unfolding ofWidth
+  width-differs other = rw (ne-eqb fields 22 other)
+
+-- Reading.
+
+module _ (text : List ℕ) (t : Taking) where
+  abbrev answer : Reply
+  answer = readReply text (length (t .run))
+
+  pub read-refused : (length (t .fields) ≡ 22 → ⊥) → (number place value : ℕ) → Told (reply 1 0 0) number place value
+      → TextRead text t number place value t
+  unfolding takingReply isAccepted
+  read-refused other number place value told =
+      let refused = width-differs (length (t .fields)) answer other in
+      record {
+        told = told-as (sym refused) told;
+        run-is = rw refused;
+        fields-is = rw refused;
+        first-is = rw refused;
+      }
+
+-- answered by reading
+module _ (text run : List ℕ) (n : Numbers) (r : ListRead) (run′ : List ℕ) (e : replyOf n ≡ listReply (r .answer)) (out : ReadOutcome text run r run′) where
+  number-is : n .number ≡ readReply text (length run) .number
+  number-is = ap (λ (a : Reply). a .number) (e ∙ out .answer-is)
+
+  -- the cash of the fields that are read is in its range
+  pub read-cash : n .number ≡ 0 → (cashInRange (r .fields .fund .«estimated_cash») ≡ true) × (cashInRange (r .fields .«cash_component») ≡ true)
+  unfolding isAccepted fieldsHanded
+  read-cash zero =
+      let accepted : isAccepted (readReply text (length run)) ≡ true = eq-eqb _ 0 (sym number-is ∙ zero) in
+      let fields : r .fields ≡ fieldsRead text = out .fields-is ∙ rw accepted in
+      let ranges = fields-sound (fieldsRead text) (reads text (length run) accepted .ranges) in (
+        ap (λ (l : ListFields). cashInRange (l .fund .«estimated_cash»)) fields ∙ fund-sound _ (ranges .fund) .cash,
+        ap (λ (l : ListFields). cashInRange (l .«cash_component»)) fields ∙ ranges .cash,
+      )
+
+  pub read-done : (fields : List ℕ) (first : ℕ) → length fields ≡ 22 → (number place value : ℕ) (fields′ : List ℕ) (first′ : ℕ)
+      → Told (replyOf n) number place value
+      → fields′ ≡ cond (eqb (n .number) 0) (fieldsNumbers (r .fields)) fields → first′ ≡ cond (eqb (n .number) 0) (r .«first_row») first
+      → TextRead text (taking run fields first) number place value (taking run′ fields′ first′)
+  unfolding takingReply runAfter isAccepted
+  read-done fields first wide number place value fields′ first′ told p q =
+      let same = width-fits (length fields) (readReply text (length run)) wide in
+      record {
+        told = told-as (e ∙ out .answer-is ∙ sym same) told;
+        run-is = rw same (out .run-is ∙ kept (isAccepted (readReply text (length run))) _ _);
+        fields-is = rw same (p ∙ rw (number-is, out .fields-is));
+        first-is = rw same (q ∙ rw (number-is, out .first-is));
+      }
+
+-- Writing.
+
+module _ (fields : List ℕ) (l : Listing) (output : List ℕ) where
+  pub write-refused : (length fields ≡ 22 → ⊥) → (number place value : ℕ) → Told (reply 1 0 0) number place value
+      → TextWritten fields l output number place value output
+  unfolding isAccepted
+  write-refused other number place value told =
+      let refused = width-differs (length fields) (writeReply l (length output)) other in
+      record { told = told-as (sym refused) told; output-is = rw refused }
+
+  pub write-done : length fields ≡ 22 → (n : Numbers) (r : ListAnswer) (output′ : List ℕ) → replyOf n ≡ listReply r → WriteOutcome l output r output′
+      → (number place value : ℕ) → Told (replyOf n) number place value → TextWritten fields l output number place value output′
+  unfolding outputAfter
+  write-done wide n r output′ e out number place value told =
+      let same = width-fits (length fields) (writeReply l (length output)) wide in
+      record {
+        told = told-as (e ∙ out .answer-is ∙ sym same) told;
+        output-is = rw same (out .output-is ∙ kept (isAccepted (writeReply l (length output))) _ _);
+      }

@@ -1,0 +1,342 @@
+// The day book for other languages: each call over numbers and runs of numbers. A call returns the refusal's number, 0 where it is
+// accepted, and puts its place and its value where the caller points; include/roffelaine.h says it in C.
+ghost use mathlib.Core.Path.{_≡_};
+ghost use mathlib.Core.Bool.{true, cond};
+ghost use lib.Dec.{eqb};
+ghost use lib.ListN.{length};
+ghost use Prim.Native.Nat.{_/_};
+ghost use Rattle.fund.specs.Fund.{cashInRange};
+ghost use Rattle.rules.specs.Price.{priceReply, pricedPrices};
+ghost use Rattle.rules.specs.Trade.{tradeReply, tradedBook};
+ghost use Rattle.rules.specs.Value.{worthReply};
+ghost use Rattle.rules.specs.Records.{recordWidth, roomIn};
+ghost use Rattle.rules.specs.Creation.{creationReply, createdBook, createdList};
+ghost use Rattle.rules.specs.Redemption.{redemptionReply, redeemedBook, redeemedList};
+ghost use Rattle.numbers.specs.Numbers.{replyOf};
+ghost use Rattle.run.specs.Batch.{stateOf, batchOf, runReply, ran, eventsOf, Demand3};
+ghost use Rattle.list_rules.specs.Replies.{listReply};
+ghost use Rattle.list_rules.specs.Writing.{listing};
+ghost use Rattle.flat.specs.Flat.{dayAt, dayNumbers, fieldsAt, fieldsNumbers, Told};
+ghost use Rattle.c_interface.specs.Opening.{lent, widthsFit, flatGiven, FlatOutcome};
+ghost use Rattle.c_interface.specs.Text.{taking, TextRead, TextWritten};
+use list_rules::ListAnswer;
+use list_rules::ListFields;
+use numbers::Numbers;
+use rules::Day;
+use rules::Refusal;
+
+// An answer's three numbers: the place and the value where the caller points, and the number handed back.
+fn tell(answer: Numbers, place: &mut u64, value: &mut u64) -> u64
+    ensures { λ r. ⌜ Told (replyOf answer) r (now (place .exit)) (now (value .exit)) ⌝ }
+{
+    *place = answer.place;
+    *value = answer.value;
+    answer.number
+}
+
+// Refusal 1's test of the lengths of a fund and of a day.
+fn widths_fit(fund: usize, day: usize) -> bool
+    ensures { λ r. ⌜ r ≡ widthsFit fund day ⌝ }
+{
+    if fund != flat::FUND_WIDTH {
+        return false;
+    }
+    day == flat::DAY_WIDTH
+}
+
+// Stores a day where the number of opening's answer is 0.
+fn keep_day(run: &mut [u64], number: u64, d: Day)
+    requires { ⌜ length (now run) ≡ 1516 ⌝ }
+    requires { ⌜ (number ≡ 0 → cashInRange (d .fund .«estimated_cash») ≡ true) ⌝ }
+    ensures { λ _. ⌜ now (run .exit) ≡ cond (eqb number 0) (dayNumbers d) (now (run .entry)) ⌝ }
+{
+    if number == 0 {
+        flat::put_day(run, d);
+    }
+}
+
+// Opens a day: the book, the prices and the day are filled.
+#[no_mangle]
+pub extern "C" fn roffelaine_open(
+    accounts: usize,
+    count: usize,
+    fund: &[u64],
+    components: &[u64],
+    holdings: &[u64],
+    book: &mut [u64],
+    prices: &mut [u64],
+    day: &mut [u64],
+    place: &mut u64,
+    value: &mut u64,
+) -> u64
+    ensures { λ r. ⌜ FlatOutcome (lent (now (fund .entry)) (now (day .entry))) (flatGiven accounts count (lent (now (fund .entry)) (now (day .entry))) (now (components .entry)) (now (holdings .entry)) (now (book .entry)) (now (prices .entry))) r (now (place .exit)) (now (value .exit)) (now (book .exit)) (now (prices .exit)) (now (day .exit)) ⌝ }
+{
+    if !widths_fit(fund.len(), day.len()) {
+        return tell(numbers::of_refusal(Refusal::Sizes), place, value);
+    }
+    let f = flat::fund_of(fund, 0);
+    let opened = day::open(accounts, count, f, components, holdings, book, prices);
+    let answer = opened.answer;
+    let told = numbers::of_answer(answer);
+    let d = opened.day;
+    keep_day(day, told.number, d);
+    tell(told, place, value)
+}
+
+// Sets a component's price.
+#[no_mangle]
+pub extern "C" fn roffelaine_price(
+    day: &[u64],
+    book: &[u64],
+    prices: &mut [u64],
+    line: usize,
+    price: u64,
+    place: &mut u64,
+    value: &mut u64,
+) -> u64
+    ensures { λ r. ⌜ Told (priceReply (dayAt (now (day .entry))) (now (book .entry)) (now (prices .entry)) line price) r (now (place .exit)) (now (value .exit)) ⌝ }
+    ensures prices { λ r. ⌜ now (prices .exit) ≡ pricedPrices (dayAt (now (day .entry))) (now (book .entry)) (now (prices .entry)) line price ⌝ }
+{
+    let d = flat::day_of(day);
+    let answer = day::price(d, book, prices, line, price);
+    tell(numbers::of_answer(answer), place, value)
+}
+
+// Trades a quantity of a line at a price.
+#[no_mangle]
+pub extern "C" fn roffelaine_trade(
+    day: &[u64],
+    book: &mut [u64],
+    prices: &[u64],
+    line: usize,
+    quantity: u64,
+    price: u64,
+    seller: usize,
+    buyer: usize,
+    place: &mut u64,
+    value: &mut u64,
+) -> u64
+    ensures { λ r. ⌜ Told (tradeReply (dayAt (now (day .entry))) (now (book .entry)) (now (prices .entry)) line quantity price seller buyer) r (now (place .exit)) (now (value .exit)) ⌝ }
+    ensures book { λ r. ⌜ now (book .exit) ≡ tradedBook (dayAt (now (day .entry))) (now (book .entry)) (now (prices .entry)) line quantity price seller buyer ⌝ }
+{
+    let d = flat::day_of(day);
+    let answer = day::trade(d, book, prices, line, quantity, price, seller, buyer);
+    tell(numbers::of_answer(answer), place, value)
+}
+
+// The reference value at this moment.
+#[no_mangle]
+pub extern "C" fn roffelaine_reference_value(
+    day: &[u64],
+    book: &[u64],
+    prices: &[u64],
+    place: &mut u64,
+    value: &mut u64,
+) -> u64
+    ensures { λ r. ⌜ Told (worthReply (dayAt (now (day .entry))) (now (book .entry)) (now (prices .entry))) r (now (place .exit)) (now (value .exit)) ⌝ }
+{
+    let d = flat::day_of(day);
+    let answer = day::reference_value(d, book, prices);
+    tell(numbers::of_value(answer), place, value)
+}
+
+// Creates units for an account; the records go to the lent list.
+#[no_mangle]
+pub extern "C" fn roffelaine_create(
+    day: &[u64],
+    book: &mut [u64],
+    prices: &[u64],
+    account: usize,
+    units: u64,
+    list: &mut [u64],
+    place: &mut u64,
+    value: &mut u64,
+) -> u64
+    ensures { λ r. ⌜ Told (creationReply (dayAt (now (day .entry))) (now (book .entry)) (now (prices .entry)) account units (roomIn (now (list .entry)))) r (now (place .exit)) (now (value .exit)) ⌝ }
+    ensures book { λ r. ⌜ now (book .exit) ≡ createdBook (dayAt (now (day .entry))) (now (book .entry)) (now (prices .entry)) account units (roomIn (now (list .entry))) ⌝ }
+    ensures list { λ r. ⌜ now (list .exit) ≡ createdList (dayAt (now (day .entry))) (now (book .entry)) (now (prices .entry)) account units (now (list .entry)) ⌝ }
+{
+    let d = flat::day_of(day);
+    let answer = day::create(d, book, prices, account, units, list);
+    tell(numbers::of_order(answer), place, value)
+}
+
+// Redeems units of an account; the records go to the lent list.
+#[no_mangle]
+pub extern "C" fn roffelaine_redeem(
+    day: &[u64],
+    book: &mut [u64],
+    prices: &[u64],
+    account: usize,
+    units: u64,
+    list: &mut [u64],
+    place: &mut u64,
+    value: &mut u64,
+) -> u64
+    ensures { λ r. ⌜ Told (redemptionReply (dayAt (now (day .entry))) (now (book .entry)) (now (prices .entry)) account units (roomIn (now (list .entry)))) r (now (place .exit)) (now (value .exit)) ⌝ }
+    ensures book { λ r. ⌜ now (book .exit) ≡ redeemedBook (dayAt (now (day .entry))) (now (book .entry)) (now (prices .entry)) account units (roomIn (now (list .entry))) ⌝ }
+    ensures list { λ r. ⌜ now (list .exit) ≡ redeemedList (dayAt (now (day .entry))) (now (book .entry)) (now (prices .entry)) account units (now (list .entry)) ⌝ }
+{
+    let d = flat::day_of(day);
+    let answer = day::redeem(d, book, prices, account, units, list);
+    tell(numbers::of_order(answer), place, value)
+}
+
+// The tests of a creation alone, with the length of the list.
+#[no_mangle]
+pub extern "C" fn roffelaine_creation_test(
+    day: &[u64],
+    book: &[u64],
+    prices: &[u64],
+    account: usize,
+    units: u64,
+    length: usize,
+    place: &mut u64,
+    value: &mut u64,
+) -> u64
+    ensures { λ r. ⌜ Told (creationReply (dayAt (now (day .entry))) (now (book .entry)) (now (prices .entry)) account units (length / recordWidth)) r (now (place .exit)) (now (value .exit)) ⌝ }
+{
+    let d = flat::day_of(day);
+    let answer = day::creation_test(d, book, prices, account, units, length);
+    tell(numbers::of_order(answer), place, value)
+}
+
+// The tests of a redemption alone.
+#[no_mangle]
+pub extern "C" fn roffelaine_redemption_test(
+    day: &[u64],
+    book: &[u64],
+    prices: &[u64],
+    account: usize,
+    units: u64,
+    length: usize,
+    place: &mut u64,
+    value: &mut u64,
+) -> u64
+    ensures { λ r. ⌜ Told (redemptionReply (dayAt (now (day .entry))) (now (book .entry)) (now (prices .entry)) account units (length / recordWidth)) r (now (place .exit)) (now (value .exit)) ⌝ }
+{
+    let d = flat::day_of(day);
+    let answer = day::redemption_test(d, book, prices, account, units, length);
+    tell(numbers::of_order(answer), place, value)
+}
+
+// The driver: a list of calls as rows, with one test of the day where every call keeps it sound.
+#[no_mangle]
+pub extern "C" fn roffelaine_run(
+    day: &[u64],
+    book: &mut [u64],
+    prices: &mut [u64],
+    rows: &[u64],
+    records: &mut [u64],
+    answers: &mut [u64],
+    place: &mut u64,
+    value: &mut u64,
+) -> u64
+    ensures { λ r. ⌜ Told (runReply (now (rows .entry)) (batchOf (dayAt (now (day .entry))) (now (book .entry)) (now (prices .entry)) (now (records .entry)) (now (answers .entry)))) r (now (place .exit)) (now (value .exit)) ⌝ }
+    ensures left { λ r. ⌜ batchOf (dayAt (now (day .entry))) (now (book .exit)) (now (prices .exit)) (now (records .exit)) (now (answers .exit)) ≡ ran (now (rows .entry)) (batchOf (dayAt (now (day .entry))) (now (book .entry)) (now (prices .entry)) (now (records .entry)) (now (answers .entry))) ⌝ }
+    ensures demand { λ r. ⌜ Demand3 (stateOf (dayAt (now (day .entry))) (now (book .entry)) (now (prices .entry))) (eventsOf (now (rows .entry)) (batchOf (dayAt (now (day .entry))) (now (book .entry)) (now (prices .entry)) (now (records .entry)) (now (answers .entry)))) (stateOf (dayAt (now (day .entry))) (now (book .exit)) (now (prices .exit))) ⌝ }
+{
+    let d = flat::day_of(day);
+    let answer = run::run(d, book, prices, rows, records, answers);
+    tell(numbers::of_answer(answer), place, value)
+}
+
+// The same list of calls made one by one: each tests the day, as the calls above do.
+#[no_mangle]
+pub extern "C" fn roffelaine_run_public(
+    day: &[u64],
+    book: &mut [u64],
+    prices: &mut [u64],
+    rows: &[u64],
+    records: &mut [u64],
+    answers: &mut [u64],
+    place: &mut u64,
+    value: &mut u64,
+) -> u64
+    ensures { λ r. ⌜ Told (runReply (now (rows .entry)) (batchOf (dayAt (now (day .entry))) (now (book .entry)) (now (prices .entry)) (now (records .entry)) (now (answers .entry)))) r (now (place .exit)) (now (value .exit)) ⌝ }
+    ensures left { λ r. ⌜ batchOf (dayAt (now (day .entry))) (now (book .exit)) (now (prices .exit)) (now (records .exit)) (now (answers .exit)) ≡ ran (now (rows .entry)) (batchOf (dayAt (now (day .entry))) (now (book .entry)) (now (prices .entry)) (now (records .entry)) (now (answers .entry))) ⌝ }
+    ensures demand { λ r. ⌜ Demand3 (stateOf (dayAt (now (day .entry))) (now (book .entry)) (now (prices .entry))) (eventsOf (now (rows .entry)) (batchOf (dayAt (now (day .entry))) (now (book .entry)) (now (prices .entry)) (now (records .entry)) (now (answers .entry)))) (stateOf (dayAt (now (day .entry))) (now (book .exit)) (now (prices .exit))) ⌝ }
+{
+    let d = flat::day_of(day);
+    let answer = run::run_public(d, book, prices, rows, records, answers);
+    tell(numbers::of_answer(answer), place, value)
+}
+
+// The answer of reading and writing as the paper's three numbers.
+fn of_list(answer: ListAnswer) -> Numbers
+    ensures { λ r. ⌜ replyOf r ≡ listReply answer ⌝ }
+{
+    match answer {
+        ListAnswer::Done(count) => Numbers {
+            number: 0,
+            place: 0,
+            value: count as u64,
+        },
+        ListAnswer::Refused(why) => numbers::of_refusal(why),
+    }
+}
+
+// Stores the fields where the number of reading's answer is 0.
+fn keep_fields(run: &mut [u64], number: u64, l: ListFields)
+    requires { ⌜ length (now run) ≡ 22 ⌝ }
+    requires { ⌜ (number ≡ 0 → (cashInRange (l .fund .«estimated_cash») ≡ true) × (cashInRange (l .«cash_component») ≡ true)) ⌝ }
+    ensures { λ _. ⌜ now (run .exit) ≡ cond (eqb number 0) (fieldsNumbers l) (now (run .entry)) ⌝ }
+{
+    if number == 0 {
+        flat::put_fields(run, l);
+    }
+}
+
+// Stores the place of the first component line where the number of reading's answer is 0.
+fn keep_first(first: &mut u64, number: u64, found: usize)
+    ensures { λ _. ⌜ now (first .exit) ≡ cond (eqb number 0) found (now (first .entry)) ⌝ }
+{
+    if number == 0 {
+        *first = found as u64;
+    }
+}
+
+// Reads a list text: its fields, its components at the front of the lent run, and where its first component line starts.
+#[no_mangle]
+pub extern "C" fn roffelaine_read(
+    text: &[u8],
+    run: &mut [u64],
+    fields: &mut [u64],
+    first_row: &mut u64,
+    place: &mut u64,
+    value: &mut u64,
+) -> u64
+    ensures { λ r. ⌜ TextRead (now (text .entry)) (taking (now (run .entry)) (now (fields .entry)) (now («first_row» .entry))) r (now (place .exit)) (now (value .exit)) (taking (now (run .exit)) (now (fields .exit)) (now («first_row» .exit))) ⌝ }
+{
+    if fields.len() != flat::FIELDS_WIDTH {
+        return tell(numbers::of_refusal(Refusal::Sizes), place, value);
+    }
+    let read = list_reading::read(text, run);
+    let answer = read.answer;
+    let told = of_list(answer);
+    let l = read.fields;
+    keep_fields(fields, told.number, l);
+    keep_first(first_row, told.number, read.first_row);
+    tell(told, place, value)
+}
+
+// Writes a list at the front of the lent output.
+#[no_mangle]
+pub extern "C" fn roffelaine_write(
+    fields: &[u64],
+    run: &[u64],
+    names: &[u8],
+    letters: &[u8],
+    output: &mut [u8],
+    place: &mut u64,
+    value: &mut u64,
+) -> u64
+    ensures { λ r. ⌜ TextWritten (now (fields .entry)) (listing (fieldsAt (now (fields .entry))) (now (run .entry)) (now (names .entry)) (now (letters .entry))) (now (output .entry)) r (now (place .exit)) (now (value .exit)) (now (output .exit)) ⌝ }
+{
+    if fields.len() != flat::FIELDS_WIDTH {
+        return tell(numbers::of_refusal(Refusal::Sizes), place, value);
+    }
+    let l = flat::fields_of(fields);
+    let answer = list_writing::write(l, run, names, letters, output);
+    tell(of_list(answer), place, value)
+}

@@ -1,0 +1,41 @@
+-- `flat::put_limits` meets its contract. The loop's invariant: the first `k` limits stand from the place on.
+use Prim.Native.Nat.{_-_}
+use native.Mathlib.Omega.{arith}
+use lib.ListN.{getD}
+use borrow.Author.Needs.{needs}
+use Rattle.flat.proofs.Stored.{Limits, limits-none, limits-more, limits-all}
+use Rattle.flat.proofs.put_limits.Statement.{statement}
+use Rattle.flat.proofs.put_limits.Tie as tie
+
+abbrev Inv-loop : tie.InvT-loop
+Inv-loop run₀ at limits k₀ run k = Limits (λ j. getD limits j 0) run₀ at k run
+
+abbrev μ-loop : tie.MeasureT-loop
+μ-loop run₀ at limits k₀ run k = 8 - k
+
+loop-holds : tie.Need-loop-holds Inv-loop μ-loop
+loop-holds c = limits-none _ _ _
+
+loop-again : tie.Need-loop-again Inv-loop μ-loop
+loop-again c = limits-more _ _ _ _ _ (omega arith) (c .before .loop .inv)
+
+returns : tie.Need-returns Inv-loop μ-loop
+returns c = limits-all _ _ _ _ _ (omega arith) (c .before .loop .inv)
+
+pub put-limits-spec : {M : Type 1} → statement M
+put-limits-spec =
+    tie.close
+    (tie.spec
+    Inv-loop
+    μ-loop
+    loop-holds
+    (λ c. search needs)
+    (λ c. search needs)
+    (λ c. search needs)
+    (λ c. search needs)
+    (λ c. search needs)
+    (λ c. search needs)
+    (λ c. search needs)
+    loop-again
+    (λ c. search needs)
+    returns)

@@ -1,0 +1,240 @@
+/*
+ * Roffelaine, an ETF day book: the calls of the library libc_interface.a (`rt staticlib c_interface`), for C and C++.
+ *
+ * Every call takes numbers and lent runs of numbers, returns on every input, and answers three numbers: it returns the refusal's
+ * number, ROFFELAINE_ACCEPTED where there is none, puts the refusal's place at `place` (0 where it has none) and the value of
+ * an accepted call at `value` (0 where it has none). A refused call changes nothing lent but these two. What each call answers
+ * and leaves is proved, for the same call of the Rattle crates `day`, `run`, `list_reading` and `list_writing` on the day and the
+ * fields that the runs say.
+ *
+ * A run is a pointer and a count of its numbers (of its bytes for text). The caller sees to it that the pointer is not null, also
+ * for a count of 0, that it points to so many numbers, and that a run lent for writing, `place`, `value` and `first_row` overlap
+ * no other argument. No call keeps a pointer, allocates, or writes anywhere else, so calls on different runs may go at once. A call
+ * takes less than 128 KB of stack (measured, not proved).
+ *
+ * Money counts thousandths of a yuan, a rate hundred-thousandths, a reference value ten-thousandths of a yuan, estimated cash and a
+ * cash component hundredths of a yuan. Accounts, lines, components and places count from 0. Account 0 is the fund, and line N,
+ * behind the N components, is the unit.
+ *
+ * A signed number is two: 1 where it is below zero (any other number: not below), and its size, of which no more than 10^18 is
+ * read.
+ *
+ * A fund, 14 numbers:
+ *    0 first code   1 basket size   2 maximum cash ratio   3 switch   4, 5 estimated cash, signed
+ *    6 to 13 the limits in the list text's order, creation and redemption by turns: cumulative for the fund, cumulative per
+ *    account, net for the fund, net per account; 0 is no limit
+ * A component, 5 numbers: code, quantity, flag, rate, amount; a run of components has 5 for each.
+ * A day, 1,516 numbers, filled by an accepted opening and lent to every later call of the day:
+ *    0 accounts   1 components, N   2 to 15 the fund   16 on 300 components, those behind the N-th all 0
+ *    A run of another length, or of other numbers than an opening leaves, is a day too: the calls then answer
+ *    ROFFELAINE_UNSOUND_DAY where it breaks a test.
+ * The book, 3 + 3 (N + 1) numbers for each account: cash, units created today, units redeemed today, and for each line, the unit
+ * last, three lots: old, bought, got.
+ * The prices, N numbers; 0 is no price.
+ * The holdings that an opening takes, N + 2 numbers for each account: cash, and the holding of each line, the unit last.
+ * A record, 5 numbers: code, side, quantity, price, amount.
+ * A list's fields, 22 numbers:
+ *    0 to 13 the fund   14 Publish   15 TradingDay   16 PreTradingDay, dates as year, month and day in eight digits
+ *    17, 18 CashComponent, signed   19 NAVperCU, in hundredths   20 NAV, in ten-thousandths   21 N
+ * A list text is bytes. Its names are 8 bytes each, as they stand in the component lines, and its letters the 1 to 8 letters or
+ * digits behind "[ETF" in its first line.
+ */
+#ifndef ROFFELAINE_H
+#define ROFFELAINE_H
+
+#include <stddef.h>
+#include <stdint.h>
+
+#ifdef __cplusplus
+extern "C" {
+#endif
+
+/* How many numbers each takes. */
+#define ROFFELAINE_FUND_WIDTH 14
+#define ROFFELAINE_DAY_WIDTH 1516
+#define ROFFELAINE_FIELDS_WIDTH 22
+#define ROFFELAINE_COMPONENT_WIDTH 5
+#define ROFFELAINE_RECORD_WIDTH 5
+#define ROFFELAINE_ROW_WIDTH 6
+#define ROFFELAINE_ANSWER_WIDTH 3
+
+#define ROFFELAINE_MOST_ACCOUNTS 64
+#define ROFFELAINE_MOST_COMPONENTS 300
+
+#define ROFFELAINE_STRETCH_WIDTH(components) (3 + 3 * ((size_t)(components) + 1))
+#define ROFFELAINE_BOOK_LENGTH(accounts, components) ((size_t)(accounts) * ROFFELAINE_STRETCH_WIDTH(components))
+#define ROFFELAINE_HOLDINGS_LENGTH(accounts, components) ((size_t)(accounts) * ((size_t)(components) + 2))
+
+/* An order makes at most 1 + N + 4 + 1 records. */
+#define ROFFELAINE_MOST_RECORDS(components) ((size_t)(components) + 6)
+
+/* Bytes of a name, of a component line with its end, and where the name stands in that line. */
+#define ROFFELAINE_NAME_WIDTH 8
+#define ROFFELAINE_LINE_PITCH 50
+#define ROFFELAINE_NAME_START 7
+
+/* The refusals. Where a place is said, it is the component, line, field or byte that the call names. */
+enum roffelaine_refusal {
+    ROFFELAINE_ACCEPTED = 0,
+    ROFFELAINE_SIZES = 1,              /* accounts, components or a lent length */
+    ROFFELAINE_FUND_FIELD = 2,         /* a fund field out of range */
+    ROFFELAINE_COMPONENT = 3,          /* a component out of range, order or flag use; place: the component */
+    ROFFELAINE_TOTAL = 4,              /* totals of an opening; place: the line, N + 1 for cash */
+    ROFFELAINE_UNSOUND_DAY = 5,        /* the day breaks a test */
+    ROFFELAINE_NO_SUCH_LINE = 6,
+    ROFFELAINE_QUANTITY_OR_PRICE = 7,
+    ROFFELAINE_ACCOUNT = 8,
+    ROFFELAINE_SHORT_OF_STOCK = 9,     /* place: the component, of a creation */
+    ROFFELAINE_SHORT_OF_CASH = 10,
+    ROFFELAINE_NOT_WHOLE_BASKETS = 11,
+    ROFFELAINE_SWITCH = 12,
+    ROFFELAINE_LIMIT = 13,
+    ROFFELAINE_NO_REFERENCE_VALUE = 14,
+    ROFFELAINE_CASH_RATIO = 15,
+    ROFFELAINE_LIST_TOO_SHORT = 16,    /* the lent record list, component run or output */
+    ROFFELAINE_FUND_SHORT = 17,        /* place: the component, N for cash */
+    ROFFELAINE_TEXT_LINE = 18,         /* place: the line's first byte */
+    ROFFELAINE_TEXT_FIELD = 19,        /* place: the field's first byte */
+    ROFFELAINE_RECORD_COUNT = 20
+};
+
+/* The sides of a record. */
+enum roffelaine_side { ROFFELAINE_SIDE_B = 1, ROFFELAINE_SIDE_S = 2 };
+
+/* What a row of `roffelaine_run` names. */
+enum roffelaine_call {
+    ROFFELAINE_CALL_PRICE = 1,  /* line, price */
+    ROFFELAINE_CALL_TRADE = 2,  /* line, quantity, price, seller, buyer */
+    ROFFELAINE_CALL_CREATE = 3, /* account, units, start and length of its part of the record run */
+    ROFFELAINE_CALL_REDEEM = 4, /* account, units, start and length of its part of the record run */
+    ROFFELAINE_CALL_VALUE = 5
+};
+
+/*
+ * Opens a day with so many accounts and components. Takes the fund, the components and the holdings; fills the book, the prices and
+ * the day. Refusals: 1, also for a fund or day of another width, 2, 3 and 4.
+ */
+uint64_t roffelaine_open(
+    size_t accounts, size_t components,
+    const uint64_t *fund, size_t fund_length,
+    const uint64_t *component_run, size_t component_run_length,
+    const uint64_t *holdings, size_t holdings_length,
+    uint64_t *book, size_t book_length,
+    uint64_t *prices, size_t prices_length,
+    uint64_t *day, size_t day_length,
+    uint64_t *place, uint64_t *value);
+
+/* Sets the price of the component at a line. Refusals: 5, 6, 7. */
+uint64_t roffelaine_price(
+    const uint64_t *day, size_t day_length,
+    const uint64_t *book, size_t book_length,
+    uint64_t *prices, size_t prices_length,
+    size_t line, uint64_t price,
+    uint64_t *place, uint64_t *value);
+
+/* Trades a quantity of a line at a price. Refusals: 5 to 10. */
+uint64_t roffelaine_trade(
+    const uint64_t *day, size_t day_length,
+    uint64_t *book, size_t book_length,
+    const uint64_t *prices, size_t prices_length,
+    size_t line, uint64_t quantity, uint64_t price, size_t seller, size_t buyer,
+    uint64_t *place, uint64_t *value);
+
+/* The reference value at this moment, at `value`. Refusals: 5, 14. */
+uint64_t roffelaine_reference_value(
+    const uint64_t *day, size_t day_length,
+    const uint64_t *book, size_t book_length,
+    const uint64_t *prices, size_t prices_length,
+    uint64_t *place, uint64_t *value);
+
+/*
+ * Creates units for an account. The records go to the front of the list, their count to `value`; what is past them stays.
+ * Refusals: 5, 8, 11, 12, 13, 9, 14, 15, 10, 16.
+ */
+uint64_t roffelaine_create(
+    const uint64_t *day, size_t day_length,
+    uint64_t *book, size_t book_length,
+    const uint64_t *prices, size_t prices_length,
+    size_t account, uint64_t units,
+    uint64_t *list, size_t list_length,
+    uint64_t *place, uint64_t *value);
+
+/* Redeems units of an account; the records as with a creation. Refusals: 5, 8, 11, 12, 13, 9, 17, 16. */
+uint64_t roffelaine_redeem(
+    const uint64_t *day, size_t day_length,
+    uint64_t *book, size_t book_length,
+    const uint64_t *prices, size_t prices_length,
+    size_t account, uint64_t units,
+    uint64_t *list, size_t list_length,
+    uint64_t *place, uint64_t *value);
+
+/* What the creation would answer with a list of so many numbers; nothing changes. */
+uint64_t roffelaine_creation_test(
+    const uint64_t *day, size_t day_length,
+    const uint64_t *book, size_t book_length,
+    const uint64_t *prices, size_t prices_length,
+    size_t account, uint64_t units, size_t list_length,
+    uint64_t *place, uint64_t *value);
+
+/* What the redemption would answer with a list of so many numbers; nothing changes. */
+uint64_t roffelaine_redemption_test(
+    const uint64_t *day, size_t day_length,
+    const uint64_t *book, size_t book_length,
+    const uint64_t *prices, size_t prices_length,
+    size_t account, uint64_t units, size_t list_length,
+    uint64_t *place, uint64_t *value);
+
+/*
+ * Makes a list of calls, one after the other: each row has six numbers, its kind (enum roffelaine_call), its arguments and zeros,
+ * and gets three in the answers: number, place, value. The list of an order is a part of the record run; a part outside the run
+ * is the empty list. A row of another kind is answered with 1. The day is tested once, where every call keeps it sound. Refusal 1 of
+ * the whole: the rows are not whole, or have not an answer each.
+ */
+uint64_t roffelaine_run(
+    const uint64_t *day, size_t day_length,
+    uint64_t *book, size_t book_length,
+    uint64_t *prices, size_t prices_length,
+    const uint64_t *rows, size_t rows_length,
+    uint64_t *records, size_t records_length,
+    uint64_t *answers, size_t answers_length,
+    uint64_t *place, uint64_t *value);
+
+/* The same, where each call tests the day as the calls above do. It answers and leaves the same. */
+uint64_t roffelaine_run_public(
+    const uint64_t *day, size_t day_length,
+    uint64_t *book, size_t book_length,
+    uint64_t *prices, size_t prices_length,
+    const uint64_t *rows, size_t rows_length,
+    uint64_t *records, size_t records_length,
+    uint64_t *answers, size_t answers_length,
+    uint64_t *place, uint64_t *value);
+
+/*
+ * Reads a list text: its components to the front of the run, its fields, at `first_row` the byte at which its first component line
+ * starts, and at `value` their count. The name of component j is the 8 bytes of the text from first_row + 50 j + 7 on.
+ * Refusals: 1 for fields of another width than 22, 18, 19, 20, 2, 3, 16.
+ */
+uint64_t roffelaine_read(
+    const uint8_t *text, size_t text_length,
+    uint64_t *component_run, size_t component_run_length,
+    uint64_t *fields, size_t fields_length,
+    uint64_t *first_row,
+    uint64_t *place, uint64_t *value);
+
+/*
+ * Writes a list at the front of the output, and at `value` how many bytes it takes; what is past them stays. The run has 5 numbers
+ * and the names 8 bytes for each of the fields' N components. Refusals: 1, also for fields of another width, 2, 3, 16.
+ */
+uint64_t roffelaine_write(
+    const uint64_t *fields, size_t fields_length,
+    const uint64_t *component_run, size_t component_run_length,
+    const uint8_t *names, size_t names_length,
+    const uint8_t *letters, size_t letters_length,
+    uint8_t *output, size_t output_length,
+    uint64_t *place, uint64_t *value);
+
+#ifdef __cplusplus
+}
+#endif
+
+#endif
