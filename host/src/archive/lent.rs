@@ -1,0 +1,520 @@
+//! The archive's functions over lent runs, as safe functions. All `unsafe` of
+//! this crate is here.
+//!
+//! Why the calls are safe: a function of the archive takes a run as a pointer
+//! and a length, and each pointer below goes with the length of the slice that
+//! it comes from. The slices are borrowed for the whole call, those written to
+//! by `&mut`, so that none overlaps another. The functions are proved for
+//! every input, to stay within what they are lent and to return; they keep no
+//! pointer, allocate nothing and hold no state.
+
+use crate::model::{Reply, Trade};
+
+// Lines, accounts and counts of 64 bits cross as `usize`.
+const _: () = assert!(usize::BITS == 64);
+
+/// The declarations of include/roffelaine.h.
+mod exported {
+    unsafe extern "C" {
+        pub fn roffelaine_open(
+            accounts: usize,
+            count: usize,
+            fund: *const u64,
+            fund_length: usize,
+            components: *const u64,
+            components_length: usize,
+            holdings: *const u64,
+            holdings_length: usize,
+            book: *mut u64,
+            book_length: usize,
+            prices: *mut u64,
+            prices_length: usize,
+            day: *mut u64,
+            day_length: usize,
+            place: &mut u64,
+            value: &mut u64,
+        ) -> u64;
+
+        pub fn roffelaine_price(
+            day: *const u64,
+            day_length: usize,
+            book: *const u64,
+            book_length: usize,
+            prices: *mut u64,
+            prices_length: usize,
+            line: usize,
+            price: u64,
+            place: &mut u64,
+            value: &mut u64,
+        ) -> u64;
+
+        pub fn roffelaine_trade(
+            day: *const u64,
+            day_length: usize,
+            book: *mut u64,
+            book_length: usize,
+            prices: *const u64,
+            prices_length: usize,
+            line: usize,
+            quantity: u64,
+            price: u64,
+            seller: usize,
+            buyer: usize,
+            place: &mut u64,
+            value: &mut u64,
+        ) -> u64;
+
+        pub fn roffelaine_reference_value(
+            day: *const u64,
+            day_length: usize,
+            book: *const u64,
+            book_length: usize,
+            prices: *const u64,
+            prices_length: usize,
+            place: &mut u64,
+            value: &mut u64,
+        ) -> u64;
+
+        pub fn roffelaine_create(
+            day: *const u64,
+            day_length: usize,
+            book: *mut u64,
+            book_length: usize,
+            prices: *const u64,
+            prices_length: usize,
+            account: usize,
+            units: u64,
+            list: *mut u64,
+            list_length: usize,
+            place: &mut u64,
+            value: &mut u64,
+        ) -> u64;
+
+        pub fn roffelaine_redeem(
+            day: *const u64,
+            day_length: usize,
+            book: *mut u64,
+            book_length: usize,
+            prices: *const u64,
+            prices_length: usize,
+            account: usize,
+            units: u64,
+            list: *mut u64,
+            list_length: usize,
+            place: &mut u64,
+            value: &mut u64,
+        ) -> u64;
+
+        pub fn roffelaine_creation_test(
+            day: *const u64,
+            day_length: usize,
+            book: *const u64,
+            book_length: usize,
+            prices: *const u64,
+            prices_length: usize,
+            account: usize,
+            units: u64,
+            length: usize,
+            place: &mut u64,
+            value: &mut u64,
+        ) -> u64;
+
+        pub fn roffelaine_redemption_test(
+            day: *const u64,
+            day_length: usize,
+            book: *const u64,
+            book_length: usize,
+            prices: *const u64,
+            prices_length: usize,
+            account: usize,
+            units: u64,
+            length: usize,
+            place: &mut u64,
+            value: &mut u64,
+        ) -> u64;
+
+        pub fn roffelaine_run(
+            day: *const u64,
+            day_length: usize,
+            book: *mut u64,
+            book_length: usize,
+            prices: *mut u64,
+            prices_length: usize,
+            rows: *const u64,
+            rows_length: usize,
+            records: *mut u64,
+            records_length: usize,
+            answers: *mut u64,
+            answers_length: usize,
+            place: &mut u64,
+            value: &mut u64,
+        ) -> u64;
+
+        pub fn roffelaine_run_public(
+            day: *const u64,
+            day_length: usize,
+            book: *mut u64,
+            book_length: usize,
+            prices: *mut u64,
+            prices_length: usize,
+            rows: *const u64,
+            rows_length: usize,
+            records: *mut u64,
+            records_length: usize,
+            answers: *mut u64,
+            answers_length: usize,
+            place: &mut u64,
+            value: &mut u64,
+        ) -> u64;
+
+        pub fn roffelaine_read(
+            text: *const u8,
+            text_length: usize,
+            run: *mut u64,
+            run_length: usize,
+            fields: *mut u64,
+            fields_length: usize,
+            first_row: &mut u64,
+            place: &mut u64,
+            value: &mut u64,
+        ) -> u64;
+
+        pub fn roffelaine_write(
+            fields: *const u64,
+            fields_length: usize,
+            run: *const u64,
+            run_length: usize,
+            names: *const u8,
+            names_length: usize,
+            letters: *const u8,
+            letters_length: usize,
+            output: *mut u8,
+            output_length: usize,
+            place: &mut u64,
+            value: &mut u64,
+        ) -> u64;
+    }
+}
+
+/// The reply of a call that puts its place and value where it is told to.
+fn reply(call: impl FnOnce(&mut u64, &mut u64) -> u64) -> Reply {
+    let (mut place, mut value) = (0, 0);
+    let number = call(&mut place, &mut value);
+    Reply {
+        number,
+        place,
+        value,
+    }
+}
+
+/// Opens a day: the book, the prices and the day are filled.
+#[allow(clippy::too_many_arguments)]
+pub fn open(
+    accounts: u64,
+    count: u64,
+    fund: &[u64],
+    components: &[u64],
+    holdings: &[u64],
+    book: &mut [u64],
+    prices: &mut [u64],
+    day: &mut [u64],
+) -> Reply {
+    // SAFETY: each pointer stands beside the length of its own slice.
+    reply(|place, value| unsafe {
+        exported::roffelaine_open(
+            accounts as usize,
+            count as usize,
+            fund.as_ptr(),
+            fund.len(),
+            components.as_ptr(),
+            components.len(),
+            holdings.as_ptr(),
+            holdings.len(),
+            book.as_mut_ptr(),
+            book.len(),
+            prices.as_mut_ptr(),
+            prices.len(),
+            day.as_mut_ptr(),
+            day.len(),
+            place,
+            value,
+        )
+    })
+}
+
+/// Sets a component's price.
+pub fn price(day: &[u64], book: &[u64], prices: &mut [u64], line: u64, price: u64) -> Reply {
+    // SAFETY: each pointer stands beside the length of its own slice.
+    reply(|place, value| unsafe {
+        exported::roffelaine_price(
+            day.as_ptr(),
+            day.len(),
+            book.as_ptr(),
+            book.len(),
+            prices.as_mut_ptr(),
+            prices.len(),
+            line as usize,
+            price,
+            place,
+            value,
+        )
+    })
+}
+
+/// Trades a quantity of a line at a price.
+pub fn trade(day: &[u64], book: &mut [u64], prices: &[u64], trade: &Trade) -> Reply {
+    // SAFETY: each pointer stands beside the length of its own slice.
+    reply(|place, value| unsafe {
+        exported::roffelaine_trade(
+            day.as_ptr(),
+            day.len(),
+            book.as_mut_ptr(),
+            book.len(),
+            prices.as_ptr(),
+            prices.len(),
+            trade.line as usize,
+            trade.quantity,
+            trade.price,
+            trade.seller as usize,
+            trade.buyer as usize,
+            place,
+            value,
+        )
+    })
+}
+
+/// The reference value at this moment.
+pub fn reference_value(day: &[u64], book: &[u64], prices: &[u64]) -> Reply {
+    // SAFETY: each pointer stands beside the length of its own slice.
+    reply(|place, value| unsafe {
+        exported::roffelaine_reference_value(
+            day.as_ptr(),
+            day.len(),
+            book.as_ptr(),
+            book.len(),
+            prices.as_ptr(),
+            prices.len(),
+            place,
+            value,
+        )
+    })
+}
+
+/// Creates units for an account; the records go to the lent list.
+pub fn create(
+    day: &[u64],
+    book: &mut [u64],
+    prices: &[u64],
+    account: u64,
+    units: u64,
+    list: &mut [u64],
+) -> Reply {
+    // SAFETY: each pointer stands beside the length of its own slice.
+    reply(|place, value| unsafe {
+        exported::roffelaine_create(
+            day.as_ptr(),
+            day.len(),
+            book.as_mut_ptr(),
+            book.len(),
+            prices.as_ptr(),
+            prices.len(),
+            account as usize,
+            units,
+            list.as_mut_ptr(),
+            list.len(),
+            place,
+            value,
+        )
+    })
+}
+
+/// Redeems units of an account; the records go to the lent list.
+pub fn redeem(
+    day: &[u64],
+    book: &mut [u64],
+    prices: &[u64],
+    account: u64,
+    units: u64,
+    list: &mut [u64],
+) -> Reply {
+    // SAFETY: each pointer stands beside the length of its own slice.
+    reply(|place, value| unsafe {
+        exported::roffelaine_redeem(
+            day.as_ptr(),
+            day.len(),
+            book.as_mut_ptr(),
+            book.len(),
+            prices.as_ptr(),
+            prices.len(),
+            account as usize,
+            units,
+            list.as_mut_ptr(),
+            list.len(),
+            place,
+            value,
+        )
+    })
+}
+
+/// What a creation with a list of `length` numbers would answer.
+pub fn creation_test(
+    day: &[u64],
+    book: &[u64],
+    prices: &[u64],
+    account: u64,
+    units: u64,
+    length: usize,
+) -> Reply {
+    // SAFETY: each pointer stands beside the length of its own slice; `length`
+    // goes with none.
+    reply(|place, value| unsafe {
+        exported::roffelaine_creation_test(
+            day.as_ptr(),
+            day.len(),
+            book.as_ptr(),
+            book.len(),
+            prices.as_ptr(),
+            prices.len(),
+            account as usize,
+            units,
+            length,
+            place,
+            value,
+        )
+    })
+}
+
+/// What a redemption with a list of `length` numbers would answer.
+pub fn redemption_test(
+    day: &[u64],
+    book: &[u64],
+    prices: &[u64],
+    account: u64,
+    units: u64,
+    length: usize,
+) -> Reply {
+    // SAFETY: each pointer stands beside the length of its own slice; `length`
+    // goes with none.
+    reply(|place, value| unsafe {
+        exported::roffelaine_redemption_test(
+            day.as_ptr(),
+            day.len(),
+            book.as_ptr(),
+            book.len(),
+            prices.as_ptr(),
+            prices.len(),
+            account as usize,
+            units,
+            length,
+            place,
+            value,
+        )
+    })
+}
+
+/// The driver: makes the calls that the rows name, with one test of the day
+/// where every call keeps it sound.
+pub fn run(
+    day: &[u64],
+    book: &mut [u64],
+    prices: &mut [u64],
+    rows: &[u64],
+    records: &mut [u64],
+    answers: &mut [u64],
+) -> Reply {
+    // SAFETY: each pointer stands beside the length of its own slice.
+    reply(|place, value| unsafe {
+        exported::roffelaine_run(
+            day.as_ptr(),
+            day.len(),
+            book.as_mut_ptr(),
+            book.len(),
+            prices.as_mut_ptr(),
+            prices.len(),
+            rows.as_ptr(),
+            rows.len(),
+            records.as_mut_ptr(),
+            records.len(),
+            answers.as_mut_ptr(),
+            answers.len(),
+            place,
+            value,
+        )
+    })
+}
+
+/// The same calls, each with its own test of the day.
+pub fn run_one_by_one(
+    day: &[u64],
+    book: &mut [u64],
+    prices: &mut [u64],
+    rows: &[u64],
+    records: &mut [u64],
+    answers: &mut [u64],
+) -> Reply {
+    // SAFETY: each pointer stands beside the length of its own slice.
+    reply(|place, value| unsafe {
+        exported::roffelaine_run_public(
+            day.as_ptr(),
+            day.len(),
+            book.as_mut_ptr(),
+            book.len(),
+            prices.as_mut_ptr(),
+            prices.len(),
+            rows.as_ptr(),
+            rows.len(),
+            records.as_mut_ptr(),
+            records.len(),
+            answers.as_mut_ptr(),
+            answers.len(),
+            place,
+            value,
+        )
+    })
+}
+
+/// Reads a list text: its components, its fields, and where its first
+/// component line starts.
+pub fn read(text: &[u8], components: &mut [u64], fields: &mut [u64], first_row: &mut u64) -> Reply {
+    // SAFETY: each pointer stands beside the length of its own slice.
+    reply(|place, value| unsafe {
+        exported::roffelaine_read(
+            text.as_ptr(),
+            text.len(),
+            components.as_mut_ptr(),
+            components.len(),
+            fields.as_mut_ptr(),
+            fields.len(),
+            first_row,
+            place,
+            value,
+        )
+    })
+}
+
+/// Writes a list at the front of the output.
+pub fn write(
+    fields: &[u64],
+    components: &[u64],
+    names: &[u8],
+    letters: &[u8],
+    output: &mut [u8],
+) -> Reply {
+    // SAFETY: each pointer stands beside the length of its own slice.
+    reply(|place, value| unsafe {
+        exported::roffelaine_write(
+            fields.as_ptr(),
+            fields.len(),
+            components.as_ptr(),
+            components.len(),
+            names.as_ptr(),
+            names.len(),
+            letters.as_ptr(),
+            letters.len(),
+            output.as_mut_ptr(),
+            output.len(),
+            place,
+            value,
+        )
+    })
+}

@@ -1,0 +1,70 @@
+//! A list text, read and written.
+
+use super::{lent, Component, Head, Refusal};
+use crate::flat::{field_numbers, fields_of, FIELD_NUMBERS};
+use crate::model::list::NAME_BYTES;
+use crate::model::{COMPONENT_NUMBERS, MAX_COMPONENTS};
+
+/// More bytes than any list has.
+const LONGEST_TEXT: usize = 20_000;
+/// Bytes of a component line with its end, and where its name starts.
+const ROW_BYTES: usize = 50;
+const NAME_FROM: usize = 7;
+/// What stands before and after the letters of the first line.
+const LETTERS_BEFORE: &[u8] = b"[ETF";
+const LETTERS_AFTER: u8 = b']';
+
+/// A list; the letters and names are parts of its text.
+#[derive(Clone, Debug, PartialEq, Eq)]
+pub struct List<'t> {
+    pub letters: &'t [u8],
+    pub head: Head,
+    pub components: Vec<Component>,
+    /// The name of each component.
+    pub names: Vec<&'t [u8; NAME_BYTES]>,
+}
+
+impl<'t> List<'t> {
+    /// Reads a text.
+    pub fn read(text: &'t [u8]) -> Result<Self, Refusal> {
+        let mut run = [0; COMPONENT_NUMBERS * MAX_COMPONENTS];
+        let mut fields = [0; FIELD_NUMBERS];
+        let mut first_row = 0;
+        let count = lent::read(text, &mut run, &mut fields, &mut first_row).outcome()? as usize;
+        let components = run.chunks_exact(COMPONENT_NUMBERS).take(count);
+        let rows = text[first_row as usize..]
+            .chunks_exact(ROW_BYTES)
+            .take(count);
+        Ok(List {
+            letters: letters(text),
+            head: fields_of(&fields).0,
+            components: components.map(Component::from_numbers).collect(),
+            names: rows
+                .filter_map(|row| row[NAME_FROM..].first_chunk())
+                .collect(),
+        })
+    }
+
+    /// The list as text.
+    pub fn write(&self) -> Result<Vec<u8>, Refusal> {
+        let fields = field_numbers(&self.head, self.components.len() as u64);
+        let components: Vec<u64> = self
+            .components
+            .iter()
+            .flat_map(Component::numbers)
+            .collect();
+        let names: Vec<u8> = self.names.iter().copied().flatten().copied().collect();
+        let mut text = vec![0; LONGEST_TEXT];
+        let reply = lent::write(&fields, &components, &names, self.letters, &mut text);
+        text.truncate(reply.outcome()? as usize);
+        Ok(text)
+    }
+}
+
+/// The letters of an accepted text's first line.
+fn letters(text: &[u8]) -> &[u8] {
+    let rest = &text[LETTERS_BEFORE.len()..];
+    rest.split(|&byte| byte == LETTERS_AFTER)
+        .next()
+        .unwrap_or_default()
+}

@@ -1,0 +1,284 @@
+//! The same call on two engines: replies and all that was lent must agree.
+
+use crate::engine::{Engine, Lent, LentList};
+use crate::model::{Call, Reply, ANSWER_NUMBERS, ROW_NUMBERS};
+use crate::random::{OpeningCase, TextCase, WritingCase};
+use std::collections::BTreeMap;
+use std::fmt::{Debug, Write};
+
+/// The first difference found, told in full.
+#[derive(Clone, Debug)]
+pub struct Difference(pub String);
+
+/// How often each kind of call got each refusal number, 0 for accepted.
+#[derive(Clone, Debug, Default)]
+pub struct Tally {
+    counts: BTreeMap<(&'static str, u64), u64>,
+}
+
+impl Tally {
+    fn add(&mut self, kind: &'static str, number: u64) {
+        *self.counts.entry((kind, number)).or_default() += 1;
+    }
+
+    pub fn count(&self, kind: &'static str, number: u64) -> u64 {
+        self.counts.get(&(kind, number)).copied().unwrap_or(0)
+    }
+
+    /// Lines of text: a kind, then its numbers with their counts.
+    pub fn table(&self) -> String {
+        let mut table = String::new();
+        let mut last = "";
+        for (&(kind, number), count) in &self.counts {
+            if kind != last {
+                let _ = write!(
+                    table,
+                    "{}{kind:<16}",
+                    if last.is_empty() { "" } else { "\n" }
+                );
+                last = kind;
+            }
+            let _ = write!(table, " {number}:{count}");
+        }
+        table
+    }
+}
+
+/// What a call is named in the tally.
+fn kind_of(call: &Call) -> &'static str {
+    match call {
+        Call::Price { .. } => "price",
+        Call::Trade(_) => "trade",
+        Call::Create(_) => "creation",
+        Call::Redeem(_) => "redemption",
+        Call::Value => "value",
+        Call::TestDay => "test of day",
+        Call::TestCreation(_) => "creation test",
+        Call::TestRedemption(_) => "redemption test",
+    }
+}
+
+/// What the call of a row is named in the tally.
+fn kind_of_row(row: &[u64]) -> &'static str {
+    match row[0] {
+        1 => "row: price",
+        2 => "row: trade",
+        3 => "row: creation",
+        4 => "row: redemption",
+        5 => "row: value",
+        _ => "row: no call",
+    }
+}
+
+/// Gathers what differs between the answers to one call.
+#[derive(Default)]
+struct Report {
+    lines: String,
+}
+
+impl Report {
+    fn value<T: PartialEq + Debug>(&mut self, what: &str, first: &T, second: &T) {
+        if first != second {
+            let _ = writeln!(self.lines, "{what}: {first:?} and {second:?}");
+        }
+    }
+
+    fn run<T: PartialEq + Debug>(&mut self, what: &str, first: &[T], second: &[T]) {
+        self.value(&format!("length of {what}"), &first.len(), &second.len());
+        let places = first
+            .iter()
+            .zip(second)
+            .enumerate()
+            .filter(|(_, (one, other))| one != other);
+        for (place, (one, other)) in places {
+            let _ = writeln!(self.lines, "{what}, place {place}: {one:?} and {other:?}");
+        }
+    }
+
+    fn lent(&mut self, first: &Lent, second: &Lent) {
+        let (one, other) = (&first.day, &second.day);
+        self.value("accounts", &one.accounts, &other.accounts);
+        self.value("count", &one.count, &other.count);
+        self.value("fund", &one.fund, &other.fund);
+        self.run("components", &one.components, &other.components);
+        self.run("book", &first.book, &second.book);
+        self.run("prices", &first.prices, &second.prices);
+        self.run("record run", &first.records, &second.records);
+    }
+
+    /// Says with what the first, tested once, was compared, if it differed.
+    fn against(&mut self, which: &str) {
+        if !self.lines.is_empty() {
+            let _ = writeln!(
+                self.lines,
+                "up to here: the first, tested once, and {which}"
+            );
+        }
+    }
+
+    /// Nothing if all agreed, else what was asked and what differed.
+    fn finish(self, asked: impl FnOnce() -> String) -> Result<(), Difference> {
+        if self.lines.is_empty() {
+            return Ok(());
+        }
+        Err(Difference(format!("{}asked: {}", self.lines, asked())))
+    }
+}
+
+/// The state before a call in one line, without unused components.
+fn state(lent: &Lent) -> String {
+    let Lent {
+        day,
+        book,
+        prices,
+        records,
+    } = lent;
+    let listed = prices.len().min(day.components.len());
+    format!(
+        "accounts {}, count {}, {:?}, components {:?}, book {book:?}, prices {prices:?}, record list of {}",
+        day.accounts,
+        day.count,
+        day.fund,
+        &day.components[..listed],
+        records.len(),
+    )
+}
+
+/// A way to run rows on an engine.
+type Run = fn(&dyn Engine, &[u64], &mut Lent, &mut [u64]) -> Reply;
+
+/// Two engines and the tally of what was compared on them.
+pub struct Comparison<'e> {
+    first: &'e dyn Engine,
+    second: &'e dyn Engine,
+    pub tally: Tally,
+    /// Calls compared, those of rows once for each way of running them.
+    pub calls: u64,
+    /// Texts read or written.
+    pub texts: u64,
+}
+
+impl<'e> Comparison<'e> {
+    pub fn new(first: &'e dyn Engine, second: &'e dyn Engine) -> Self {
+        Comparison {
+            first,
+            second,
+            tally: Tally::default(),
+            calls: 0,
+            texts: 0,
+        }
+    }
+
+    /// Opens on both; `lent` is left as the opening leaves it.
+    pub fn opening(&mut self, case: &OpeningCase, lent: &mut Lent) -> Result<Reply, Difference> {
+        let mut other = lent.clone();
+        let reply = self.first.open(&case.opening(), lent);
+        let second = self.second.open(&case.opening(), &mut other);
+        self.calls += 1;
+        self.tally.add("opening", reply.number);
+        let mut report = Report::default();
+        report.value("reply", &reply, &second);
+        report.lent(lent, &other);
+        report.finish(|| format!("opening {case:?}"))?;
+        Ok(reply)
+    }
+
+    /// Makes one call on both; `lent` is left as the call leaves it.
+    pub fn call(&mut self, call: &Call, lent: &mut Lent) -> Result<Reply, Difference> {
+        let (before, mut other) = (lent.clone(), lent.clone());
+        let reply = self.first.call(call, lent);
+        let second = self.second.call(call, &mut other);
+        self.calls += 1;
+        self.tally.add(kind_of(call), reply.number);
+        let mut report = Report::default();
+        report.value("reply", &reply, &second);
+        report.lent(lent, &other);
+        report.finish(|| format!("{call:?} on {}", state(&before)))?;
+        Ok(reply)
+    }
+
+    /// Makes the calls of some rows on both, with one test of the day and then
+    /// with a test in each call. Gives the answers and what the rows leave;
+    /// `answers` is what the lent answers hold before.
+    pub fn rows(
+        &mut self,
+        rows: &[u64],
+        start: &Lent,
+        answers: &[u64],
+    ) -> Result<(Vec<u64>, Lent), Difference> {
+        let tested_once: Run = |engine, rows, lent, answers| engine.run(rows, lent, answers);
+        let tested_by_each: Run =
+            |engine, rows, lent, answers| engine.run_one_by_one(rows, lent, answers);
+        let outcome = |engine: &dyn Engine, run: Run| {
+            let (mut lent, mut answers) = (start.clone(), answers.to_vec());
+            let reply = run(engine, rows, &mut lent, &mut answers);
+            (reply, answers, lent)
+        };
+        let mut report = Report::default();
+        let (reply, answers, lent) = outcome(self.first, tested_once);
+        for (which, engine, run) in [
+            ("the second, tested once", self.second, tested_once),
+            ("the first, tested by each call", self.first, tested_by_each),
+            (
+                "the second, tested by each call",
+                self.second,
+                tested_by_each,
+            ),
+        ] {
+            let (second, answers_left, left) = outcome(engine, run);
+            report.value("reply", &reply, &second);
+            report.run("answers", &answers, &answers_left);
+            report.lent(&lent, &left);
+            report.against(which);
+        }
+        report.finish(|| format!("rows {rows:?} on {}", state(start)))?;
+        self.count_rows(rows, reply, &answers);
+        Ok((answers, lent))
+    }
+
+    /// Counts the calls of rows once for each of the two ways.
+    fn count_rows(&mut self, rows: &[u64], reply: Reply, answers: &[u64]) {
+        self.tally.add("rows", reply.number);
+        if !reply.is_accepted() {
+            return;
+        }
+        let answers = answers.chunks_exact(ANSWER_NUMBERS);
+        for (row, answer) in rows.chunks_exact(ROW_NUMBERS).zip(answers) {
+            self.tally.add(kind_of_row(row), answer[0]);
+            self.calls += 2;
+        }
+    }
+
+    /// Reads a text on both; `start` is what reading is lent.
+    pub fn text(&mut self, case: &TextCase, start: &LentList) -> Result<Reply, Difference> {
+        let (mut lent, mut other) = (start.clone(), start.clone());
+        let reply = self.first.read(&case.text, &mut lent);
+        let second = self.second.read(&case.text, &mut other);
+        self.texts += 1;
+        self.tally.add("reading", reply.number);
+        let mut report = Report::default();
+        report.value("reply", &reply, &second);
+        report.run("components", &lent.components, &other.components);
+        report.run("fields", &lent.fields, &other.fields);
+        report.value("first row", &lent.first_row, &other.first_row);
+        report.finish(|| {
+            let (room, shown) = (case.room, case.text.escape_ascii());
+            format!("reading with {room} numbers lent of text \"{shown}\"")
+        })?;
+        Ok(reply)
+    }
+
+    /// Writes a list on both.
+    pub fn writing(&mut self, case: &WritingCase) -> Result<Reply, Difference> {
+        let (mut lent, mut other) = (case.output.clone(), case.output.clone());
+        let reply = self.first.write(&case.list(), &mut lent);
+        let second = self.second.write(&case.list(), &mut other);
+        self.texts += 1;
+        self.tally.add("writing", reply.number);
+        let mut report = Report::default();
+        report.value("reply", &reply, &second);
+        report.run("output", &lent, &other);
+        report.finish(|| format!("writing {case:?}"))?;
+        Ok(reply)
+    }
+}

@@ -1,0 +1,109 @@
+//! What an engine offers to be compared, and the model as one.
+
+use crate::flat::{field_numbers, FIELD_NUMBERS};
+use crate::model::list::{self, Writing};
+use crate::model::{self, Call, Day, Opening, Reply, Work};
+
+/// The day and all that calls on it are lent.
+#[derive(Clone, Debug, PartialEq, Eq)]
+pub struct Lent {
+    pub day: Day,
+    pub book: Vec<u64>,
+    pub prices: Vec<u64>,
+    /// The record run. An order called alone is lent its first `room`
+    /// numbers, one in the driver the part that its row names.
+    pub records: Vec<u64>,
+}
+
+/// What reading a list is lent, besides the text.
+#[derive(Clone, Debug, PartialEq, Eq)]
+pub struct LentList {
+    pub components: Vec<u64>,
+    pub fields: [u64; FIELD_NUMBERS],
+    /// Where the first component line starts.
+    pub first_row: u64,
+}
+
+/// The calls of the day book. Whatever an engine is lent, it must leave what
+/// the paper says, places past the last too.
+pub trait Engine {
+    /// Opens the day; the lent day, book and prices are filled.
+    fn open(&self, opening: &Opening<'_>, lent: &mut Lent) -> Reply;
+
+    /// Makes one call with the test of the day.
+    fn call(&self, call: &Call, lent: &mut Lent) -> Reply;
+
+    /// The driver: makes the calls that the rows name, with one test of the
+    /// day where that is enough.
+    fn run(&self, rows: &[u64], lent: &mut Lent, answers: &mut [u64]) -> Reply;
+
+    /// The same, with the test of the day in each call.
+    fn run_one_by_one(&self, rows: &[u64], lent: &mut Lent, answers: &mut [u64]) -> Reply;
+
+    /// Reads a list; the value of the reply is its count of components.
+    fn read(&self, text: &[u8], lent: &mut LentList) -> Reply;
+
+    /// Writes a list to the lent output; the value of the reply is the count
+    /// of bytes.
+    fn write(&self, list: &Writing<'_>, output: &mut [u8]) -> Reply;
+}
+
+/// The model of this crate.
+pub struct Model;
+
+impl Lent {
+    /// What the model's driver works on.
+    fn work(&mut self) -> Work<'_> {
+        Work {
+            day: &self.day,
+            book: &mut self.book,
+            prices: &mut self.prices,
+            records: &mut self.records,
+        }
+    }
+}
+
+impl Engine for Model {
+    fn open(&self, opening: &Opening<'_>, lent: &mut Lent) -> Reply {
+        match model::open(opening, &mut lent.book, &mut lent.prices) {
+            Ok(day) => {
+                lent.day = day;
+                Reply::accepted(0)
+            }
+            Err(refusal) => refusal.into(),
+        }
+    }
+
+    fn call(&self, call: &Call, lent: &mut Lent) -> Reply {
+        let Lent {
+            day,
+            book,
+            prices,
+            records,
+        } = lent;
+        model::call(day, book, prices, records, call)
+    }
+
+    fn run(&self, rows: &[u64], lent: &mut Lent, answers: &mut [u64]) -> Reply {
+        model::run(&mut lent.work(), rows, answers)
+    }
+
+    fn run_one_by_one(&self, rows: &[u64], lent: &mut Lent, answers: &mut [u64]) -> Reply {
+        model::run_one_by_one(&mut lent.work(), rows, answers)
+    }
+
+    fn read(&self, text: &[u8], lent: &mut LentList) -> Reply {
+        match list::read(text, &mut lent.components) {
+            Ok(list) => {
+                lent.fields = field_numbers(&list.head, list.count);
+                lent.first_row = list.first_row as u64;
+                Reply::accepted(list.count)
+            }
+            Err(refusal) => refusal.into(),
+        }
+    }
+
+    fn write(&self, list: &Writing<'_>, output: &mut [u8]) -> Reply {
+        list::write(list, output)
+    }
+}

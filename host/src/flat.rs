@@ -1,0 +1,193 @@
+//! The flat layouts in which a fund, a day, a list's fields and the rows of
+//! the driver cross to the archive.
+
+use crate::model::list::Head;
+use crate::model::{
+    Call, Component, Day, Fund, Trade, ANSWER_NUMBERS, COMPONENT_NUMBERS, MAX_COMPONENTS,
+    ROW_NUMBERS,
+};
+
+/// Numbers of a fund: first code, basket size, maximum cash ratio, switch,
+/// estimated cash (two numbers), the eight limits.
+pub const FUND_NUMBERS: usize = 14;
+/// Numbers of a day: A, N, the fund, room for all components.
+pub const DAY_NUMBERS: usize = COMPONENTS_FROM + COMPONENT_NUMBERS * MAX_COMPONENTS;
+/// Numbers of a list's fields: the fund, Publish, TradingDay, PreTradingDay,
+/// CashComponent (two numbers), NAVperCU, NAV, N.
+pub const FIELD_NUMBERS: usize = FUND_NUMBERS + 8;
+
+const FUND_FROM: usize = 2;
+const COMPONENTS_FROM: usize = FUND_FROM + FUND_NUMBERS;
+const LIMITS_FROM: usize = 6;
+
+const _: () = assert!(DAY_NUMBERS == 1_516 && FIELD_NUMBERS == 22);
+
+/// A number that may be below zero: 1 where it is, and its size.
+fn signed_numbers(number: i64) -> [u64; 2] {
+    [u64::from(number < 0), number.unsigned_abs()]
+}
+
+fn signed_of(numbers: &[u64]) -> i64 {
+    match numbers[0] {
+        1 => 0i64.wrapping_sub_unsigned(numbers[1]),
+        _ => 0i64.wrapping_add_unsigned(numbers[1]),
+    }
+}
+
+pub fn fund_numbers(fund: &Fund) -> [u64; FUND_NUMBERS] {
+    let [below_zero, size] = signed_numbers(fund.estimated_cash);
+    let mut numbers = [0; FUND_NUMBERS];
+    numbers[..LIMITS_FROM].copy_from_slice(&[
+        fund.first_code,
+        fund.basket_size,
+        fund.max_cash_ratio,
+        fund.switch,
+        below_zero,
+        size,
+    ]);
+    numbers[LIMITS_FROM..].copy_from_slice(&fund.limits);
+    numbers
+}
+
+/// The fund that the first `FUND_NUMBERS` of some numbers say.
+pub fn fund_of(numbers: &[u64]) -> Fund {
+    Fund {
+        first_code: numbers[0],
+        basket_size: numbers[1],
+        max_cash_ratio: numbers[2],
+        switch: numbers[3],
+        estimated_cash: signed_of(&numbers[4..]),
+        limits: std::array::from_fn(|at| numbers[LIMITS_FROM + at]),
+    }
+}
+
+pub fn day_numbers(day: &Day) -> [u64; DAY_NUMBERS] {
+    let mut numbers = [0; DAY_NUMBERS];
+    numbers[..FUND_FROM].copy_from_slice(&[day.accounts, day.count]);
+    numbers[FUND_FROM..COMPONENTS_FROM].copy_from_slice(&fund_numbers(&day.fund));
+    let places = numbers[COMPONENTS_FROM..].chunks_exact_mut(COMPONENT_NUMBERS);
+    for (place, component) in places.zip(&day.components) {
+        place.copy_from_slice(&component.numbers());
+    }
+    numbers
+}
+
+pub fn day_of(numbers: &[u64; DAY_NUMBERS]) -> Day {
+    let mut day = Day::blank();
+    (day.accounts, day.count) = (numbers[0], numbers[1]);
+    day.fund = fund_of(&numbers[FUND_FROM..]);
+    let places = numbers[COMPONENTS_FROM..].chunks_exact(COMPONENT_NUMBERS);
+    for (component, numbers) in day.components.iter_mut().zip(places) {
+        *component = Component::from_numbers(numbers);
+    }
+    day
+}
+
+/// A list's head and its count of components.
+pub fn field_numbers(head: &Head, count: u64) -> [u64; FIELD_NUMBERS] {
+    let [below_zero, size] = signed_numbers(head.cash_component);
+    let mut numbers = [0; FIELD_NUMBERS];
+    numbers[..FUND_NUMBERS].copy_from_slice(&fund_numbers(&head.fund));
+    numbers[FUND_NUMBERS..].copy_from_slice(&[
+        head.publish,
+        head.trading_day,
+        head.pre_trading_day,
+        below_zero,
+        size,
+        head.nav_per_basket,
+        head.nav,
+        count,
+    ]);
+    numbers
+}
+
+pub fn fields_of(numbers: &[u64; FIELD_NUMBERS]) -> (Head, u64) {
+    let rest = &numbers[FUND_NUMBERS..];
+    let head = Head {
+        fund: fund_of(numbers),
+        publish: rest[0],
+        trading_day: rest[1],
+        pre_trading_day: rest[2],
+        cash_component: signed_of(&rest[3..]),
+        nav_per_basket: rest[5],
+        nav: rest[6],
+    };
+    (head, rest[7])
+}
+
+/// The row of a call whose records go to the part of the record run that
+/// starts at `start`; none for the tests called alone, which have no row.
+pub fn row_of(call: &Call, start: usize) -> Option<[u64; ROW_NUMBERS]> {
+    let (start, room) = (start as u64, call.room() as u64);
+    Some(match *call {
+        Call::Price { line, price } => [1, line, price, 0, 0, 0],
+        Call::Trade(Trade {
+            line,
+            quantity,
+            price,
+            seller,
+            buyer,
+        }) => [2, line, quantity, price, seller, buyer],
+        Call::Create(order) => [3, order.account, order.units, start, room, 0],
+        Call::Redeem(order) => [4, order.account, order.units, start, room, 0],
+        Call::Value => [5, 0, 0, 0, 0, 0],
+        Call::TestDay | Call::TestCreation(_) | Call::TestRedemption(_) => return None,
+    })
+}
+
+/// Rows of calls one after another, each order with its own part of the
+/// record run, and the length of that run.
+pub fn rows_of<'c>(calls: impl IntoIterator<Item = &'c Call>) -> (Vec<u64>, usize) {
+    let (mut rows, mut length) = (Vec::new(), 0);
+    for call in calls {
+        rows.extend(row_of(call, length).into_iter().flatten());
+        length += call.room();
+    }
+    (rows, length)
+}
+
+/// Numbers of the answers to some rows.
+pub fn answers_length(rows: &[u64]) -> usize {
+    rows.len() / ROW_NUMBERS * ANSWER_NUMBERS
+}
+
+#[cfg(test)]
+mod tests {
+    use super::*;
+
+    fn counted<const LENGTH: usize>() -> [u64; LENGTH] {
+        std::array::from_fn(|at| at as u64)
+    }
+
+    #[test]
+    fn a_day_survives_its_numbers() {
+        let mut numbers = counted::<DAY_NUMBERS>();
+        for below_zero in [0, 1] {
+            numbers[6] = below_zero;
+            let day = day_of(&numbers);
+            assert_eq!(
+                day.fund.estimated_cash,
+                if below_zero == 1 { -7 } else { 7 }
+            );
+            assert_eq!(day.fund.limits[7], 15);
+            assert_eq!(day.components[299].amount, DAY_NUMBERS as u64 - 1);
+            assert_eq!(day_numbers(&day), numbers);
+        }
+    }
+
+    #[test]
+    fn fields_survive_their_numbers() {
+        let mut numbers = counted::<FIELD_NUMBERS>();
+        (numbers[4], numbers[17]) = (0, 1);
+        let (head, count) = fields_of(&numbers);
+        assert_eq!((head.cash_component, head.nav, count), (-18, 20, 21));
+        assert_eq!(field_numbers(&head, count), numbers);
+    }
+
+    #[test]
+    fn every_signed_number_survives() {
+        for number in [i64::MIN, -1, 0, 1, i64::MAX] {
+            assert_eq!(signed_of(&signed_numbers(number)), number);
+        }
+    }
+}

@@ -1,0 +1,155 @@
+//! Creation of baskets of units.
+
+use super::book::{
+    self, fund_and_account, handable, lots, lots_mut, stretch, CASH, CREATED, GOT, OLD,
+};
+use super::orders::{test_order, with_premium, Kind, Terms};
+use super::records::{RecordWriter, BUY, SELL};
+use super::refusal::{Refusal, Reply, CASH_SHORT, RATIO, SHORT};
+use super::soundness::test_day;
+use super::types::{Component, Day};
+use super::value::value_on_sound_day;
+
+/// Creates `units` for the account and writes the records to the lent list;
+/// the value of the reply is their count.
+pub fn create(
+    day: &Day,
+    book: &mut [u64],
+    prices: &[u64],
+    account: u64,
+    units: u64,
+    records: &mut [u64],
+) -> Reply {
+    test_day(day, book, prices)
+        .and_then(|()| create_on_sound_day(day, book, prices, account, units, records))
+        .into()
+}
+
+/// The reply that a creation with a list of `room` numbers would give.
+pub fn test_creation(
+    day: &Day,
+    book: &[u64],
+    prices: &[u64],
+    account: u64,
+    units: u64,
+    room: u64,
+) -> Reply {
+    test_day(day, book, prices)
+        .and_then(|()| test_on_sound_day(day, book, prices, account, units, room))
+        .map(|terms| terms.record_count())
+        .into()
+}
+
+pub(super) fn create_on_sound_day(
+    day: &Day,
+    book: &mut [u64],
+    prices: &[u64],
+    account: u64,
+    units: u64,
+    records: &mut [u64],
+) -> Result<u64, Refusal> {
+    let room = records.len() as u64;
+    let terms = test_on_sound_day(day, book, prices, account, units, room)?;
+    let width = book::stretch_width(day.count as usize);
+    let (fund, own) = fund_and_account(book, width, account);
+    let mut writer = RecordWriter::new(records);
+    writer.moved(day.fund.first_code, BUY, units);
+    hand_in_stock(day, terms.baskets, fund, own, &mut writer);
+    writer.cash(day.fund.first_code + 5, BUY, terms.other_cash);
+    writer.cash(day.fund.first_code + 2, BUY, terms.shanghai_cash);
+    writer.moved(day.fund.first_code + 1, BUY, units);
+    own[CASH] -= terms.cash();
+    fund[CASH] += terms.cash();
+    own[CREATED] += units;
+    lots_mut(own, day.count as usize)[GOT] += units;
+    Ok(writer.count())
+}
+
+/// Moves what is there of the stock to the fund's old lots.
+fn hand_in_stock(
+    day: &Day,
+    baskets: u64,
+    fund: &mut [u64],
+    own: &mut [u64],
+    writer: &mut RecordWriter<'_>,
+) {
+    for (line, component) in day.listed().iter().enumerate() {
+        if !component.flag_row().moves_stock {
+            continue;
+        }
+        let lots = lots_mut(own, line);
+        let handed = handable(lots).min(baskets * component.quantity);
+        if handed > 0 {
+            book::hand_in(lots, handed);
+            lots_mut(fund, line)[OLD] += handed;
+            writer.moved(component.code, SELL, handed);
+        }
+    }
+}
+
+pub(super) fn test_on_sound_day(
+    day: &Day,
+    book: &[u64],
+    prices: &[u64],
+    account: u64,
+    units: u64,
+    room: u64,
+) -> Result<Terms, Refusal> {
+    let baskets = test_order(day, book, Kind::Creation, account, units)?;
+    let own = stretch(book, book::stretch_width(day.count as usize), account);
+    let (terms, substituted) = add_up(day, own, prices, baskets)?;
+    if let Some(worth) = substituted {
+        let value = value_on_sound_day(day, prices)?;
+        if passes_ratio(worth, units, value, day.fund.max_cash_ratio) {
+            return Err(Refusal::new(RATIO));
+        }
+    }
+    if own[CASH] < terms.cash() {
+        return Err(Refusal::new(CASH_SHORT));
+    }
+    terms.test_room(room)?;
+    Ok(terms)
+}
+
+/// The terms of the order and, where anything is missing under flag 1, the
+/// worth of all that is missing. Refuses at the first flag 0 that is short.
+fn add_up(
+    day: &Day,
+    own: &[u64],
+    prices: &[u64],
+    baskets: u64,
+) -> Result<(Terms, Option<u64>), Refusal> {
+    let mut terms = Terms::new(baskets);
+    let mut substituted = None;
+    for (line, (component, &price)) in day.listed().iter().zip(prices).enumerate() {
+        let row = component.flag_row();
+        if !row.moves_stock {
+            terms.add_cash(row.shanghai, fixed_cash(component, baskets));
+            continue;
+        }
+        let need = baskets * component.quantity;
+        let there = handable(lots(own, line));
+        terms.stock_records += u64::from(need.min(there) > 0);
+        if there < need {
+            if !row.shortage_in_cash {
+                return Err(Refusal::at(SHORT, line));
+            }
+            let worth = (need - there) * price;
+            terms.add_cash(row.shanghai, with_premium(worth, component.rate));
+            *substituted.get_or_insert(0) += worth;
+        }
+    }
+    Ok((terms, substituted))
+}
+
+/// Cash of a component that moves no stock: an unused rate is 0.
+fn fixed_cash(component: &Component, baskets: u64) -> u64 {
+    with_premium(baskets * component.amount, component.rate)
+}
+
+/// Whether the worth of the missing stock is above its share of the units'
+/// value: thousandths of a yuan against ten-thousandths times a rate.
+fn passes_ratio(worth: u64, units: u64, value: u64, ratio: u64) -> bool {
+    let allowed = u128::from(units * value) * u128::from(ratio);
+    u128::from(worth) * 1_000_000 > allowed
+}

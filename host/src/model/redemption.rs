@@ -1,0 +1,126 @@
+//! Redemption of baskets of units.
+
+use super::book::{
+    self, fund_and_account, handable, lots, lots_mut, stretch, CASH, GOT, OLD, REDEEMED,
+};
+use super::orders::{less_premium, test_order, Kind, Terms};
+use super::records::{RecordWriter, BUY, SELL};
+use super::refusal::{Refusal, Reply, FUND_SHORT, SHORT};
+use super::soundness::test_day;
+use super::types::{Component, Day};
+
+/// Redeems `units` of the account and writes the records to the lent list;
+/// the value of the reply is their count.
+pub fn redeem(
+    day: &Day,
+    book: &mut [u64],
+    prices: &[u64],
+    account: u64,
+    units: u64,
+    records: &mut [u64],
+) -> Reply {
+    test_day(day, book, prices)
+        .and_then(|()| redeem_on_sound_day(day, book, account, units, records))
+        .into()
+}
+
+/// The reply that a redemption with a list of `room` numbers would give.
+pub fn test_redemption(
+    day: &Day,
+    book: &[u64],
+    prices: &[u64],
+    account: u64,
+    units: u64,
+    room: u64,
+) -> Reply {
+    test_day(day, book, prices)
+        .and_then(|()| test_on_sound_day(day, book, account, units, room))
+        .map(|terms| terms.record_count())
+        .into()
+}
+
+pub(super) fn redeem_on_sound_day(
+    day: &Day,
+    book: &mut [u64],
+    account: u64,
+    units: u64,
+    records: &mut [u64],
+) -> Result<u64, Refusal> {
+    let terms = test_on_sound_day(day, book, account, units, records.len() as u64)?;
+    let width = book::stretch_width(day.count as usize);
+    let (fund, own) = fund_and_account(book, width, account);
+    let mut writer = RecordWriter::new(records);
+    writer.moved(day.fund.first_code, SELL, units);
+    deliver_stock(day, terms.baskets, fund, own, &mut writer);
+    writer.cash(day.fund.first_code + 5, SELL, terms.other_cash);
+    writer.cash(day.fund.first_code + 2, SELL, terms.shanghai_cash);
+    writer.moved(day.fund.first_code + 1, SELL, units);
+    fund[CASH] -= terms.cash();
+    own[CASH] += terms.cash();
+    own[REDEEMED] += units;
+    book::hand_in(lots_mut(own, day.count as usize), units);
+    Ok(writer.count())
+}
+
+/// Moves the stock in full from the fund's old lots to the account's got lots.
+fn deliver_stock(
+    day: &Day,
+    baskets: u64,
+    fund: &mut [u64],
+    own: &mut [u64],
+    writer: &mut RecordWriter<'_>,
+) {
+    for (line, component) in day.listed().iter().enumerate() {
+        let delivered = baskets * component.quantity;
+        if component.flag_row().moves_stock && delivered > 0 {
+            lots_mut(fund, line)[OLD] -= delivered;
+            lots_mut(own, line)[GOT] += delivered;
+            writer.moved(component.code, BUY, delivered);
+        }
+    }
+}
+
+pub(super) fn test_on_sound_day(
+    day: &Day,
+    book: &[u64],
+    account: u64,
+    units: u64,
+    room: u64,
+) -> Result<Terms, Refusal> {
+    let baskets = test_order(day, book, Kind::Redemption, account, units)?;
+    let width = book::stretch_width(day.count as usize);
+    let unit_lots = lots(stretch(book, width, account), day.count as usize);
+    if handable(unit_lots) < units {
+        return Err(Refusal::new(SHORT));
+    }
+    let fund = stretch(book, width, 0);
+    let terms = add_up(day, fund, baskets)?;
+    if fund[CASH] < terms.cash() {
+        return Err(Refusal::at(FUND_SHORT, day.count as usize));
+    }
+    terms.test_room(room)?;
+    Ok(terms)
+}
+
+/// The terms of the order; refuses at the first stock that the fund lacks.
+fn add_up(day: &Day, fund: &[u64], baskets: u64) -> Result<Terms, Refusal> {
+    let mut terms = Terms::new(baskets);
+    for (line, component) in day.listed().iter().enumerate() {
+        let row = component.flag_row();
+        if !row.moves_stock {
+            terms.add_cash(row.shanghai, fixed_cash(component, baskets));
+            continue;
+        }
+        let need = baskets * component.quantity;
+        if lots(fund, line)[OLD] < need {
+            return Err(Refusal::at(FUND_SHORT, line));
+        }
+        terms.stock_records += u64::from(need > 0);
+    }
+    Ok(terms)
+}
+
+/// Cash of a component that moves no stock: an unused rate is 0.
+fn fixed_cash(component: &Component, baskets: u64) -> u64 {
+    less_premium(baskets * component.amount, component.rate)
+}

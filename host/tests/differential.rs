@@ -1,0 +1,234 @@
+//! The differential test at a smaller count: the archive and the model agree
+//! and every refusal is reached. It finds engines that are wrong.
+
+use host::archive::Archive;
+use host::compare::Comparison;
+use host::differential::Plan;
+use host::engine::{Engine, Lent, LentList, Model};
+use host::model::list::Writing;
+use host::model::{Call, Opening, Reply};
+use std::cell::Cell;
+
+/// Enough cases to reach every refusal.
+const FULL: Plan = Plan {
+    seed: 5,
+    days: 250,
+    texts: 4_000,
+};
+/// Enough cases to find every fault below.
+const SHORT: Plan = Plan {
+    seed: 6,
+    days: 30,
+    texts: 300,
+};
+
+#[test]
+fn archive_and_model_agree_and_reach_every_refusal() {
+    let mut comparison = Comparison::new(&Model, &Archive);
+    if let Err(difference) = FULL.run(&mut comparison) {
+        panic!("{FULL:?}, model and archive:\n{}", difference.0);
+    }
+    let expected: &[(&'static str, &[u64])] = &[
+        ("opening", &[0, 1, 2, 3, 4]),
+        ("price", &[0, 5, 6, 7]),
+        ("trade", &[0, 5, 6, 7, 8, 9, 10]),
+        ("creation", &[0, 5, 8, 9, 10, 11, 12, 13, 14, 15, 16]),
+        ("creation test", &[0, 5, 8, 9, 10, 11, 12, 13, 14, 15, 16]),
+        ("redemption", &[0, 5, 8, 9, 11, 12, 13, 16, 17]),
+        ("redemption test", &[0, 5, 8, 9, 11, 12, 13, 16, 17]),
+        ("value", &[0, 5, 14]),
+        ("test of day", &[0, 5]),
+        ("rows", &[0, 1]),
+        ("row: price", &[0, 5, 6, 7]),
+        ("row: trade", &[0, 5, 6, 7, 8, 9, 10]),
+        ("row: creation", &[0, 5, 8, 9, 10, 11, 12, 13, 14, 15, 16]),
+        ("row: redemption", &[0, 5, 8, 9, 11, 12, 13, 16, 17]),
+        ("row: value", &[0, 5, 14]),
+        ("row: no call", &[1]),
+        ("reading", &[0, 2, 3, 16, 18, 19, 20]),
+        ("writing", &[0, 1, 2, 3, 16]),
+    ];
+    for &(kind, numbers) in expected {
+        for &number in numbers {
+            assert!(
+                comparison.tally.count(kind, number) > 0,
+                "{kind} never gives {number}"
+            );
+        }
+    }
+}
+
+/// A way to be wrong.
+#[derive(Clone, Copy, Debug, PartialEq, Eq)]
+enum Fault {
+    None,
+    AnswersShort,
+    RefusesAll,
+    MovesNothing,
+    MovesTheFirstOrderOnly,
+    ConstantValue,
+    CountOff,
+    WritesPastTheLast,
+    OpensWithOldPrices,
+    ListForgetsAnAnswer,
+    ListLeavesTheRecords,
+    OneByOneMovesNothing,
+    PlaceOff,
+    FirstRowOff,
+    RefusedReadingClears,
+    TouchesUnusedComponents,
+    TouchesUnusedOutput,
+}
+
+/// The model with one fault.
+struct Faulty {
+    fault: Fault,
+    orders: Cell<u64>,
+}
+
+impl Faulty {
+    fn new(fault: Fault) -> Self {
+        Faulty {
+            fault,
+            orders: Cell::new(0),
+        }
+    }
+
+    fn spoil_call(&self, call: &Call, before: Lent, lent: &mut Lent, reply: &mut Reply) {
+        let order = matches!(call, Call::Create(_) | Call::Redeem(_));
+        if !reply.is_accepted() {
+            return;
+        }
+        self.orders.set(self.orders.get() + u64::from(order));
+        match self.fault {
+            Fault::AnswersShort if order => {
+                *lent = before;
+                *reply = Reply {
+                    number: 9,
+                    place: 0,
+                    value: 0,
+                };
+            }
+            Fault::RefusesAll => {
+                *lent = before;
+                *reply = Reply {
+                    number: 5,
+                    place: 0,
+                    value: 0,
+                };
+            }
+            Fault::MovesNothing => lent.book = before.book,
+            Fault::MovesTheFirstOrderOnly if order && self.orders.get() > 1 => {
+                lent.book = before.book
+            }
+            Fault::ConstantValue if *call == Call::Value => reply.value = 4_257,
+            Fault::CountOff if order => reply.value += 1,
+            Fault::WritesPastTheLast if order => {
+                if let Some(past) = lent.records[..call.room()].get_mut(5 * reply.value as usize) {
+                    *past = 0;
+                }
+            }
+            _ => {}
+        }
+    }
+}
+
+impl Engine for Faulty {
+    fn open(&self, opening: &Opening<'_>, lent: &mut Lent) -> Reply {
+        let before = lent.prices.clone();
+        let reply = Model.open(opening, lent);
+        if self.fault == Fault::OpensWithOldPrices {
+            lent.prices = before;
+        }
+        reply
+    }
+
+    fn call(&self, call: &Call, lent: &mut Lent) -> Reply {
+        let before = lent.clone();
+        let mut reply = Model.call(call, lent);
+        self.spoil_call(call, before, lent, &mut reply);
+        reply
+    }
+
+    fn run(&self, rows: &[u64], lent: &mut Lent, answers: &mut [u64]) -> Reply {
+        let before = lent.clone();
+        let last = answers.last().copied();
+        let reply = Model.run(rows, lent, answers);
+        match self.fault {
+            Fault::ListForgetsAnAnswer => {
+                if let (Some(answer), Some(last)) = (answers.last_mut(), last) {
+                    *answer = last;
+                }
+            }
+            Fault::ListLeavesTheRecords => lent.records = before.records,
+            _ => {}
+        }
+        reply
+    }
+
+    fn run_one_by_one(&self, rows: &[u64], lent: &mut Lent, answers: &mut [u64]) -> Reply {
+        let before = lent.clone();
+        let reply = Model.run_one_by_one(rows, lent, answers);
+        if self.fault == Fault::OneByOneMovesNothing {
+            *lent = before;
+        }
+        reply
+    }
+
+    fn read(&self, text: &[u8], lent: &mut LentList) -> Reply {
+        let mut reply = Model.read(text, lent);
+        match self.fault {
+            Fault::PlaceOff if reply.number == 19 => reply.place += 1,
+            Fault::TouchesUnusedComponents if reply.is_accepted() => {
+                if let Some(past) = lent.components.get_mut(5 * reply.value as usize) {
+                    *past = 0;
+                }
+            }
+            Fault::FirstRowOff if reply.is_accepted() => lent.first_row += 1,
+            Fault::RefusedReadingClears if !reply.is_accepted() => lent.fields = [0; 22],
+            _ => {}
+        }
+        reply
+    }
+
+    fn write(&self, list: &Writing<'_>, output: &mut [u8]) -> Reply {
+        let reply = Model.write(list, output);
+        if self.fault == Fault::TouchesUnusedOutput {
+            if let Some(past) = output.get_mut(reply.value as usize) {
+                *past = past.wrapping_add(1);
+            }
+        }
+        reply
+    }
+}
+
+fn is_found(fault: Fault) -> bool {
+    let engine = Faulty::new(fault);
+    SHORT.run(&mut Comparison::new(&Model, &engine)).is_err()
+}
+
+#[test]
+fn faulty_engines_are_found() {
+    assert!(!is_found(Fault::None));
+    let faults = [
+        Fault::AnswersShort,
+        Fault::RefusesAll,
+        Fault::MovesNothing,
+        Fault::MovesTheFirstOrderOnly,
+        Fault::ConstantValue,
+        Fault::CountOff,
+        Fault::WritesPastTheLast,
+        Fault::OpensWithOldPrices,
+        Fault::ListForgetsAnAnswer,
+        Fault::ListLeavesTheRecords,
+        Fault::OneByOneMovesNothing,
+        Fault::PlaceOff,
+        Fault::FirstRowOff,
+        Fault::RefusedReadingClears,
+        Fault::TouchesUnusedComponents,
+        Fault::TouchesUnusedOutput,
+    ];
+    for fault in faults {
+        assert!(is_found(fault), "{fault:?} is not found");
+    }
+}
