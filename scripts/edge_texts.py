@@ -153,13 +153,14 @@ def first_lines():
     """Anything in the first line, at 0."""
     for right in (b"0", b"9", b"A", b"Z", b"a", b"z", b"abcdEF12"):
         yield read("first line", listed(SINGLE, letters=right.hex()))
-    for wrong in (b"", b"123456789", b" ", b"51 3", b"a ", b"a-b", b"a_b", b"/", b":", b"@", b"[", b"`", b"{", b"]", b"a]", b"\xe9", b"\0",
-                  b"=", b"a\r", b"a\n"):
+    for wrong in (b"", b"123456789", b" ", b"51 3", b"a ", b"a-b", b"a_b", b"/", b":", b"@", b"[", b"`", b"{", b"]", b"a]",
+                  b"\xe9", b"\0", b"=", b"a\r", b"a\n"):
         yield text("letters", put(ONE, 0, b"[ETF" + wrong + b"]"), 18)
-    for wrong in (b"", b"[", b"[ETF", b"[ETF1", b"ETF1]", b"[etf1]", b"[EtF1]", b"[ETF1] ", b" [ETF1]", b"[ETF1]]", b"[[ETF1]", b"(ETF1)",
-                  b"[ETG1]", b"[ETF1}", b"\xef\xbb\xbf[ETF1]", b"TAGTAG", ONE[1]):
+    for wrong in (b"", b"[", b"[ETF", b"[ETF1", b"ETF1]", b"[etf1]", b"[EtF1]", b"[ETF1] ", b" [ETF1]", b"[ETF1]]", b"[[ETF1]",
+                  b"(ETF1)", b"[ETG1]", b"[ETF1}", b"\xef\xbb\xbf[ETF1]", b"TAGTAG", ONE[1]):
         yield text("first line", put(ONE, 0, wrong), 18)
-    for wrong in (b"", b"\r", b"\n", b"\r\n", b"\n\r", b"A", b"[ETF510300]", b"[ETF510300]\r", b"ENDENDEND\r\n", b"TAGTAG\r\nENDENDEND\r\n"):
+    for wrong in (b"", b"\r", b"\n", b"\r\n", b"\n\r", b"A", b"[ETF510300]", b"[ETF510300]\r", b"ENDENDEND\r\n",
+                  b"TAGTAG\r\nENDENDEND\r\n"):
         yield text("short text", wrong, 18)
     yield text("first line only", b"[ETF1]\r\n", 18, 8)
 
@@ -197,7 +198,8 @@ def widths_and_bars():
             yield text("bar", put(DAY, ROWS + j, line[:bar] + b"!" + line[bar + 1:]), 18, at)
             yield text("width", put(DAY, ROWS + j, line[:bar] + line[bar + 1:]), 18, at)
             yield text("width", put(DAY, ROWS + j, line[:bar] + b"|" + line[bar:]), 18, at)
-        for wrong in (line[1:], b" " + line, line + b" ", line + b"|", line[:-1], line * 2, b"", b"|" * 47, b"|" * 49, b" " * 48):
+        for wrong in (line[1:], b" " + line, line + b" ", line + b"|", line[:-1], line * 2, b"", b"|" * 47, b"|" * 49,
+                      b" " * 48):
             yield text("width", put(DAY, ROWS + j, wrong), 18, at)
     # two of 24 bytes are none; all bars is a line, whose code is wrong
     yield text("width", put(DAY, ROWS, DAY[ROWS][:24], DAY[ROWS][24:]), 18, start(DAY, ROWS))
@@ -207,23 +209,25 @@ def widths_and_bars():
 # ---- 19, 20 and 2 in the head
 
 # Not as a whole number is written, and not as one with decimals or a sign is.
-WHOLE = [b"", b"1000000 ", b" 1000000", b"01000000", b"00", b"+1000000", b"-1000000", b"1000000.", b"1000000.00", b"1e6", b"1 0", b"1|0",
-         b"|", b"/", b":", b"1,000,000", b"0x10", b"\xb1", b"1\0", b"-0", b"1\r", b"1\n", b"=1", b"=", b".", b"a"]
-MONEY = [b"", b"1", b"1.", b"1.0", b"1.000", b".00", b"01.00", b"00.00", b"1,00", b"1.0a", b"1..00", b"1.00 ", b" 1.00", b"+1.00", b"1.00-",
-         b"1.0|", b"1|00", b"1.00.00", b"-.00", b"--1.00", b"- 1.00", b"-01.00", b"-", b"1.-0"]
+WHOLE = [b"", b"1000000 ", b" 1000000", b"01000000", b"00", b"+1000000", b"-1000000", b"1000000.", b"1000000.00", b"1e6",
+         b"1 0", b"1|0", b"|", b"/", b":", b"1,000,000", b"0x10", b"\xb1", b"1\0", b"-0", b"1\r", b"1\n", b"=1", b"=", b".",
+         b"a"]
+MONEY = [b"", b"1", b"1.", b"1.0", b"1.000", b".00", b"01.00", b"00.00", b"1,00", b"1.0a", b"1..00", b"1.00 ", b" 1.00",
+         b"+1.00", b"1.00-", b"1.0|", b"1|00", b"1.00.00", b"-.00", b"--1.00", b"- 1.00", b"-01.00", b"-", b"1.-0"]
 SPELLINGS = {
-    0: [b"", b"51030", b"5103010", b"51030a", b"51030 ", b" 51031", b"51 301", b"-51030", b"+51030", b"51030.", b"5103|1", b"51030/", b"51030:",
-        b"0x1234", b"51030\r", b"9" * 40],
+    0: [b"", b"51030", b"5103010", b"51030a", b"51030 ", b" 51031", b"51 301", b"-51030", b"+51030", b"51030.", b"5103|1",
+        b"51030/", b"51030:", b"0x1234", b"51030\r", b"9" * 40],
     1: WHOLE,
-    2: [b"", b"0", b"0.", b"0.0500", b"0.050000", b".05000", b"00.05000", b"-0.05000", b"-0.00000", b"+0.05000", b"0,05000", b"0.0500 ",
-        b" 0.05000", b"5%", b"0.05|00", b"01.00000", b"0.0500a"],
+    2: [b"", b"0", b"0.", b"0.0500", b"0.050000", b".05000", b"00.05000", b"-0.05000", b"-0.00000", b"+0.05000", b"0,05000",
+        b"0.0500 ", b" 0.05000", b"5%", b"0.05|00", b"01.00000", b"0.0500a"],
     3: [b"", b"2", b"9", b"00", b"01", b"10", b"-1", b" 1", b"1 ", b"1.0", b"|", b"a", b"9" * 40, b"18446744073709551617"],
     4: [b"", b"01", b"00", b"-1", b"+1", b" 1", b"1.", b"|", b"a", b"1/"],
     5: [b"", b"01", b"005", b"00", b"-1", b"+1", b" 1", b"1 ", b"1.0", b"|", b"0" * 40],
     6: [b"-0.00", *MONEY],
     9: [b"-0.00", *MONEY[::2]],
     10: [b"-0.00", b"-1.00", *MONEY[1::2]],
-    11: [b"", b"1", b"1.", b"1.000", b"1.00000", b".4257", b"00.4257", b"-0.4257", b"-0.0000", b"+0.4257", b"0,4257", b"0.425 ", b"0.42|7"],
+    11: [b"", b"1", b"1.", b"1.000", b"1.00000", b".4257", b"00.4257", b"-0.4257", b"-0.0000", b"+0.4257", b"0,4257", b"0.425 ",
+         b"0.42|7"],
     **{k: WHOLE[k % 3::7] for k in range(12, 20)},
 }
 
@@ -233,19 +237,22 @@ PAST = {
     1: [b"0", b"100000000", b"18446744073709551616", b"18446744073710551616", b"9" * 40],
     2: [b"1.00001", b"2.00000", b"184467440737095.51616", b"9" * 40 + b".00000"],
     4: [b"4", b"5", b"10", b"18446744073709551616", b"18446744073709551617", b"9" * 40],
-    6: [b"-10000000.00", b"100000000.00", b"184467440737095516.16", b"-184467440737095516.16", b"92233720368547758.08", b"9" * 40 + b".00",
-        b"-" + b"9" * 40 + b".00"],
-    9: [b"-10000000.00", b"100000000.00", b"184467440737095516.16", b"-92233720368547758.09", b"9" * 40 + b".00", b"-" + b"9" * 40 + b".99"],
+    6: [b"-10000000.00", b"100000000.00", b"184467440737095516.16", b"-184467440737095516.16", b"92233720368547758.08",
+        b"9" * 40 + b".00", b"-" + b"9" * 40 + b".00"],
+    9: [b"-10000000.00", b"100000000.00", b"184467440737095516.16", b"-92233720368547758.09", b"9" * 40 + b".00",
+        b"-" + b"9" * 40 + b".99"],
     10: [b"1000000000.00", b"184467440737095516.16", b"9" * 40 + b".00"],
     11: [b"1000.0000", b"1844674407370955.1616", b"9" * 40 + b".0000"],
-    # no multiple of U, past the ceiling, and 2^64 and a multiple more
+    # no multiple of U, past the ceiling, 2^64
     **{k: [b"1", b"999999", b"1000001", b"999999999999", b"1000000000000", b"18446744073709551616", b"9" * 40][k % 2::2]
        for k in range(12, 20)},
 }
-ENDS = [("first_code", [0, 999_994]), ("basket_size", [1, 99_999_999]), ("max_cash_ratio", [0, 1, 99_999, 100_000]), ("publish", [0]),
-        ("switch", [0, 2, 3]), ("estimated_cash", [-999_999_999, -100, -99, -1, 0, 1, 99, 100, 9_999_999_999]),
+ENDS = [("first_code", [0, 999_994]), ("basket_size", [1, 99_999_999]), ("max_cash_ratio", [0, 1, 99_999, 100_000]),
+        ("publish", [0]), ("switch", [0, 2, 3]),
+        ("estimated_cash", [-999_999_999, -100, -99, -1, 0, 1, 99, 100, 9_999_999_999]),
         ("trading_day", [10_101, 99_991_231, 20_240_229, 20_000_229]), ("pre_trading_day", [10_101, 99_991_231, 16_000_229]),
-        ("cash_component", [-999_999_999, -1, 0, 9_999_999_999]), ("nav_per_cu", [0, 1, 99, 99_999_999_999]), ("nav", [0, 1, 9999, 9_999_999])]
+        ("cash_component", [-999_999_999, -1, 0, 9_999_999_999]), ("nav_per_cu", [0, 1, 99, 99_999_999_999]),
+        ("nav", [0, 1, 9999, 9_999_999])]
 
 
 def head_values():
@@ -265,14 +272,15 @@ def head_values():
 
 
 def dates():
-    wrong = [b"00000101", b"00000000", b"19000229", b"21000229", b"20230229", b"20240230", b"20240431", b"20240631", b"20240931", b"20241131",
-             b"20241301", b"20240001", b"20240100", b"20240132", b"20241232", b"20249901", b"20240199", b"2024010", b"202401010", b"2024010a",
-             b"2024 101", b"-2024011", b"", b"20240|01", b"99999999", b"9" * 40]
-    for k in (7, 8):
-        for x in wrong[k - 7::1 if k == 7 else 2]:
+    wrong = [b"00000101", b"00000000", b"19000229", b"21000229", b"20230229", b"20240230", b"20240431", b"20240631",
+             b"20240931", b"20241131", b"20241301", b"20240001", b"20240100", b"20240132", b"20241232", b"20249901",
+             b"20240199", b"2024010", b"202401010", b"2024010a", b"2024 101", b"-2024011", b"", b"20240|01", b"99999999",
+             b"9" * 40]
+    for k, some in ((7, wrong), (8, wrong[1::2])):
+        for x in some:
             yield text("date", said(ONE, k, x), 19, value(ONE, k))
-    for day in (20_000_229, 24_000_229, 20_240_229, 20_240_131, 20_240_331, 20_240_430, 20_240_531, 20_240_630, 20_240_731, 20_240_831,
-                20_240_930, 20_241_031, 20_241_130, 20_241_231, 20_230_228, 19_000_228):
+    for day in (20_000_229, 24_000_229, 20_240_229, 20_240_131, 20_240_331, 20_240_430, 20_240_531, 20_240_630, 20_240_731,
+                20_240_831, 20_240_930, 20_241_031, 20_241_130, 20_241_231, 20_230_228, 19_000_228):
         # the two days are not compared
         yield read("date", listed(SINGLE, trading_day=day, pre_trading_day=99_991_231))
 
@@ -298,23 +306,26 @@ def columns():
     def wrong(j, k, *fields):
         for x in fields:
             yield text("component field", filled(DAY, j, k, x), 19, column(DAY, j, k))
-    yield from wrong(1, CODE, b"", b"00000a", b"00002 ", b" 00002", b"2", b"0000-2", b"00|002", b"00002/", b"00002:", b"+00002", b"0000.2")
-    yield from wrong(2, QUANTITY, b"", b"00005200", b"05200", b"00", b"5200 ", b"5200    ", b"52 00", b"-5200", b"+5200", b"5200.", b"52.00",
-                     b"5|200", b"|", b"5200a", b"5,200", b"52\r00", b"52\n00")
+    yield from wrong(1, CODE, b"", b"00000a", b"00002 ", b" 00002", b"2", b"0000-2", b"00|002", b"00002/", b"00002:", b"+00002",
+                     b"0000.2")
+    yield from wrong(2, QUANTITY, b"", b"00005200", b"05200", b"00", b"5200 ", b"5200    ", b"52 00", b"-5200", b"+5200",
+                     b"5200.", b"52.00", b"5|200", b"|", b"5200a", b"5,200", b"52\r00", b"52\n00")
     for j in range(5):
         yield from wrong(j, FLAG, *[b" ", b"a", b"/", b":", b"-", b"|", b"\xb1", b"\0"][j % 2::2])
     for flag in (1, 3):
-        yield from wrong(OF_FLAG[flag], RATE, b"", b"0", b"0.", b"0.1000", b"1000000", b".10000", b"00.1000", b"10.0000", b"0,10000", b"0.1000a",
-                         b"00001.0", b"0.1000 ", b"-0.1000", b"+.10000", b"0.10|00", b"1", b"|")
+        yield from wrong(OF_FLAG[flag], RATE, b"", b"0", b"0.", b"0.1000", b"1000000", b".10000", b"00.1000", b"10.0000",
+                         b"0,10000", b"0.1000a", b"00001.0", b"0.1000 ", b"-0.1000", b"+.10000", b"0.10|00", b"1", b"|")
     for flag in (0, 2, 4):
         yield from wrong(OF_FLAG[flag], RATE, b"0", b"0.00000", b"0.10000", b"0     ", b"\t", b"|", b"\0")
     for flag in (2, 3, 4):
-        yield from wrong(OF_FLAG[flag], AMOUNT, b"", b"0", b"8000", b"8000.", b"8000.00", b"8000.0000", b".000", b"08000.000", b"00.000",
-                         *[b"8000.000 ", b"-8000.000", b"+8000.000", b"8,000.000", b"8000.00a", b"80|0.000", b"8000..000", b"- 0.000",
-                           b"0000000.000 "][flag - 2::3])
+        others = [b"8000.000 ", b"-8000.000", b"+8000.000", b"8,000.000", b"8000.00a", b"80|0.000", b"8000..000", b"- 0.000",
+                  b"0000000.000 "]
+        yield from wrong(OF_FLAG[flag], AMOUNT, b"", b"0", b"8000", b"8000.", b"8000.00", b"8000.0000", b".000", b"08000.000",
+                         b"00.000", *others[flag - 2::3])
     for flag in (0, 1):
         yield from wrong(OF_FLAG[flag], AMOUNT, b"0", b"0.000", b"1.000", b"1.000       ", b"|", b"\r")
-    for wrong_name in (b"|2345678", b"1234567|", b"123|5678", b"\r2345678", b"1234567\r", b"\n2345678", b"1234567\n", b"123\n\r678"):
+    for wrong_name in (b"|2345678", b"1234567|", b"123|5678", b"\r2345678", b"1234567\r", b"\n2345678", b"1234567\n",
+                       b"123\n\r678"):
         yield text("name", filled(DAY, 3, NAME, wrong_name), 19, column(DAY, 3, NAME))
     # 0D 0A in a name ends the line
     yield text("name", filled(DAY, 3, NAME, b"123\r\n678"), 18, start(DAY, ROWS + 3))
@@ -358,7 +369,8 @@ def components():
         v = listed([[7, 1, 0, 0, 0], [code, 1, 0, 0, 0], [999_999, 1, 0, 0, 0]])
         is_free = code in (G - 1, G + 6)
         yield text("group", lines(v), 0 if is_free else 3, 0 if is_free else 1, of=v if is_free else None)
-    for g, code, number in ((0, 5, 3), (0, 6, 0), (0, 0, 3), (999_994, 999_994, 3), (999_994, 999_999, 3), (999_994, 999_993, 0)):
+    for g, code, number in ((0, 5, 3), (0, 6, 0), (0, 0, 3), (999_994, 999_994, 3), (999_994, 999_999, 3),
+                            (999_994, 999_993, 0)):
         yield text("group", lines(listed([[code, 1, 0, 0, 0]], first_code=g)), number)
     # behind one at fault the order is still looked at, and the lowest is named
     for codes, place in (((G, G - 1), 0), ((7, G + 2, 8), 1), ((9, 8, G), 1), ((8, 9, G), 2)):
@@ -395,14 +407,15 @@ def meetings():
     twenty = said(two, 5, b"7")
     nineteen = filled(twenty, 4, AMOUNT, b"1.00")
     eighteen = put(nineteen, late, b"ENDENDEND ")
-    for given, number, place in ((DAY, 16, 0), (three, 3, 4), (two, 2, 0), (twenty, 20, 0), (nineteen, 19, column(nineteen, 4, AMOUNT)),
-                                 (eighteen, 18, start(eighteen, late))):
+    for given, number, place in ((DAY, 16, 0), (three, 3, 4), (two, 2, 0), (twenty, 20, 0),
+                                 (nineteen, 19, column(nineteen, 4, AMOUNT)), (eighteen, 18, start(eighteen, late))):
         yield text("refusals that meet", given, number, place, room=0)
     # each two of them alone
     for given, number, place in ((put(said(DAY, 0, b"x"), late, b"END"), 18, start(said(DAY, 0, b"x"), late)),
                                  (said(said(DAY, 5, b"7"), 19, b"-1"), 19, value(said(DAY, 5, b"7"), 19)),
                                  (said(said(DAY, 1, b"0"), 11, b"1"), 19, value(said(DAY, 1, b"0"), 11)),
-                                 (said(said(DAY, 1, b"0"), 5, b"4"), 20, 0), (said(three, 5, b"4"), 20, 0), (said(three, 11, b"1000.0000"), 2, 0)):
+                                 (said(said(DAY, 1, b"0"), 5, b"4"), 20, 0), (said(three, 5, b"4"), 20, 0),
+                                 (said(three, 11, b"1000.0000"), 2, 0)):
         yield text("refusals that meet", given, number, place, room=0)
     # the first in the text's order: of two lines, of two fields, of a head's and a component's field, of two of one line
     yield text("two lines", put(put(DAY, late, b"x"), 9, b"y"), 18, start(DAY, 9))
@@ -519,11 +532,11 @@ def written(cause, v, number=0, place=0, room=None):
 
 # Each field just past its range, and at the ends of what a number holds.
 FIELDS_PAST = [("first_code", [999_995, MOST]), ("basket_size", [0, 100_000_000, MOST]), ("max_cash_ratio", [100_001, MOST]),
-               ("switch", [4, MOST]), ("estimated_cash", [-1_000_000_000, 10_000_000_000, 2 ** 63 - 1, -2 ** 63]), ("publish", [2, MOST]),
-               ("cash_component", [-1_000_000_000, 10_000_000_000, 2 ** 63 - 1, -2 ** 63]), ("nav_per_cu", [100_000_000_000, MOST]),
-               ("nav", [10_000_000, MOST])]
-NO_DATES = [0, 1, 101, 10_100, 10_001, 19_000_229, 20_230_229, 20_241_301, 20_240_001, 20_240_100, 20_240_431, 99_991_232, 100_000_101,
-            99_999_999, 2 ** 32 + 20_240_101, MOST]
+               ("switch", [4, MOST]), ("estimated_cash", [-1_000_000_000, 10_000_000_000, 2 ** 63 - 1, -2 ** 63]),
+               ("publish", [2, MOST]), ("cash_component", [-1_000_000_000, 10_000_000_000, 2 ** 63 - 1, -2 ** 63]),
+               ("nav_per_cu", [100_000_000_000, MOST]), ("nav", [10_000_000, MOST])]
+NO_DATES = [0, 1, 101, 10_100, 10_001, 19_000_229, 20_230_229, 20_241_301, 20_240_001, 20_240_100, 20_240_431, 99_991_232,
+            100_000_101, 99_999_999, 2 ** 32 + 20_240_101, MOST]
 
 
 def field_ends():
@@ -539,14 +552,16 @@ def field_ends():
     yield written("the days are not compared", listed(SINGLE, trading_day=10_101, pre_trading_day=99_991_231))
     for letters in (b"0", b"z", b"Az09Za90"):
         yield written("letters", listed(SINGLE, letters=letters.hex()))
-    for letters in (b"", b"123456789", b"a b", b" ", b"]", b"a\r", b"\n", b"/", b":", b"@", b"[", b"`", b"{", b"\xff", b"a" * 99):
+    for letters in (b"", b"123456789", b"a b", b" ", b"]", b"a\r", b"\n", b"/", b":", b"@", b"[", b"`", b"{", b"\xff",
+                    b"a" * 99):
         yield written("letters", listed(SINGLE, letters=letters.hex()), 2)
 
 
 def limit_ends():
     highest = 999_999_000_000
     for k in range(8):
-        for x, number in ((1_000_000, 0), (highest, 0), (highest + 1_000_000, 2), (1, 2), (999_999, 2), (CEILING, 2), (MOST, 2)):
+        for x, number in ((1_000_000, 0), (highest, 0), (highest + 1_000_000, 2), (1, 2), (999_999, 2), (CEILING, 2),
+                          (MOST, 2)):
             yield written("limit", listed(SINGLE, limits=[0] * k + [x] + [0] * (7 - k)), number)
     yield written("limits", listed(SINGLE, limits=[highest] * 8))
     yield written("limits", listed(SINGLE, basket_size=1, limits=[CEILING] * 8))
@@ -556,19 +571,23 @@ def limit_ends():
 def whole_lists():
     """All fields at their lowest, all at their highest, and 300 components."""
     lowest = {"first_code": 0, "basket_size": 1, "max_cash_ratio": 0, "switch": 0, "estimated_cash": -999_999_999, "publish": 0,
-              "trading_day": 10_101, "pre_trading_day": 10_101, "cash_component": -999_999_999, "nav_per_cu": 0, "nav": 0, "letters": b"0".hex()}
-    highest = {"first_code": 999_994, "basket_size": 99_999_999, "max_cash_ratio": 100_000, "switch": 3, "estimated_cash": 9_999_999_999,
-               "publish": 1, "trading_day": 99_991_231, "pre_trading_day": 99_991_231, "cash_component": 9_999_999_999,
-               "nav_per_cu": 99_999_999_999, "nav": 9_999_999, "letters": b"zzzzzzzz".hex(), "limits": [999_999_990_000] * 8}
+              "trading_day": 10_101, "pre_trading_day": 10_101, "cash_component": -999_999_999, "nav_per_cu": 0, "nav": 0,
+              "letters": b"0".hex()}
+    highest = {"first_code": 999_994, "basket_size": 99_999_999, "max_cash_ratio": 100_000, "switch": 3,
+               "estimated_cash": 9_999_999_999, "publish": 1, "trading_day": 99_991_231, "pre_trading_day": 99_991_231,
+               "cash_component": 9_999_999_999, "nav_per_cu": 99_999_999_999, "nav": 9_999_999, "letters": b"zzzzzzzz".hex(),
+               "limits": [999_999_990_000] * 8}
     yield written("lowest", listed([[6, 0, 0, 0, 0]], **lowest, names=bytes(8).hex()))
     yield written("highest", listed([[999_993, 99_999_999, 3, 100_000, 99_999_999_999]], **highest, names=(b"\xff" * 8).hex()))
     ends = [[0, 0, 0, 0, 0], [1, 99_999_999, 1, 100_000, 0], [2, 0, 2, 0, 0], [3, 1, 2, 0, 99_999_999_999], [4, 10, 3, 0, 0],
-            [5, 9, 3, 100_000, 99_999_999_999], [6, 99, 4, 0, 1], [7, 100, 4, 0, 999], [8, 12_345_678, 3, 1, 1000], [999_999, 0, 1, 0, 0]]
+            [5, 9, 3, 100_000, 99_999_999_999], [6, 99, 4, 0, 1], [7, 100, 4, 0, 999], [8, 12_345_678, 3, 1, 1000],
+            [999_999, 0, 1, 0, 0]]
     yield written("components at the ends", listed(ends))
     flags = [(4, 3, 2, 1, 0)[i % 5] for i in range(300)]
     parts = [[i + 999_700 if i else 0, i, flag, 334 * i if flag in (1, 3) else 0, 7 ** i % 10 ** 11 if flag in (2, 3, 4) else 0]
              for i, flag in enumerate(flags)]
-    yield written("300 components", listed(parts, **lowest | {"first_code": G}, names=bytes(14 + i % 110 for i in range(2400)).hex()))
+    yield written("300 components", listed(parts, **lowest | {"first_code": G},
+                                           names=bytes(14 + i % 110 for i in range(2400)).hex()))
     every = bytes(x for x in range(256) if x not in b"|\r\n") + b"END"
     yield written("names", listed([[i, 0, 0, 0, 0] for i in range(32)], names=every.hex()))
 
@@ -592,12 +611,14 @@ def component_faults():
         return written("component", listed([*PARTS[:j], part, *PARTS[j + 1:]]), number, j if number else 0)
     for j, part in ((0, [1, 10 ** 8, 0, 0, 0]), (1, [2, MOST, 0, 0, 0]), (2, [600_000, 1, 5, 0, 0]), (2, [600_000, 1, 9, 0, 0]),
                     (2, [600_000, 1, MOST, 0, 0]), (2, [600_000, 1, 1, 100_001, 0]), (2, [600_000, 1, 3, MOST, 0]),
-                    (3, [600_036, 1, 2, 0, 10 ** 11]), (3, [600_036, 1, 4, 0, MOST]), (4, [10 ** 6, 1, 0, 0, 0]), (4, [MOST, 1, 0, 0, 0]),
+                    (3, [600_036, 1, 2, 0, 10 ** 11]), (3, [600_036, 1, 4, 0, MOST]), (4, [10 ** 6, 1, 0, 0, 0]),
+                    (4, [MOST, 1, 0, 0, 0]),
                     # an unused rate or amount
-                    (3, [600_036, 1, 0, 1, 0]), (3, [600_036, 1, 0, 0, 1]), (3, [600_036, 1, 1, 0, 1]), (3, [600_036, 1, 2, 1, 0]),
-                    (3, [600_036, 1, 4, 1, 0]),
+                    (3, [600_036, 1, 0, 1, 0]), (3, [600_036, 1, 0, 0, 1]), (3, [600_036, 1, 1, 0, 1]),
+                    (3, [600_036, 1, 2, 1, 0]), (3, [600_036, 1, 4, 1, 0]),
                     # order and group
-                    (1, [1, 1, 0, 0, 0]), (1, [0, 1, 0, 0, 0]), (4, [600_036, 1, 0, 0, 0]), *((2, [G + k, 1, 0, 0, 0]) for k in range(6))):
+                    (1, [1, 1, 0, 0, 0]), (1, [0, 1, 0, 0, 0]), (4, [600_036, 1, 0, 0, 0]),
+                    *((2, [G + k, 1, 0, 0, 0]) for k in range(6))):
         yield written_with(j, part)
     for part in ([G - 1, 1, 0, 0, 0], [G + 6, 1, 0, 0, 0]):
         yield written_with(2, part, 0)
@@ -609,8 +630,8 @@ def name_faults():
         names = bytearray(b"ABCDEFGH" * 5)
         names[8 * j + at] = byte
         return bytes(names).hex()
-    for j, at, byte in ((0, 0, 0x7C), (0, 7, 0x7C), (4, 7, 0x7C), (2, 3, 0x0D), (1, 0, 0x0D), (3, 7, 0x0D), (2, 3, 0x0A), (1, 0, 0x0A),
-                        (3, 7, 0x0A)):
+    for j, at, byte in ((0, 0, 0x7C), (0, 7, 0x7C), (4, 7, 0x7C), (2, 3, 0x0D), (1, 0, 0x0D), (3, 7, 0x0D), (2, 3, 0x0A),
+                        (1, 0, 0x0A), (3, 7, 0x0A)):
         yield written("name", listed(PARTS, names=named(j, at, byte)), 3, j)
     # a name's fault and a component's: the lower is named, or the one that has both
     for j in range(5):
@@ -621,7 +642,8 @@ def name_faults():
 def outputs():
     v = listed(PARTS)
     size = len(text_of(lines(v)))
-    for room, number in ((size, 0), (size - 1, 16), (size + 1, 0), (size + 777, 0), (0, 16), (1, 16), (size // 2, 16), (20_000, 0)):
+    for room, number in ((size, 0), (size - 1, 16), (size + 1, 0), (size + 777, 0), (0, 16), (1, 16), (size // 2, 16),
+                         (20_000, 0)):
         yield written("output", v, number, room=room)
 
 
@@ -646,7 +668,7 @@ def is_model_right(vectors):
         return [json.loads(text) for text in (vectors / f"{file}.jsonl").read_text().splitlines()]
     texts = [list_model.read(bytes.fromhex(v["text"]), 5 * v["capacity"]).items() <= v.items() for v in rows("texts")]
     writings = [list_model.write(v, v["output_length"]).items() <= v.items() for v in rows("writings")]
-    print(f"the model gives {sum(texts)} of {len(texts)} texts and {sum(writings)} of {len(writings)} writings as the vectors do")
+    print(f"the model answers {sum(texts)} of {len(texts)} texts and {sum(writings)} of {len(writings)} writings as the vectors")
     return all(texts) and all(writings)
 
 
@@ -665,10 +687,11 @@ def main():
     parser.add_argument("out", type=Path)
     args = parser.parse_args()
     assert is_model_right(args.vectors)
-    kinds = {"texts": (moved_lines, line_ends, first_lines, names, widths_and_bars, head_values, dates, recordnums, columns, name_bytes,
-                       flags, components, rooms, full_size, meetings, long_texts),
+    kinds = {"texts": (moved_lines, line_ends, first_lines, names, widths_and_bars, head_values, dates, recordnums, columns,
+                       name_bytes, flags, components, rooms, full_size, meetings, long_texts),
              "parts": (parts,),
-             "writings": (field_ends, limit_ends, whole_lists, lengths, component_faults, name_faults, outputs, writings_that_meet)}
+             "writings": (field_ends, limit_ends, whole_lists, lengths, component_faults, name_faults, outputs,
+                          writings_that_meet)}
     files = {file: [v for made in kind for v in made()] for file, kind in kinds.items()}
     assert is_covered(files)
     args.out.mkdir(parents=True, exist_ok=True)

@@ -10,8 +10,8 @@ comes from the vectors alone.
 The input is items, as in vector_text.py; the library crate `texts` reads them. Bytes are numbers.
 
     1  a text that is given whole: row, length of the lent component run, its bytes
-    2  a change of the last text that was given whole: row, length of the lent component run, the place of the bytes that go, how
-       many they are, the bytes that come in their place
+    2  a change of the last text that was given whole: row, length of the lent component run, the place of the bytes that go,
+       how many they are, the bytes that come in their place
     3  a long text: row, length of the lent component run, how often its middle part stands in it, lengths of its front and of
        that part, the bytes of the front, of the part and of the tail
     4  a change, of which two parts are asked for: row, the component, and then as in 2
@@ -21,23 +21,28 @@ Fields are first code, basket size, maximum cash ratio, switch, estimated cash a
 publish, trading day, previous trading day, cash component as sign and size, NAV per CU, NAV, count. Lent runs hold other
 numbers before a call.
 
-Printed is, for each row, its number and then
+Printed is, for each row, its number and then for a text
 
-    read NUMBER PLACE VALUE          the reply of reading; if it is refused
-      same                           the run is what it was, the fields that are handed back are 0, and so is the first line's place
-                                     and if not
-      rest same                      the run past the last component is what it was
-      fields .., first ..,           the list: its fields, where its first component line starts, its components, the letters, the
-      components .., letters ..,     names of all components one after the other (asked for in two ways that agree, and none is given
-      names ..                       past the last)
-      written NUMBER PLACE VALUE     the reply of writing the list into an output of the text's own length
-      text .. or alike N             what was written; of a text of more than 2000 bytes where it first differs
-    letters .., name ..              the letters, and the name of the component that was asked for
-    write NUMBER PLACE VALUE         the reply of writing; if it is refused
-      same                           the output is what it was, and if not
-      text .., rest same             what was written, and that the output past it is what it was
-      read NUMBER PLACE VALUE        the reply of reading that text
-      back same                      fields, components, names and letters are the list's
+    read NUMBER PLACE VALUE        the reply; if it is refused
+    same                           the run is what it was, and fields and place handed back are 0; if not,
+    rest same                      the run past the last component is what it was
+    fields .., first ..,           the list: its fields, where its first component line starts, its components, its letters,
+    components .., letters ..,     the names of all components one after the other (asked for in two ways that agree, and none
+    names ..                       is given past the last)
+    written NUMBER PLACE VALUE     the reply of writing the list into an output of the text's own length
+    text .. or alike N             what was written; of a text of more than 2000 bytes where it first differs
+
+and where parts are asked for
+
+    letters .., name ..            the letters, and the name of the component
+
+and for a list
+
+    write NUMBER PLACE VALUE       the reply; if it is refused
+    same                           the output is what it was; if not,
+    text .., rest same             what was written, and that the output past it is what it was
+    read NUMBER PLACE VALUE        the reply of reading that text
+    back same                      fields, components, names and letters are the list's
 
 A list that was read is written with the names of its head as they are listed; nothing else of its text may change.
 """
@@ -98,8 +103,9 @@ def handed_back(v, text):
     """What is printed of a list that was read."""
     places = v["name_places"]
     assert places == [places[0] + 50 * i for i in range(v["count"])]
+    names = [x for at in places for x in text[at:at + 8]]
     return ["rest same", line("fields", *fields(v)), line("first", places[0] - 7), line("components", *numbers(v)),
-            line("letters", *v["letters"].encode()), line("names", *(x for at in places for x in text[at:at + 8])), *written(text)]
+            line("letters", *v["letters"].encode()), line("names", *names), *written(text)]
 
 
 def change(base, text):
@@ -144,7 +150,8 @@ class Texts:
 
 def writing(row, v):
     names, letters = bytes.fromhex(v["names"]), bytes.fromhex(v["letters"])
-    into = item("list", [row, v["output_length"], len(numbers(v)), len(names)], fields(v), *v["components"], *cut(names, 8), letters)
+    head = [row, v["output_length"], len(numbers(v)), len(names)]
+    into = item("list", head, fields(v), *v["components"], *cut(names, 8), letters)
     number, place = v["reply"]
     if number:
         return into, [line("row", row), line("write", number, place, 0), "same"]

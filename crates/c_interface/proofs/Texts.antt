@@ -1,11 +1,12 @@
 -- Reading and writing through the flat layout: their outcomes from those of reading and writing.
-use mathlib.Core.Path.{_≡_, sym, ap, _∙_}
-use mathlib.Core.Bool.{true, cond}
+use mathlib.Core.Path.{_≡_, refl, sym, ap, _∙_}
+use mathlib.Core.Bool.{Bool, true, false, cond}
 use mathlib.Core.List.{List}
 use Prim.Native.Nat.{ℕ}
 use lib.Dec.{eqb}
 use lib.ListN.{length}
-use borrow.Author.Tests.{eq-eqb, ne-eqb}
+use borrow.Author.Tests.{eq-eqb, ne-eqb, eqb-true, eqb-false}
+use Rattle.lists.specs.Below.{table-length}
 use Rattle.lists.specs.Checks.{Reply, reply, isAccepted}
 use Rattle.fund.specs.Fund.{cashInRange}
 use Rattle.fund.proofs.Laws.{fund-sound}
@@ -14,6 +15,7 @@ use Rattle.numbers.specs.Numbers.{replyOf}
 use Rattle.list_rules.specs.declared.ListFields.{ListFields}
 use Rattle.list_rules.specs.declared.ListRead.{ListRead}
 use Rattle.list_rules.specs.declared.ListAnswer.{ListAnswer}
+use Rattle.list_rules.specs.Fields.{fieldsFrom}
 use Rattle.list_rules.specs.Replies.{listReply}
 use Rattle.list_rules.specs.Reading.{fieldsRead, readReply, fieldsHanded, runAfter}
 use Rattle.list_rules.specs.Writing.{Listing, writeReply, outputAfter}
@@ -21,9 +23,10 @@ use Rattle.list_rules.proofs.Ranges.{fields-sound}
 use Rattle.list_trip.proofs.ReadTests.{reads}
 use Rattle.list_reading.specs.Outcome.{ReadOutcome}
 use Rattle.list_writing.specs.Outcome.{WriteOutcome}
-use Rattle.flat.specs.Flat.{fieldsNumbers, Told}
+use Rattle.flat.specs.Flat.{fieldsAt, fieldsNumbers, Told}
+use Rattle.flat.proofs.Trip.{fields-flat}
 use Rattle.c_interface.specs.Text.{Taking, taking, ofWidth, takingReply, TextRead, TextWritten}
-use Rattle.c_interface.proofs.Laws.{told-as, kept}
+use Rattle.c_interface.proofs.Laws.{told-as, kept, sizes-refuse}
 
 -- The width.
 
@@ -83,6 +86,23 @@ module _ (text run : List ℕ) (n : Numbers) (r : ListRead) (run′ : List ℕ) 
         fields-is = rw same (p ∙ rw (number-is, out .fields-is));
         first-is = rw same (q ∙ rw (number-is, out .first-is));
       }
+
+-- The chain: the fields that an accepted reading leaves are those that it read.
+
+module _ (text : List ℕ) (t : Taking) (accepted : isAccepted (takingReply text t) ≡ true) where
+  accepted-by : (b : Bool) → eqb (length (t .fields)) 22 ≡ b → takingReply text t ≡ readReply text (length (t .run))
+  unfolding takingReply
+  accepted-by true p = width-fits _ _ (eqb-true _ 22 p)
+  accepted-by false p = absurd (sizes-refuse (rw (width-differs _ (readReply text (length (t .run))) (eqb-false _ 22 p)) at accepted))
+
+  pub fields-through : (number place value : ℕ) (after : Taking) → TextRead text t number place value after → fieldsAt (after .fields) ≡ fieldsRead text
+  unfolding fieldsHanded fieldsRead fieldsFrom
+  fields-through number place value after out =
+      let same = accepted-by _ refl in
+      let reading : isAccepted (readReply text (length (t .run))) ≡ true = rw same at accepted in
+      let ranges = fields-sound (fieldsRead text) (reads text (length (t .run)) reading .ranges) in
+      rw (out .fields-is, accepted, reading)
+      (fields-flat (fieldsRead text) (table-length _ 8) (fund-sound _ (ranges .fund) .cash) (ranges .cash))
 
 -- Writing.
 

@@ -123,20 +123,18 @@ module _ (d : Day) where
       rw (past, append-nil cs, q, none, append-nil (numbersOf (d .components) 300))
       (ap (λ (t : List ℕ). t ++ numbersOf (d .components) 300) (ap (take 16) front ∙ take-at head (drop (length head) run) 16 size))
 
--- a list's fields
-module _ (l : ListFields) (run : List ℕ) (full : length run ≡ 22) where
-  -- those behind the fund
-  abbrev restNumbers : ℤ → List ℕ
-  restNumbers e =
-      l .publish ∷ l .«trading_day» ∷ l .«pre_trading_day» ∷ (signedNumbers e ++ (l .«nav_per_cu» ∷ l .nav ∷ l .count ∷ []))
+-- a list's fields: those behind the fund, with the cash component e
+abbrev pub restNumbers : ListFields → ℤ → List ℕ
+restNumbers l e = l .publish ∷ l .«trading_day» ∷ l .«pre_trading_day» ∷ (signedNumbers e ++ (l .«nav_per_cu» ∷ l .nav ∷ l .count ∷ []))
 
+module _ (l : ListFields) (run : List ℕ) (full : length run ≡ 22) where
   pub fields-stored : (e : ℤ) (fund signed : List ℕ) → e ≡ l .«cash_component» → fund ≡ sets run 0 (fundNumbers (l .fund))
       → signed ≡ sets (set (set (set fund 14 (l .publish)) 15 (l .«trading_day»)) 16 (l .«pre_trading_day»)) 17 (signedNumbers e)
       → set (set (set signed 19 (l .«nav_per_cu»)) 20 (l .nav)) 21 (l .count) ≡ fieldsNumbers l
   unfolding fieldsNumbers signedNumbers
   fields-stored e fund signed p q r =
       rw (r, q)
-      (ap (λ (n : ℕ). sets (sets run 0 (fundNumbers (l .fund))) n (restNumbers e)) (omega (arith, fund-length (l .fund)))
-      ∙ sets-append (fundNumbers (l .fund)) (restNumbers e) run 0
-      ∙ all-stored (fundNumbers (l .fund) ++ restNumbers e) run (rw length-append (omega (arith, fund-length (l .fund))))
+      (ap (λ (n : ℕ). sets (sets run 0 (fundNumbers (l .fund))) n (restNumbers l e)) (omega (arith, fund-length (l .fund)))
+      ∙ sets-append (fundNumbers (l .fund)) (restNumbers l e) run 0
+      ∙ all-stored (fundNumbers (l .fund) ++ restNumbers l e) run (rw length-append (omega (arith, fund-length (l .fund))))
       ∙ rw p)

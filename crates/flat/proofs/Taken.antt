@@ -3,15 +3,14 @@ use mathlib.Core.Path.{_≡_}
 use mathlib.Core.List.{List}
 use Prim.Native.Nat.{ℕ, _-_}
 use native.Mathlib.Nat.{le-refl}
-use native.Mathlib.Omega.{arith}
-use lib.ListN.{length, getD, take, drop, length-drop}
-use lib.Seq.{take-all}
+use lib.ListN.{length, getD, take, drop}
 use borrow.Author.Tests.{eq-eqb, ne-eqb}
 use Rattle.lists.specs.Below.{tabulate, table-length, table-ext}
 use Rattle.fund.specs.declared.Component.{Component}
 use Rattle.fund.specs.declared.Fund.{Fund}
 use Rattle.fund.specs.Components.{blank, componentAt, placesOf}
 use Rattle.fund.proofs.Places.{places-at}
+use Rattle.digits.proofs.Put.{rest-all}
 use Rattle.rules.specs.declared.Day.{Day}
 use Rattle.rules.specs.Opening.{blankDay}
 use Rattle.flat.specs.Flat.{fundAt, dayAt}
@@ -20,10 +19,6 @@ use Rattle.flat.specs.Flat.{fundAt, dayAt}
 places-full : (f : ℕ → Component) → placesOf f 300 ≡ tabulate f 300
 unfolding placesOf
 places-full f = table-ext f 300 blank (placesOf f 300) (table-length _ 300) (λ k h. places-at f 300 k h (le-refl 300))
-
--- the rest of a run from a place on
-rest-all : (a : ℕ) (s : List ℕ) → take (length s - a) (drop a s) ≡ drop a s
-rest-all a s = take-all (length s - a) (drop a s) (omega (arith, length-drop a s))
 
 module _ (run : List ℕ) where
   pub day-read : length run ≡ 1516 → (f : Fund) (cs : List Component) → f ≡ fundAt run 2

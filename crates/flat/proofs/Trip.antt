@@ -2,7 +2,7 @@
 -- layout is a chain of the definitions.
 use mathlib.Core.Path.{_≡_, refl, sym, ap, _∙_}
 use mathlib.Core.Bool.{Bool, true, false, cond}
-use mathlib.Core.List.{List, [], _∷_, _++_}
+use mathlib.Core.List.{List, _∷_, _++_}
 use Prim.Native.Nat.{ℕ, _+_, _≤_, _<_}
 use native.Mathlib.Nat.{add-assoc, add-zero}
 use native.Mathlib.Omega.{arith}
@@ -16,7 +16,6 @@ use Rattle.lists.specs.Stretch.{stretch-join}
 use Rattle.fund.specs.declared.Fund.{Fund}
 use Rattle.fund.specs.Fund.{cashInRange}
 use Rattle.fund.specs.Components.{blank, componentAt, componentNumbers}
-use Rattle.fund.proofs.Laws.{cash-small}
 use Rattle.fund.proofs.Stored.{numbers-length, component-is}
 use Rattle.digits.specs.Digits.{cap}
 use Rattle.digits.proofs.Read.{capped-small}
@@ -24,8 +23,9 @@ use Rattle.rules.specs.declared.Day.{Day}
 use Rattle.list_rules.specs.declared.ListFields.{ListFields}
 use Rattle.list_rules.specs.Fields.{signedFigure}
 use Rattle.list_rules.proofs.Fields.{signed-figure}
+use Rattle.list_fields.proofs.Sign.{cash-size}
 use Rattle.flat.specs.Flat.{signedAt, signedNumbers, fundAt, fundNumbers, dayAt, dayNumbers, fieldsAt, fieldsNumbers}
-use Rattle.flat.proofs.Stored.{fund-length, day-length}
+use Rattle.flat.proofs.Stored.{fund-length, day-length, restNumbers}
 
 -- A signed number.
 
@@ -35,8 +35,8 @@ sign-back false = refl
 
 size-small : (e : ℤ) → cashInRange e ≡ true → signedFigure e .size ≤ cap
 unfolding signedFigure
-size-small (pos n) h = omega (arith, cash-small (pos n) h)
-size-small (negsuc n) h = omega (arith, cash-small (negsuc n) h)
+size-small (pos n) h = cash-size (pos n) h
+size-small (negsuc n) h = cash-size (negsuc n) h
 
 -- a number of a run, where the run goes on with a list from a place on
 number-at : (run : List ℕ) (at : ℕ) (l : List ℕ) → drop at run ≡ l → (k : ℕ) → getD run (at + k) 0 ≡ getD l k 0
@@ -106,15 +106,11 @@ module _ (d : Day) (full : length (d .components) ≡ 300) where
 -- A list's fields.
 
 module _ (l : ListFields) where
-  -- the numbers behind the fund
-  abbrev rest : List ℕ
-  rest =
-      l .publish ∷ l .«trading_day» ∷ l .«pre_trading_day» ∷ (signedNumbers (l .«cash_component») ++ (l .«nav_per_cu» ∷ l .nav ∷ l .count ∷ []))
-
   pub fields-flat : length (l .fund .limits) ≡ 8 → cashInRange (l .fund .«estimated_cash») ≡ true
       → cashInRange (l .«cash_component») ≡ true → fieldsAt (fieldsNumbers l) ≡ l
   unfolding fieldsAt fieldsNumbers signedNumbers
   fields-flat limits small cash =
+      let rest = restNumbers l (l .«cash_component») in
       let there = number-at (fieldsNumbers l) 14 rest (drop-at (fundNumbers (l .fund)) rest 14 (fund-length (l .fund))) in
       rw (
         fund-back (fieldsNumbers l) 0 (l .fund) rest refl limits small,
