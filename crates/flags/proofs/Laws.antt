@@ -1,14 +1,14 @@
 -- What callers need of the flag table, shown once by one test of its five rows.
 use mathlib.Core.Path.{_≡_, refl, sym, ap, _∙_}
-use mathlib.Core.Bool.{Bool, true, false, not, _||_, false≢true}
+use mathlib.Core.Bool.{Bool, true, false, not, _||_, _&&_, false≢true}
 use mathlib.Core.List.{List, [], _∷_}
 use Prim.Native.Nat.{ℕ, zero, suc, _≤_, _<_}
 use native.Mathlib.Nat.{le-trans}
 use native.Mathlib.Decide.{decLt}
 use native.Mathlib.Omega.{arith}
-use lib.Dec.{lit≤}
+use lib.Dec.{lit≤, eqb}
 use lib.ListN.{length, getD, List·getD-eq-default}
-use borrow.Author.Tests.{not-true}
+use borrow.Author.Tests.{not-true, ne-eqb}
 use Rattle.lists.specs.Below.{allBelow, all-at}
 use Rattle.lists.specs.Every.{every, every-at}
 use Rattle.flags.specs.Table.{flagTable, entry, stockMoves, shortageInCash, rateUsed, amountUsed, shanghai, priced}
@@ -30,6 +30,23 @@ row-width (suc (suc (suc (suc (suc flag))))) = lit≤ tt
 pub past-columns : (flag column : ℕ) → 6 ≤ column → entry flag column ≡ false
 unfolding entry
 past-columns flag column h = List·getD-eq-default (getD flagTable flag []) false (le-trans (row-width flag) h)
+
+-- of the five rows the flag's own says what the table has
+or-false : (b : Bool) → (b || false) ≡ b
+or-false true = refl
+or-false false = refl
+
+pub row-of : (flag column : ℕ)
+    → (eqb flag 0 && entry 0 column || eqb flag 1 && entry 1 column || eqb flag 2 && entry 2 column || eqb flag 3 && entry 3 column || eqb flag 4 && entry 4 column)
+    ≡ entry flag column
+row-of zero column = simp or-false
+row-of (suc zero) column = simp or-false
+row-of (suc (suc zero)) column = simp or-false
+row-of (suc (suc (suc zero))) column = simp or-false
+row-of (suc (suc (suc (suc zero)))) column = refl
+row-of (suc (suc (suc (suc (suc flag))))) column =
+    let other : (k : ℕ) → k ≤ 4 → eqb (suc (suc (suc (suc (suc flag))))) k ≡ false = λ k h. ne-eqb _ k (λ e. omega arith) in
+    rw (other 0 (lit≤ tt), other 1 (lit≤ tt), other 2 (lit≤ tt), other 3 (lit≤ tt), other 4 (lit≤ tt)) (sym (past-flags (suc (suc (suc (suc (suc flag))))) column (omega arith)))
 
 -- a is false or b is true
 abbrev implies : Bool → Bool → Bool

@@ -231,3 +231,21 @@ pub fn component_fault(first_code: u64, components: [Component; 300], count: usi
     }
     i
 }
+
+// The same of a run of components.
+pub fn run_fault(first_code: u64, run: &[u64], count: usize) -> usize
+    requires { ⌜ (count ≤ 300) × (5 * count ≤ length (now run)) ⌝ }
+    ensures { λ r. ⌜ r ≡ componentFault «first_code» (placesOf (componentAt (now (run .entry))) count) count ⌝ }
+{
+    let mut previous: u64 = 0;
+    let mut i = 0;
+    while i < count {
+        let c = component_at(run, i);
+        if !component_fits(first_code, i, previous, c) {
+            return i;
+        }
+        previous = c.code;
+        i += 1;
+    }
+    i
+}

@@ -76,10 +76,14 @@ impl ReferenceValue {
     }
 }
 
-// v times k hundred-thousandths, rounded: the product is taken in two halves, so that it fits 64 bits.
+// v times k hundred-thousandths, rounded: the product is taken in two halves, so that it fits 64 bits. Most lines of an order have
+// no cash, and 0 needs no division.
 fn scaled(v: u64, k: u64) -> u64
     requires { ⌜ (v ≤ 20_000_000_000_000_000) × (k ≤ 200_000) ⌝ }
     ensures { λ r. ⌜ r ≡ rounded (v * k) 100_000 ⌝ }
 {
+    if v == 0 {
+        return 0;
+    }
     (v / 100_000) * k + ((v % 100_000) * k + 50_000) / 100_000
 }

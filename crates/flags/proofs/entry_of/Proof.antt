@@ -1,29 +1,69 @@
--- `flags::entry_of` meets its contract: past either end the entry is false, and within the table the code's is the definition's.
-use mathlib.Core.Path.{refl, sym}
-use borrow.Author.Needs.{needs}
+-- `flags::entry_of` meets its contract: past the last column the entry is false, and within them `row-of` says that the flag's own row
+-- is the one that answers.
+use mathlib.Core.Path.{sym, _∙_}
+use native.Mathlib.Omega.{arith}
 use Rattle.flags.specs.Table.{entry, flagTable}
-use Rattle.flags.proofs.Laws.{past-flags, past-columns}
+use Rattle.flags.proofs.Laws.{past-columns, row-of}
 use Rattle.flags.proofs.entry_of.Statement.{statement}
 use Rattle.flags.proofs.entry_of.Tie as tie
 
 returns : tie.Need-returns
-returns c = sym (past-flags (c .before .args .flag) (c .before .args .column) (c .if1 .taken))
+returns c = sym (past-columns (c .before .args .flag) (c .before .args .column) (c .if1 .taken))
+
+index-1-of-row : tie.Need-index-1-of-row
+index-1-of-row c = omega arith
+
+index-2-of-row : tie.Need-index-2-of-row
+index-2-of-row c = omega arith
+
+of-row-requires : tie.Need-of-row-requires
+of-row-requires c κs = tt
+
+index-1-of-row-2 : tie.Need-index-1-of-row-2
+index-1-of-row-2 c = omega arith
+
+index-2-of-row-2 : tie.Need-index-2-of-row-2
+index-2-of-row-2 c = omega arith
+
+of-row-requires-2 : tie.Need-of-row-requires-2
+of-row-requires-2 c κs = tt
+
+index-1-of-row-3 : tie.Need-index-1-of-row-3
+index-1-of-row-3 c = omega arith
+
+index-2-of-row-3 : tie.Need-index-2-of-row-3
+index-2-of-row-3 c = omega arith
+
+of-row-requires-3 : tie.Need-of-row-requires-3
+of-row-requires-3 c κs = tt
+
+index-1-of-row-4 : tie.Need-index-1-of-row-4
+index-1-of-row-4 c = omega arith
+
+index-2-of-row-4 : tie.Need-index-2-of-row-4
+index-2-of-row-4 c = omega arith
+
+of-row-requires-4 : tie.Need-of-row-requires-4
+of-row-requires-4 c κs = tt
+
+index-1-of-row-5 : tie.Need-index-1-of-row-5
+index-1-of-row-5 c = omega arith
+
+index-2-of-row-5 : tie.Need-index-2-of-row-5
+index-2-of-row-5 c = omega arith
+
+of-row-requires-5 : tie.Need-of-row-requires-5
+of-row-requires-5 c κs = tt
+
+any-of-requires : tie.Need-any-of-requires
+any-of-requires c κs = tt
 
 returns-2 : tie.Need-returns-2
-returns-2 c = sym (past-columns (c .before .before .args .flag) (c .before .before .args .column) (c .if2 .taken))
-
-mul-result : tie.Need-mul-result
-mul-result c = search needs
-
-index-1-result : tie.Need-index-1-result
-index-1-result c = search needs
-
-index-2-result : tie.Need-index-2-result
-index-2-result c = search needs
-
-returns-3 : tie.Need-returns-3
 unfolding entry flagTable
-returns-3 c = refl
+returns-2 c =
+    let learnt = c .before .before .before .before .before .before .before .before .before .before .before .before .args in
+    c .any-of .ensures
+    ∙ rw (c .before .before .before .before .before .before .before .before .before .of-row .ensures, c .before .before .before .before .before .before .before .of-row2 .ensures, c .before .before .before .before .before .of-row3 .ensures, c .before .before .before .of-row4 .ensures, c .before .of-row5 .ensures) (row-of (learnt .flag) (learnt .column))
 
 pub entry-of-spec : {M : Type 1} → statement M
-entry-of-spec = tie.close (tie.spec returns returns-2 mul-result index-1-result index-2-result returns-3)
+entry-of-spec = tie.close (tie.spec returns index-1-of-row index-2-of-row of-row-requires index-1-of-row-2 index-2-of-row-2 of-row-requires-2 index-1-of-row-3 index-2-of-row-3 of-row-requires-3 index-1-of-row-4 index-2-of-row-4 of-row-requires-4 index-1-of-row-5 index-2-of-row-5 of-row-requires-5 any-of-requires returns-2)

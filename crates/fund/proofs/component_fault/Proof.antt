@@ -1,37 +1,22 @@
 -- `fund::component_fault` meets its contract. The loop's invariant: no component below `i` is at fault, and `previous` is the code
 -- before the `i`-th. Behind the last place the search ends, as the definition meets the blank component there.
 use mathlib.Core.Path.{_≡_, sym, ap, _∙_}
-use mathlib.Core.Bool.{true, false, not}
+use mathlib.Core.Bool.{not}
 use mathlib.Core.List.{List, map}
-use Prim.Native.Nat.{ℕ, _+_, _≤_, _<_, _-_}
+use Prim.Native.Nat.{ℕ, _≤_, _-_}
 use native.Mathlib.Omega.{arith}
-use lib.ListN.{length, getD, length-map}
+use lib.ListN.{length, length-map}
 use borrow.Author.Needs.{needs}
-use Rattle.lists.specs.Below.{firstBelow, first-none, first-more, first-here}
-use Rattle.fund.specs.declared.Component.{Component}
-use Rattle.fund.specs.Components.{blank, fits, faultAt, componentFault}
-use Rattle.fund.proofs.Laws.{codeBefore, before-none, before-more, fault-fits, fault-past}
+use Rattle.lists.specs.Below.{firstBelow, first-none}
+use Rattle.fund.specs.Components.{faultAt, componentFault}
+use Rattle.fund.proofs.Laws.{codeBefore, before-none, before-more}
+use Rattle.fund.proofs.Search.{stops, goes-on, ends}
 use Rattle.fund.proofs.component_fault.Statement.{statement}
 use Rattle.fund.proofs.component_fault.Tie as tie
 
 -- the length of an array of structs, which is known of its layout
 unmapped : {X Y : Type 0} (f : X → Y) (l : List X) (n : ℕ) → length (map f l) ≡ n → length l ≡ n
 unmapped f l n e = sym (length-map l f) ∙ e
-
-module _ (g : ℕ) (cs : List Component) (n i previous : ℕ) (none : firstBelow (faultAt g cs) i ≡ i) (last : previous ≡ codeBefore cs i) where
-  fault-here : not (fits g i previous (getD cs i blank)) ≡ faultAt g cs i
-  fault-here = ap (λ (p : ℕ). not (fits g i p (getD cs i blank))) last ∙ sym (fault-fits g cs i)
-
-  stops : i < n → not (fits g i previous (getD cs i blank)) ≡ true → componentFault g cs n ≡ i
-  unfolding componentFault
-  stops l e = first-here (faultAt g cs) n i l none (sym fault-here ∙ e)
-
-  goes-on : not (fits g i previous (getD cs i blank)) ≡ false → firstBelow (faultAt g cs) (i + 1) ≡ i + 1
-  goes-on e = first-more (faultAt g cs) i none (sym fault-here ∙ e)
-
-  ends : i < n → i ≡ 300 → length cs ≡ 300 → componentFault g cs n ≡ i
-  unfolding componentFault
-  ends l e size = first-here (faultAt g cs) n i l none (fault-past g cs i (omega arith) (omega arith))
 
 abbrev Inv-loop : tie.InvT-loop
 Inv-loop first-code count components previous₀ i₀ previous i =
