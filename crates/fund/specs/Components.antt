@@ -4,7 +4,7 @@ use mathlib.Core.Bool.{Bool, cond, not, _||_}
 use mathlib.Core.List.{List, [], _∷_}
 use lib.Dec.{leb, ltb, eqb}
 use lib.ListN.{getD}
-use Rattle.lists.specs.Below.{firstBelow, tabulate}
+use Rattle.lists.specs.Below.{firstBelow, tabulate, joinBelow}
 use Rattle.lists.specs.Every.{every}
 use Rattle.flags.specs.Table.{entry, rateUsed, amountUsed}
 use Rattle.fund.specs.declared.Component.{Component}
@@ -64,6 +64,10 @@ componentAt run i =
 
 unfoldable pub componentNumbers : Component → List ℕ
 componentNumbers c = c .code ∷ c .quantity ∷ c .flag ∷ c .rate .0 ∷ c .amount .0 ∷ []
+
+-- the numbers of the first n components
+unfoldable pub numbersOf : List Component → ℕ → List ℕ
+numbersOf places n = joinBelow (λ j. componentNumbers (getD places j blank)) n
 
 -- a day's 300 places: n components, then blank ones
 unfoldable pub placesOf : (ℕ → Component) → ℕ → List Component

@@ -1,10 +1,11 @@
 // The fund and its components, and the tests of refusals 2 and 3.
 ghost use mathlib.Core.Path.{_≡_};
 ghost use Prim.Native.Nat.{_+_, _*_, _≤_, _<_};
-ghost use lib.ListN.{length};
+ghost use mathlib.Core.List.{_++_};
+ghost use lib.ListN.{length, drop};
 ghost use lib.Seq.{sets};
 ghost use Rattle.fund.specs.Fund.{cashInRange, limitInRange, limitsInRange, fundInRange};
-ghost use Rattle.fund.specs.Components.{blank, outsideGroup, zeroUnless, componentInRange, fits, componentFault, componentAt, componentNumbers, placesOf};
+ghost use Rattle.fund.specs.Components.{blank, outsideGroup, zeroUnless, componentInRange, fits, componentFault, componentAt, componentNumbers, numbersOf, placesOf};
 use units::Money;
 use units::Rate;
 
@@ -91,6 +92,18 @@ pub fn components_of(run: &[u64], count: usize) -> [Component; 300]
         i += 1;
     }
     components
+}
+
+// Stores so many components at the front of a run.
+pub fn put_components(run: &mut [u64], components: [Component; 300], count: usize)
+    requires { ⌜ (count ≤ 300) × (5 * count ≤ length (now run)) ⌝ }
+    ensures { λ _. ⌜ now (run .exit) ≡ numbersOf components count ++ drop (5 * count) (now (run .entry)) ⌝ }
+{
+    let mut i = 0;
+    while i < count {
+        put_component(run, i, components[i]);
+        i += 1;
+    }
 }
 
 pub fn cash_in_range(e: i64) -> bool
