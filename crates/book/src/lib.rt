@@ -4,15 +4,16 @@ ghost use Prim.Native.Nat.{_+_, _*_, _≤_, _<_, _^_};
 ghost use lib.ListN.{length};
 ghost use Rattle.lists.specs.Stretch.{stretchOf, onStretch};
 ghost use Rattle.lots.specs.Lots.{sellable, handable, lotsTotal};
+ghost use Rattle.day_parts.specs.Parts.{dayOf};
 ghost use Rattle.rules.specs.Book.{cash, widthOf, width, account, headAt, putHead, lotsAt, putLots, onLine, eachLine};
 ghost use Rattle.rules.specs.Trade.{sellSide, buySide, tradeMoves};
 ghost use Rattle.rules.specs.Orders.{creation};
 ghost use Rattle.rules.specs.Kinds.{stockLots, fundLots, unitLots, accountCash, fundCash, orderMoves};
 ghost use Rattle.book.specs.Moved.{movedOf, stockBy, fundBy, sideBy};
 ghost use Rattle.book.specs.Ready.{Tradable, StockReady, AccountReady, FundReady, OrderReady};
+use day_parts::DayHead;
 use fund::Component;
 use lots::Lots;
-use rules::Day;
 use units::Money;
 
 // The fund's account.
@@ -323,48 +324,60 @@ fn fund_turn(kind: usize, c: Component, book: &mut [u64], w: usize, a: usize, m:
 }
 
 // All of the fund's stock.
-fn fund_stock(kind: usize, d: Day, book: &mut [u64], a: usize, m: u64)
-    requires { ⌜ (0 < a) × (a * width d + width d ≤ length (now book)) ⌝ }
-    requires { ⌜ StockReady d (account d (now book) a) m ⌝ }
-    requires { ⌜ FundReady kind d (account d (now book) a) (account d (now book) 0) m ⌝ }
-    ensures { λ _. ⌜ now (book .exit) ≡ onStretch (width d) 0 (eachLine (fundBy kind d (account d (now (book .entry)) a) m) (d .count)) (now (book .entry)) ⌝ }
+fn fund_stock(kind: usize, d: DayHead, basket: &[u64], book: &mut [u64], a: usize, m: u64)
+    requires { ⌜ (0 < a) × (a * width (dayOf d (now basket)) + width (dayOf d (now basket)) ≤ length (now book)) ⌝ }
+    requires { ⌜ StockReady (dayOf d (now basket)) (account (dayOf d (now basket)) (now book) a) m ⌝ }
+    requires { ⌜ FundReady kind (dayOf d (now basket)) (account (dayOf d (now basket)) (now book) a) (account (dayOf d (now basket)) (now book) 0) m ⌝ }
+    requires { ⌜ length (now basket) ≡ 1500 ⌝ }
+    ensures { λ _. ⌜ now (book .exit) ≡ onStretch (width (dayOf d (now (basket .entry)))) 0 (eachLine (fundBy kind (dayOf d (now (basket .entry))) (account (dayOf d (now (basket .entry))) (now (book .entry)) a) m) (d .count)) (now (book .entry)) ⌝ }
 {
     let w = width_of(d.count);
     let mut i: usize = 0;
     while i < d.count {
-        let c = d.components[i];
+        let c = day_parts::component_of(basket, i);
         fund_turn(kind, c, book, w, a, m, i);
         i += 1;
     }
 }
 
 // All of the account's stock.
-fn account_stock(kind: usize, d: Day, stretch: &mut [u64], m: u64)
-    requires { ⌜ StockReady d (now stretch) m ⌝ }
-    ensures { λ _. ⌜ now (stretch .exit) ≡ eachLine (stockBy kind d (now (stretch .entry)) m) (d .count) (now (stretch .entry)) ⌝ }
+fn account_stock(kind: usize, d: DayHead, basket: &[u64], stretch: &mut [u64], m: u64)
+    requires { ⌜ StockReady (dayOf d (now basket)) (now stretch) m ⌝ }
+    requires { ⌜ length (now basket) ≡ 1500 ⌝ }
+    ensures { λ _. ⌜ now (stretch .exit) ≡ eachLine (stockBy kind (dayOf d (now (basket .entry))) (now (stretch .entry)) m) (d .count) (now (stretch .entry)) ⌝ }
 {
     let mut i: usize = 0;
     while i < d.count {
-        let c = d.components[i];
+        let c = day_parts::component_of(basket, i);
         account_line(kind, c, stretch, m, i);
         i += 1;
     }
 }
 
 // The account's side of an order: stock, units, cash and counter.
-fn account_side(kind: usize, d: Day, stretch: &mut [u64], units: u64, m: u64, c: Money)
-    requires { ⌜ AccountReady kind d (now stretch) units m (c .0) ⌝ }
-    ensures { λ _. ⌜ now (stretch .exit) ≡ sideBy kind d units m (c .0) (now (stretch .entry)) (now (stretch .entry)) ⌝ }
+fn account_side(
+    kind: usize,
+    d: DayHead,
+    basket: &[u64],
+    stretch: &mut [u64],
+    units: u64,
+    m: u64,
+    c: Money,
+)
+    requires { ⌜ AccountReady kind (dayOf d (now basket)) (now stretch) units m (c .0) ⌝ }
+    requires { ⌜ length (now basket) ≡ 1500 ⌝ }
+    ensures { λ _. ⌜ now (stretch .exit) ≡ sideBy kind (dayOf d (now (basket .entry))) units m (c .0) (now (stretch .entry)) (now (stretch .entry)) ⌝ }
 {
     let count = d.count;
-    account_stock(kind, d, stretch, m);
+    account_stock(kind, d, basket, stretch, m);
     unit_line(kind, stretch, count, units);
     account_head(kind, stretch, units, c);
 }
 
 fn account_side_of(
     kind: usize,
-    d: Day,
+    d: DayHead,
+    basket: &[u64],
     book: &mut [u64],
     w: usize,
     a: usize,
@@ -373,22 +386,33 @@ fn account_side_of(
     c: Money,
 )
     requires { ⌜ a * w + w ≤ length (now book) ⌝ }
-    requires { ⌜ AccountReady kind d (stretchOf w (now book) a) units m (c .0) ⌝ }
-    ensures { λ _. ⌜ now (book .exit) ≡ onStretch w a (sideBy kind d units m (c .0) (stretchOf w (now (book .entry)) a)) (now (book .entry)) ⌝ }
+    requires { ⌜ AccountReady kind (dayOf d (now basket)) (stretchOf w (now book) a) units m (c .0) ⌝ }
+    requires { ⌜ length (now basket) ≡ 1500 ⌝ }
+    ensures { λ _. ⌜ now (book .exit) ≡ onStretch w a (sideBy kind (dayOf d (now (basket .entry))) units m (c .0) (stretchOf w (now (book .entry)) a)) (now (book .entry)) ⌝ }
 {
     let start = a * w;
     let end = start + w;
-    account_side(kind, d, &mut book[start..end], units, m, c);
+    account_side(kind, d, basket, &mut book[start..end], units, m, c);
 }
 
 // Both sides of an order of account `a` for `units` in `m` baskets, with the cash `c`: the fund's side first, which reads what moves
 // off the account's lots as they are before the order.
-pub fn move_order(kind: usize, d: Day, book: &mut [u64], a: usize, units: u64, m: u64, c: Money)
-    requires { ⌜ OrderReady kind d (now book) a units m (c .0) ⌝ }
-    ensures { λ _. ⌜ now (book .exit) ≡ orderMoves kind d a units m (c .0) (now (book .entry)) ⌝ }
+pub fn move_order(
+    kind: usize,
+    d: DayHead,
+    basket: &[u64],
+    book: &mut [u64],
+    a: usize,
+    units: u64,
+    m: u64,
+    c: Money,
+)
+    requires { ⌜ OrderReady kind (dayOf d (now basket)) (now book) a units m (c .0) ⌝ }
+    requires { ⌜ length (now basket) ≡ 1500 ⌝ }
+    ensures { λ _. ⌜ now (book .exit) ≡ orderMoves kind (dayOf d (now (basket .entry))) a units m (c .0) (now (book .entry)) ⌝ }
 {
     let w = width_of(d.count);
-    fund_stock(kind, d, book, a, m);
+    fund_stock(kind, d, basket, book, a, m);
     fund_head_of(kind, book, w, FUND, c);
-    account_side_of(kind, d, book, w, a, units, m, c);
+    account_side_of(kind, d, basket, book, w, a, units, m, c);
 }

@@ -2,6 +2,8 @@
 // `known` says that the day is sound, so that a list of calls tests it once.
 ghost use mathlib.Core.Path.{_≡_};
 ghost use mathlib.Core.Bool.{true};
+ghost use lib.ListN.{length};
+ghost use Rattle.day_parts.specs.Parts.{dayOf};
 ghost use Rattle.rules.specs.Replies.{answerReply, orderReply, valueReply};
 ghost use Rattle.rules.specs.Price.{priceReply, pricedPrices};
 ghost use Rattle.rules.specs.Trade.{tradeReply, tradedBook};
@@ -10,37 +12,40 @@ ghost use Rattle.rules.specs.Records.{roomIn};
 ghost use Rattle.rules.specs.Creation.{creationReply, createdBook, createdList};
 ghost use Rattle.rules.specs.Redemption.{redemptionReply, redeemedBook, redeemedList};
 ghost use Rattle.rules.specs.Sound.{isSound};
+use day_parts::DayHead;
 use rules::Answer;
-use rules::Day;
 use rules::OrderAnswer;
 use rules::Refusal;
 use rules::ValueAnswer;
 
 // Whether the day is sound: known, or tested.
-fn sound_day(known: bool, d: Day, book: &[u64], prices: &[u64]) -> bool
-    requires { ⌜ (known ≡ true → isSound d (now book) (now prices) ≡ true) ⌝ }
-    ensures { λ r. ⌜ r ≡ isSound d (now (book .entry)) (now (prices .entry)) ⌝ }
+fn sound_day(known: bool, d: DayHead, basket: &[u64], book: &[u64], prices: &[u64]) -> bool
+    requires { ⌜ (known ≡ true → isSound (dayOf d (now basket)) (now book) (now prices) ≡ true) ⌝ }
+    requires { ⌜ length (now basket) ≡ 1500 ⌝ }
+    ensures { λ r. ⌜ r ≡ isSound (dayOf d (now (basket .entry))) (now (book .entry)) (now (prices .entry)) ⌝ }
 {
     if known {
         return true;
     }
-    sound::is_sound(d, book, prices)
+    sound::is_sound(d, basket, book, prices)
 }
 
 // Sets a component's price.
 pub fn price(
     known: bool,
-    d: Day,
+    d: DayHead,
+    basket: &[u64],
     book: &[u64],
     prices: &mut [u64],
     line: usize,
     price: u64,
 ) -> Answer
-    requires { ⌜ (known ≡ true → isSound d (now book) (now prices) ≡ true) ⌝ }
-    ensures { λ r. ⌜ answerReply r ≡ priceReply d (now (book .entry)) (now (prices .entry)) line price ⌝ }
-    ensures prices { λ r. ⌜ now (prices .exit) ≡ pricedPrices d (now (book .entry)) (now (prices .entry)) line price ⌝ }
+    requires { ⌜ (known ≡ true → isSound (dayOf d (now basket)) (now book) (now prices) ≡ true) ⌝ }
+    requires { ⌜ length (now basket) ≡ 1500 ⌝ }
+    ensures { λ r. ⌜ answerReply r ≡ priceReply (dayOf d (now (basket .entry))) (now (book .entry)) (now (prices .entry)) line price ⌝ }
+    ensures prices { λ r. ⌜ now (prices .exit) ≡ pricedPrices (dayOf d (now (basket .entry))) (now (book .entry)) (now (prices .entry)) line price ⌝ }
 {
-    if !sound_day(known, d, book, prices) {
+    if !sound_day(known, d, basket, book, prices) {
         return Answer::Refused(Refusal::UnsoundDay);
     }
     trades::set_price(d.count, prices, line, price)
@@ -49,7 +54,8 @@ pub fn price(
 // Trades a quantity of a line at a price.
 pub fn trade(
     known: bool,
-    d: Day,
+    d: DayHead,
+    basket: &[u64],
     book: &mut [u64],
     prices: &[u64],
     line: usize,
@@ -58,65 +64,77 @@ pub fn trade(
     seller: usize,
     buyer: usize,
 ) -> Answer
-    requires { ⌜ (known ≡ true → isSound d (now book) (now prices) ≡ true) ⌝ }
-    ensures { λ r. ⌜ answerReply r ≡ tradeReply d (now (book .entry)) (now (prices .entry)) line q price seller buyer ⌝ }
-    ensures book { λ r. ⌜ now (book .exit) ≡ tradedBook d (now (book .entry)) (now (prices .entry)) line q price seller buyer ⌝ }
+    requires { ⌜ (known ≡ true → isSound (dayOf d (now basket)) (now book) (now prices) ≡ true) ⌝ }
+    requires { ⌜ length (now basket) ≡ 1500 ⌝ }
+    ensures { λ r. ⌜ answerReply r ≡ tradeReply (dayOf d (now (basket .entry))) (now (book .entry)) (now (prices .entry)) line q price seller buyer ⌝ }
+    ensures book { λ r. ⌜ now (book .exit) ≡ tradedBook (dayOf d (now (basket .entry))) (now (book .entry)) (now (prices .entry)) line q price seller buyer ⌝ }
 {
-    if !sound_day(known, d, book, prices) {
+    if !sound_day(known, d, basket, book, prices) {
         return Answer::Refused(Refusal::UnsoundDay);
     }
     trades::trade(d.accounts, d.count, book, line, q, price, seller, buyer)
 }
 
 // The reference value at this moment.
-pub fn reference_value(known: bool, d: Day, book: &[u64], prices: &[u64]) -> ValueAnswer
-    requires { ⌜ (known ≡ true → isSound d (now book) (now prices) ≡ true) ⌝ }
-    ensures { λ r. ⌜ valueReply r ≡ worthReply d (now (book .entry)) (now (prices .entry)) ⌝ }
+pub fn reference_value(
+    known: bool,
+    d: DayHead,
+    basket: &[u64],
+    book: &[u64],
+    prices: &[u64],
+) -> ValueAnswer
+    requires { ⌜ (known ≡ true → isSound (dayOf d (now basket)) (now book) (now prices) ≡ true) ⌝ }
+    requires { ⌜ length (now basket) ≡ 1500 ⌝ }
+    ensures { λ r. ⌜ valueReply r ≡ worthReply (dayOf d (now (basket .entry))) (now (book .entry)) (now (prices .entry)) ⌝ }
 {
-    if !sound_day(known, d, book, prices) {
+    if !sound_day(known, d, basket, book, prices) {
         return ValueAnswer::Refused(Refusal::UnsoundDay);
     }
-    value::reference_value(d, prices)
+    value::reference_value(d, basket, prices)
 }
 
 // Creates units for an account; the records go to the lent list.
 pub fn create(
     known: bool,
-    d: Day,
+    d: DayHead,
+    basket: &[u64],
     book: &mut [u64],
     prices: &[u64],
     a: usize,
     units: u64,
     list: &mut [u64],
 ) -> OrderAnswer
-    requires { ⌜ (known ≡ true → isSound d (now book) (now prices) ≡ true) ⌝ }
-    ensures { λ r. ⌜ orderReply r ≡ creationReply d (now (book .entry)) (now (prices .entry)) a units (roomIn (now (list .entry))) ⌝ }
-    ensures book { λ r. ⌜ now (book .exit) ≡ createdBook d (now (book .entry)) (now (prices .entry)) a units (roomIn (now (list .entry))) ⌝ }
-    ensures list { λ r. ⌜ now (list .exit) ≡ createdList d (now (book .entry)) (now (prices .entry)) a units (now (list .entry)) ⌝ }
+    requires { ⌜ (known ≡ true → isSound (dayOf d (now basket)) (now book) (now prices) ≡ true) ⌝ }
+    requires { ⌜ length (now basket) ≡ 1500 ⌝ }
+    ensures { λ r. ⌜ orderReply r ≡ creationReply (dayOf d (now (basket .entry))) (now (book .entry)) (now (prices .entry)) a units (roomIn (now (list .entry))) ⌝ }
+    ensures book { λ r. ⌜ now (book .exit) ≡ createdBook (dayOf d (now (basket .entry))) (now (book .entry)) (now (prices .entry)) a units (roomIn (now (list .entry))) ⌝ }
+    ensures list { λ r. ⌜ now (list .exit) ≡ createdList (dayOf d (now (basket .entry))) (now (book .entry)) (now (prices .entry)) a units (now (list .entry)) ⌝ }
 {
-    if !sound_day(known, d, book, prices) {
+    if !sound_day(known, d, basket, book, prices) {
         return OrderAnswer::Refused(Refusal::UnsoundDay);
     }
-    orders::create(d, book, prices, a, units, list)
+    orders::create(d, basket, book, prices, a, units, list)
 }
 
 // Redeems units of an account; the records go to the lent list.
 pub fn redeem(
     known: bool,
-    d: Day,
+    d: DayHead,
+    basket: &[u64],
     book: &mut [u64],
     prices: &[u64],
     a: usize,
     units: u64,
     list: &mut [u64],
 ) -> OrderAnswer
-    requires { ⌜ (known ≡ true → isSound d (now book) (now prices) ≡ true) ⌝ }
-    ensures { λ r. ⌜ orderReply r ≡ redemptionReply d (now (book .entry)) (now (prices .entry)) a units (roomIn (now (list .entry))) ⌝ }
-    ensures book { λ r. ⌜ now (book .exit) ≡ redeemedBook d (now (book .entry)) (now (prices .entry)) a units (roomIn (now (list .entry))) ⌝ }
-    ensures list { λ r. ⌜ now (list .exit) ≡ redeemedList d (now (book .entry)) (now (prices .entry)) a units (now (list .entry)) ⌝ }
+    requires { ⌜ (known ≡ true → isSound (dayOf d (now basket)) (now book) (now prices) ≡ true) ⌝ }
+    requires { ⌜ length (now basket) ≡ 1500 ⌝ }
+    ensures { λ r. ⌜ orderReply r ≡ redemptionReply (dayOf d (now (basket .entry))) (now (book .entry)) (now (prices .entry)) a units (roomIn (now (list .entry))) ⌝ }
+    ensures book { λ r. ⌜ now (book .exit) ≡ redeemedBook (dayOf d (now (basket .entry))) (now (book .entry)) (now (prices .entry)) a units (roomIn (now (list .entry))) ⌝ }
+    ensures list { λ r. ⌜ now (list .exit) ≡ redeemedList (dayOf d (now (basket .entry))) (now (book .entry)) (now (prices .entry)) a units (now (list .entry)) ⌝ }
 {
-    if !sound_day(known, d, book, prices) {
+    if !sound_day(known, d, basket, book, prices) {
         return OrderAnswer::Refused(Refusal::UnsoundDay);
     }
-    orders::redeem(d, book, prices, a, units, list)
+    orders::redeem(d, basket, book, prices, a, units, list)
 }

@@ -3,6 +3,7 @@ ghost use mathlib.Core.Path.{_≡_};
 ghost use Prim.Native.Nat.{_+_, _≤_, _<_};
 ghost use lib.ListN.{length};
 ghost use Rattle.lists.specs.Checks.{answered};
+ghost use Rattle.day_parts.specs.Parts.{dayOf};
 ghost use Rattle.rules.specs.Book.{widthOf};
 ghost use Rattle.rules.specs.Replies.{answerReply, orderReply};
 ghost use Rattle.rules.specs.Orders.{mostBaskets, baskets};
@@ -12,8 +13,8 @@ ghost use Rattle.value.specs.Worth.{Priceable};
 ghost use Rattle.scan.specs.Lines.{recordCount};
 ghost use Rattle.scan.specs.Ready.{CreationReady, RedemptionReady};
 ghost use Rattle.means.specs.Tests.{ratioTests, lastTests, creationTests, redemptionTests, CreationFound, RedemptionFound};
+use day_parts::DayHead;
 use rules::Answer;
-use rules::Day;
 use rules::OrderAnswer;
 use rules::Refusal;
 use rules::ValueAnswer;
@@ -28,17 +29,25 @@ pub struct Tested {
 }
 
 // The tests 14 and 15: nothing is asked where nothing is missing.
-fn ratio_answer(d: Day, prices: &[u64], m: u64, missing: bool, worth: Money) -> Answer
-    requires { ⌜ Priceable d (now prices) ⌝ }
+fn ratio_answer(
+    d: DayHead,
+    basket: &[u64],
+    prices: &[u64],
+    m: u64,
+    missing: bool,
+    worth: Money,
+) -> Answer
+    requires { ⌜ Priceable (dayOf d (now basket)) (now prices) ⌝ }
     requires { ⌜ (m ≤ mostBaskets) × (d .fund .«max_cash_ratio» .0 ≤ 100_000) ⌝ }
-    ensures { λ r. ⌜ answerReply r ≡ answered (ratioTests d (now (prices .entry)) m missing (worth .0)) 0 ⌝ }
+    requires { ⌜ length (now basket) ≡ 1500 ⌝ }
+    ensures { λ r. ⌜ answerReply r ≡ answered (ratioTests (dayOf d (now (basket .entry))) (now (prices .entry)) m missing (worth .0)) 0 ⌝ }
 {
     if !missing {
         return Answer::Done;
     }
     let size = d.fund.basket_size;
     let ratio = d.fund.max_cash_ratio;
-    match value::reference_value(d, prices) {
+    match value::reference_value(d, basket, prices) {
         ValueAnswer::Worth(v) => {
             if scan::ratio_passed(worth, m, size, v, ratio) {
                 return Answer::Refused(Refusal::CashRatio);
@@ -77,7 +86,8 @@ fn redemption_last(place: usize, held: u64, due: u64, room: usize, count: usize)
 
 // The tests of a creation, from the scan t and the cash held.
 fn creation_from(
-    d: Day,
+    d: DayHead,
+    basket: &[u64],
     prices: &[u64],
     m: u64,
     n: usize,
@@ -85,9 +95,10 @@ fn creation_from(
     held: u64,
     room: usize,
 ) -> OrderAnswer
-    requires { ⌜ Priceable d (now prices) ⌝ }
+    requires { ⌜ Priceable (dayOf d (now basket)) (now prices) ⌝ }
     requires { ⌜ (m ≤ mostBaskets) × (d .fund .«max_cash_ratio» .0 ≤ 100_000) × (t .«stock_records» ≤ 300) × (t .other .0 + t .shanghai .0 ≤ 12_000_000_000_000_000_000) ⌝ }
-    ensures { λ r. ⌜ orderReply r ≡ answered (creationTests d (now (prices .entry)) m n t held room) (recordCount t) ⌝ }
+    requires { ⌜ length (now basket) ≡ 1500 ⌝ }
+    ensures { λ r. ⌜ orderReply r ≡ answered (creationTests (dayOf d (now (basket .entry))) (now (prices .entry)) m n t held room) (recordCount t) ⌝ }
 {
     let short = t.short;
     if short < n {
@@ -95,7 +106,7 @@ fn creation_from(
     }
     let due = t.other.0 + t.shanghai.0;
     let count = scan::record_count(t);
-    match ratio_answer(d, prices, m, t.missing, t.missing_worth) {
+    match ratio_answer(d, basket, prices, m, t.missing, t.missing_worth) {
         Answer::Done => creation_last(held, due, room, count),
         Answer::Refused(why) => OrderAnswer::Refused(why),
     }
@@ -126,22 +137,24 @@ fn redemption_from(
 
 // The third stage of a creation of m baskets, by an account with the stretch lent.
 pub fn creation_means(
-    d: Day,
+    d: DayHead,
+    basket: &[u64],
     stretch: &[u64],
     prices: &[u64],
     units: u64,
     m: u64,
     room: usize,
 ) -> Tested
-    requires { ⌜ CreationReady d (now stretch) (now prices) m ⌝ }
-    requires { ⌜ Priceable d (now prices) ⌝ }
-    requires { ⌜ (m ≡ baskets d units) × (d .fund .«max_cash_ratio» .0 ≤ 100_000) ⌝ }
-    ensures { λ r. ⌜ orderReply (r .answer) ≡ answered (creationMeans d (now (stretch .entry)) (now (prices .entry)) units room) (length (creationRecords d (now (stretch .entry)) (now (prices .entry)) units)) ⌝ }
-    ensures found { λ r. ⌜ CreationFound d (now (stretch .entry)) (now (prices .entry)) units (r .other .0) (r .shanghai .0) ⌝ }
+    requires { ⌜ CreationReady (dayOf d (now basket)) (now stretch) (now prices) m ⌝ }
+    requires { ⌜ Priceable (dayOf d (now basket)) (now prices) ⌝ }
+    requires { ⌜ (m ≡ baskets (dayOf d (now basket)) units) × (d .fund .«max_cash_ratio» .0 ≤ 100_000) ⌝ }
+    requires { ⌜ length (now basket) ≡ 1500 ⌝ }
+    ensures { λ r. ⌜ orderReply (r .answer) ≡ answered (creationMeans (dayOf d (now (basket .entry))) (now (stretch .entry)) (now (prices .entry)) units room) (length (creationRecords (dayOf d (now (basket .entry))) (now (stretch .entry)) (now (prices .entry)) units)) ⌝ }
+    ensures found { λ r. ⌜ CreationFound (dayOf d (now (basket .entry))) (now (stretch .entry)) (now (prices .entry)) units (r .other .0) (r .shanghai .0) ⌝ }
 {
     let n = d.count;
-    let t = scan::creation_scan(d, stretch, prices, m);
-    let answer = creation_from(d, prices, m, n, t, stretch[0], room);
+    let t = scan::creation_scan(d, basket, stretch, prices, m);
+    let answer = creation_from(d, basket, prices, m, n, t, stretch[0], room);
     let other = t.other;
     let shanghai = t.shanghai;
     Tested {
@@ -153,20 +166,22 @@ pub fn creation_means(
 
 // The third stage of a redemption of m baskets, by an account and a fund with the stretches lent.
 pub fn redemption_means(
-    d: Day,
+    d: DayHead,
+    basket: &[u64],
     stretch: &[u64],
     fund: &[u64],
     units: u64,
     m: u64,
     room: usize,
 ) -> Tested
-    requires { ⌜ RedemptionReady d (now fund) m ⌝ }
-    requires { ⌜ (m ≡ baskets d units) × (length (now stretch) ≡ widthOf (d .count)) × (unitsAvailable d (now stretch) ≤ 2_000_000_000_000_000_000) ⌝ }
-    ensures { λ r. ⌜ orderReply (r .answer) ≡ answered (redemptionMeans d (now (stretch .entry)) (now (fund .entry)) units room) (length (redemptionRecords d units)) ⌝ }
-    ensures found { λ r. ⌜ RedemptionFound d units (r .other .0) (r .shanghai .0) ⌝ }
+    requires { ⌜ RedemptionReady (dayOf d (now basket)) (now fund) m ⌝ }
+    requires { ⌜ (m ≡ baskets (dayOf d (now basket)) units) × (length (now stretch) ≡ widthOf (d .count)) × (unitsAvailable (dayOf d (now basket)) (now stretch) ≤ 2_000_000_000_000_000_000) ⌝ }
+    requires { ⌜ length (now basket) ≡ 1500 ⌝ }
+    ensures { λ r. ⌜ orderReply (r .answer) ≡ answered (redemptionMeans (dayOf d (now (basket .entry))) (now (stretch .entry)) (now (fund .entry)) units room) (length (redemptionRecords (dayOf d (now (basket .entry))) units)) ⌝ }
+    ensures found { λ r. ⌜ RedemptionFound (dayOf d (now (basket .entry))) units (r .other .0) (r .shanghai .0) ⌝ }
 {
     let n = d.count;
-    let t = scan::redemption_scan(d, fund, m);
+    let t = scan::redemption_scan(d, basket, fund, m);
     let at = 3 + 3 * n;
     let available = stretch[at + 1] + stretch[at];
     let answer = redemption_from(n, t, available, units, fund[0], room);

@@ -5,6 +5,7 @@ ghost use Prim.Native.Nat.{_+_, _*_, _≤_, _<_};
 ghost use lib.ListN.{length};
 ghost use Rattle.lists.specs.Checks.{isAccepted};
 ghost use Rattle.lists.specs.Stretch.{stretchOf};
+ghost use Rattle.day_parts.specs.Parts.{dayOf};
 ghost use Rattle.rules.specs.Book.{widthOf, account};
 ghost use Rattle.rules.specs.Replies.{orderReply, ifAccepted};
 ghost use Rattle.rules.specs.Sound.{isSound};
@@ -18,9 +19,9 @@ ghost use Rattle.records.specs.Ready.{Writable};
 ghost use Rattle.means.specs.Tests.{CreationFound, RedemptionFound};
 ghost use Rattle.lists.specs.Checks.{answered};
 ghost use Rattle.orders.specs.Orders.{creationAnswer, redemptionAnswer, Formed};
+use day_parts::DayHead;
 use means::Tested;
 use rules::Answer;
-use rules::Day;
 use rules::OrderAnswer;
 use rules::Refusal;
 use units::Money;
@@ -37,31 +38,50 @@ fn part_of(book: &[u64], count: usize, a: usize) -> &[u64]
 }
 
 // The third stage of a creation, on the account's part of the book.
-fn creation_stage(d: Day, book: &[u64], prices: &[u64], a: usize, units: u64, room: usize) -> Tested
-    requires { ⌜ Formed d (now book) (now prices) creation a units ⌝ }
-    ensures { λ r. ⌜ orderReply (r .answer) ≡ answered (creationMeans d (account d (now (book .entry)) a) (now (prices .entry)) units room) (length (creationRecords d (account d (now (book .entry)) a) (now (prices .entry)) units)) ⌝ }
-    ensures found { λ r. ⌜ CreationFound d (account d (now (book .entry)) a) (now (prices .entry)) units (r .other .0) (r .shanghai .0) ⌝ }
-{
-    let m = units / d.fund.basket_size;
-    means::creation_means(d, part_of(book, d.count, a), prices, units, m, room)
-}
-
-// The third stage of a redemption, on the account's part of the book and the fund's.
-fn redemption_stage(
-    d: Day,
+fn creation_stage(
+    d: DayHead,
+    basket: &[u64],
     book: &[u64],
     prices: &[u64],
     a: usize,
     units: u64,
     room: usize,
 ) -> Tested
-    requires { ⌜ Formed d (now book) (now prices) redemption a units ⌝ }
-    ensures { λ r. ⌜ orderReply (r .answer) ≡ answered (redemptionMeans d (account d (now (book .entry)) a) (account d (now (book .entry)) 0) units room) (length (redemptionRecords d units)) ⌝ }
-    ensures found { λ r. ⌜ RedemptionFound d units (r .other .0) (r .shanghai .0) ⌝ }
+    requires { ⌜ Formed (dayOf d (now basket)) (now book) (now prices) creation a units ⌝ }
+    requires { ⌜ length (now basket) ≡ 1500 ⌝ }
+    ensures { λ r. ⌜ orderReply (r .answer) ≡ answered (creationMeans (dayOf d (now (basket .entry))) (account (dayOf d (now (basket .entry))) (now (book .entry)) a) (now (prices .entry)) units room) (length (creationRecords (dayOf d (now (basket .entry))) (account (dayOf d (now (basket .entry))) (now (book .entry)) a) (now (prices .entry)) units)) ⌝ }
+    ensures found { λ r. ⌜ CreationFound (dayOf d (now (basket .entry))) (account (dayOf d (now (basket .entry))) (now (book .entry)) a) (now (prices .entry)) units (r .other .0) (r .shanghai .0) ⌝ }
+{
+    let m = units / d.fund.basket_size;
+    means::creation_means(d, basket, part_of(book, d.count, a), prices, units, m, room)
+}
+
+// The third stage of a redemption, on the account's part of the book and the fund's.
+fn redemption_stage(
+    d: DayHead,
+    basket: &[u64],
+    book: &[u64],
+    prices: &[u64],
+    a: usize,
+    units: u64,
+    room: usize,
+) -> Tested
+    requires { ⌜ Formed (dayOf d (now basket)) (now book) (now prices) redemption a units ⌝ }
+    requires { ⌜ length (now basket) ≡ 1500 ⌝ }
+    ensures { λ r. ⌜ orderReply (r .answer) ≡ answered (redemptionMeans (dayOf d (now (basket .entry))) (account (dayOf d (now (basket .entry))) (now (book .entry)) a) (account (dayOf d (now (basket .entry))) (now (book .entry)) 0) units room) (length (redemptionRecords (dayOf d (now (basket .entry))) units)) ⌝ }
+    ensures found { λ r. ⌜ RedemptionFound (dayOf d (now (basket .entry))) units (r .other .0) (r .shanghai .0) ⌝ }
 {
     let n = d.count;
     let m = units / d.fund.basket_size;
-    means::redemption_means(d, part_of(book, n, a), part_of(book, n, 0), units, m, room)
+    means::redemption_means(
+        d,
+        basket,
+        part_of(book, n, a),
+        part_of(book, n, 0),
+        units,
+        m,
+        room,
+    )
 }
 
 // An order that its form turns back.
@@ -77,40 +97,44 @@ fn turned_back(why: Refusal) -> Tested
 
 // The tests of a creation, with the cash by market of one that is accepted.
 pub fn creation_tested(
-    d: Day,
+    d: DayHead,
+    basket: &[u64],
     book: &[u64],
     prices: &[u64],
     a: usize,
     units: u64,
     room: usize,
 ) -> Tested
-    requires { ⌜ isSound d (now book) (now prices) ≡ true ⌝ }
-    ensures { λ r. ⌜ orderReply (r .answer) ≡ creationAnswer d (now (book .entry)) (now (prices .entry)) a units room ⌝ }
-    ensures found { λ r. ⌜ (isAccepted (creationAnswer d (now (book .entry)) (now (prices .entry)) a units room) ≡ true → CreationFound d (account d (now (book .entry)) a) (now (prices .entry)) units (r .other .0) (r .shanghai .0)) ⌝ }
+    requires { ⌜ isSound (dayOf d (now basket)) (now book) (now prices) ≡ true ⌝ }
+    requires { ⌜ length (now basket) ≡ 1500 ⌝ }
+    ensures { λ r. ⌜ orderReply (r .answer) ≡ creationAnswer (dayOf d (now (basket .entry))) (now (book .entry)) (now (prices .entry)) a units room ⌝ }
+    ensures found { λ r. ⌜ (isAccepted (creationAnswer (dayOf d (now (basket .entry))) (now (book .entry)) (now (prices .entry)) a units room) ≡ true → CreationFound (dayOf d (now (basket .entry))) (account (dayOf d (now (basket .entry))) (now (book .entry)) a) (now (prices .entry)) units (r .other .0) (r .shanghai .0)) ⌝ }
 {
     let fund = d.fund;
     match permission::order_form(d.accounts, d.count, fund, book, rules::CREATION, a, units) {
-        Answer::Done => creation_stage(d, book, prices, a, units, room),
+        Answer::Done => creation_stage(d, basket, book, prices, a, units, room),
         Answer::Refused(why) => turned_back(why),
     }
 }
 
 // The tests of a redemption.
 pub fn redemption_tested(
-    d: Day,
+    d: DayHead,
+    basket: &[u64],
     book: &[u64],
     prices: &[u64],
     a: usize,
     units: u64,
     room: usize,
 ) -> Tested
-    requires { ⌜ isSound d (now book) (now prices) ≡ true ⌝ }
-    ensures { λ r. ⌜ orderReply (r .answer) ≡ redemptionAnswer d (now (book .entry)) a units room ⌝ }
-    ensures found { λ r. ⌜ (isAccepted (redemptionAnswer d (now (book .entry)) a units room) ≡ true → RedemptionFound d units (r .other .0) (r .shanghai .0)) ⌝ }
+    requires { ⌜ isSound (dayOf d (now basket)) (now book) (now prices) ≡ true ⌝ }
+    requires { ⌜ length (now basket) ≡ 1500 ⌝ }
+    ensures { λ r. ⌜ orderReply (r .answer) ≡ redemptionAnswer (dayOf d (now (basket .entry))) (now (book .entry)) a units room ⌝ }
+    ensures found { λ r. ⌜ (isAccepted (redemptionAnswer (dayOf d (now (basket .entry))) (now (book .entry)) a units room) ≡ true → RedemptionFound (dayOf d (now (basket .entry))) units (r .other .0) (r .shanghai .0)) ⌝ }
 {
     let fund = d.fund;
     match permission::order_form(d.accounts, d.count, fund, book, rules::REDEMPTION, a, units) {
-        Answer::Done => redemption_stage(d, book, prices, a, units, room),
+        Answer::Done => redemption_stage(d, basket, book, prices, a, units, room),
         Answer::Refused(why) => turned_back(why),
     }
 }
@@ -118,7 +142,8 @@ pub fn redemption_tested(
 // Writes the records of an accepted order, and then moves it.
 fn make_order(
     kind: usize,
-    d: Day,
+    d: DayHead,
+    basket: &[u64],
     book: &mut [u64],
     a: usize,
     units: u64,
@@ -126,39 +151,60 @@ fn make_order(
     shanghai: Money,
     list: &mut [u64],
 )
-    requires { ⌜ OrderReady kind d (now book) a units (baskets d units) (other .0 + shanghai .0) ⌝ }
-    requires { ⌜ Writable kind d (account d (now book) a) units (baskets d units) (other .0) (shanghai .0) (now list) ⌝ }
+    requires { ⌜ OrderReady kind (dayOf d (now basket)) (now book) a units (baskets (dayOf d (now basket)) units) (other .0 + shanghai .0) ⌝ }
+    requires { ⌜ Writable kind (dayOf d (now basket)) (account (dayOf d (now basket)) (now book) a) units (baskets (dayOf d (now basket)) units) (other .0) (shanghai .0) (now list) ⌝ }
     requires { ⌜ (0 < d .fund .«basket_size») × (other .0 + shanghai .0 ≤ 12_000_000_000_000_000_000) ⌝ }
-    ensures book { λ _. ⌜ now (book .exit) ≡ orderMoves kind d a units (baskets d units) (other .0 + shanghai .0) (now (book .entry)) ⌝ }
-    ensures list { λ _. ⌜ now (list .exit) ≡ withRecords (recordsBy kind d (account d (now (book .entry)) a) units (baskets d units) (other .0) (shanghai .0)) (now (list .entry)) ⌝ }
+    requires { ⌜ length (now basket) ≡ 1500 ⌝ }
+    ensures book { λ _. ⌜ now (book .exit) ≡ orderMoves kind (dayOf d (now (basket .entry))) a units (baskets (dayOf d (now (basket .entry))) units) (other .0 + shanghai .0) (now (book .entry)) ⌝ }
+    ensures list { λ _. ⌜ now (list .exit) ≡ withRecords (recordsBy kind (dayOf d (now (basket .entry))) (account (dayOf d (now (basket .entry))) (now (book .entry)) a) units (baskets (dayOf d (now (basket .entry))) units) (other .0) (shanghai .0)) (now (list .entry)) ⌝ }
 {
     let m = units / d.fund.basket_size;
     let part = part_of(book, d.count, a);
-    records::write_records(list, kind, d, part, units, m, other, shanghai);
-    book::move_order(kind, d, book, a, units, m, Money(other.0 + shanghai.0));
+    records::write_records(list, kind, d, basket, part, units, m, other, shanghai);
+    book::move_order(
+        kind,
+        d,
+        basket,
+        book,
+        a,
+        units,
+        m,
+        Money(other.0 + shanghai.0),
+    );
 }
 
 // A creation.
 pub fn create(
-    d: Day,
+    d: DayHead,
+    basket: &[u64],
     book: &mut [u64],
     prices: &[u64],
     a: usize,
     units: u64,
     list: &mut [u64],
 ) -> OrderAnswer
-    requires { ⌜ isSound d (now book) (now prices) ≡ true ⌝ }
-    ensures { λ r. ⌜ orderReply r ≡ creationAnswer d (now (book .entry)) (now (prices .entry)) a units (roomIn (now (list .entry))) ⌝ }
-    ensures book { λ r. ⌜ now (book .exit) ≡ ifAccepted (creationAnswer d (now (book .entry)) (now (prices .entry)) a units (roomIn (now (list .entry)))) (creationMoves d (now (prices .entry)) a units (now (book .entry))) (now (book .entry)) ⌝ }
-    ensures list { λ r. ⌜ now (list .exit) ≡ ifAccepted (creationAnswer d (now (book .entry)) (now (prices .entry)) a units (roomIn (now (list .entry)))) (withRecords (creationRecords d (account d (now (book .entry)) a) (now (prices .entry)) units) (now (list .entry))) (now (list .entry)) ⌝ }
+    requires { ⌜ isSound (dayOf d (now basket)) (now book) (now prices) ≡ true ⌝ }
+    requires { ⌜ length (now basket) ≡ 1500 ⌝ }
+    ensures { λ r. ⌜ orderReply r ≡ creationAnswer (dayOf d (now (basket .entry))) (now (book .entry)) (now (prices .entry)) a units (roomIn (now (list .entry))) ⌝ }
+    ensures book { λ r. ⌜ now (book .exit) ≡ ifAccepted (creationAnswer (dayOf d (now (basket .entry))) (now (book .entry)) (now (prices .entry)) a units (roomIn (now (list .entry)))) (creationMoves (dayOf d (now (basket .entry))) (now (prices .entry)) a units (now (book .entry))) (now (book .entry)) ⌝ }
+    ensures list { λ r. ⌜ now (list .exit) ≡ ifAccepted (creationAnswer (dayOf d (now (basket .entry))) (now (book .entry)) (now (prices .entry)) a units (roomIn (now (list .entry)))) (withRecords (creationRecords (dayOf d (now (basket .entry))) (account (dayOf d (now (basket .entry))) (now (book .entry)) a) (now (prices .entry)) units) (now (list .entry))) (now (list .entry)) ⌝ }
 {
-    let t = creation_tested(d, book, prices, a, units, list.len() / rules::RECORD_WIDTH);
+    let t = creation_tested(
+        d,
+        basket,
+        book,
+        prices,
+        a,
+        units,
+        list.len() / rules::RECORD_WIDTH,
+    );
     let answer = t.answer;
     match answer {
         OrderAnswer::Made(count) => {
             make_order(
                 rules::CREATION,
                 d,
+                basket,
                 book,
                 a,
                 units,
@@ -174,25 +220,36 @@ pub fn create(
 
 // A redemption.
 pub fn redeem(
-    d: Day,
+    d: DayHead,
+    basket: &[u64],
     book: &mut [u64],
     prices: &[u64],
     a: usize,
     units: u64,
     list: &mut [u64],
 ) -> OrderAnswer
-    requires { ⌜ isSound d (now book) (now prices) ≡ true ⌝ }
-    ensures { λ r. ⌜ orderReply r ≡ redemptionAnswer d (now (book .entry)) a units (roomIn (now (list .entry))) ⌝ }
-    ensures book { λ r. ⌜ now (book .exit) ≡ ifAccepted (redemptionAnswer d (now (book .entry)) a units (roomIn (now (list .entry)))) (redemptionMoves d a units (now (book .entry))) (now (book .entry)) ⌝ }
-    ensures list { λ r. ⌜ now (list .exit) ≡ ifAccepted (redemptionAnswer d (now (book .entry)) a units (roomIn (now (list .entry)))) (withRecords (redemptionRecords d units) (now (list .entry))) (now (list .entry)) ⌝ }
+    requires { ⌜ isSound (dayOf d (now basket)) (now book) (now prices) ≡ true ⌝ }
+    requires { ⌜ length (now basket) ≡ 1500 ⌝ }
+    ensures { λ r. ⌜ orderReply r ≡ redemptionAnswer (dayOf d (now (basket .entry))) (now (book .entry)) a units (roomIn (now (list .entry))) ⌝ }
+    ensures book { λ r. ⌜ now (book .exit) ≡ ifAccepted (redemptionAnswer (dayOf d (now (basket .entry))) (now (book .entry)) a units (roomIn (now (list .entry)))) (redemptionMoves (dayOf d (now (basket .entry))) a units (now (book .entry))) (now (book .entry)) ⌝ }
+    ensures list { λ r. ⌜ now (list .exit) ≡ ifAccepted (redemptionAnswer (dayOf d (now (basket .entry))) (now (book .entry)) a units (roomIn (now (list .entry)))) (withRecords (redemptionRecords (dayOf d (now (basket .entry))) units) (now (list .entry))) (now (list .entry)) ⌝ }
 {
-    let t = redemption_tested(d, book, prices, a, units, list.len() / rules::RECORD_WIDTH);
+    let t = redemption_tested(
+        d,
+        basket,
+        book,
+        prices,
+        a,
+        units,
+        list.len() / rules::RECORD_WIDTH,
+    );
     let answer = t.answer;
     match answer {
         OrderAnswer::Made(count) => {
             make_order(
                 rules::REDEMPTION,
                 d,
+                basket,
                 book,
                 a,
                 units,

@@ -4,15 +4,16 @@ ghost use mathlib.Core.List.{[], _∷_};
 ghost use Prim.Native.Nat.{_+_, _*_, _≤_, _<_, _^_};
 ghost use lib.ListN.{length};
 ghost use Rattle.lots.specs.Lots.{handable};
+ghost use Rattle.day_parts.specs.Parts.{dayOf};
 ghost use Rattle.rules.specs.Records.{recordOf, cashRecords, withRecords};
 ghost use Rattle.rules.specs.Kinds.{stockSide, restSide, recordsBy};
 ghost use Rattle.records.specs.Written.{recordAt, Fits, Wrote, lineRecord, stockRecords, recordsAfterStock};
 ghost use Rattle.records.specs.Ready.{Movable, Writable};
 use book::lots_at;
 use book::stock_moved;
+use day_parts::DayHead;
 use fund::Component;
 use lots::Lots;
-use rules::Day;
 use rules::Record;
 use units::Money;
 
@@ -118,16 +119,25 @@ fn put_line(out: &mut [u64], at: usize, kind: usize, c: Component, m: u64, x: Lo
 }
 
 // The records of stock, from the place `from` on.
-fn put_stock(out: &mut [u64], from: usize, kind: usize, d: Day, stretch: &[u64], m: u64) -> usize
-    requires { ⌜ Movable kind d (now stretch) m ⌝ }
-    requires { ⌜ Fits (stockRecords kind d (now stretch) m) from (now out) ⌝ }
-    ensures { λ next. ⌜ Wrote (stockRecords kind d (now (stretch .entry)) m) from (now (out .entry)) (now (out .exit)) next ⌝ }
+fn put_stock(
+    out: &mut [u64],
+    from: usize,
+    kind: usize,
+    d: DayHead,
+    basket: &[u64],
+    stretch: &[u64],
+    m: u64,
+) -> usize
+    requires { ⌜ Movable kind (dayOf d (now basket)) (now stretch) m ⌝ }
+    requires { ⌜ Fits (stockRecords kind (dayOf d (now basket)) (now stretch) m) from (now out) ⌝ }
+    requires { ⌜ length (now basket) ≡ 1500 ⌝ }
+    ensures { λ next. ⌜ Wrote (stockRecords kind (dayOf d (now (basket .entry))) (now (stretch .entry)) m) from (now (out .entry)) (now (out .exit)) next ⌝ }
 {
     let count = d.count;
     let mut at = from;
     let mut i = 0;
     while i < count {
-        let c = d.components[i];
+        let c = day_parts::component_of(basket, i);
         let x = lots_at(stretch, i);
         at = put_line(out, at, kind, c, m, x);
         i += 1;
@@ -159,22 +169,24 @@ fn put_after_stock(
 pub fn write_records(
     out: &mut [u64],
     kind: usize,
-    d: Day,
+    d: DayHead,
+    basket: &[u64],
     stretch: &[u64],
     units: u64,
     m: u64,
     other: Money,
     shanghai: Money,
 ) -> usize
-    requires { ⌜ Writable kind d (now stretch) units m (other .0) (shanghai .0) (now out) ⌝ }
-    ensures answer { λ r. ⌜ r ≡ length (recordsBy kind d (now (stretch .entry)) units m (other .0) (shanghai .0)) ⌝ }
-    ensures list { λ r. ⌜ now (out .exit) ≡ withRecords (recordsBy kind d (now (stretch .entry)) units m (other .0) (shanghai .0)) (now (out .entry)) ⌝ }
+    requires { ⌜ Writable kind (dayOf d (now basket)) (now stretch) units m (other .0) (shanghai .0) (now out) ⌝ }
+    requires { ⌜ length (now basket) ≡ 1500 ⌝ }
+    ensures answer { λ r. ⌜ r ≡ length (recordsBy kind (dayOf d (now (basket .entry))) (now (stretch .entry)) units m (other .0) (shanghai .0)) ⌝ }
+    ensures list { λ r. ⌜ now (out .exit) ≡ withRecords (recordsBy kind (dayOf d (now (basket .entry))) (now (stretch .entry)) units m (other .0) (shanghai .0)) (now (out .entry)) ⌝ }
 {
     let first_code = d.fund.first_code;
     let side = rest_side(kind);
     let unit = record_of(first_code, side, units, Money(0));
     let stock_at = put_record(out, 0, unit);
-    let cash_at = put_stock(out, stock_at, kind, d, stretch, m);
+    let cash_at = put_stock(out, stock_at, kind, d, basket, stretch, m);
     let end = put_after_stock(out, cash_at, first_code, side, units, other, shanghai);
     end / rules::RECORD_WIDTH
 }

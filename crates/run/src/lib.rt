@@ -4,12 +4,14 @@ ghost use mathlib.Core.Path.{_≡_};
 ghost use mathlib.Core.Bool.{true};
 ghost use Prim.Native.Nat.{_+_, _*_, _≤_};
 ghost use lib.ListN.{length};
+ghost use Rattle.day_parts.specs.Parts.{dayOf};
 ghost use Rattle.rules.specs.Replies.{answerReply};
 ghost use Rattle.rules.specs.Sound.{isSound, isKept};
 ghost use Rattle.balance.specs.Calls.{create, redeem};
 ghost use Rattle.numbers.specs.Numbers.{replyOf};
 ghost use Rattle.run.specs.Rows.{call, rowOf, rowAt, partStart, partLength, resultOf, rowReply, rowLeaves, putReply};
 ghost use Rattle.run.specs.Batch.{stateOf, workOf, batchOf, rowDone, runFrom, rowsFit, runReply, ran, eventsOf, Demand3};
+use day_parts::DayHead;
 use numbers::Numbers;
 use rules::Answer;
 use rules::Day;
@@ -50,7 +52,8 @@ fn part_in(run: usize, start: usize, length: usize) -> Part
 // A creation whose list is a part of the record run.
 fn create_row(
     known: bool,
-    d: Day,
+    d: DayHead,
+    basket: &[u64],
     book: &mut [u64],
     prices: &[u64],
     records: &mut [u64],
@@ -59,9 +62,10 @@ fn create_row(
     start: u64,
     length: u64,
 ) -> Numbers
-    requires { ⌜ (known ≡ true → isSound d (now book) (now prices) ≡ true) ⌝ }
-    ensures { λ r. ⌜ replyOf r ≡ resultOf (workOf d (now (book .entry)) (now (prices .entry)) (now (records .entry))) (create a units) start length .reply ⌝ }
-    ensures left { λ r. ⌜ workOf d (now (book .exit)) (now (prices .entry)) (now (records .exit)) ≡ rowLeaves (workOf d (now (book .entry)) (now (prices .entry)) (now (records .entry))) (call (create a units) start length) ⌝ }
+    requires { ⌜ (known ≡ true → isSound (dayOf d (now basket)) (now book) (now prices) ≡ true) ⌝ }
+    requires { ⌜ length (now basket) ≡ 1500 ⌝ }
+    ensures { λ r. ⌜ replyOf r ≡ resultOf (workOf (dayOf d (now (basket .entry))) (now (book .entry)) (now (prices .entry)) (now (records .entry))) (create a units) start length .reply ⌝ }
+    ensures left { λ r. ⌜ workOf (dayOf d (now (basket .entry))) (now (book .exit)) (now (prices .entry)) (now (records .exit)) ≡ rowLeaves (workOf (dayOf d (now (basket .entry))) (now (book .entry)) (now (prices .entry)) (now (records .entry))) (call (create a units) start length) ⌝ }
 {
     let part = part_in(records.len(), start as usize, length as usize);
     let from = part.start;
@@ -69,6 +73,7 @@ fn create_row(
     let answer = calls::create(
         known,
         d,
+        basket,
         book,
         prices,
         a as usize,
@@ -81,7 +86,8 @@ fn create_row(
 // A redemption whose list is a part of the record run.
 fn redeem_row(
     known: bool,
-    d: Day,
+    d: DayHead,
+    basket: &[u64],
     book: &mut [u64],
     prices: &[u64],
     records: &mut [u64],
@@ -90,9 +96,10 @@ fn redeem_row(
     start: u64,
     length: u64,
 ) -> Numbers
-    requires { ⌜ (known ≡ true → isSound d (now book) (now prices) ≡ true) ⌝ }
-    ensures { λ r. ⌜ replyOf r ≡ resultOf (workOf d (now (book .entry)) (now (prices .entry)) (now (records .entry))) (redeem a units) start length .reply ⌝ }
-    ensures left { λ r. ⌜ workOf d (now (book .exit)) (now (prices .entry)) (now (records .exit)) ≡ rowLeaves (workOf d (now (book .entry)) (now (prices .entry)) (now (records .entry))) (call (redeem a units) start length) ⌝ }
+    requires { ⌜ (known ≡ true → isSound (dayOf d (now basket)) (now book) (now prices) ≡ true) ⌝ }
+    requires { ⌜ length (now basket) ≡ 1500 ⌝ }
+    ensures { λ r. ⌜ replyOf r ≡ resultOf (workOf (dayOf d (now (basket .entry))) (now (book .entry)) (now (prices .entry)) (now (records .entry))) (redeem a units) start length .reply ⌝ }
+    ensures left { λ r. ⌜ workOf (dayOf d (now (basket .entry))) (now (book .exit)) (now (prices .entry)) (now (records .exit)) ≡ rowLeaves (workOf (dayOf d (now (basket .entry))) (now (book .entry)) (now (prices .entry)) (now (records .entry))) (call (redeem a units) start length) ⌝ }
 {
     let part = part_in(records.len(), start as usize, length as usize);
     let from = part.start;
@@ -100,6 +107,7 @@ fn redeem_row(
     let answer = calls::redeem(
         known,
         d,
+        basket,
         book,
         prices,
         a as usize,
@@ -112,7 +120,8 @@ fn redeem_row(
 // The call that a row names; 1 where it names none.
 fn row_call(
     known: bool,
-    d: Day,
+    d: DayHead,
+    basket: &[u64],
     book: &mut [u64],
     prices: &mut [u64],
     records: &mut [u64],
@@ -123,17 +132,19 @@ fn row_call(
     x4: u64,
     x5: u64,
 ) -> Numbers
-    requires { ⌜ (known ≡ true → isSound d (now book) (now prices) ≡ true) ⌝ }
-    ensures { λ r. ⌜ replyOf r ≡ rowReply (workOf d (now (book .entry)) (now (prices .entry)) (now (records .entry))) (rowOf kind x1 x2 x3 x4 x5) ⌝ }
-    ensures left { λ r. ⌜ workOf d (now (book .exit)) (now (prices .exit)) (now (records .exit)) ≡ rowLeaves (workOf d (now (book .entry)) (now (prices .entry)) (now (records .entry))) (rowOf kind x1 x2 x3 x4 x5) ⌝ }
+    requires { ⌜ (known ≡ true → isSound (dayOf d (now basket)) (now book) (now prices) ≡ true) ⌝ }
+    requires { ⌜ length (now basket) ≡ 1500 ⌝ }
+    ensures { λ r. ⌜ replyOf r ≡ rowReply (workOf (dayOf d (now (basket .entry))) (now (book .entry)) (now (prices .entry)) (now (records .entry))) (rowOf kind x1 x2 x3 x4 x5) ⌝ }
+    ensures left { λ r. ⌜ workOf (dayOf d (now (basket .entry))) (now (book .exit)) (now (prices .exit)) (now (records .exit)) ≡ rowLeaves (workOf (dayOf d (now (basket .entry))) (now (book .entry)) (now (prices .entry)) (now (records .entry))) (rowOf kind x1 x2 x3 x4 x5) ⌝ }
 {
     if kind == 1 {
-        return numbers::of_answer(calls::price(known, d, book, prices, x1 as usize, x2));
+        return numbers::of_answer(calls::price(known, d, basket, book, prices, x1 as usize, x2));
     }
     if kind == 2 {
         return numbers::of_answer(calls::trade(
             known,
             d,
+            basket,
             book,
             prices,
             x1 as usize,
@@ -144,13 +155,13 @@ fn row_call(
         ));
     }
     if kind == 3 {
-        return create_row(known, d, book, prices, records, x1, x2, x3, x4);
+        return create_row(known, d, basket, book, prices, records, x1, x2, x3, x4);
     }
     if kind == 4 {
-        return redeem_row(known, d, book, prices, records, x1, x2, x3, x4);
+        return redeem_row(known, d, basket, book, prices, records, x1, x2, x3, x4);
     }
     if kind == 5 {
-        return numbers::of_value(calls::reference_value(known, d, book, prices));
+        return numbers::of_value(calls::reference_value(known, d, basket, book, prices));
     }
     numbers::of_refusal(Refusal::Sizes)
 }
@@ -169,7 +180,8 @@ fn put_reply(answers: &mut [u64], i: usize, reply: Numbers)
 // One row: its call, and its answer.
 fn do_row(
     known: bool,
-    d: Day,
+    d: DayHead,
+    basket: &[u64],
     book: &mut [u64],
     prices: &mut [u64],
     rows: &[u64],
@@ -177,15 +189,17 @@ fn do_row(
     answers: &mut [u64],
     i: usize,
 )
-    requires { ⌜ (known ≡ true → isSound d (now book) (now prices) ≡ true) ⌝ }
+    requires { ⌜ (known ≡ true → isSound (dayOf d (now basket)) (now book) (now prices) ≡ true) ⌝ }
     requires { ⌜ 6 * i + 6 ≤ length (now rows) ⌝ }
     requires { ⌜ 3 * i + 3 ≤ length (now answers) ⌝ }
-    ensures { λ _. ⌜ batchOf d (now (book .exit)) (now (prices .exit)) (now (records .exit)) (now (answers .exit)) ≡ rowDone (batchOf d (now (book .entry)) (now (prices .entry)) (now (records .entry)) (now (answers .entry))) (rowAt (now (rows .entry)) i) i ⌝ }
+    requires { ⌜ length (now basket) ≡ 1500 ⌝ }
+    ensures { λ _. ⌜ batchOf (dayOf d (now (basket .entry))) (now (book .exit)) (now (prices .exit)) (now (records .exit)) (now (answers .exit)) ≡ rowDone (batchOf (dayOf d (now (basket .entry))) (now (book .entry)) (now (prices .entry)) (now (records .entry)) (now (answers .entry))) (rowAt (now (rows .entry)) i) i ⌝ }
 {
     let at = ROW * i;
     let reply = row_call(
         known,
         d,
+        basket,
         book,
         prices,
         records,
@@ -202,7 +216,8 @@ fn do_row(
 // All the rows.
 fn do_rows(
     known: bool,
-    d: Day,
+    d: DayHead,
+    basket: &[u64],
     book: &mut [u64],
     prices: &mut [u64],
     rows: &[u64],
@@ -210,14 +225,15 @@ fn do_rows(
     answers: &mut [u64],
     n: usize,
 )
-    requires { ⌜ (known ≡ true → isKept d (now book) (now prices) ≡ true) ⌝ }
+    requires { ⌜ (known ≡ true → isKept (dayOf d (now basket)) (now book) (now prices) ≡ true) ⌝ }
     requires { ⌜ 6 * n ≤ length (now rows) ⌝ }
     requires { ⌜ 3 * n ≤ length (now answers) ⌝ }
-    ensures { λ _. ⌜ batchOf d (now (book .exit)) (now (prices .exit)) (now (records .exit)) (now (answers .exit)) ≡ runFrom (now (rows .entry)) 0 n (batchOf d (now (book .entry)) (now (prices .entry)) (now (records .entry)) (now (answers .entry))) ⌝ }
+    requires { ⌜ length (now basket) ≡ 1500 ⌝ }
+    ensures { λ _. ⌜ batchOf (dayOf d (now (basket .entry))) (now (book .exit)) (now (prices .exit)) (now (records .exit)) (now (answers .exit)) ≡ runFrom (now (rows .entry)) 0 n (batchOf (dayOf d (now (basket .entry))) (now (book .entry)) (now (prices .entry)) (now (records .entry)) (now (answers .entry))) ⌝ }
 {
     let mut i = 0;
     while i < n {
-        do_row(known, d, book, prices, rows, records, answers, i);
+        do_row(known, d, basket, book, prices, rows, records, answers, i);
         i += 1;
     }
 }
@@ -236,16 +252,18 @@ fn rows_fit(rows: usize, answers: usize) -> bool
 // The list of calls, where it may be known that every call leaves the day sound.
 fn run_rows(
     known: bool,
-    d: Day,
+    d: DayHead,
+    basket: &[u64],
     book: &mut [u64],
     prices: &mut [u64],
     rows: &[u64],
     records: &mut [u64],
     answers: &mut [u64],
 ) -> Answer
-    requires { ⌜ (known ≡ true → isKept d (now book) (now prices) ≡ true) ⌝ }
-    ensures { λ r. ⌜ answerReply r ≡ runReply (now (rows .entry)) (batchOf d (now (book .entry)) (now (prices .entry)) (now (records .entry)) (now (answers .entry))) ⌝ }
-    ensures left { λ r. ⌜ batchOf d (now (book .exit)) (now (prices .exit)) (now (records .exit)) (now (answers .exit)) ≡ ran (now (rows .entry)) (batchOf d (now (book .entry)) (now (prices .entry)) (now (records .entry)) (now (answers .entry))) ⌝ }
+    requires { ⌜ (known ≡ true → isKept (dayOf d (now basket)) (now book) (now prices) ≡ true) ⌝ }
+    requires { ⌜ length (now basket) ≡ 1500 ⌝ }
+    ensures { λ r. ⌜ answerReply r ≡ runReply (now (rows .entry)) (batchOf (dayOf d (now (basket .entry))) (now (book .entry)) (now (prices .entry)) (now (records .entry)) (now (answers .entry))) ⌝ }
+    ensures left { λ r. ⌜ batchOf (dayOf d (now (basket .entry))) (now (book .exit)) (now (prices .exit)) (now (records .exit)) (now (answers .exit)) ≡ ran (now (rows .entry)) (batchOf (dayOf d (now (basket .entry))) (now (book .entry)) (now (prices .entry)) (now (records .entry)) (now (answers .entry))) ⌝ }
 {
     if !rows_fit(rows.len(), answers.len()) {
         return Answer::Refused(Refusal::Sizes);
@@ -253,6 +271,7 @@ fn run_rows(
     do_rows(
         known,
         d,
+        basket,
         book,
         prices,
         rows,

@@ -7,6 +7,7 @@ ghost use lib.Dec.{ltb};
 ghost use lib.ListN.{length};
 ghost use Rattle.lists.specs.Every.{every};
 ghost use Rattle.units.specs.Units.{ratioBound};
+ghost use Rattle.day_parts.specs.Parts.{dayOf};
 ghost use Rattle.rules.specs.Book.{lotsAt};
 ghost use Rattle.rules.specs.Sound.{mostPrice};
 ghost use Rattle.rules.specs.Orders.{mostBaskets};
@@ -14,8 +15,8 @@ ghost use Rattle.rules.specs.Creation.{available};
 ghost use Rattle.scan.specs.Lines.{creationLine, redemptionLine, nextShort, withLine, noLines, cashCount, recordCount};
 ghost use Rattle.scan.specs.Scans.{creationScan, redemptionScan};
 ghost use Rattle.scan.specs.Ready.{Ranged, Room, CreationReady, RedemptionReady};
+use day_parts::DayHead;
 use fund::Component;
-use rules::Day;
 use units::Money;
 use units::Rate;
 use units::ReferenceValue;
@@ -224,15 +225,16 @@ fn no_lines() -> Scan
 }
 
 // A creation of m baskets by the account with this stretch.
-pub fn creation_scan(d: Day, stretch: &[u64], prices: &[u64], m: u64) -> Scan
-    requires { ⌜ CreationReady d (now stretch) (now prices) m ⌝ }
-    ensures { λ r. ⌜ r ≡ creationScan d (now (stretch .entry)) (now (prices .entry)) m ⌝ }
+pub fn creation_scan(d: DayHead, basket: &[u64], stretch: &[u64], prices: &[u64], m: u64) -> Scan
+    requires { ⌜ CreationReady (dayOf d (now basket)) (now stretch) (now prices) m ⌝ }
+    requires { ⌜ length (now basket) ≡ 1500 ⌝ }
+    ensures { λ r. ⌜ r ≡ creationScan (dayOf d (now (basket .entry))) (now (stretch .entry)) (now (prices .entry)) m ⌝ }
 {
     let n = d.count;
     let mut t = no_lines();
     let mut i = 0;
     while i < n {
-        let c = d.components[i];
+        let c = day_parts::component_of(basket, i);
         t = with_line(
             t,
             i,
@@ -244,15 +246,16 @@ pub fn creation_scan(d: Day, stretch: &[u64], prices: &[u64], m: u64) -> Scan
 }
 
 // A redemption of m baskets from the fund with this stretch.
-pub fn redemption_scan(d: Day, fund: &[u64], m: u64) -> Scan
-    requires { ⌜ RedemptionReady d (now fund) m ⌝ }
-    ensures { λ r. ⌜ r ≡ redemptionScan d (now (fund .entry)) m ⌝ }
+pub fn redemption_scan(d: DayHead, basket: &[u64], fund: &[u64], m: u64) -> Scan
+    requires { ⌜ RedemptionReady (dayOf d (now basket)) (now fund) m ⌝ }
+    requires { ⌜ length (now basket) ≡ 1500 ⌝ }
+    ensures { λ r. ⌜ r ≡ redemptionScan (dayOf d (now (basket .entry))) (now (fund .entry)) m ⌝ }
 {
     let n = d.count;
     let mut t = no_lines();
     let mut i = 0;
     while i < n {
-        let c = d.components[i];
+        let c = day_parts::component_of(basket, i);
         t = with_line(t, i, redemption_line(c, old_at(fund, i), m));
         i += 1;
     }

@@ -4,11 +4,12 @@ ghost use mathlib.Core.Bool.{not, true};
 ghost use Prim.Native.Nat.{ℕ, _+_, _*_, _%_, _^_, _≤_, _<_};
 ghost use lib.ListN.{length, getD};
 ghost use Rattle.lists.specs.Below.{anyBelow, allBelow};
+ghost use Rattle.day_parts.specs.Parts.{dayOf};
 ghost use Rattle.rules.specs.Book.{widthOf};
 ghost use Rattle.rules.specs.Sound.{isSound, isKept};
 ghost use Rattle.sound.specs.Totals.{widest, top, numberAt, total, plusOne, plusThree, reaches, Low};
 ghost use Rattle.sound.specs.Parts.{sizesFit, mostOf, lineFits, totalsFit, lineStill, stretchStill, priceFits, roomLeft};
-use rules::Day;
+use day_parts::DayHead;
 
 // The most that a line, the unit's line and cash may total.
 pub const MOST_OF_LINE: u64 = 1_000_000_000_000_000_000;
@@ -235,20 +236,20 @@ fn sizes_fit(accounts: usize, n: usize, book: usize, prices: usize) -> bool
 }
 
 // Refusal 5's test.
-pub fn is_sound(d: Day, book: &[u64], prices: &[u64]) -> bool
-    ensures { λ r. ⌜ r ≡ isSound d (now (book .entry)) (now (prices .entry)) ⌝ }
+pub fn is_sound(d: DayHead, basket: &[u64], book: &[u64], prices: &[u64]) -> bool
+    requires { ⌜ length (now basket) ≡ 1500 ⌝ }
+    ensures { λ r. ⌜ r ≡ isSound (dayOf d (now (basket .entry))) (now (book .entry)) (now (prices .entry)) ⌝ }
 {
     let accounts = d.accounts;
     let n = d.count;
     let f = d.fund;
-    let components = d.components;
     if !sizes_fit(accounts, n, book.len(), prices.len()) {
         return false;
     }
     if !fund::fund_in_range(f) {
         return false;
     }
-    if fund::component_fault(f.first_code, components, n) < n {
+    if fund::run_fault(f.first_code, basket, n) < n {
         return false;
     }
     if !prices_fit(prices, n) {
@@ -290,12 +291,13 @@ fn room_left(book: &[u64], accounts: usize, n: usize) -> bool
 }
 
 // What every call keeps: sound, with that room.
-pub fn is_kept(d: Day, book: &[u64], prices: &[u64]) -> bool
-    ensures { λ r. ⌜ r ≡ isKept d (now (book .entry)) (now (prices .entry)) ⌝ }
+pub fn is_kept(d: DayHead, basket: &[u64], book: &[u64], prices: &[u64]) -> bool
+    requires { ⌜ length (now basket) ≡ 1500 ⌝ }
+    ensures { λ r. ⌜ r ≡ isKept (dayOf d (now (basket .entry))) (now (book .entry)) (now (prices .entry)) ⌝ }
 {
     let accounts = d.accounts;
     let n = d.count;
-    if !is_sound(d, book, prices) {
+    if !is_sound(d, basket, book, prices) {
         return false;
     }
     room_left(book, accounts, n)
