@@ -9,7 +9,9 @@ use denote.Ref.{now}
 use mir.Syntax.{w64}
 use mir.Val.{toZ, ofZ}
 use Rattle.lists.specs.Below.{sumBelow, anyBelow, sum-none, any-none}
-use Rattle.rules.specs.Lines.{componentOf, priceOf}
+use Rattle.rules.specs.declared.Day.{Day}
+use Rattle.day_parts.specs.Parts.{dayOf}
+use Rattle.rules.specs.Lines.{priceOf}
 use Rattle.rules.specs.Value.{worthAt, lacksPrice, worthBefore, cashAdded}
 use Rattle.value.specs.Worth.{Countable}
 use Rattle.value.proofs.Sign.{added-small}
@@ -18,19 +20,21 @@ use Rattle.value.proofs.reference_value.Statement.{statement}
 use Rattle.value.proofs.reference_value.Tie as tie
 
 abbrev Inv-loop : tie.InvT-loop
-Inv-loop prices d n sum₀ i₀ sum i = (i ≤ n) × (anyBelow (lacksPrice d prices) i ≡ false) × (sum .0 ≡ sumBelow (worthAt d prices) i)
+Inv-loop d basket prices n sum₀ i₀ sum i =
+    (i ≤ n) × (anyBelow (lacksPrice (dayOf d basket) prices) i ≡ false) × (sum .0 ≡ sumBelow (worthAt (dayOf d basket) prices) i)
 
 abbrev μ-loop : tie.MeasureT-loop
-μ-loop prices d n sum₀ i₀ sum i = n - i
+μ-loop d basket prices n sum₀ i₀ sum i = n - i
 
 loop-holds : tie.Need-loop-holds Inv-loop μ-loop
 loop-holds c = (zero-le, any-none _, sym (sum-none _))
 
-mul-c : tie.Need-mul-c Inv-loop μ-loop
-mul-c c = omega arith
+-- the day that the arguments make
+abbrev day : tie.Start Inv-loop μ-loop → Day
+day c = dayOf (c .args .d) (now (c .args .basket))
 
-element-copy-out-c : tie.Need-element-copy-out-c Inv-loop μ-loop
-element-copy-out-c c = omega arith
+component-of-requires : tie.Need-component-of-requires Inv-loop μ-loop
+component-of-requires c κs = (omega arith, c .before .before .before .before .pre .1)
 
 mul-price : tie.Need-mul-price Inv-loop μ-loop
 mul-price c = omega arith
@@ -42,39 +46,40 @@ lacks-price-requires : tie.Need-lacks-price-requires Inv-loop μ-loop
 lacks-price-requires c κs = tt
 
 -- the component at the loop's index and its price are in their ranges
-here : (c : tie.In-loop Inv-loop μ-loop) →
-    Countable (componentOf (c .before .before .before .args .t1) (c .before .loop .i)) (priceOf (now (c .before .before .before .args .prices)) (c .before .loop .i))
-here c = c .before .before .before .pre .countable (c .before .loop .i) (c .loop-test .taken)
+here : (c : tie.After-component-of Inv-loop μ-loop)
+    → Countable (c .component-of .result) (priceOf (now (c .before .before .before .before .before .args .prices)) (c .before .before .loop .i))
+here c = rw (c .component-of .ensures) (c .before .before .before .before .before .pre .0 .countable (c .before .before .loop .i) (c .before .loop-test .taken))
 
 -- the components' worth
 abbrev worths : tie.Start Inv-loop μ-loop → ℕ → ℕ
-worths c = worthAt (c .args .t1) (now (c .args .prices))
+worths c = worthAt (day c) (now (c .args .prices))
 
 -- the sum below an index that the loop reaches
-below : (c : tie.Start Inv-loop μ-loop) (i : ℕ) → i ≤ c .args .t1 .count → sumBelow (worths c) i ≤ 300_000_000_000_000_000
-below c = sum-small (c .args .t1) (now (c .args .prices)) (c .pre)
+below : (c : tie.Start Inv-loop μ-loop) (i : ℕ) → i ≤ c .args .d .count → sumBelow (worths c) i ≤ 300_000_000_000_000_000
+below c = sum-small (day c) (now (c .args .prices)) (c .pre .0)
 
 -- the sum with this component's worth
 more : (c : tie.After-worth-of Inv-loop μ-loop) →
     c .before .before .before .before .before .before .loop .sum .0 + c .worth-of .result .0
-    ≡ sumBelow (worths (c .before .before .before .before .before .before .before .before)) (c .before .before .before .before .before .before .loop .i + 1)
+    ≡ sumBelow (worths (c .before .before .before .before .before .before .before .before .before)) (c .before .before .before .before .before .before .loop .i + 1)
 unfolding priceOf
-more c = rw (c .before .before .before .before .before .before .loop .inv .2, c .worth-of .ensures) (sum-next _ _ _)
+more c = rw (c .before .before .before .before .before .before .loop .inv .2, c .worth-of .ensures, c .before .before .before .before .component-of .ensures) (sum-next (day (c .before .before .before .before .before .before .before .before .before)) _ _)
 
 returns : tie.Need-returns Inv-loop μ-loop
 unfolding priceOf
 returns c =
     let inside = c .before .before .before .before .loop-test .taken in
-    unpriced _ _ (c .before .before .before .before .before .loop .i) _ inside (sym (c .before .lacks-price .ensures) ∙ c .if1 .taken)
+    let lacking = rw (c .before .before .before .component-of .ensures) at (sym (c .before .lacks-price .ensures) ∙ c .if1 .taken) in
+    unpriced (day (c .before .before .before .before .before .before .before .before)) _ (c .before .before .before .before .before .loop .i) _ inside lacking
 
 worth-of-requires : tie.Need-worth-of-requires Inv-loop μ-loop
 unfolding priceOf
-worth-of-requires c κs = here (c .before .before .before .before)
+worth-of-requires c κs = here (c .before .before .before)
 
 plus-requires : tie.Need-plus-requires Inv-loop μ-loop
 plus-requires c κs =
     let at = c .before .before .before .before .before .before in
-    omega (arith, more c, below (at .before .before) (at .loop .i + 1) (omega arith))
+    omega (arith, more c, below (at .before .before .before) (at .loop .i + 1) (omega arith))
 
 add-i : tie.Need-add-i Inv-loop μ-loop
 add-i c = omega arith
@@ -86,36 +91,36 @@ loop-again : tie.Need-loop-again Inv-loop μ-loop
 unfolding priceOf
 loop-again c =
     let at = c .before .before .before .before .before .before .before in
-    let priced = sym (c .before .before .before .lacks-price .ensures) ∙ c .before .before .if1 .left in
-    (omega arith, priced-next _ _ _ (at .loop .inv .1) priced, c .plus .ensures ∙ more (c .before))
+    let priced = rw (c .before .before .before .before .before .component-of .ensures) at (sym (c .before .before .before .lacks-price .ensures) ∙ c .before .before .if1 .left) in
+    (omega arith, priced-next (day (at .before .before .before)) _ _ (at .loop .inv .1) priced, c .plus .ensures ∙ more (c .before))
 
 -- the estimated cash as the machine reads it back
 back : (c : tie.After-struct-told Inv-loop μ-loop) →
-    toZ w64 (ofZ w64 (c .before .before .before .before .args .t1 .fund .«estimated_cash»)) ≡ c .before .before .before .before .args .t1 .fund .«estimated_cash»
+    toZ w64 (ofZ w64 (c .before .before .before .before .before .args .d .fund .«estimated_cash»)) ≡ c .before .before .before .before .before .args .d .fund .«estimated_cash»
 back c = search needs
 
 cash-added-requires : tie.Need-cash-added-requires Inv-loop μ-loop
-cash-added-requires c κs = rw (back c) (c .before .before .before .before .pre .cash)
+cash-added-requires c κs = rw (back c) (c .before .before .before .before .before .pre .0 .cash)
 
 cash-taken-requires : tie.Need-cash-taken-requires Inv-loop μ-loop
-cash-taken-requires c κs = rw (back (c .before)) (c .before .before .before .before .before .pre .cash)
+cash-taken-requires c κs = rw (back (c .before)) (c .before .before .before .before .before .before .pre .0 .cash)
 
-added : (c : tie.After-cash-added Inv-loop μ-loop) → c .cash-added .result .0 ≡ cashAdded (c .before .before .before .before .before .args .t1 .fund .«estimated_cash»)
+added : (c : tie.After-cash-added Inv-loop μ-loop) → c .cash-added .result .0 ≡ cashAdded (c .before .before .before .before .before .before .args .d .fund .«estimated_cash»)
 added c = c .cash-added .ensures ∙ ap cashAdded (back (c .before))
 
 value-with-requires : tie.Need-value-with-requires Inv-loop μ-loop
 value-with-requires c κs =
     let at = c .before .before .before .before in
-    let start = at .before .before in
-    (omega (arith, at .loop .inv .2, below start (at .loop .i) (omega arith), added (c .before), added-small _ (start .pre .cash)), omega arith, omega arith)
+    let start = at .before .before .before in
+    (omega (arith, at .loop .inv .2, below start (at .loop .i) (omega arith), added (c .before), added-small _ (start .pre .0 .cash)), omega arith, omega arith)
 
 returns-2 : tie.Need-returns-2 Inv-loop μ-loop
 unfolding worthBefore
 returns-2 c =
     let at = c .before .before .before .before .before in
-    let e : at .loop .i ≡ at .before .before .args .t1 .count = omega arith in
+    let e : at .loop .i ≡ at .before .before .before .args .d .count = omega arith in
     c .value-with .ensures
-    ∙ rw (at .loop .inv .2, added (c .before .before), c .before .cash-taken .ensures, back (c .before .before .before), e) (priced-all _ _ (rw e at (at .loop .inv .1)))
+    ∙ rw (at .loop .inv .2, added (c .before .before), c .before .cash-taken .ensures, back (c .before .before .before), e) (priced-all (day (at .before .before .before)) _ (rw e at (at .loop .inv .1)))
 
 pub reference-value-spec : {M : Type 1} → statement M
 reference-value-spec =
@@ -124,8 +129,7 @@ reference-value-spec =
     Inv-loop
     μ-loop
     loop-holds
-    mul-c
-    element-copy-out-c
+    component-of-requires
     mul-price
     shared-slice-read-price
     lacks-price-requires
