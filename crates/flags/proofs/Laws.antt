@@ -32,7 +32,7 @@ unfolding entry
 past-columns flag column h = List·getD-eq-default (getD flagTable flag []) false (le-trans (row-width flag) h)
 
 -- of the five rows the flag's own says what the table has
-or-false : (b : Bool) → (b || false) ≡ b
+pub or-false : (b : Bool) → (b || false) ≡ b
 or-false true = refl
 or-false false = refl
 

@@ -6,10 +6,13 @@ use Prim.Native.Nat.{ℕ, zero, suc, _+_, _-_, _≤_, _<_, zero-le}
 use native.Mathlib.Numerals.{add-one}
 use native.Mathlib.Omega.{arith}
 use lib.Dec.{ltb, lit≤}
+use lib.ListN.{getD}
 use Rattle.lists.specs.Below.{sumBelow, anyBelow, firstBelow, sum-none, sum-more, sum-le, any-none, any-more, first-none, cond-le}
+use Rattle.fund.specs.declared.Component.{Component}
+use Rattle.fund.specs.Components.{blank}
 use Rattle.rules.specs.declared.Day.{Day}
 use Rattle.rules.specs.Book.{lotsAt}
-use Rattle.rules.specs.Lines.{componentOf, column, quantity, creationRate, redemptionRate, creationAmount, redemptionAmount, priceOf}
+use Rattle.rules.specs.Lines.{column, quantity, creationRate, redemptionRate, creationAmount, redemptionAmount, priceOf}
 use Rattle.rules.specs.Orders.{need, otherCash, shanghaiCash}
 use Rattle.rules.specs.Creation.{available, handedIn, isShort, firstShort, missing, missingWorth, isMissing, creationCash}
 use Rattle.rules.specs.Redemption.{delivered, redemptionCash, fundLacks, firstLacking}
@@ -59,14 +62,14 @@ module _ (f : ℕ → Line) where
   scan-room n i t x h all l e g = rw (e, g) (room n i h all l)
 
 -- the lines of a day's components
-unfoldable pub creationLines : Day → List ℕ → List ℕ → ℕ → ℕ → Line
-creationLines d s ps m i = creationLine (componentOf d i) (available s i) (priceOf ps i) m
+unfoldable pub creationLines : List Component → List ℕ → List ℕ → ℕ → ℕ → Line
+creationLines cs s ps m i = creationLine (getD cs i blank) (available s i) (priceOf ps i) m
 
-unfoldable pub redemptionLines : Day → List ℕ → ℕ → ℕ → Line
-redemptionLines d f m i = redemptionLine (componentOf d i) (lotsAt f i .old) m
+unfoldable pub redemptionLines : List Component → List ℕ → ℕ → ℕ → Line
+redemptionLines cs f m i = redemptionLine (getD cs i blank) (lotsAt f i .old) m
 
 -- all of them make the scan
-pub creation-is : (d : Day) (s ps : List ℕ) (m : ℕ) → scanBelow (creationLines d s ps m) (d .count) ≡ creationScan d s ps m
+pub creation-is : (d : Day) (s ps : List ℕ) (m : ℕ) → scanBelow (creationLines (d .components) s ps m) (d .count) ≡ creationScan d s ps m
 unfolding scanBelow creationLines creationScan creationLine missingOf worthOf firstShort isShort isMissing missing missingWorth otherCash shanghaiCash creationCash handedIn need column quantity creationRate creationAmount
 creation-is d s ps m = refl
 
@@ -80,6 +83,6 @@ unfolding sumBelow
 no-worth zero = refl
 no-worth (suc n) = omega (arith, no-worth n)
 
-pub redemption-is : (d : Day) (f : List ℕ) (m : ℕ) → scanBelow (redemptionLines d f m) (d .count) ≡ redemptionScan d f m
+pub redemption-is : (d : Day) (f : List ℕ) (m : ℕ) → scanBelow (redemptionLines (d .components) f m) (d .count) ≡ redemptionScan d f m
 unfolding scanBelow redemptionLines redemptionScan redemptionLine firstLacking fundLacks otherCash shanghaiCash redemptionCash delivered need column quantity redemptionRate redemptionAmount
 redemption-is d f m = rw (none-missing (d .count), no-worth (d .count))

@@ -1,23 +1,25 @@
 -- One component in an order: its numbers are small, and the parts that the code finds make its line.
-use mathlib.Core.Path.{_≡_, refl, ap, _∙_}
+use mathlib.Core.Path.{_≡_, refl, sym, ap, _∙_}
 use mathlib.Core.Bool.{Bool, true, false, cond, not, _||_}
 use mathlib.Core.List.{[], _∷_}
 use Prim.Native.Nat.{ℕ, _+_, _-_, _*_, _≤_, min, zero-le}
-use native.Mathlib.Nat.{le-trans, sub-le}
+use native.Mathlib.Nat.{le-trans, sub-le, add-zero, zero-mul}
 use native.Mathlib.Omega.{arith}
-use lib.Dec.{ltb, lit≤}
+use lib.Dec.{leb, ltb, lit≤}
+use borrow.Author.Tests.{leb-true, le-ltb}
 use Rattle.lists.specs.Below.{cond-le}
-use Rattle.lists.specs.Every.{every}
+use Rattle.lists.specs.Every.{every, every-at}
 use Rattle.units.specs.declared.Money.{Money}
-use Rattle.units.specs.Units.{premium, discount}
+use Rattle.units.specs.Units.{rounded, premium, discount}
 use Rattle.units.proofs.Laws.{under, premium-le, discount-le}
 use Rattle.flags.specs.Table.{entry, stockMoves, shortageInCash, shanghai}
+use Rattle.flags.proofs.Laws.{or-false, moves-rules}
 use Rattle.fund.specs.declared.Component.{Component}
 use Rattle.rules.specs.Sound.{mostPrice}
 use Rattle.rules.specs.Orders.{mostBaskets}
 use Rattle.scan.specs.declared.Line.{Line}
 use Rattle.scan.specs.declared.Scan.{Scan}
-use Rattle.scan.specs.Lines.{money, missingOf, worthOf, creationLine, redemptionLine, stockCount, nextShort, withLine}
+use Rattle.scan.specs.Lines.{money, missingOf, worthOf, creationLine, redemptionLine, stockCount, nextShort, stockLine, withLine}
 use Rattle.scan.specs.Ready.{Ranged}
 
 -- Bounds.
@@ -118,6 +120,17 @@ redemption-parts c have m moves inside moved paid cash em ei eq ep ec =
     let number : cash .0 ≡ cond moves 0 (paid .0) = ap (λ (x : Money). x .0) ec ∙ chosen-number moves _ _ in
     line-eq (ap (λ (x : ℕ). ltb have x) same) refl refl (number ∙ rw (em, ep)) ei same
 
+cond-same : (b : Bool) (x : ℕ) → cond b x x ≡ x
+cond-same true x = refl
+cond-same false x = refl
+
+-- nothing is missing of what is there in full
+none-missing : (c : Component) (have m : ℕ) → m * c .quantity ≤ have → missingOf c have m ≡ 0
+unfolding missingOf
+none-missing c have m h =
+    let none : m * c .quantity - have ≡ 0 = omega arith in
+    rw none (cond-same (entry (c .flag) shortageInCash) 0)
+
 abbrev scan : ℕ → Bool → ℕ → ℕ → ℕ → ℕ → Scan
 scan short missing worth other shanghai records =
     record { short = short; missing = missing; «missing_worth» = money worth; other = money other; shanghai = money shanghai; «stock_records» = records }
@@ -142,3 +155,37 @@ scan-parts t i x short records missing worth other there shanghai here es em ew 
     (eo ∙ ap (λ (y : ℕ). t .other .0 + y) (ap (λ (y : Money). y .0) et ∙ chosen-number (x .shanghai) _ _))
     (ei ∙ ap (λ (y : ℕ). t .shanghai .0 + y) (ap (λ (y : Money). y .0) eh ∙ chosen-number (x .shanghai) _ _))
     (ap (λ (y : ℕ). t .«stock_records» + y) er)
+
+-- with a component whose stock is there in full
+pub stock-parts : (t : Scan) (i need short records : ℕ)
+    → short ≡ nextShort (t .short) i false
+    → records ≡ stockCount need
+    → scan short (t .missing) (t .«missing_worth» .0) (t .other .0) (t .shanghai .0) (t .«stock_records» + records) ≡ withLine t i (stockLine need)
+unfolding withLine stockLine
+stock-parts t i need short records es er =
+    scan-eq es (sym (or-false (t .missing))) (sym (add-zero _)) (sym (add-zero _)) (sym (add-zero _)) (ap (λ (y : ℕ). t .«stock_records» + y) er)
+
+-- which is the line of such a component in a creation
+covered-short : (b : Bool) → every (true ∷ not b ∷ false ∷ []) ≡ false
+unfolding every
+covered-short true = refl
+covered-short false = refl
+
+premium-zero : (r : ℕ) → premium 0 r ≡ 0
+unfolding premium rounded
+premium-zero r = rw zero-mul
+
+pub covered-line : (c : Component) (have price m : ℕ) → every (leb (m * c .quantity) have ∷ entry (c .flag) stockMoves ∷ []) ≡ true
+    → creationLine c have price m ≡ stockLine (m * c .quantity)
+unfolding creationLine stockLine worthOf
+covered-line c have price m e =
+    let at = every-at (leb (m * c .quantity) have ∷ entry (c .flag) stockMoves ∷ []) e in
+    let enough : m * c .quantity ≤ have = leb-true _ _ (at 0) in
+    let missing = none-missing c have m enough in
+    line-eq
+    (rw (at 1, le-ltb have (m * c .quantity) enough) (covered-short (entry (c .flag) shortageInCash)))
+    missing
+    (rw missing (zero-mul price))
+    (rw (at 1, missing, zero-mul price) (premium-zero (c .rate .0)))
+    (moves-rules (c .flag) (at 1) .0)
+    (rw (at 1) (omega arith))

@@ -1,5 +1,5 @@
 -- One component in an order, and the scan of all components below an index.
-use mathlib.Core.Bool.{Bool, false, cond, not, _||_}
+use mathlib.Core.Bool.{Bool, true, false, cond, not, _||_}
 use mathlib.Core.List.{[], _∷_}
 use Prim.Native.Nat.{ℕ, _+_, _-_, _*_, min}
 use lib.Dec.{ltb, eqb}
@@ -49,6 +49,10 @@ redemptionLine c have m =
       shanghai = entry (c .flag) shanghai;
       moved = cond (entry (c .flag) stockMoves) (needOf c m) 0;
     }
+
+-- a component whose stock is there in full
+unfoldable pub stockLine : ℕ → Line
+stockLine need = record { short = false; missing = 0; worth = money 0; cash = money 0; shanghai = true; moved = need }
 
 -- the cash of one market
 abbrev pub otherOf : Line → ℕ

@@ -3,16 +3,17 @@ ghost use mathlib.Core.Bool.{cond, not, _||_};
 ghost use mathlib.Core.List.{[], _∷_};
 ghost use mathlib.Core.Path.{_≡_};
 ghost use Prim.Native.Nat.{_+_, _-_, _*_, _≤_, _<_, _^_, min};
-ghost use lib.Dec.{ltb};
+ghost use lib.Dec.{leb, ltb};
 ghost use lib.ListN.{length};
 ghost use Rattle.lists.specs.Every.{every};
 ghost use Rattle.units.specs.Units.{ratioBound};
+ghost use Rattle.flags.specs.Table.{entry, stockMoves};
 ghost use Rattle.day_parts.specs.Parts.{dayOf};
 ghost use Rattle.rules.specs.Book.{lotsAt};
 ghost use Rattle.rules.specs.Sound.{mostPrice};
 ghost use Rattle.rules.specs.Orders.{mostBaskets};
 ghost use Rattle.rules.specs.Creation.{available};
-ghost use Rattle.scan.specs.Lines.{creationLine, redemptionLine, nextShort, withLine, noLines, cashCount, recordCount};
+ghost use Rattle.scan.specs.Lines.{creationLine, redemptionLine, nextShort, stockLine, withLine, noLines, cashCount, recordCount};
 ghost use Rattle.scan.specs.Scans.{creationScan, redemptionScan};
 ghost use Rattle.scan.specs.Ready.{Ranged, Room, CreationReady, RedemptionReady};
 use day_parts::DayHead;
@@ -210,6 +211,47 @@ fn with_line(t: Scan, i: usize, line: Line) -> Scan
     }
 }
 
+// Whether stock of a component moves and is there in full.
+fn is_covered(flag: u64, need: u64, have: u64) -> bool
+    ensures { λ r. ⌜ r ≡ every (leb need have ∷ entry flag stockMoves ∷ []) ⌝ }
+{
+    if have < need {
+        return false;
+    }
+    flags::entry_of(flag, flags::STOCK_MOVES)
+}
+
+// The scan of the first i components with one whose stock is there in full: it adds no cash.
+fn with_stock(t: Scan, i: usize, need: u64) -> Scan
+    requires { ⌜ (i < 300) × (t .«stock_records» ≤ i) ⌝ }
+    ensures { λ r. ⌜ r ≡ withLine t i (stockLine need) ⌝ }
+{
+    let missing_worth = t.missing_worth;
+    let other = t.other;
+    let shanghai = t.shanghai;
+    Scan {
+        short: next_short(t.short, i, false),
+        missing: t.missing,
+        missing_worth,
+        other,
+        shanghai,
+        stock_records: t.stock_records + records_of(need),
+    }
+}
+
+// The scan of the first i components with the next one, in a creation of m baskets.
+fn creation_turn(t: Scan, i: usize, c: Component, have: u64, price: u64, m: u64) -> Scan
+    requires { ⌜ Ranged c × (m ≤ mostBaskets) × (price ≤ mostPrice) ⌝ }
+    requires { ⌜ Room t i (creationLine c have price m) ⌝ }
+    ensures { λ r. ⌜ r ≡ withLine t i (creationLine c have price m) ⌝ }
+{
+    let need = m * c.quantity;
+    if is_covered(c.flag, need, have) {
+        return with_stock(t, i, need);
+    }
+    with_line(t, i, creation_line(c, have, price, m))
+}
+
 // The scan of no component.
 fn no_lines() -> Scan
     ensures { λ r. ⌜ r ≡ noLines ⌝ }
@@ -235,11 +277,7 @@ pub fn creation_scan(d: DayHead, basket: &[u64], stretch: &[u64], prices: &[u64]
     let mut i = 0;
     while i < n {
         let c = day_parts::component_of(basket, i);
-        t = with_line(
-            t,
-            i,
-            creation_line(c, handable_at(stretch, i), prices[i], m),
-        );
+        t = creation_turn(t, i, c, handable_at(stretch, i), prices[i], m);
         i += 1;
     }
     t

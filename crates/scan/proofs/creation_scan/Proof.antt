@@ -3,19 +3,21 @@ use mathlib.Core.Path.{_≡_, _∙_}
 use Prim.Native.Nat.{ℕ, _-_, _≤_, _<_, zero-le}
 use native.Mathlib.Omega.{arith}
 use denote.Ref.{now}
+use Rattle.fund.specs.Components.{componentAt, placesOf}
 use Rattle.rules.specs.Lines.{priceOf}
+use Rattle.day_parts.specs.Parts.{dayOf}
 use Rattle.scan.specs.declared.Line.{Line}
-use Rattle.scan.specs.Lines.{scanBelow}
+use Rattle.scan.specs.Lines.{creationLine, scanBelow}
 use Rattle.scan.proofs.OneLine.{Small, creation-small}
 use Rattle.scan.proofs.Lines.{creationLines, scan-none, scan-more, scan-room, creation-is}
 use Rattle.scan.proofs.creation_scan.Statement.{statement}
 use Rattle.scan.proofs.creation_scan.Tie as tie
 
 abbrev Inv-loop : tie.InvT-loop
-Inv-loop stretch prices m d n t₀ i₀ t i = (i ≤ n) × (t ≡ scanBelow (creationLines d stretch prices m) i)
+Inv-loop basket stretch prices m n t₀ i₀ t i = (i ≤ n) × (t ≡ scanBelow (creationLines (placesOf (componentAt basket) 300) stretch prices m) i)
 
 abbrev μ-loop : tie.MeasureT-loop
-μ-loop stretch prices m d n t₀ i₀ t i = n - i
+μ-loop basket stretch prices m n t₀ i₀ t i = n - i
 
 no-lines-requires : tie.Need-no-lines-requires Inv-loop μ-loop
 no-lines-requires c κs = tt
@@ -23,49 +25,44 @@ no-lines-requires c κs = tt
 loop-holds : tie.Need-loop-holds Inv-loop μ-loop
 loop-holds c = (zero-le, c .no-lines .ensures ∙ scan-none _)
 
-mul-c : tie.Need-mul-c Inv-loop μ-loop
-mul-c c = omega arith
-
-element-copy-out-c : tie.Need-element-copy-out-c Inv-loop μ-loop
-element-copy-out-c c = omega arith
+component-of-requires : tie.Need-component-of-requires Inv-loop μ-loop
+component-of-requires c κs = (omega (arith, c .before .before .before .before .before .before .pre .0 .count), c .before .before .before .before .before .before .pre .1)
 
 handable-at-requires : tie.Need-handable-at-requires Inv-loop μ-loop
 handable-at-requires c κs =
-    let start = c .before .before .before .before .before .before in
-    (omega (arith, start .pre .stretch), omega (arith, start .pre .lots (c .before .before .loop .i) (c .before .loop-test .taken)))
+    let start = c .before .before .before .before .before .before .before in
+    (omega (arith, start .pre .0 .stretch), omega (arith, start .pre .0 .lots (c .before .before .loop .i) (c .before .loop-test .taken)))
 
-mul-creation-line : tie.Need-mul-creation-line Inv-loop μ-loop
-mul-creation-line c = omega arith
+mul-creation-turn : tie.Need-mul-creation-turn Inv-loop μ-loop
+mul-creation-turn c = omega arith
 
-shared-slice-read-creation-line : tie.Need-shared-slice-read-creation-line Inv-loop μ-loop
-shared-slice-read-creation-line c = omega (arith, c .before .before .before .before .before .before .before .before .pre .prices-size)
-
-creation-line-requires : tie.Need-creation-line-requires Inv-loop μ-loop
-unfolding priceOf
-creation-line-requires c κs =
-    let start = c .before .before .before .before .before .before .before .before in
-    let i : ℕ = c .before .before .before .before .loop .i in
-    let inside = c .before .before .before .loop-test .taken in
-    (start .pre .ranges i inside, start .pre .baskets, start .pre .prices i inside)
+shared-slice-read-creation-turn : tie.Need-shared-slice-read-creation-turn Inv-loop μ-loop
+shared-slice-read-creation-turn c = omega (arith, c .before .before .before .before .before .before .before .before .before .pre .0 .prices-size)
 
 -- the components' lines
 abbrev lines : tie.Start Inv-loop μ-loop → ℕ → Line
-lines c = creationLines (c .args .t1) (now (c .args .stretch)) (now (c .args .prices)) (c .args .m)
+lines c = creationLines (placesOf (componentAt (now (c .args .basket))) 300) (now (c .args .stretch)) (now (c .args .prices)) (c .args .m)
 
--- the line that was found is that of the component at the loop's index
-found : (c : tie.After-creation-line Inv-loop μ-loop) → c .creation-line .result ≡ lines (c .before .before .before .before .before .before .before .before .before) (c .before .before .before .before .before .loop .i)
-unfolding creationLines priceOf
-found c = c .creation-line .ensures ∙ rw (c .before .before .handable-at .ensures)
-
-small : (c : tie.Start Inv-loop μ-loop) (k : ℕ) → k < c .args .t1 .count → Small (lines c k)
+-- the line of what the turn reads is that of the component at the loop's index
+found : (c : tie.After-shared-slice-known4 Inv-loop μ-loop) →
+    creationLine (c .before .before .component-of .result) (c .before .handable-at .result) (priceOf (now (c .before .before .before .before .before .before .before .before .before .args .prices)) (c .before .before .before .before .loop .i)) (c .before .before .before .before .before .before .before .before .before .args .m)
+    ≡ lines (c .before .before .before .before .before .before .before .before .before) (c .before .before .before .before .loop .i)
 unfolding creationLines
-small c k l = creation-small _ _ (c .pre .ranges k l) (c .pre .baskets) _ _ (c .pre .prices k l)
+found c = rw (c .before .handable-at .ensures, c .before .before .component-of .ensures)
 
-with-line-requires : tie.Need-with-line-requires Inv-loop μ-loop
-with-line-requires c κs =
+small : (c : tie.Start Inv-loop μ-loop) (k : ℕ) → k < c .args .d .count → Small (lines c k)
+unfolding creationLines
+small c k l = creation-small _ _ (c .pre .0 .ranges k l) (c .pre .0 .baskets) _ _ (c .pre .0 .prices k l)
+
+creation-turn-requires : tie.Need-creation-turn-requires Inv-loop μ-loop
+unfolding priceOf
+creation-turn-requires c κs =
     let start = c .before .before .before .before .before .before .before .before .before in
-    let at = c .before .before .before .before .before in
-    scan-room _ (start .args .t1 .count) _ _ _ (start .pre .count) (small start) (c .before .before .before .before .loop-test .taken) (at .loop .inv .1) (found c)
+    let at = c .before .before .before .before in
+    let inside = c .before .before .before .loop-test .taken in (
+      (rw (c .before .before .component-of .ensures) (start .pre .0 .ranges (at .loop .i) inside), start .pre .0 .baskets, start .pre .0 .prices (at .loop .i) inside),
+      scan-room _ (start .args .d .count) _ _ _ (start .pre .0 .count) (small start) inside (at .loop .inv .1) (found c),
+    )
 
 add-i : tie.Need-add-i Inv-loop μ-loop
 add-i c = omega arith
@@ -74,12 +71,13 @@ loop-less : tie.Need-loop-less Inv-loop μ-loop
 loop-less c = omega arith
 
 loop-again : tie.Need-loop-again Inv-loop μ-loop
-loop-again c = (omega arith, c .with-line .ensures ∙ scan-more _ _ _ _ (c .before .before .before .before .before .before .loop .inv .1) (found (c .before)))
+unfolding priceOf
+loop-again c = (omega arith, c .creation-turn .ensures ∙ scan-more _ _ _ _ (c .before .before .before .before .before .loop .inv .1) (found (c .before)))
 
 returns : tie.Need-returns Inv-loop μ-loop
 returns c =
-    let e : c .before .loop .i ≡ c .before .before .before .before .before .args .t1 .count = omega arith in
-    c .before .loop .inv .1 ∙ rw e (creation-is _ _ _ _)
+    let e : c .before .loop .i ≡ c .before .before .before .before .before .before .args .d .count = omega arith in
+    c .before .loop .inv .1 ∙ rw e (creation-is (dayOf (c .before .before .before .before .before .before .args .d) (now (c .before .before .before .before .before .before .args .basket))) _ _ _)
 
 pub creation-scan-spec : {M : Type 1} → statement M
 creation-scan-spec = tie.close (tie.spec
@@ -87,13 +85,11 @@ creation-scan-spec = tie.close (tie.spec
     μ-loop
     no-lines-requires
     loop-holds
-    mul-c
-    element-copy-out-c
+    component-of-requires
     handable-at-requires
-    mul-creation-line
-    shared-slice-read-creation-line
-    creation-line-requires
-    with-line-requires
+    mul-creation-turn
+    shared-slice-read-creation-turn
+    creation-turn-requires
     add-i
     loop-less
     loop-again

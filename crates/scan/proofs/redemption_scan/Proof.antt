@@ -3,6 +3,8 @@ use mathlib.Core.Path.{_≡_, _∙_}
 use Prim.Native.Nat.{ℕ, _-_, _≤_, _<_, zero-le}
 use native.Mathlib.Omega.{arith}
 use denote.Ref.{now}
+use Rattle.day_parts.specs.Parts.{dayOf}
+use Rattle.fund.specs.Components.{componentAt, placesOf}
 use Rattle.scan.specs.declared.Line.{Line}
 use Rattle.scan.specs.Lines.{scanBelow}
 use Rattle.scan.proofs.OneLine.{Small, redemption-small}
@@ -11,10 +13,10 @@ use Rattle.scan.proofs.redemption_scan.Statement.{statement}
 use Rattle.scan.proofs.redemption_scan.Tie as tie
 
 abbrev Inv-loop : tie.InvT-loop
-Inv-loop fund m d n t₀ i₀ t i = (i ≤ n) × (t ≡ scanBelow (redemptionLines d fund m) i)
+Inv-loop basket fund m n t₀ i₀ t i = (i ≤ n) × (t ≡ scanBelow (redemptionLines (placesOf (componentAt basket) 300) fund m) i)
 
 abbrev μ-loop : tie.MeasureT-loop
-μ-loop fund m d n t₀ i₀ t i = n - i
+μ-loop basket fund m n t₀ i₀ t i = n - i
 
 no-lines-requires : tie.Need-no-lines-requires Inv-loop μ-loop
 no-lines-requires c κs = tt
@@ -22,40 +24,37 @@ no-lines-requires c κs = tt
 loop-holds : tie.Need-loop-holds Inv-loop μ-loop
 loop-holds c = (zero-le, c .no-lines .ensures ∙ scan-none _)
 
-mul-c : tie.Need-mul-c Inv-loop μ-loop
-mul-c c = omega arith
-
-element-copy-out-c : tie.Need-element-copy-out-c Inv-loop μ-loop
-element-copy-out-c c = omega arith
+component-of-requires : tie.Need-component-of-requires Inv-loop μ-loop
+component-of-requires c κs = (omega (arith, c .before .before .before .before .before .pre .0 .count), c .before .before .before .before .before .pre .1)
 
 old-at-requires : tie.Need-old-at-requires Inv-loop μ-loop
-old-at-requires c κs = omega (arith, c .before .before .before .before .before .pre .stretch)
+old-at-requires c κs = omega (arith, c .before .before .before .before .before .before .pre .0 .stretch)
 
 redemption-line-requires : tie.Need-redemption-line-requires Inv-loop μ-loop
 redemption-line-requires c κs =
-    let start = c .before .before .before .before .before .before in
-    (start .pre .ranges (c .before .before .before .loop .i) (c .before .before .loop-test .taken), start .pre .baskets)
+    let start = c .before .before .before .before .before .before .before in
+    (rw (c .before .component-of .ensures) (start .pre .0 .ranges (c .before .before .before .loop .i) (c .before .before .loop-test .taken)), start .pre .0 .baskets)
 
 -- the components' lines
 abbrev lines : tie.Start Inv-loop μ-loop → ℕ → Line
-lines c = redemptionLines (c .args .t1) (now (c .args .fund)) (c .args .m)
+lines c = redemptionLines (placesOf (componentAt (now (c .args .basket))) 300) (now (c .args .fund)) (c .args .m)
 
 -- the line that was found is that of the component at the loop's index
-found : (c : tie.After-redemption-line Inv-loop μ-loop) → c .redemption-line .result ≡ lines (c .before .before .before .before .before .before .before) (c .before .before .before .before .loop .i)
+found : (c : tie.After-redemption-line Inv-loop μ-loop) → c .redemption-line .result ≡ lines (c .before .before .before .before .before .before .before .before) (c .before .before .before .before .loop .i)
 unfolding redemptionLines
-found c = c .redemption-line .ensures ∙ rw (c .before .old-at .ensures)
+found c = c .redemption-line .ensures ∙ rw (c .before .old-at .ensures, c .before .before .component-of .ensures)
 
-small : (c : tie.Start Inv-loop μ-loop) (k : ℕ) → k < c .args .t1 .count → Small (lines c k)
+small : (c : tie.Start Inv-loop μ-loop) (k : ℕ) → k < c .args .d .count → Small (lines c k)
 unfolding redemptionLines
-small c k l = redemption-small _ _ (c .pre .ranges k l) (c .pre .baskets) _
+small c k l = redemption-small _ _ (c .pre .0 .ranges k l) (c .pre .0 .baskets) _
 
 with-line-requires : tie.Need-with-line-requires Inv-loop μ-loop
 with-line-requires c κs =
-    let start = c .before .before .before .before .before .before .before in
-    scan-room _ (start .args .t1 .count) _ _ _ (start .pre .count) (small start) (c .before .before .before .loop-test .taken) (c .before .before .before .before .loop .inv .1) (found c)
+    let start = c .before .before .before .before .before .before .before .before in
+    scan-room _ (start .args .d .count) _ _ _ (start .pre .0 .count) (small start) (c .before .before .before .loop-test .taken) (c .before .before .before .before .loop .inv .1) (found c)
 
 add-i : tie.Need-add-i Inv-loop μ-loop
-add-i c = omega arith
+add-i c = omega (arith, c .before .before .before .before .loop-test .taken, c .before .before .before .before .before .before .before .before .before .pre .0 .count)
 
 loop-less : tie.Need-loop-less Inv-loop μ-loop
 loop-less c = omega arith
@@ -65,8 +64,8 @@ loop-again c = (omega arith, c .with-line .ensures ∙ scan-more _ _ _ _ (c .bef
 
 returns : tie.Need-returns Inv-loop μ-loop
 returns c =
-    let e : c .before .loop .i ≡ c .before .before .before .before .args .t1 .count = omega arith in
-    c .before .loop .inv .1 ∙ rw e (redemption-is _ _ _)
+    let e : c .before .loop .i ≡ c .before .before .before .before .before .args .d .count = omega arith in
+    c .before .loop .inv .1 ∙ rw e (redemption-is (dayOf (c .before .before .before .before .before .args .d) (now (c .before .before .before .before .before .args .basket))) _ _)
 
 pub redemption-scan-spec : {M : Type 1} → statement M
 redemption-scan-spec = tie.close (tie.spec
@@ -74,8 +73,7 @@ redemption-scan-spec = tie.close (tie.spec
     μ-loop
     no-lines-requires
     loop-holds
-    mul-c
-    element-copy-out-c
+    component-of-requires
     old-at-requires
     redemption-line-requires
     with-line-requires
