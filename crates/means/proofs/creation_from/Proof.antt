@@ -32,7 +32,7 @@ enum-known-why c = search needs
 
 returns-2 : tie.Need-returns-2
 returns-2 c =
-    let b = c .before .before .before .before .before .before .before .before in
+    let b = c .before .before .before .before .before .before .before .before .before in
     c .creation-last .ensures
     ∙ ap (λ (k : ℕ). answered (lastTests 10 0 (b .args .held) (b .args .t .other .0 + b .args .t .shanghai .0) (b .args .room) k) k) (c .before .before .before .before .record-count .ensures)
     ∙ creation-rest _ _ _ _ _ _ _ (c .before .before .before .before .before .before .if1 .left) (ap answerReply (sym (c .before .enum-told .given .1)) ∙ c .before .before .before .ratio-answer .ensures)

@@ -5,6 +5,7 @@ use Prim.Native.Nat.{_≤_}
 use borrow.Author.Needs.{needs}
 use borrow.Author.Tests.{not-true, not-false}
 use denote.Ref.{now}
+use Rattle.day_parts.specs.Parts.{dayOf}
 use Rattle.rules.specs.Replies.{valueReply}
 use Rattle.rules.specs.Value.{referenceValue, hasValue}
 use Rattle.value.proofs.Answers.{worth-facts, refused-facts}
@@ -22,14 +23,14 @@ enum-known-v : tie.Need-enum-known-v
 enum-known-v c = search needs
 
 -- the value is the day's
-worth : (c : tie.After-known-told) → (hasValue (c .before .before .before .before .before .before .before .args .d) (now (c .before .before .before .before .before .before .before .args .prices)) ≡ true) × (c .before .v .given .0 .0 .0 ≡ referenceValue (c .before .before .before .before .before .before .before .args .d) (now (c .before .before .before .before .before .before .before .args .prices))) × (c .before .v .given .0 .0 .0 ≤ 9_999_999)
+worth : (c : tie.After-known-told) → (hasValue (dayOf (c .before .before .before .before .before .before .before .before .args .d) (now (c .before .before .before .before .before .before .before .before .args .basket))) (now (c .before .before .before .before .before .before .before .before .args .prices)) ≡ true) × (c .before .v .given .0 .0 .0 ≡ referenceValue (dayOf (c .before .before .before .before .before .before .before .before .args .d) (now (c .before .before .before .before .before .before .before .before .args .basket))) (now (c .before .before .before .before .before .before .before .before .args .prices))) × (c .before .v .given .0 .0 .0 ≤ 9_999_999)
 worth c = worth-facts _ _ _ (ap valueReply (sym (c .before .v .given .1)) ∙ c .before .before .before .reference-value .ensures)
 
 ratio-passed-requires : tie.Need-ratio-passed-requires
 ratio-passed-requires c κs =
-    let b = c .before .before .before .before .before .before .before in
+    let b = c .before .before .before .before .before .before .before .before in
     let w = worth c in
-    (w .2, b .pre .1 .0, b .pre .0 .size-high, b .pre .1 .1)
+    (w .2, b .pre .1 .0 .0, b .pre .0 .size-high, b .pre .1 .0 .1)
 
 returns-2 : tie.Need-returns-2
 returns-2 c =

@@ -42,14 +42,14 @@ shared-slice-read-redemption-from c = search needs
 
 redemption-from-requires : tie.Need-redemption-from-requires
 redemption-from-requires c κs =
-    let b = c .before .before .before .before .before .before in
-    redemption-fits _ (now (b .args .stretch)) _ (b .args .units) 0 _ _ (c .before .before .before .redemption-scan .ensures) (b .pre .1 .0) (b .pre .0)
+    let b = c .before .before .before .before .before .before .before in
+    redemption-fits _ (now (b .args .stretch)) _ (b .args .units) 0 _ _ (c .before .before .before .redemption-scan .ensures) (b .pre .1 .0 .0) (b .pre .0)
 
 returns : tie.Need-returns
 returns c =
-    let b = c .before .before .before .before .before .before .before .before .before in
+    let b = c .before .before .before .before .before .before .before .before .before .before in
     let scanned = c .before .before .before .before .before .before .redemption-scan .ensures in
-    (c .before .before .redemption-from .ensures ∙ redemption-done _ _ _ _ _ _ _ scanned (b .pre .1 .0), redemption-found _ (now (b .args .stretch)) _ _ 0 _ _ scanned (b .pre .1 .0))
+    (c .before .before .redemption-from .ensures ∙ redemption-done _ _ _ _ _ _ _ scanned (b .pre .1 .0 .0), redemption-found _ (now (b .args .stretch)) _ _ 0 _ _ scanned (b .pre .1 .0 .0))
 
 pub redemption-means-spec : {M : Type 1} → statement M
 redemption-means-spec =
