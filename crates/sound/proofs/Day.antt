@@ -1,19 +1,21 @@
 -- A sound day by the tests that the code makes: the totals over accounts are those of the book's places, and the fund's stretch is the book's first.
 use mathlib.Core.Path.{_≡_, refl, sym, ap, _∙_}
-use mathlib.Core.Bool.{true, false}
+use mathlib.Core.Bool.{Bool, true, false}
 use mathlib.Core.List.{List}
 use Prim.Native.Nat.{ℕ, zero, suc, _+_, _-_, _*_, _≤_, _<_}
-use native.Mathlib.Nat.{zero-mul, zero-add}
+use native.Mathlib.Nat.{zero-mul, zero-add, le-step, lt-suc-self}
 use native.Mathlib.Decide.{decLt}
 use native.Mathlib.Omega.{arith}
 use lib.Dec.{leb}
 use lib.ListN.{length, getD}
 use borrow.Author.Tests.{le-leb, leb-true}
-use Rattle.lists.specs.Below.{sumBelow, sum-same, allBelow, all-at, all-true}
+use Rattle.lists.specs.Below.{firstBelow, sumBelow, sum-same, allBelow, all-at, all-true}
 use Rattle.lists.specs.Every.{false-of}
 use Rattle.lists.specs.Stretch.{stretch-at, over}
 use Rattle.fund.specs.Fund.{ceiling, fundInRange}
-use Rattle.fund.specs.Components.{componentFault}
+use Rattle.fund.specs.declared.Component.{Component}
+use Rattle.fund.specs.Components.{blank, faultAt, componentFault, placesOf}
+use Rattle.fund.proofs.Places.{places-at}
 use Rattle.rules.specs.declared.Day.{Day}
 use Rattle.rules.specs.Book.{cash, created, redeemed, headAt, lotsAt, width, account, headTotal, lineTotal}
 use Rattle.rules.specs.Sound.{isSound, isKept, mostUnits}
@@ -21,6 +23,19 @@ use Rattle.rules.proofs.SoundDay.{SoundDay, sound-facts, Kept, kept-facts}
 use Rattle.sound.specs.Totals.{placeAt, total}
 use Rattle.sound.specs.Parts.{mostOf, lineOf, priceFits, roomLeft}
 use Rattle.sound.proofs.Limits.{Sizes, Fits, Still, most-line, most-unit, line-true, line-facts, line-still, still-line}
+
+-- the search for a fault in a day's places looks at the first n only
+first-same : (f g : ℕ → Bool) (n : ℕ) → ((k : ℕ) → k < n → f k ≡ g k) → firstBelow f n ≡ firstBelow g n
+unfolding firstBelow
+first-same f g zero e = refl
+first-same f g (suc n) e = rw (first-same f g n (λ k h. e k (le-step h)), e n (lt-suc-self n))
+
+pub fault-places : (g : ℕ) (f : ℕ → Component) (n : ℕ) → n ≤ 300 → componentFault g (placesOf f n) n ≡ componentFault g (placesOf f 300) n
+unfolding componentFault faultAt
+fault-places g f n most = first-same _ _ n (λ k h. rw (same k h, same (k - 1) (omega arith)))
+  where
+    same : (k : ℕ) → k < n → getD (placesOf f n) k blank ≡ getD (placesOf f 300) k blank
+    same k h = places-at f n k h most ∙ sym (places-at f 300 k (omega arith) (omega arith))
 
 -- a sum of three
 sum-three : (f g h : ℕ → ℕ) (n : ℕ) → sumBelow (λ k. f k + g k + h k) n ≡ sumBelow f n + sumBelow g n + sumBelow h n

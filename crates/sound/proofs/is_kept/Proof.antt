@@ -4,13 +4,14 @@ use mathlib.Core.Bool.{true≢false}
 use borrow.Author.Needs.{needs}
 use borrow.Author.Tests.{le-leb, leb-true, not-true, not-false}
 use Rattle.lists.specs.Every.{same-test}
+use Rattle.day_parts.specs.Parts.{dayOf}
 use Rattle.rules.proofs.SoundDay.{SoundDay, sound-facts, sound-true, kept-facts, kept-true}
 use Rattle.sound.proofs.Limits.{fits-true}
 use Rattle.sound.proofs.Day.{day-fits, room-same, unkept}
 use Rattle.sound.proofs.is_kept.Statement.{statement}
 use Rattle.sound.proofs.is_kept.Tie as tie
 
-sound : (c : tie.Else1) → SoundDay (c .before .before .before .before .args .d) (c .before .before .before .before .args .book .now) (c .before .before .before .before .args .prices .now)
+sound : (c : tie.Else1) → SoundDay (dayOf (c .before .before .before .before .before .args .d) (c .before .before .before .before .before .args .basket .now)) (c .before .before .before .before .before .args .book .now) (c .before .before .before .before .before .args .prices .now)
 sound c = sound-facts _ _ _ (sym (c .before .is-sound .ensures) ∙ not-false _ (c .if1 .left))
 
 is-sound-requires : tie.Need-is-sound-requires
@@ -27,7 +28,7 @@ room-left-requires c κs =
 returns-2 : tie.Need-returns-2
 returns-2 c =
     let s = sound (c .before) in
-    let e = c .room-left .ensures ∙ room-same _ _ (c .before .before .before .before .before .args .prices .now) in
+    let e = c .room-left .ensures ∙ room-same _ _ (c .before .before .before .before .before .before .args .prices .now) in
     same-test _ _
     (λ t. kept-true _ _ _ (record { sound = s; room = leb-true _ _ (sym e ∙ t) }))
     (λ t. e ∙ le-leb _ _ (kept-facts _ _ _ t .room))

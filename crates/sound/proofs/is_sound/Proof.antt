@@ -8,14 +8,15 @@ use native.Mathlib.Nat.{le-antisymm}
 use native.Mathlib.Omega.{arith}
 use lib.ListN.{length}
 use borrow.Author.Needs.{needs}
+use denote.Ref.{now}
 use borrow.Author.Tests.{not-true, not-false}
 use Rattle.lists.specs.Below.{first-le}
 use Rattle.lists.specs.Every.{same-test}
 use Rattle.fund.specs.declared.Component.{Component}
-use Rattle.fund.specs.Components.{faultAt, componentFault}
+use Rattle.fund.specs.Components.{faultAt, componentFault, componentAt, placesOf}
 use Rattle.rules.proofs.SoundDay.{sound-facts, sound-true}
 use Rattle.sound.proofs.Limits.{Sizes, sizes-true, sizes-facts, sizes-first, still-true, still-facts, fits-true, fits-facts}
-use Rattle.sound.proofs.Day.{day-sizes, day-prices, day-still, day-fits, day-sound, unsound}
+use Rattle.sound.proofs.Day.{fault-places, day-sizes, day-prices, day-still, day-fits, day-sound, unsound}
 use Rattle.sound.proofs.is_sound.Statement.{statement}
 use Rattle.sound.proofs.is_sound.Tie as tie
 
@@ -26,6 +27,12 @@ sizes c = sizes-facts _ _ _ _ (sym (c .before .sizes-fit .ensures) ∙ not-false
 no-fault : (g : ℕ) (cs : List Component) {r : ℕ} (n : ℕ) → r ≡ componentFault g cs n → n ≤ r → componentFault g cs n ≡ n
 unfolding componentFault
 no-fault g cs n e h = le-antisymm (first-le (faultAt g cs) n) (omega arith)
+
+-- the search in the basket is the search in the day's places
+faults : (c : tie.Else2) {r : ℕ}
+    → r ≡ componentFault (c .before .before .before .before .before .before .before .before .args .d .fund .«first_code») (placesOf (componentAt (now (c .before .before .before .before .before .before .before .before .args .basket))) (c .before .before .before .before .before .before .before .before .args .d .count)) (c .before .before .before .before .before .before .before .before .args .d .count)
+    → r ≡ componentFault (c .before .before .before .before .before .before .before .before .args .d .fund .«first_code») (placesOf (componentAt (now (c .before .before .before .before .before .before .before .before .args .basket))) 300) (c .before .before .before .before .before .before .before .before .args .d .count)
+faults c e = e ∙ fault-places _ (componentAt (now (c .before .before .before .before .before .before .before .before .args .basket))) _ (sizes (c .before .before) .count-high)
 
 sizes-fit-requires : tie.Need-sizes-fit-requires
 sizes-fit-requires c κs = search needs
@@ -39,11 +46,13 @@ fund-in-range-requires c κs = search needs
 returns-2 : tie.Need-returns-2
 returns-2 c = sym (unsound _ _ _ (λ s. true≢false (sym (s .fund-fields) ∙ sym (c .before .fund-in-range .ensures) ∙ not-true _ (c .if2 .taken))))
 
-component-fault-requires : tie.Need-component-fault-requires
-component-fault-requires c κs = search needs
+run-fault-requires : tie.Need-run-fault-requires
+run-fault-requires c κs =
+    let s = sizes (c .before .before) in
+    (s .count-high, omega (arith, s .count-high, c .before .before .before .before .before .before .before .before .pre))
 
 returns-3 : tie.Need-returns-3
-returns-3 c = sym (unsound _ _ _ (λ s. omega (arith, s .components, c .before .component-fault .ensures, c .if3 .taken)))
+returns-3 c = sym (unsound _ _ _ (λ s. omega (arith, s .components, faults (c .before .before) (c .before .run-fault .ensures), c .if3 .taken)))
 
 prices-fit-requires : tie.Need-prices-fit-requires
 prices-fit-requires c κs = sizes (c .before .before .before .before) .prices-size
@@ -67,7 +76,7 @@ returns-6 c =
     (day-sound
     (sizes (c .before .before .before .before .before .before .before .before .before))
     (sym (c .before .before .before .before .before .before .before .before .fund-in-range .ensures) ∙ not-false _ (c .before .before .before .before .before .before .before .if2 .left))
-    (no-fault _ _ _ (c .before .before .before .before .before .before .component-fault .ensures) (c .before .before .before .before .before .if3 .left))
+    (no-fault _ _ _ (faults (c .before .before .before .before .before .before .before) (c .before .before .before .before .before .before .run-fault .ensures)) (c .before .before .before .before .before .if3 .left))
     (sym (c .before .before .before .before .prices-fit .ensures) ∙ not-false _ (c .before .before .before .if4 .left))
     (still-facts _ _ (sym (c .before .before .fund-still .ensures) ∙ not-false _ (c .before .if5 .left)))
     (fits-facts _ _ (sym (c .book-fits .ensures) ∙ e))))
@@ -81,7 +90,7 @@ is-sound-spec =
     returns
     fund-in-range-requires
     returns-2
-    component-fault-requires
+    run-fault-requires
     returns-3
     prices-fit-requires
     returns-4
