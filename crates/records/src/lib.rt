@@ -133,10 +133,9 @@ fn put_stock(
     requires { ⌜ length (now basket) ≡ 1500 ⌝ }
     ensures { λ next. ⌜ Wrote (stockRecords kind (dayOf d (now (basket .entry))) (now (stretch .entry)) m) from (now (out .entry)) (now (out .exit)) next ⌝ }
 {
-    let count = d.count;
     let mut at = from;
     let mut i = 0;
-    while i < count {
+    while i < d.count {
         let c = day_parts::component_of(basket, i);
         let x = lots_at(stretch, i);
         at = put_line(out, at, kind, c, m, x);

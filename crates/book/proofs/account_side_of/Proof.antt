@@ -25,8 +25,8 @@ part-account-side-end c = search needs
 
 account-side-requires : tie.Need-account-side-requires
 account-side-requires c κs =
-    let a = c .before .before .args in
-    rw (part-is (a .w) (a .book .now) (a .a)) (c .before .before .pre .1)
+    let a = c .before .before .before .args in
+    rw (part-is (a .w) (a .book .now) (a .a)) (c .before .before .before .pre .1)
 
 same-length : tie.Need-same-length
 same-length c = search needs

@@ -1,5 +1,6 @@
 -- `book::move_order` meets its contract: the fund's stock and cash leave the account's stretch as it was, so that both sides move the same.
 use mathlib.Core.Path.{_∙_}
+use Rattle.day_parts.specs.Parts.{dayOf}
 use Rattle.book.proofs.Whole.{fund-head-ready, account-side-ready, order-is}
 use borrow.Author.Needs.{needs}
 use Rattle.book.proofs.move_order.Statement.{statement}
@@ -12,19 +13,24 @@ fund-stock-requires : tie.Need-fund-stock-requires
 fund-stock-requires c κs = search needs
 
 fund-head-of-requires : tie.Need-fund-head-of-requires
-fund-head-of-requires c κs = fund-head-ready _ _ _ _ _ _ _ _ _ (c .before .before .before .before .before .before .before .pre) (c .before .before .before .before .before .width-of .ensures) (c .before .before .before .fund-stock .ensures)
+fund-head-of-requires c κs =
+    let a = c .before .before .before .before .before .before .before .before .args in
+    fund-head-ready (a .kind) (dayOf (a .d) (a .basket .now)) _ _ _ _ _ _ _ (c .before .before .before .before .before .before .before .before .pre .0) (c .before .before .before .before .before .width-of .ensures) (c .before .before .before .fund-stock .ensures)
 
 account-side-of-requires : tie.Need-account-side-of-requires
 account-side-of-requires c κs =
-    account-side-ready _ _ _ _ _ _ _ _ _ (c .before .before .before .before .before .before .before .before .before .before .before .pre) (c .before .before .before .before .before .before .before .before .before .width-of .ensures) (c .before .before .before .before .before .before .before .fund-stock .ensures) _ (c .before .before .before .fund-head-of .ensures)
+    let a = c .before .before .before .before .before .before .before .before .before .before .before .before .args in
+    let p = c .before .before .before .before .before .before .before .before .before .before .before .before .pre in
+    let ready = account-side-ready (a .kind) (dayOf (a .d) (a .basket .now)) _ _ _ _ _ _ _ (p .0) (c .before .before .before .before .before .before .before .before .before .width-of .ensures) (c .before .before .before .before .before .before .before .fund-stock .ensures) _ (c .before .before .before .fund-head-of .ensures) in
+    (ready .0, (ready .1, p .1))
 
 same-length : tie.Need-same-length
 same-length c = search needs
 
 returns : tie.Need-returns
 returns c =
-    c .before .before .account-side-of .ensures
-    ∙ order-is _ _ _ _ _ _ _ _ _ (c .before .before .before .before .before .before .before .before .before .before .before .before .before .before .pre) (c .before .before .before .before .before .before .before .before .before .before .before .before .width-of .ensures) (c .before .before .before .before .before .before .before .before .before .before .fund-stock .ensures) _ (c .before .before .before .before .before .before .fund-head-of .ensures)
+    let a = c .before .before .before .before .before .before .before .before .before .before .before .before .before .before .before .args in
+    c .before .before .account-side-of .ensures ∙ order-is (a .kind) (dayOf (a .d) (a .basket .now)) _ _ _ _ _ _ _ (c .before .before .before .before .before .before .before .before .before .before .before .before .before .before .before .pre .0) (c .before .before .before .before .before .before .before .before .before .before .before .before .width-of .ensures) (c .before .before .before .before .before .before .before .before .before .before .fund-stock .ensures) _ (c .before .before .before .before .before .before .fund-head-of .ensures)
 
 pub move-order-spec : {M : Type 1} → statement M
 move-order-spec =

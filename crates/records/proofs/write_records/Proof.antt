@@ -13,22 +13,24 @@ record-of-requires : tie.Need-record-of-requires
 record-of-requires c κs = omega arith
 
 put-record-requires : tie.Need-put-record-requires
-put-record-requires c κs = fits-first _ (order-fits (c .before .before .rest-side .ensures) (c .before .record-of .ensures) (c .before .before .before .before .before .pre))
+put-record-requires c κs = fits-first _ (order-fits (c .before .before .rest-side .ensures) (c .before .record-of .ensures) (c .before .before .before .before .before .before .pre .0))
 
 put-stock-requires : tie.Need-put-stock-requires
 put-stock-requires c κs =
-    (c .before .before .before .before .before .before .before .before .before .pre .stock, fits-first _ (fits-next (c .before .before .before .put-record .ensures) (order-fits (c .before .before .before .before .before .before .rest-side .ensures) (c .before .before .before .before .before .record-of .ensures) (c .before .before .before .before .before .before .before .before .before .pre))))
+    let p = c .before .before .before .before .before .before .before .before .before .before .pre in
+    (p .0 .stock, (fits-first _ (fits-next (c .before .before .before .put-record .ensures) (order-fits (c .before .before .before .before .before .before .rest-side .ensures) (c .before .before .before .before .before .record-of .ensures) (p .0))), p .1))
 
 put-after-stock-requires : tie.Need-put-after-stock-requires
 put-after-stock-requires c κs =
-    (c .before .before .before .before .before .before .before .before .before .before .before .before .before .pre .first-code, fits-next (c .before .before .before .put-stock .ensures) (fits-next (c .before .before .before .before .before .before .before .put-record .ensures) (order-fits (c .before .before .before .before .before .before .before .before .before .before .rest-side .ensures) (c .before .before .before .before .before .before .before .before .before .record-of .ensures) (c .before .before .before .before .before .before .before .before .before .before .before .before .before .pre))))
+    let p = c .before .before .before .before .before .before .before .before .before .before .before .before .before .before .pre .0 in
+    (p .first-code, fits-next (c .before .before .before .put-stock .ensures) (fits-next (c .before .before .before .before .before .before .before .put-record .ensures) (order-fits (c .before .before .before .before .before .before .before .before .before .before .rest-side .ensures) (c .before .before .before .before .before .before .before .before .before .record-of .ensures) p)))
 
 same-length : tie.Need-same-length
 same-length c = wrote-length (c .before .before .put-after-stock .ensures) ∙ wrote-length (c .before .before .before .before .before .before .put-stock .ensures) ∙ wrote-length (c .before .before .before .before .before .before .before .before .before .before .put-record .ensures)
 
 returns : tie.Need-returns
 returns c =
-    order-written (c .before .before .before .before .before .before .before .before .before .before .before .before .before .rest-side .ensures) (c .before .before .before .before .before .before .before .before .before .before .before .before .record-of .ensures) (c .before .before .before .before .before .before .before .before .before .before .before .before .before .before .before .before .pre)
+    order-written (c .before .before .before .before .before .before .before .before .before .before .before .before .before .rest-side .ensures) (c .before .before .before .before .before .before .before .before .before .before .before .before .record-of .ensures) (c .before .before .before .before .before .before .before .before .before .before .before .before .before .before .before .before .before .pre .0)
     (wrote-then (c .before .before .before .before .before .before .before .before .before .before .put-record .ensures) (wrote-then (c .before .before .before .before .before .before .put-stock .ensures) (c .before .before .put-after-stock .ensures)))
 
 pub write-records-spec : {M : Type 1} → statement M
