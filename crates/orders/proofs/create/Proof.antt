@@ -18,9 +18,10 @@ enum-known-answer c = search needs
 make-order-requires : tie.Need-make-order-requires
 unfolding roomIn
 make-order-requires c κs =
-    let b = c .before .before .before .before .before .before .before .before .before .before in
+    let b = c .before .before .before .before .before .before .before .before .before .before .before in
     let made = ap orderReply (sym (c .before .before .before .answer .given .1)) ∙ c .before .before .before .before .before .creation-tested .ensures .0 in
-    creation-makes _ (now (b .args .book)) (now (b .args .prices)) _ _ (c .before .before .before .answer .given .0 .0) (now (b .args .list)) _ _ (b .pre) made (c .before .before .before .before .before .creation-tested .ensures .1 (is-accepted _ _ made))
+    let ready = creation-makes _ (now (b .args .book)) (now (b .args .prices)) _ _ (c .before .before .before .answer .given .0 .0) (now (b .args .list)) _ _ (b .pre .0) made (c .before .before .before .before .before .creation-tested .ensures .1 (is-accepted _ _ made)) in
+    (ready .0, (ready .1 .0, (ready .1 .1, b .pre .1)))
 
 enum-known-answer-2 : tie.Need-enum-known-answer-2
 enum-known-answer-2 c = search needs
@@ -34,10 +35,10 @@ same-length-2 c = search needs
 returns : tie.Need-returns
 unfolding roomIn
 returns c =
-    let b = c .before .before .before .before .before .before .before .before .before .before .before .before .before .before .before in
+    let b = c .before .before .before .before .before .before .before .before .before .before .before .before .before .before .before .before in
     let made = ap orderReply (sym (c .before .before .before .before .before .before .before .before .answer .given .1)) ∙ c .before .before .before .before .before .before .before .before .before .before .creation-tested .ensures .0 in
     let found = c .before .before .before .before .before .before .before .before .before .before .creation-tested .ensures .1 (is-accepted _ _ made) in
-    let done = creation-made _ (now (b .args .book)) (now (b .args .prices)) _ _ (c .before .before .before .before .before .before .before .before .answer .given .0 .0) (now (b .args .list)) _ _ (b .pre) made found _ _ (c .before .before .before .before .make-order .ensures .0) (c .before .before .before .before .make-order .ensures .1) in
+    let done = creation-made _ (now (b .args .book)) (now (b .args .prices)) _ _ (c .before .before .before .before .before .before .before .before .answer .given .0 .0) (now (b .args .list)) _ _ (b .pre .0) made found _ _ (c .before .before .before .before .make-order .ensures .0) (c .before .before .before .before .make-order .ensures .1) in
     (made, (done .0 ∙ leaves-after _ _ _ _ made, done .1 ∙ leaves-after _ _ _ _ made))
 
 same-length-3 : tie.Need-same-length-3

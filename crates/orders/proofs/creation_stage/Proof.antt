@@ -8,16 +8,16 @@ use Rattle.orders.proofs.creation_stage.Statement.{statement}
 use Rattle.orders.proofs.creation_stage.Tie as tie
 
 div-m : tie.Need-div-m
-div-m c = omega (arith, fund _ _ _ _ _ _ (c .before .before .before .pre) .size-low)
+div-m c = omega (arith, fund _ _ _ _ _ _ (c .before .before .before .before .pre .0) .size-low)
 
 part-of-requires : tie.Need-part-of-requires
-part-of-requires c κs = (sound _ _ _ _ _ _ (c .before .before .before .pre) .count-high, inside _ _ _ _ _ _ (c .before .before .before .pre) _ (order _ _ _ _ _ _ (c .before .before .before .pre) .account-in))
+part-of-requires c κs = (sound _ _ _ _ _ _ (c .before .before .before .before .pre .0) .count-high, inside _ _ _ _ _ _ (c .before .before .before .before .pre .0) _ (order _ _ _ _ _ _ (c .before .before .before .before .pre .0) .account-in))
 
 creation-means-requires : tie.Need-creation-means-requires
 unfolding baskets
 creation-means-requires c κs =
-    let p = c .before .before .before .before .pre in
-    (creation-asks _ _ _ _ _ _ p _ (c .part-of .ensures), (prices-ask _ _ _ _ _ _ p, (refl, fund _ _ _ _ _ _ p .ratio)))
+    let p = c .before .before .before .before .before .pre .0 in
+    (creation-asks _ _ _ _ _ _ p _ (c .part-of .ensures), (prices-ask _ _ _ _ _ _ p, ((refl, fund _ _ _ _ _ _ p .ratio), c .before .before .before .before .before .pre .1)))
 
 returns : tie.Need-returns
 returns c = rw (c .before .part-of .ensures) at (c .creation-means .ensures)

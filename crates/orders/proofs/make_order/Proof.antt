@@ -12,14 +12,14 @@ part-of-requires c κs = search needs
 
 write-records-requires : tie.Need-write-records-requires
 unfolding baskets
-write-records-requires c κs = rw (c .before .part-of .ensures) (c .before .before .before .before .before .before .pre .1 .0)
+write-records-requires c κs = (rw (c .before .part-of .ensures) (c .before .before .before .before .before .before .before .pre .1 .0), c .before .before .before .before .before .before .before .pre .1 .1 .1)
 
-add-t19 : tie.Need-add-t19
-add-t19 c = search needs
+add-t20 : tie.Need-add-t20
+add-t20 c = search needs
 
 move-order-requires : tie.Need-move-order-requires
 unfolding baskets
-move-order-requires c κs = c .before .before .before .before .before .before .before .before .before .before .before .before .pre .0
+move-order-requires c κs = (c .before .before .before .before .before .before .before .before .before .before .before .before .before .pre .0, c .before .before .before .before .before .before .before .before .before .before .before .before .before .pre .1 .1 .1)
 
 same-length : tie.Need-same-length
 same-length c = search needs
@@ -38,7 +38,7 @@ make-order-spec =
     div-m
     part-of-requires
     write-records-requires
-    add-t19
+    add-t20
     move-order-requires
     same-length
     same-length-2

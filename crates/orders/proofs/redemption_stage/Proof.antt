@@ -8,20 +8,20 @@ use Rattle.orders.proofs.redemption_stage.Statement.{statement}
 use Rattle.orders.proofs.redemption_stage.Tie as tie
 
 div-m : tie.Need-div-m
-div-m c = omega (arith, fund _ _ _ _ _ _ (c .before .before .before .pre) .size-low)
+div-m c = omega (arith, fund _ _ _ _ _ _ (c .before .before .before .before .pre .0) .size-low)
 
 part-of-requires : tie.Need-part-of-requires
-part-of-requires c κs = (sound _ _ _ _ _ _ (c .before .before .before .pre) .count-high, inside _ _ _ _ _ _ (c .before .before .before .pre) _ (order _ _ _ _ _ _ (c .before .before .before .pre) .account-in))
+part-of-requires c κs = (sound _ _ _ _ _ _ (c .before .before .before .before .pre .0) .count-high, inside _ _ _ _ _ _ (c .before .before .before .before .pre .0) _ (order _ _ _ _ _ _ (c .before .before .before .before .pre .0) .account-in))
 
 part-of-requires-2 : tie.Need-part-of-requires-2
-part-of-requires-2 c κs = (sound _ _ _ _ _ _ (c .before .before .before .before .pre) .count-high, inside _ _ _ _ _ _ (c .before .before .before .before .pre) 0 (first _ _ _ _ _ _ (c .before .before .before .before .pre)))
+part-of-requires-2 c κs = (sound _ _ _ _ _ _ (c .before .before .before .before .before .pre .0) .count-high, inside _ _ _ _ _ _ (c .before .before .before .before .before .pre .0) 0 (first _ _ _ _ _ _ (c .before .before .before .before .before .pre .0)))
 
 redemption-means-requires : tie.Need-redemption-means-requires
 unfolding baskets
 redemption-means-requires c κs =
-    let p = c .before .before .before .before .before .pre in
+    let p = c .before .before .before .before .before .before .pre .0 in
     let u = units-ask _ _ _ _ _ _ p _ (c .before .part-of .ensures) in
-    (redemption-asks _ _ _ _ _ _ p _ (c .part-of2 .ensures), (refl, u .0, u .1))
+    (redemption-asks _ _ _ _ _ _ p _ (c .part-of2 .ensures), ((refl, u .0, u .1), c .before .before .before .before .before .before .pre .1))
 
 returns : tie.Need-returns
 returns c = rw (c .before .before .part-of .ensures, c .before .part-of2 .ensures) at (c .redemption-means .ensures)
