@@ -16,7 +16,7 @@ returns : tie.Need-returns
 returns c = create-five _ _ _ (sym (c .before .sound-day .ensures) ∙ not-true _ (c .if1 .taken)) _ _ _
 
 create-requires : tie.Need-create-requires
-create-requires c κs = sym (c .before .before .before .sound-day .ensures) ∙ not-false _ (c .before .before .if1 .left)
+create-requires c κs = (sym (c .before .before .before .sound-day .ensures) ∙ not-false _ (c .before .before .if1 .left), search needs)
 
 same-length-2 : tie.Need-same-length-2
 same-length-2 c = search needs

@@ -15,7 +15,7 @@ returns : tie.Need-returns
 returns c = value-five _ _ _ (sym (c .before .sound-day .ensures) ∙ not-true _ (c .if1 .taken))
 
 reference-value-requires : tie.Need-reference-value-requires
-reference-value-requires c κs = priceable _ _ _ (sound-facts _ _ _ (sym (c .before .sound-day .ensures) ∙ not-false _ (c .if1 .left)))
+reference-value-requires c κs = (priceable _ _ _ (sound-facts _ _ _ (sym (c .before .sound-day .ensures) ∙ not-false _ (c .if1 .left))), search needs)
 
 returns-2 : tie.Need-returns-2
 returns-2 c = c .reference-value .ensures ∙ value-own _ _ _ (sym (c .before .before .sound-day .ensures) ∙ not-false _ (c .before .if1 .left))
