@@ -60,14 +60,14 @@ fn create_row(
     a: u64,
     units: u64,
     start: u64,
-    length: u64,
+    room: u64,
 ) -> Numbers
     requires { ⌜ (known ≡ true → isSound (dayOf d (now basket)) (now book) (now prices) ≡ true) ⌝ }
     requires { ⌜ length (now basket) ≡ 1500 ⌝ }
-    ensures { λ r. ⌜ replyOf r ≡ resultOf (workOf (dayOf d (now (basket .entry))) (now (book .entry)) (now (prices .entry)) (now (records .entry))) (create a units) start length .reply ⌝ }
-    ensures left { λ r. ⌜ workOf (dayOf d (now (basket .entry))) (now (book .exit)) (now (prices .entry)) (now (records .exit)) ≡ rowLeaves (workOf (dayOf d (now (basket .entry))) (now (book .entry)) (now (prices .entry)) (now (records .entry))) (call (create a units) start length) ⌝ }
+    ensures { λ r. ⌜ replyOf r ≡ resultOf (workOf (dayOf d (now (basket .entry))) (now (book .entry)) (now (prices .entry)) (now (records .entry))) (create a units) start room .reply ⌝ }
+    ensures left { λ r. ⌜ workOf (dayOf d (now (basket .entry))) (now (book .exit)) (now (prices .entry)) (now (records .exit)) ≡ rowLeaves (workOf (dayOf d (now (basket .entry))) (now (book .entry)) (now (prices .entry)) (now (records .entry))) (call (create a units) start room) ⌝ }
 {
-    let part = part_in(records.len(), start as usize, length as usize);
+    let part = part_in(records.len(), start as usize, room as usize);
     let from = part.start;
     let end = from + part.length;
     let answer = calls::create(
@@ -94,14 +94,14 @@ fn redeem_row(
     a: u64,
     units: u64,
     start: u64,
-    length: u64,
+    room: u64,
 ) -> Numbers
     requires { ⌜ (known ≡ true → isSound (dayOf d (now basket)) (now book) (now prices) ≡ true) ⌝ }
     requires { ⌜ length (now basket) ≡ 1500 ⌝ }
-    ensures { λ r. ⌜ replyOf r ≡ resultOf (workOf (dayOf d (now (basket .entry))) (now (book .entry)) (now (prices .entry)) (now (records .entry))) (redeem a units) start length .reply ⌝ }
-    ensures left { λ r. ⌜ workOf (dayOf d (now (basket .entry))) (now (book .exit)) (now (prices .entry)) (now (records .exit)) ≡ rowLeaves (workOf (dayOf d (now (basket .entry))) (now (book .entry)) (now (prices .entry)) (now (records .entry))) (call (redeem a units) start length) ⌝ }
+    ensures { λ r. ⌜ replyOf r ≡ resultOf (workOf (dayOf d (now (basket .entry))) (now (book .entry)) (now (prices .entry)) (now (records .entry))) (redeem a units) start room .reply ⌝ }
+    ensures left { λ r. ⌜ workOf (dayOf d (now (basket .entry))) (now (book .exit)) (now (prices .entry)) (now (records .exit)) ≡ rowLeaves (workOf (dayOf d (now (basket .entry))) (now (book .entry)) (now (prices .entry)) (now (records .entry))) (call (redeem a units) start room) ⌝ }
 {
-    let part = part_in(records.len(), start as usize, length as usize);
+    let part = part_in(records.len(), start as usize, room as usize);
     let from = part.start;
     let end = from + part.length;
     let answer = calls::redeem(
@@ -295,7 +295,10 @@ pub fn run_public(
     ensures left { λ r. ⌜ batchOf d (now (book .exit)) (now (prices .exit)) (now (records .exit)) (now (answers .exit)) ≡ ran (now (rows .entry)) (batchOf d (now (book .entry)) (now (prices .entry)) (now (records .entry)) (now (answers .entry))) ⌝ }
     ensures demand { λ r. ⌜ Demand3 (stateOf d (now (book .entry)) (now (prices .entry))) (eventsOf (now (rows .entry)) (batchOf d (now (book .entry)) (now (prices .entry)) (now (records .entry)) (now (answers .entry)))) (stateOf d (now (book .exit)) (now (prices .exit))) ⌝ }
 {
-    run_rows(false, d, book, prices, rows, records, answers)
+    let mut basket = [0u64; 1500];
+    day_parts::put_basket(&mut basket, d);
+    let head = day_parts::head_of(d);
+    run_rows(false, head, &basket, book, prices, rows, records, answers)
 }
 
 // The driver: the same list of calls, with one test of the day where every call keeps it sound.
@@ -311,6 +314,9 @@ pub fn run(
     ensures left { λ r. ⌜ batchOf d (now (book .exit)) (now (prices .exit)) (now (records .exit)) (now (answers .exit)) ≡ ran (now (rows .entry)) (batchOf d (now (book .entry)) (now (prices .entry)) (now (records .entry)) (now (answers .entry))) ⌝ }
     ensures demand { λ r. ⌜ Demand3 (stateOf d (now (book .entry)) (now (prices .entry))) (eventsOf (now (rows .entry)) (batchOf d (now (book .entry)) (now (prices .entry)) (now (records .entry)) (now (answers .entry)))) (stateOf d (now (book .exit)) (now (prices .exit))) ⌝ }
 {
-    let known = sound::is_kept(d, book, prices);
-    run_rows(known, d, book, prices, rows, records, answers)
+    let mut basket = [0u64; 1500];
+    day_parts::put_basket(&mut basket, d);
+    let head = day_parts::head_of(d);
+    let known = sound::is_kept(head, &basket, book, prices);
+    run_rows(known, head, &basket, book, prices, rows, records, answers)
 }
