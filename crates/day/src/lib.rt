@@ -38,7 +38,10 @@ pub fn price(d: Day, book: &[u64], prices: &mut [u64], line: usize, price: u64) 
     ensures { λ r. ⌜ answerReply r ≡ priceReply d (now (book .entry)) (now (prices .entry)) line price ⌝ }
     ensures prices { λ r. ⌜ now (prices .exit) ≡ pricedPrices d (now (book .entry)) (now (prices .entry)) line price ⌝ }
 {
-    calls::price(false, d, book, prices, line, price)
+    let mut basket = [0u64; 1500];
+    day_parts::put_basket(&mut basket, d);
+    let head = day_parts::head_of(d);
+    calls::price(false, head, &basket, book, prices, line, price)
 }
 
 // Trades a quantity of a line at a price.
@@ -55,14 +58,31 @@ pub fn trade(
     ensures { λ r. ⌜ answerReply r ≡ tradeReply d (now (book .entry)) (now (prices .entry)) line q price seller buyer ⌝ }
     ensures book { λ r. ⌜ now (book .exit) ≡ tradedBook d (now (book .entry)) (now (prices .entry)) line q price seller buyer ⌝ }
 {
-    calls::trade(false, d, book, prices, line, q, price, seller, buyer)
+    let mut basket = [0u64; 1500];
+    day_parts::put_basket(&mut basket, d);
+    let head = day_parts::head_of(d);
+    calls::trade(
+        false,
+        head,
+        &basket,
+        book,
+        prices,
+        line,
+        q,
+        price,
+        seller,
+        buyer,
+    )
 }
 
 // The reference value at this moment.
 pub fn reference_value(d: Day, book: &[u64], prices: &[u64]) -> ValueAnswer
     ensures { λ r. ⌜ valueReply r ≡ worthReply d (now (book .entry)) (now (prices .entry)) ⌝ }
 {
-    calls::reference_value(false, d, book, prices)
+    let mut basket = [0u64; 1500];
+    day_parts::put_basket(&mut basket, d);
+    let head = day_parts::head_of(d);
+    calls::reference_value(false, head, &basket, book, prices)
 }
 
 // Creates units for an account; the records go to the lent list.
@@ -78,7 +98,10 @@ pub fn create(
     ensures book { λ r. ⌜ now (book .exit) ≡ createdBook d (now (book .entry)) (now (prices .entry)) a units (roomIn (now (list .entry))) ⌝ }
     ensures list { λ r. ⌜ now (list .exit) ≡ createdList d (now (book .entry)) (now (prices .entry)) a units (now (list .entry)) ⌝ }
 {
-    calls::create(false, d, book, prices, a, units, list)
+    let mut basket = [0u64; 1500];
+    day_parts::put_basket(&mut basket, d);
+    let head = day_parts::head_of(d);
+    calls::create(false, head, &basket, book, prices, a, units, list)
 }
 
 // Redeems units of an account; the records go to the lent list.
@@ -94,7 +117,10 @@ pub fn redeem(
     ensures book { λ r. ⌜ now (book .exit) ≡ redeemedBook d (now (book .entry)) (now (prices .entry)) a units (roomIn (now (list .entry))) ⌝ }
     ensures list { λ r. ⌜ now (list .exit) ≡ redeemedList d (now (book .entry)) (now (prices .entry)) a units (now (list .entry)) ⌝ }
 {
-    calls::redeem(false, d, book, prices, a, units, list)
+    let mut basket = [0u64; 1500];
+    day_parts::put_basket(&mut basket, d);
+    let head = day_parts::head_of(d);
+    calls::redeem(false, head, &basket, book, prices, a, units, list)
 }
 
 // The tests of a creation alone, with the length of the list: the answer that the creation would give.
@@ -108,10 +134,21 @@ pub fn creation_test(
 ) -> OrderAnswer
     ensures { λ r. ⌜ orderReply r ≡ creationReply d (now (book .entry)) (now (prices .entry)) a units (length / recordWidth) ⌝ }
 {
-    if !sound::is_sound(d, book, prices) {
+    let mut basket = [0u64; 1500];
+    day_parts::put_basket(&mut basket, d);
+    let head = day_parts::head_of(d);
+    if !sound::is_sound(head, &basket, book, prices) {
         return OrderAnswer::Refused(Refusal::UnsoundDay);
     }
-    let t = orders::creation_tested(d, book, prices, a, units, length / rules::RECORD_WIDTH);
+    let t = orders::creation_tested(
+        head,
+        &basket,
+        book,
+        prices,
+        a,
+        units,
+        length / rules::RECORD_WIDTH,
+    );
     t.answer
 }
 
@@ -126,9 +163,20 @@ pub fn redemption_test(
 ) -> OrderAnswer
     ensures { λ r. ⌜ orderReply r ≡ redemptionReply d (now (book .entry)) (now (prices .entry)) a units (length / recordWidth) ⌝ }
 {
-    if !sound::is_sound(d, book, prices) {
+    let mut basket = [0u64; 1500];
+    day_parts::put_basket(&mut basket, d);
+    let head = day_parts::head_of(d);
+    if !sound::is_sound(head, &basket, book, prices) {
         return OrderAnswer::Refused(Refusal::UnsoundDay);
     }
-    let t = orders::redemption_tested(d, book, prices, a, units, length / rules::RECORD_WIDTH);
+    let t = orders::redemption_tested(
+        head,
+        &basket,
+        book,
+        prices,
+        a,
+        units,
+        length / rules::RECORD_WIDTH,
+    );
     t.answer
 }

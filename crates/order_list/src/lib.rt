@@ -77,11 +77,14 @@ fn no_plan(kind: usize) -> Plan
 fn creation_plan(d: Day, book: &[u64], prices: &[u64], a: usize, units: u64, room: usize) -> Plan
     ensures { λ r. ⌜ Planned d (now (book .entry)) room (creationReply d (now (book .entry)) (now (prices .entry)) a units room) (creationRecords d (account d (now (book .entry)) a) (now (prices .entry)) units) (creationMoves d (now (prices .entry)) a units (now (book .entry))) r ⌝ }
 {
-    if !sound::is_sound(d, book, prices) {
+    let mut basket = [0u64; 1500];
+    day_parts::put_basket(&mut basket, d);
+    let head = day_parts::head_of(d);
+    if !sound::is_sound(head, &basket, book, prices) {
         return no_plan(rules::CREATION);
     }
     let m = units / d.fund.basket_size;
-    let t = orders::creation_tested(d, book, prices, a, units, room);
+    let t = orders::creation_tested(head, &basket, book, prices, a, units, room);
     plan_of(rules::CREATION, a, units, m, t)
 }
 
@@ -89,11 +92,14 @@ fn creation_plan(d: Day, book: &[u64], prices: &[u64], a: usize, units: u64, roo
 fn redemption_plan(d: Day, book: &[u64], prices: &[u64], a: usize, units: u64, room: usize) -> Plan
     ensures { λ r. ⌜ Planned d (now (book .entry)) room (redemptionReply d (now (book .entry)) (now (prices .entry)) a units room) (redemptionRecords d units) (redemptionMoves d a units (now (book .entry))) r ⌝ }
 {
-    if !sound::is_sound(d, book, prices) {
+    let mut basket = [0u64; 1500];
+    day_parts::put_basket(&mut basket, d);
+    let head = day_parts::head_of(d);
+    if !sound::is_sound(head, &basket, book, prices) {
         return no_plan(rules::REDEMPTION);
     }
     let m = units / d.fund.basket_size;
-    let t = orders::redemption_tested(d, book, prices, a, units, room);
+    let t = orders::redemption_tested(head, &basket, book, prices, a, units, room);
     plan_of(rules::REDEMPTION, a, units, m, t)
 }
 
@@ -108,7 +114,19 @@ fn carry_out(d: Day, book: &mut [u64], p: Plan) -> OrderAnswer
         return answer;
     }
     let cash = Money(o.other.0 + o.shanghai.0);
-    book::move_order(o.kind, d, book, o.account, o.units, o.baskets, cash);
+    let mut basket = [0u64; 1500];
+    day_parts::put_basket(&mut basket, d);
+    let head = day_parts::head_of(d);
+    book::move_order(
+        o.kind,
+        head,
+        &basket,
+        book,
+        o.account,
+        o.units,
+        o.baskets,
+        cash,
+    );
     answer
 }
 
