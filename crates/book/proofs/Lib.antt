@@ -1,5 +1,6 @@
 pub mod Stock
 pub mod Trade
+pub mod Sides
 pub mod Turns
 pub mod Whole
 pub mod Ready

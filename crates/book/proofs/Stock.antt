@@ -7,11 +7,12 @@ use native.Mathlib.Omega.{arith}
 use lib.Dec.{eqb}
 use borrow.Author.Tests.{eq-eqb, ne-eqb}
 use Rattle.lots.specs.declared.Lots.{Lots}
-use Rattle.lots.specs.Lots.{handable}
+use Rattle.lots.specs.Lots.{handInOf, getOf, takeInOf, payOutOf, handable}
+use Rattle.lots.proofs.Laws.{lots-eq}
 use Rattle.flags.specs.Table
 use Rattle.fund.specs.declared.Component.{Component}
 use Rattle.rules.specs.Orders.{creation}
-use Rattle.rules.specs.Kinds.{byKind}
+use Rattle.rules.specs.Kinds.{byKind, stockLots, fundLots}
 use Rattle.book.specs.Moved.{movedOf}
 
 module _ {A : Type 0} {kind : ℕ} (x y : A) where
@@ -54,3 +55,21 @@ module _ (kind : ℕ) (c : Component) (m : ℕ) (x : Lots) where
       case : (t : Bool) → Table.entry (c .flag) Table.stockMoves ≡ t → movedOf kind c m x ≤ handable x
       case true e = omega (arith, moved-least e k)
       case false e = omega (arith, moved-none e)
+
+-- Lots of which nothing moves.
+module _ (kind : ℕ) (x : Lots) where
+  pub stock-zero : stockLots kind x 0 ≡ x
+  unfolding stockLots
+  stock-zero = case (eqb kind creation)
+    where
+      case : (k : Bool) → cond k (handInOf x 0) (getOf x 0) ≡ x
+      case true = lots-eq (omega arith) (omega arith) refl
+      case false = lots-eq refl refl (omega arith)
+
+  pub fund-zero : fundLots kind x 0 ≡ x
+  unfolding fundLots
+  fund-zero = case (eqb kind creation)
+    where
+      case : (k : Bool) → cond k (takeInOf x 0) (payOutOf x 0) ≡ x
+      case true = lots-eq (omega arith) refl refl
+      case false = lots-eq (omega arith) refl refl

@@ -1,91 +1,111 @@
--- The loops over the lines of an order: a line that is reached has its lots as they were before the order, and its turn is the
+-- The stock of an order line by line: a line that is reached has its lots as they were before the order, and its turn is the
 -- definition's.
-use mathlib.Core.Path.{_≡_, refl, sym, ap, _∙_}
+use mathlib.Core.Path.{_≡_, sym, ap, _∙_}
 use mathlib.Core.List.{List}
-use Prim.Native.Nat.{ℕ, _+_, _*_, _^_, _≤_, _<_}
+use Prim.Native.Nat.{ℕ, _+_, _*_, _≤_, _<_}
 use native.Mathlib.Omega.{arith}
 use lib.ListN.{length}
-use Rattle.lists.specs.Stretch.{stretchOf, putStretch, onStretch, stretch-length, put-length, put-back, put-again, stretch-put-same, stretch-put-other}
+use lib.Seq.{set-getD}
+use Rattle.lists.specs.Stretch.{stretchOf, onStretch, stretch-length}
 use Rattle.lots.specs.declared.Lots.{Lots}
-use Rattle.lots.specs.Lots.{lotsTotal}
 use Rattle.rules.specs.declared.Day.{Day}
 use Rattle.rules.specs.Book.{width, account, lotsAt, putLots, onLine, eachLine}
 use Rattle.rules.specs.Lines.{componentOf}
-use Rattle.rules.specs.Orders.{creation}
-use Rattle.rules.specs.Kinds.{stockLots, fundLots}
-use Rattle.rules.proofs.Account.{each-length, each-later, each-more}
-use Rattle.book.specs.Moved.{movedOf, moved-of, stockBy, fundBy}
-use Rattle.book.specs.Ready.{StockReady, FundReady}
+use Rattle.rules.specs.Kinds.{movedBy, stockLots, fundLots}
+use Rattle.rules.proofs.Account.{on-length, each-length, each-later, each-more}
+use Rattle.book.specs.Moved.{movedOf, moved-of, stockBy, fundBy, withSides, lineMoves, stockMoves}
+use Rattle.book.specs.Ready.{LineReady, StockReady, FundReady}
+use Rattle.book.proofs.Stock.{stock-zero, fund-zero}
+use Rattle.book.proofs.Sides.{sides-length, sides-account, sides-fund, sides-again, sides-back, sides-by}
 
-pub each-none : (f : ℕ → Lots → Lots) (s : List ℕ) → s ≡ eachLine f 0 s
-unfolding eachLine
-each-none f s = refl
+-- One line.
 
--- the account's stretch t, with its lines below i changed from those of s
-module _ (kind : ℕ) (d : Day) (s : List ℕ) (m i : ℕ) (t : List ℕ) (e : t ≡ eachLine (stockBy kind d s m) i s) where
-  pub account-length : length t ≡ length s
-  account-length = ap length e ∙ each-length (stockBy kind d s m) i s
+on-none : (f : Lots → Lots) (l : ℕ) (s : List ℕ) → f (lotsAt s l) ≡ lotsAt s l → onLine f l s ≡ s
+unfolding onLine putLots lotsAt
+on-none f l s e = rw e (simp set-getD)
 
-  here : lotsAt t i ≡ lotsAt s i
-  here = ap (λ (x : List ℕ). lotsAt x i) e ∙ each-later (stockBy kind d s m) i s i (omega arith)
+module _ (kind w a l : ℕ) (b : List ℕ) (low : 0 < a) (fits : a * w + w ≤ length b) where
+  -- moving nothing changes nothing
+  pub line-none : b ≡ lineMoves kind w a l 0 b
+  unfolding lineMoves
+  line-none =
+      sym (rw (on-none (λ x. fundLots kind x 0) l (stretchOf w b 0) (fund-zero kind _), on-none (λ x. stockLots kind x 0) l (stretchOf w b a) (stock-zero kind _)) (sides-back w a b low fits))
 
-  pub account-ready : StockReady d s m → i < d .count
-      → (3 * i + 5 < length t) × ((m * componentOf d i .quantity < 2 ^ 62) × (lotsTotal (lotsAt t i) < 2 ^ 62))
-  account-ready p l = (omega (arith, account-length, p .wide), (p .needs i l, rw here (p .held i l)))
-
-  pub account-more : (u : List ℕ) → u ≡ onLine (λ x. stockLots kind x (movedOf kind (componentOf d i) m x)) i t → u ≡ eachLine (stockBy kind d s m) (i + 1) s
-  unfolding onLine
-  account-more u eu =
+  -- the fund's lots stored, and then the account's
+  pub line-moved : (q : ℕ) {f g x y : Lots} {t u : List ℕ} → f ≡ lotsAt (stretchOf w b 0) l → g ≡ fundLots kind f q → x ≡ lotsAt (stretchOf w b a) l → y ≡ stockLots kind x q
+      → t ≡ onStretch w 0 (λ s. putLots s l g) b → u ≡ onStretch w a (λ s. putLots s l y) t → u ≡ lineMoves kind w a l q b
+  unfolding lineMoves onLine
+  line-moved q ef eg ex ey et eu =
       eu
-      ∙ ap (λ (q : ℕ). putLots t i (stockLots kind (lotsAt t i) q)) (ap (movedOf kind (componentOf d i) m) here ∙ sym (moved-of kind d s m i))
-      ∙ ap (onLine (stockBy kind d s m i) i) e
-      ∙ sym (each-more (stockBy kind d s m) i s)
+      ∙ rw (et, ey, ex, eg, ef)
+      (sides-by w a b low fits (onLine (λ x. fundLots kind x q) l) (λ s. putLots s l (stockLots kind (lotsAt (stretchOf w b a) l) q))
+      (on-length (λ x. fundLots kind x q) l (stretchOf w b 0) ∙ stretch-length w b 0 (omega arith)))
 
-pub fund-none : (f : ℕ → Lots → Lots) (w : ℕ) (b : List ℕ) → b ≡ onStretch w 0 (eachLine f 0) b
-unfolding eachLine
-fund-none f w b = sym (put-back w b 0)
+-- The lines below i.
 
--- the book t, with the fund's lines below i changed from those of b
-module _ (kind : ℕ) (d : Day) (b : List ℕ) (a m i w : ℕ) (t : List ℕ) (ew : w ≡ width d) (low : 0 < a) (fits : a * width d + width d ≤ length b)
-    (e : t ≡ onStretch w 0 (eachLine (fundBy kind d (account d b a) m) i) b) where
-  abbrev f : ℕ → Lots → Lots
-  f = fundBy kind d (account d b a) m
+module _ (kind : ℕ) (d : Day) (b : List ℕ) (a m : ℕ) (low : 0 < a) (fits : a * width d + width d ≤ length b) where
+  abbrev fund : ℕ → List ℕ
+  fund i = eachLine (fundBy kind d (account d b a) m) i (account d b 0)
 
-  abbrev changed : List ℕ
-  changed = eachLine (fundBy kind d (account d b a) m) i (account d b 0)
+  abbrev own : ℕ → List ℕ
+  own i = eachLine (stockBy kind d (account d b a) m) i (account d b a)
 
-  is : t ≡ putStretch (width d) b 0 changed
-  is = rw ew at e
+  pub lines-none : b ≡ stockMoves kind d a m 0 b
+  unfolding stockMoves eachLine
+  lines-none = sym (sides-back (width d) a b low fits)
 
-  long : length changed ≡ width d
-  long = each-length f i (account d b 0) ∙ stretch-length (width d) b 0 (omega arith)
+  pub fund-long : (i : ℕ) → length (fund i) ≡ width d
+  fund-long i = each-length (fundBy kind d (account d b a) m) i (account d b 0) ∙ stretch-length (width d) b 0 (omega arith)
 
-  pub fund-length : length t ≡ length b
-  fund-length = ap length is ∙ put-length (width d) b 0 changed (omega arith) long
+  pub own-long : (i : ℕ) → length (own i) ≡ width d
+  own-long i = each-length (stockBy kind d (account d b a) m) i (account d b a) ∙ stretch-length (width d) b a fits
 
-  account-same : stretchOf (width d) t a ≡ account d b a
-  account-same = rw is (stretch-put-other (width d) b 0 a changed (λ z. omega arith) (omega arith) long)
+  module _ (i : ℕ) (t : List ℕ) (e : t ≡ stockMoves kind d a m i b) where
+    is : t ≡ withSides (width d) a (fund i) (own i) b
+    unfolding stockMoves
+    is = e
 
-  pub fund-changed : stretchOf (width d) t 0 ≡ changed
-  fund-changed = rw is (stretch-put-same (width d) b 0 changed (omega arith) long)
+    pub lines-length : length t ≡ length b
+    lines-length = rw is (sides-length (width d) a b low fits (fund i) (own i) (fund-long i) (own-long i))
 
-  fund-here : lotsAt (stretchOf (width d) t 0) i ≡ lotsAt (account d b 0) i
-  fund-here = rw fund-changed (each-later f i (account d b 0) i (omega arith))
+    pub lines-own : stretchOf (width d) t a ≡ own i
+    lines-own = rw is (sides-account (width d) a b low fits (fund i) (own i) (fund-long i) (own-long i))
 
-  pub fund-ready : StockReady d (account d b a) m → FundReady kind d (account d b a) (account d b 0) m → i < d .count
-      → (a * w + w ≤ length t) × ((3 * i + 5 < w) × ((m * componentOf d i .quantity < 2 ^ 62) × ((lotsTotal (lotsAt (stretchOf w t a) i) < 2 ^ 62)
-      × ((lotsAt (stretchOf w t 0) i .old < 2 ^ 62)
-      × ((kind ≡ creation → ⊥) → movedOf kind (componentOf d i) m (lotsAt (stretchOf w t a) i) ≤ lotsAt (stretchOf w t 0) i .old)))))
-  fund-ready p q l =
-      rw ew
-      (omega (arith, fund-length), (omega arith, (p .needs i l, (rw account-same (p .held i l), (rw fund-here (q .room i l), λ k. rw (account-same, fund-here, ← moved-of) (q .delivers k i l))))))
+    pub lines-fund : stretchOf (width d) t 0 ≡ fund i
+    lines-fund = rw is (sides-fund (width d) a b low fits (fund i) (own i) (fund-long i) (own-long i))
 
-  pub fund-more : (u : List ℕ) → u ≡ onStretch w 0 (onLine (λ x. fundLots kind x (movedOf kind (componentOf d i) m (lotsAt (stretchOf w t a) i))) i) t
-      → u ≡ onStretch w 0 (eachLine (fundBy kind d (account d b a) m) (i + 1)) b
-  fund-more u eu =
-      eu
-      ∙ rw ew
-      (rw (account-same, ← moved-of, fund-changed)
-      (ap (putStretch (width d) t 0) (sym (each-more f i (account d b 0)))
-      ∙ ap (λ (x : List ℕ). putStretch (width d) x 0 (eachLine f (i + 1) (account d b 0))) is
-      ∙ put-again (width d) b 0 changed (eachLine f (i + 1) (account d b 0)) (omega arith) long))
+    own-here : lotsAt (stretchOf (width d) t a) i ≡ lotsAt (account d b a) i
+    own-here = rw lines-own (each-later (stockBy kind d (account d b a) m) i (account d b a) i (omega arith))
+
+    fund-here : lotsAt (stretchOf (width d) t 0) i ≡ lotsAt (account d b 0) i
+    fund-here = rw lines-fund (each-later (fundBy kind d (account d b a) m) i (account d b 0) i (omega arith))
+
+    module _ (w : ℕ) (ew : w ≡ width d) where
+      -- what moves on the line is what the order moves there
+      pub moved-here : movedOf kind (componentOf d i) m (lotsAt (stretchOf w t a) i) ≡ movedBy kind d (account d b a) m i
+      moved-here = rw (ew, own-here) (sym (moved-of kind d (account d b a) m i))
+
+      pub line-ready : StockReady d (account d b a) m → FundReady kind d (account d b a) (account d b 0) m → i < d .count
+          → LineReady kind (componentOf d i) t w a m i
+      line-ready p q l =
+          record {
+            account-low = low;
+            account-in = rw (ew, lines-length) fits;
+            line-in = rw ew (omega arith);
+            need = p .needs i l;
+            held = rw (ew, own-here) (p .held i l);
+            room = rw (ew, fund-here) (q .room i l);
+            delivers = λ k. rw moved-here (rw (ew, fund-here) (q .delivers k i l));
+          }
+
+      pub lines-more : (q : ℕ) (u : List ℕ) → q ≡ movedOf kind (componentOf d i) m (lotsAt (stretchOf w t a) i) → u ≡ lineMoves kind w a i q t
+          → u ≡ stockMoves kind d a m (i + 1) b
+      unfolding stockMoves lineMoves
+      lines-more q u eq eu =
+          let f = fundBy kind d (account d b a) m in
+          let g = stockBy kind d (account d b a) m in
+          rw (each-more f i (account d b 0), each-more g i (account d b a))
+          (eu
+          ∙ rw (ew, eq ∙ moved-here, lines-fund, lines-own)
+          (ap (withSides (width d) a (onLine (f i) i (fund i)) (onLine (g i) i (own i))) is
+          ∙ sides-again (width d) a b low fits (fund i) (own i) (fund-long i) (own-long i) (onLine (f i) i (fund i)) (onLine (g i) i (own i)) (on-length (f i) i (fund i) ∙ fund-long i)))

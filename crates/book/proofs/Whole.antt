@@ -1,104 +1,133 @@
 -- An order's stages one after the other: what each leaves for the next, and that together they are the definition.
-use mathlib.Core.Path.{_≡_, refl, ap, _∙_}
+use mathlib.Core.Path.{_≡_, sym, ap, _∙_}
 use mathlib.Core.List.{List}
 use Prim.Native.Nat.{ℕ, _+_, _*_, _^_, _≤_, _<_}
 use native.Mathlib.Omega.{arith}
 use lib.ListN.{length}
-use Rattle.lists.specs.Stretch.{stretchOf, putStretch, onStretch, stretch-length, put-length, put-again, stretch-put-other}
+use Rattle.lists.specs.Stretch.{stretchOf, onStretch, stretch-length, put-length}
 use Rattle.lots.specs.declared.Lots.{Lots}
 use Rattle.lots.specs.Lots.{handable}
 use Rattle.rules.specs.declared.Day.{Day}
-use Rattle.rules.specs.Book.{cash, width, account, headAt, putHead, lotsAt, onLine, eachLine}
+use Rattle.rules.specs.Book.{cash, widthOf, width, account, headAt, putHead, lotsAt, onLine, eachLine}
 use Rattle.rules.specs.Orders.{creation, accountSide, fundSide}
 use Rattle.rules.specs.Kinds.{unitLots, accountCash, fundCash, orderMoves}
-use Rattle.rules.proofs.Account.{on-length, head-on, each-length, head-each, each-later}
+use Rattle.rules.proofs.Account.{put-head-length, on-length, head-on, head-each, each-later}
 use Rattle.rules.proofs.Sides.{fund-length}
-use Rattle.book.specs.Moved.{stockBy, fundBy, sideBy}
-use Rattle.book.specs.Ready.{AccountReady, OrderReady}
-use Rattle.book.proofs.Turns
+use Rattle.book.specs.Moved.{stockBy, fundBy, withSides, stockMoves, restOf, restMoves}
+use Rattle.book.specs.Ready.{RestReady, OrderReady}
+use Rattle.book.proofs.Sides.{account-kept, sides-by, sides-again}
+use Rattle.book.proofs.Turns.{fund-long, own-long, lines-length, lines-own, lines-fund}
 
--- the account's stretch: t when its stock has changed, u when its units have too
-module _ (kind : ℕ) (d : Day) (units m c : ℕ) (s t : List ℕ) (et : t ≡ eachLine (stockBy kind d s m) (d .count) s) where
-  unit-same : lotsAt t (d .count) ≡ lotsAt s (d .count)
-  unit-same = rw et (each-later (stockBy kind d s m) (d .count) s (d .count) (omega arith))
+-- the account's stretch u when its units have moved
+module _ (kind n units c : ℕ) (s u : List ℕ) (eu : u ≡ onLine (λ x. unitLots kind x units) n s) where
+  head-same : (k : ℕ) → k < 3 → headAt u k ≡ headAt s k
+  head-same k h = rw eu (head-on (λ x. unitLots kind x units) n s k h)
 
-  t-length : length t ≡ length s
-  t-length = Turns.account-length kind d s m (d .count) t et
+  pub head-ready : (kind < 2) × (3 * n + 5 < length s) → (kind ≡ creation → c ≤ headAt s cash) → headAt s cash + c < 2 ^ 64 → headAt s (1 + kind) + units < 2 ^ 64
+      → ((kind < 2) × (2 < length u)) × ((kind ≡ creation → c ≤ headAt u cash) × ((headAt u cash + c < 2 ^ 64) × (headAt u (1 + kind) + units < 2 ^ 64)))
+  head-ready h pays fits counts =
+      let long : length u ≡ length s = ap length eu ∙ on-length (λ x. unitLots kind x units) n s in
+      rw (head-same cash (omega arith), head-same (1 + kind) (omega (arith, h .0))) ((h .0, omega (arith, h .1)), (pays, (fits, counts)))
 
-  pub unit-ready : AccountReady kind d s units m c
-      → (3 * d .count + 5 < length t) × (((kind ≡ creation → ⊥) → units ≤ handable (lotsAt t (d .count))) × (lotsAt t (d .count) .got + units < 2 ^ 64))
-  unit-ready p = (omega (arith, t-length, p .stock .wide), (rw unit-same (p .handed), rw unit-same (p .units-fit)))
+  pub rest-is : kind < 2 → putHead (1 + kind) (headAt u (1 + kind) + units) (putHead cash (accountCash kind (headAt u cash) c) u) ≡ restOf kind n units c s
+  unfolding restOf
+  rest-is h = rw (head-same cash (omega arith), head-same (1 + kind) (omega arith), eu)
 
-  module _ (u : List ℕ) (eu : u ≡ onLine (λ x. unitLots kind x units) (d .count) t) where
-    head-same : (k : ℕ) → k < 3 → headAt u k ≡ headAt s k
-    head-same k h =
-        ap (λ (x : List ℕ). headAt x k) eu
-        ∙ head-on (λ x. unitLots kind x units) (d .count) t k h
-        ∙ ap (λ (x : List ℕ). headAt x k) et
-        ∙ head-each (stockBy kind d s m) (d .count) s k h
+-- the book t when the fund's cash has moved, in a fund of n components
+module _ (kind n : ℕ) (b : List ℕ) (a units c w : ℕ) (t : List ℕ) (p : RestReady kind n b a units c) (ew : w ≡ widthOf n)
+    (et : t ≡ onStretch w 0 (λ f. putHead cash (fundCash kind (headAt f cash) c) f) b) where
+  abbrev paid : List ℕ → List ℕ
+  paid f = putHead cash (fundCash kind (headAt f cash) c) f
 
-    pub head-ready : AccountReady kind d s units m c
-        → ((kind < 2) × (2 < length u)) × ((kind ≡ creation → c ≤ headAt u cash) × ((headAt u cash + c < 2 ^ 64) × (headAt u (1 + kind) + units < 2 ^ 64)))
-    head-ready p =
-        let k : 1 + kind < 3 = omega (arith, p .kind-in) in
-        let long : length u ≡ length s = ap length eu ∙ on-length (λ x. unitLots kind x units) (d .count) t ∙ t-length in
-        ((p .kind-in, omega (arith, p .stock .wide)), (rw (head-same cash (omega arith)) (p .pays), (rw (head-same cash (omega arith)) (p .cash-fits), rw (head-same (1 + kind) k) (p .count-fits))))
+  paid-long : length (paid (stretchOf (widthOf n) b 0)) ≡ widthOf n
+  paid-long = put-head-length cash _ (stretchOf (widthOf n) b 0) ∙ stretch-length (widthOf n) b 0 (omega (arith, p .account-in))
 
-    pub side-is : kind < 2 → putHead (1 + kind) (headAt u (1 + kind) + units) (putHead cash (accountCash kind (headAt u cash) c) u) ≡ sideBy kind d units m c s s
-    unfolding sideBy accountSide
-    side-is l =
-        let k : 1 + kind < 3 = omega arith in
-        rw (head-same cash (omega arith), head-same (1 + kind) k)
-        (ap (λ (x : List ℕ). putHead (1 + kind) (headAt s (1 + kind) + units) (putHead cash (accountCash kind (headAt s cash) c) x)) (eu ∙ ap (onLine (λ x. unitLots kind x units) (d .count)) et))
+  is : t ≡ onStretch (widthOf n) 0 paid b
+  is = rw ew at et
 
--- the book: t when the fund's stock has changed, u when its cash has too
-module _ (kind : ℕ) (d : Day) (b : List ℕ) (a units m c w : ℕ) (t : List ℕ) (p : OrderReady kind d b a units m c) (ew : w ≡ width d)
-    (et : t ≡ onStretch (width d) 0 (eachLine (fundBy kind d (account d b a) m) (d .count)) b) where
+  account-same : stretchOf (widthOf n) t a ≡ stretchOf (widthOf n) b a
+  account-same = rw is (account-kept (widthOf n) a b (p .account-low) (p .account-in) (paid (stretchOf (widthOf n) b 0)) paid-long)
+
+  t-size : length t ≡ length b
+  t-size = rw is (put-length (widthOf n) b 0 (paid (stretchOf (widthOf n) b 0)) (omega (arith, p .account-in)) paid-long)
+
+  pub account-rest-ready : (a * w + w ≤ length t) × (((kind < 2) × (3 * n + 5 < w)) × (((kind ≡ creation → ⊥) → units ≤ handable (lotsAt (stretchOf w t a) n))
+      × ((lotsAt (stretchOf w t a) n .got + units < 2 ^ 64) × ((kind ≡ creation → c ≤ headAt (stretchOf w t a) cash)
+      × ((headAt (stretchOf w t a) cash + c < 2 ^ 64) × (headAt (stretchOf w t a) (1 + kind) + units < 2 ^ 64))))))
+  account-rest-ready =
+      rw (ew, account-same, t-size)
+      (p .account-in, ((p .kind-in, omega arith), (p .handed, (p .units-fit, (p .pays, (p .cash-fits, p .count-fits))))))
+
+  pub rest-moved : (u : List ℕ) → u ≡ onStretch w a (restOf kind n units c) t → u ≡ restMoves kind n a units c b
+  unfolding restMoves
+  rest-moved u eu =
+      eu
+      ∙ rw ew
+      (ap (onStretch (widthOf n) a (restOf kind n units c)) is
+      ∙ sides-by (widthOf n) a b (p .account-low) (p .account-in) paid (restOf kind n units c) paid-long)
+
+-- the book t when its stock has moved
+module _ (kind : ℕ) (d : Day) (b : List ℕ) (a units m c : ℕ) (t : List ℕ) (p : OrderReady kind d b a units m c) (et : t ≡ stockMoves kind d a m (d .count) b) where
   abbrev f : ℕ → Lots → Lots
   f = fundBy kind d (account d b a) m
 
-  t-size : length t ≡ length b
-  t-size = Turns.fund-length kind d b a m (d .count) (width d) t refl (p .account-low) (p .account-in) et
+  abbrev g : ℕ → Lots → Lots
+  g = stockBy kind d (account d b a) m
 
-  fund-is : stretchOf (width d) t 0 ≡ eachLine (fundBy kind d (account d b a) m) (d .count) (account d b 0)
-  fund-is = Turns.fund-changed kind d b a m (d .count) (width d) t refl (p .account-low) (p .account-in) et
+  abbrev fund : List ℕ
+  fund = eachLine (fundBy kind d (account d b a) m) (d .count) (account d b 0)
 
-  fund-cash-same : headAt (stretchOf (width d) t 0) cash ≡ headAt (account d b 0) cash
-  fund-cash-same = rw fund-is (head-each f (d .count) (account d b 0) cash (omega arith))
+  abbrev own : List ℕ
+  own = eachLine (stockBy kind d (account d b a) m) (d .count) (account d b a)
 
-  pub fund-head-ready : (0 * w + w ≤ length t) × ((0 < w) × (((kind ≡ creation → ⊥) → c ≤ headAt (stretchOf w t 0) cash) × (headAt (stretchOf w t 0) cash + c < 2 ^ 64)))
-  fund-head-ready =
-      rw ew (omega (arith, t-size, p .account-in), (omega arith, (rw fund-cash-same (p .fund-pays), rw fund-cash-same (p .fund-fits))))
+  own-is : stretchOf (width d) t a ≡ own
+  own-is = lines-own kind d b a m (p .account-low) (p .account-in) (d .count) t et
 
-  module _ (u : List ℕ) (eu : u ≡ onStretch w 0 (λ x. putHead cash (fundCash kind (headAt x cash) c) x) t) where
-    abbrev changed : List ℕ
-    changed = fundSide (d .count) (fundBy kind d (account d b a) m) (fundCash kind (headAt (account d b 0) cash) c) (account d b 0)
+  fund-is : stretchOf (width d) t 0 ≡ fund
+  fund-is = lines-fund kind d b a m (p .account-low) (p .account-in) (d .count) t et
 
-    long : length changed ≡ width d
-    long = fund-length (d .count) f (fundCash kind (headAt (account d b 0) cash) c) (account d b 0) ∙ stretch-length (width d) b 0 (omega (arith, p .account-in))
+  pub rest-ready : RestReady kind (d .count) t a units c
+  rest-ready =
+      let s = p .side in
+      let unit : lotsAt own (d .count) ≡ lotsAt (account d b a) (d .count) = each-later g (d .count) (account d b a) (d .count) (omega arith) in
+      let money : headAt own cash ≡ headAt (account d b a) cash = head-each g (d .count) (account d b a) cash (omega arith) in
+      let counter : headAt own (1 + kind) ≡ headAt (account d b a) (1 + kind) = head-each g (d .count) (account d b a) (1 + kind) (omega (arith, s .kind-in)) in
+      let fund-money : headAt fund cash ≡ headAt (account d b 0) cash = head-each f (d .count) (account d b 0) cash (omega arith) in
+      record {
+        kind-in = s .kind-in;
+        count-high = s .stock .count-high;
+        account-low = p .account-low;
+        account-in = rw (lines-length kind d b a m (p .account-low) (p .account-in) (d .count) t et) (p .account-in);
+        handed = rw (own-is, unit) (s .handed);
+        units-fit = rw (own-is, unit) (s .units-fit);
+        pays = rw (own-is, money) (s .pays);
+        cash-fits = rw (own-is, money) (s .cash-fits);
+        count-fits = rw (own-is, counter) (s .count-fits);
+        fund-pays = rw (fund-is, fund-money) (p .fund-pays);
+        fund-fits = rw (fund-is, fund-money) (p .fund-fits);
+      }
 
-    u-is : u ≡ putStretch (width d) b 0 changed
-    unfolding fundSide
-    u-is =
-        let lines = eachLine f (d .count) (account d b 0) in
-        let wide : length (eachLine (fundBy kind d (account d b a) m) (d .count) (account d b 0)) ≡ width d = each-length f (d .count) (account d b 0) ∙ stretch-length (width d) b 0 (omega (arith, p .account-in)) in
-        (rw ew at eu)
-        ∙ rw (fund-cash-same, fund-is)
-        (ap (λ (x : List ℕ). putStretch (width d) x 0 (putHead cash (fundCash kind (headAt (account d b 0) cash) c) lines)) et
-        ∙ put-again (width d) b 0 lines (putHead cash (fundCash kind (headAt (account d b 0) cash) c) lines) (omega (arith, p .account-in)) wide)
+  fund-side : putHead cash (fundCash kind (headAt fund cash) c) fund ≡ fundSide (d .count) f (fundCash kind (headAt (account d b 0) cash) c) (account d b 0)
+  unfolding fundSide
+  fund-side = rw (head-each f (d .count) (account d b 0) cash (omega arith))
 
-    u-size : length u ≡ length b
-    u-size = ap length u-is ∙ put-length (width d) b 0 changed (omega (arith, p .account-in)) long
+  account-side : restOf kind (d .count) units c own
+      ≡ accountSide (d .count) kind units g (λ x. unitLots kind x units) (accountCash kind (headAt (account d b a) cash) c) (account d b a)
+  unfolding restOf accountSide
+  account-side = rw (head-each g (d .count) (account d b a) cash (omega arith), head-each g (d .count) (account d b a) (1 + kind) (omega (arith, p .side .kind-in)))
 
-    account-same : stretchOf (width d) u a ≡ account d b a
-    account-same = rw u-is (stretch-put-other (width d) b 0 a changed (λ z. omega (arith, p .account-low)) (omega (arith, p .account-in)) long)
-
-    pub account-side-ready : (a * w + w ≤ length u) × AccountReady kind d (stretchOf w u a) units m c
-    account-side-ready = rw ew (omega (arith, u-size, p .account-in), rw account-same (p .side))
-
-    pub order-is : onStretch w a (sideBy kind d units m c (stretchOf w u a)) u ≡ orderMoves kind d a units m c b
-    unfolding orderMoves sideBy
-    order-is =
-        rw ew
-        (ap (λ (s : List ℕ). putStretch (width d) u a (sideBy kind d units m c s (stretchOf (width d) u a))) account-same
-        ∙ ap (onStretch (width d) a (sideBy kind d units m c (account d b a))) u-is)
+  pub order-is : (u : List ℕ) → u ≡ restMoves kind (d .count) a units c t → u ≡ orderMoves kind d a units m c b
+  unfolding restMoves stockMoves orderMoves
+  order-is u eu =
+      let w = width d in
+      let paid = putHead cash (fundCash kind (headAt fund cash) c) fund in
+      let paid-long : length (putHead cash (fundCash kind (headAt fund cash) c) fund) ≡ width d = put-head-length cash _ fund ∙ fund-long kind d b a m (p .account-low) (p .account-in) (d .count) in
+      eu
+      ∙ rw (fund-is, own-is)
+      (ap (withSides w a paid (restOf kind (d .count) units c own)) et
+      ∙ sides-again w a b (p .account-low) (p .account-in) fund own (fund-long kind d b a m (p .account-low) (p .account-in) (d .count)) (own-long kind d b a m (p .account-low) (p .account-in) (d .count)) paid (restOf kind (d .count) units c own) paid-long
+      ∙ rw (fund-side, account-side)
+      (sym (sides-by w a b (p .account-low) (p .account-in)
+      (λ x. fundSide (d .count) f (fundCash kind (headAt x cash) c) x)
+      (λ x. accountSide (d .count) kind units g (λ y. unitLots kind y units) (accountCash kind (headAt x cash) c) x)
+      (fund-length (d .count) f (fundCash kind (headAt (account d b 0) cash) c) (account d b 0) ∙ stretch-length w b 0 (omega (arith, p .account-in))))))

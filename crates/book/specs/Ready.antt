@@ -5,11 +5,13 @@ use mathlib.Core.List.{List}
 use lib.ListN.{length}
 use Rattle.lists.specs.Stretch.{stretchOf}
 use Rattle.lots.specs.Lots.{sellable, handable, lotsTotal}
+use Rattle.fund.specs.declared.Component.{Component}
 use Rattle.rules.specs.declared.Day.{Day}
 use Rattle.rules.specs.Book.{cash, headAt, lotsAt, widthOf, width, account}
 use Rattle.rules.specs.Lines.{componentOf}
 use Rattle.rules.specs.Orders.{creation}
 use Rattle.rules.specs.Kinds.{movedBy}
+use Rattle.book.specs.Moved.{movedOf}
 
 -- a trade, in a fund of n components
 pub record Tradable (n : ℕ) (b : List ℕ) (line q price seller buyer : ℕ) : Type 0 where
@@ -22,6 +24,16 @@ pub record Tradable (n : ℕ) (b : List ℕ) (line q price seller buyer : ℕ) :
   pub lots-fit : lotsAt (stretchOf (widthOf n) b buyer) line .bought + q < 2 ^ 64
   pub money : q * price ≤ headAt (stretchOf (widthOf n) b buyer) cash
   pub cash-fits : headAt (stretchOf (widthOf n) b seller) cash + q * price < 2 ^ 64
+
+-- one line of an order of m baskets by account a, with the component c; w is the width of a stretch
+pub record LineReady (kind : ℕ) (c : Component) (b : List ℕ) (w a m line : ℕ) : Type 0 where
+  pub account-low : 0 < a
+  pub account-in : a * w + w ≤ length b
+  pub line-in : 3 * line + 5 < w
+  pub need : m * c .quantity < 2 ^ 62
+  pub held : lotsTotal (lotsAt (stretchOf w b a) line) < 2 ^ 62
+  pub room : lotsAt (stretchOf w b 0) line .old < 2 ^ 62
+  pub delivers : (kind ≡ creation → ⊥) → movedOf kind c m (lotsAt (stretchOf w b a) line) ≤ lotsAt (stretchOf w b 0) line .old
 
 -- the components' lots of an account, with the stretch s, in an order of m baskets
 pub record StockReady (d : Day) (s : List ℕ) (m : ℕ) : Type 0 where
@@ -53,3 +65,17 @@ pub record OrderReady (kind : ℕ) (d : Day) (b : List ℕ) (a units m c : ℕ) 
   pub fund : FundReady kind d (account d b a) (account d b 0) m
   pub fund-pays : (kind ≡ creation → ⊥) → c ≤ headAt (account d b 0) cash
   pub fund-fits : headAt (account d b 0) cash + c < 2 ^ 64
+
+-- its part beside stock, in a fund of n components
+pub record RestReady (kind n : ℕ) (b : List ℕ) (a units c : ℕ) : Type 0 where
+  pub kind-in : kind < 2
+  pub count-high : n ≤ 300
+  pub account-low : 0 < a
+  pub account-in : a * widthOf n + widthOf n ≤ length b
+  pub handed : (kind ≡ creation → ⊥) → units ≤ handable (lotsAt (stretchOf (widthOf n) b a) n)
+  pub units-fit : lotsAt (stretchOf (widthOf n) b a) n .got + units < 2 ^ 64
+  pub pays : kind ≡ creation → c ≤ headAt (stretchOf (widthOf n) b a) cash
+  pub cash-fits : headAt (stretchOf (widthOf n) b a) cash + c < 2 ^ 64
+  pub count-fits : headAt (stretchOf (widthOf n) b a) (1 + kind) + units < 2 ^ 64
+  pub fund-pays : (kind ≡ creation → ⊥) → c ≤ headAt (stretchOf (widthOf n) b 0) cash
+  pub fund-fits : headAt (stretchOf (widthOf n) b 0) cash + c < 2 ^ 64

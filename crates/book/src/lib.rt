@@ -3,14 +3,14 @@ ghost use mathlib.Core.Path.{_≡_};
 ghost use Prim.Native.Nat.{_+_, _*_, _≤_, _<_, _^_};
 ghost use lib.ListN.{length};
 ghost use Rattle.lists.specs.Stretch.{stretchOf, onStretch};
-ghost use Rattle.lots.specs.Lots.{sellable, handable, lotsTotal};
+ghost use Rattle.lots.specs.Lots.{sellable, handable};
 ghost use Rattle.day_parts.specs.Parts.{dayOf};
-ghost use Rattle.rules.specs.Book.{cash, widthOf, width, account, headAt, putHead, lotsAt, putLots, onLine, eachLine};
+ghost use Rattle.rules.specs.Book.{cash, widthOf, width, account, headAt, putHead, lotsAt, putLots, onLine};
 ghost use Rattle.rules.specs.Trade.{sellSide, buySide, tradeMoves};
 ghost use Rattle.rules.specs.Orders.{creation};
 ghost use Rattle.rules.specs.Kinds.{stockLots, fundLots, unitLots, accountCash, fundCash, orderMoves};
-ghost use Rattle.book.specs.Moved.{movedOf, stockBy, fundBy, sideBy};
-ghost use Rattle.book.specs.Ready.{Tradable, StockReady, AccountReady, FundReady, OrderReady};
+ghost use Rattle.book.specs.Moved.{movedOf, lineMoves, stockMoves, restOf, restMoves};
+ghost use Rattle.book.specs.Ready.{Tradable, LineReady, StockReady, FundReady, RestReady, OrderReady};
 use day_parts::DayHead;
 use fund::Component;
 use lots::Lots;
@@ -69,6 +69,17 @@ pub fn lots_of(book: &[u64], w: usize, a: usize, line: usize) -> Lots
     let start = a * w;
     let end = start + w;
     lots_at(&book[start..end], line)
+}
+
+// Stores them in the whole book.
+fn put_lots_of(book: &mut [u64], w: usize, a: usize, line: usize, x: Lots)
+    requires { ⌜ a * w + w ≤ length (now book) ⌝ }
+    requires { ⌜ 3 * line + 5 < w ⌝ }
+    ensures { λ _. ⌜ now (book .exit) ≡ onStretch w a (λ s. putLots s line x) (now (book .entry)) ⌝ }
+{
+    let start = a * w;
+    let end = start + w;
+    put_lots(&mut book[start..end], line, x);
 }
 
 // What a trade makes of the seller's stretch.
@@ -219,31 +230,7 @@ fn fund_cash(kind: usize, held: u64, c: Money) -> u64
     held - c.0
 }
 
-// The fund's part of an order: its lots of one line.
-fn fund_line(kind: usize, stretch: &mut [u64], line: usize, q: u64)
-    requires { ⌜ 3 * line + 5 < length (now stretch) ⌝ }
-    requires { ⌜ ((kind ≡ creation → ⊥) → q ≤ lotsAt (now stretch) line .old) ⌝ }
-    requires { ⌜ lotsAt (now stretch) line .old + q < 2 ^ 64 ⌝ }
-    ensures { λ _. ⌜ now (stretch .exit) ≡ onLine (λ x. fundLots kind x q) line (now (stretch .entry)) ⌝ }
-{
-    let x = lots_at(stretch, line);
-    let y = fund_lots(kind, x, q);
-    put_lots(stretch, line, y);
-}
-
-fn fund_line_of(kind: usize, book: &mut [u64], w: usize, fund: usize, line: usize, q: u64)
-    requires { ⌜ fund * w + w ≤ length (now book) ⌝ }
-    requires { ⌜ 3 * line + 5 < w ⌝ }
-    requires { ⌜ ((kind ≡ creation → ⊥) → q ≤ lotsAt (stretchOf w (now book) fund) line .old) ⌝ }
-    requires { ⌜ lotsAt (stretchOf w (now book) fund) line .old + q < 2 ^ 64 ⌝ }
-    ensures { λ _. ⌜ now (book .exit) ≡ onStretch w fund (onLine (λ x. fundLots kind x q) line) (now (book .entry)) ⌝ }
-{
-    let start = fund * w;
-    let end = start + w;
-    fund_line(kind, &mut book[start..end], line, q);
-}
-
-// And its cash.
+// The fund's cash.
 fn fund_head(kind: usize, stretch: &mut [u64], c: Money)
     requires { ⌜ 0 < length (now stretch) ⌝ }
     requires { ⌜ ((kind ≡ creation → ⊥) → c .0 ≤ headAt (now stretch) cash) ⌝ }
@@ -267,20 +254,7 @@ fn fund_head_of(kind: usize, book: &mut [u64], w: usize, fund: usize, c: Money)
     fund_head(kind, &mut book[start..end], c);
 }
 
-// What the stock of one component makes of the account's stretch: the lots on a line are read at its turn.
-fn account_line(kind: usize, c: Component, stretch: &mut [u64], m: u64, line: usize)
-    requires { ⌜ 3 * line + 5 < length (now stretch) ⌝ }
-    requires { ⌜ m * c .quantity < 2 ^ 62 ⌝ }
-    requires { ⌜ lotsTotal (lotsAt (now stretch) line) < 2 ^ 62 ⌝ }
-    ensures { λ _. ⌜ now (stretch .exit) ≡ onLine (λ x. stockLots kind x (movedOf kind c m x)) line (now (stretch .entry)) ⌝ }
-{
-    let x = lots_at(stretch, line);
-    let q = stock_moved(kind, c, m, x);
-    let y = stock_lots(kind, x, q);
-    put_lots(stretch, line, y);
-}
-
-// What the units make of it.
+// The account's units.
 fn unit_line(kind: usize, stretch: &mut [u64], line: usize, units: u64)
     requires { ⌜ 3 * line + 5 < length (now stretch) ⌝ }
     requires { ⌜ ((kind ≡ creation → ⊥) → units ≤ handable (lotsAt (now stretch) line)) ⌝ }
@@ -308,95 +282,98 @@ fn account_head(kind: usize, stretch: &mut [u64], units: u64, c: Money)
     stretch[at] = count;
 }
 
-// One line of the fund's stock: what moves is read off the account's stretch, which the fund's changes leave as it is.
-fn fund_turn(kind: usize, c: Component, book: &mut [u64], w: usize, a: usize, m: u64, line: usize)
+// The account's part of an order beside its stock: units, cash and counter. `line` is the unit's.
+fn account_rest(kind: usize, stretch: &mut [u64], line: usize, units: u64, c: Money)
+    requires { ⌜ (kind < 2) × (3 * line + 5 < length (now stretch)) ⌝ }
+    requires { ⌜ ((kind ≡ creation → ⊥) → units ≤ handable (lotsAt (now stretch) line)) ⌝ }
+    requires { ⌜ lotsAt (now stretch) line .got + units < 2 ^ 64 ⌝ }
+    requires { ⌜ (kind ≡ creation → c .0 ≤ headAt (now stretch) cash) ⌝ }
+    requires { ⌜ headAt (now stretch) cash + c .0 < 2 ^ 64 ⌝ }
+    requires { ⌜ headAt (now stretch) (1 + kind) + units < 2 ^ 64 ⌝ }
+    ensures { λ _. ⌜ now (stretch .exit) ≡ restOf kind line units (c .0) (now (stretch .entry)) ⌝ }
+{
+    unit_line(kind, stretch, line, units);
+    account_head(kind, stretch, units, c);
+}
+
+fn account_rest_of(
+    kind: usize,
+    book: &mut [u64],
+    w: usize,
+    a: usize,
+    line: usize,
+    units: u64,
+    c: Money,
+)
     requires { ⌜ a * w + w ≤ length (now book) ⌝ }
-    requires { ⌜ 3 * line + 5 < w ⌝ }
-    requires { ⌜ m * c .quantity < 2 ^ 62 ⌝ }
-    requires { ⌜ lotsTotal (lotsAt (stretchOf w (now book) a) line) < 2 ^ 62 ⌝ }
-    requires { ⌜ lotsAt (stretchOf w (now book) 0) line .old < 2 ^ 62 ⌝ }
-    requires { ⌜ ((kind ≡ creation → ⊥) → movedOf kind c m (lotsAt (stretchOf w (now book) a) line) ≤ lotsAt (stretchOf w (now book) 0) line .old) ⌝ }
-    ensures { λ _. ⌜ now (book .exit) ≡ onStretch w 0 (onLine (λ x. fundLots kind x (movedOf kind c m (lotsAt (stretchOf w (now (book .entry)) a) line))) line) (now (book .entry)) ⌝ }
+    requires { ⌜ (kind < 2) × (3 * line + 5 < w) ⌝ }
+    requires { ⌜ ((kind ≡ creation → ⊥) → units ≤ handable (lotsAt (stretchOf w (now book) a) line)) ⌝ }
+    requires { ⌜ lotsAt (stretchOf w (now book) a) line .got + units < 2 ^ 64 ⌝ }
+    requires { ⌜ (kind ≡ creation → c .0 ≤ headAt (stretchOf w (now book) a) cash) ⌝ }
+    requires { ⌜ headAt (stretchOf w (now book) a) cash + c .0 < 2 ^ 64 ⌝ }
+    requires { ⌜ headAt (stretchOf w (now book) a) (1 + kind) + units < 2 ^ 64 ⌝ }
+    ensures { λ _. ⌜ now (book .exit) ≡ onStretch w a (restOf kind line units (c .0)) (now (book .entry)) ⌝ }
+{
+    let start = a * w;
+    let end = start + w;
+    account_rest(kind, &mut book[start..end], line, units, c);
+}
+
+// The stock of one component: what moves is read off the account's lots, and given back. Where nothing moves, nothing is stored.
+pub fn move_line(
+    kind: usize,
+    c: Component,
+    book: &mut [u64],
+    w: usize,
+    a: usize,
+    m: u64,
+    line: usize,
+) -> u64
+    requires { ⌜ LineReady kind c (now book) w a m line ⌝ }
+    ensures { λ r. ⌜ r ≡ movedOf kind c m (lotsAt (stretchOf w (now (book .entry)) a) line) ⌝ }
+    ensures book { λ r. ⌜ now (book .exit) ≡ lineMoves kind w a line r (now (book .entry)) ⌝ }
 {
     let x = lots_of(book, w, a, line);
     let q = stock_moved(kind, c, m, x);
-    fund_line_of(kind, book, w, FUND, line, q);
+    if q == 0 {
+        return 0;
+    }
+    let f = lots_of(book, w, FUND, line);
+    let fund = fund_lots(kind, f, q);
+    let own = stock_lots(kind, x, q);
+    put_lots_of(book, w, FUND, line, fund);
+    put_lots_of(book, w, a, line, own);
+    q
 }
 
-// All of the fund's stock.
-fn fund_stock(kind: usize, d: DayHead, basket: &[u64], book: &mut [u64], a: usize, m: u64)
+// The stock of every component.
+fn move_stock(kind: usize, d: DayHead, basket: &[u64], book: &mut [u64], a: usize, m: u64)
     requires { ⌜ (0 < a) × (a * width (dayOf d (now basket)) + width (dayOf d (now basket)) ≤ length (now book)) ⌝ }
     requires { ⌜ StockReady (dayOf d (now basket)) (account (dayOf d (now basket)) (now book) a) m ⌝ }
     requires { ⌜ FundReady kind (dayOf d (now basket)) (account (dayOf d (now basket)) (now book) a) (account (dayOf d (now basket)) (now book) 0) m ⌝ }
     requires { ⌜ length (now basket) ≡ 1500 ⌝ }
-    ensures { λ _. ⌜ now (book .exit) ≡ onStretch (width (dayOf d (now (basket .entry)))) 0 (eachLine (fundBy kind (dayOf d (now (basket .entry))) (account (dayOf d (now (basket .entry))) (now (book .entry)) a) m) (d .count)) (now (book .entry)) ⌝ }
+    ensures { λ _. ⌜ now (book .exit) ≡ stockMoves kind (dayOf d (now (basket .entry))) a m (d .count) (now (book .entry)) ⌝ }
 {
     let w = width_of(d.count);
     let mut i: usize = 0;
     while i < d.count {
         let c = day_parts::component_of(basket, i);
-        fund_turn(kind, c, book, w, a, m, i);
+        move_line(kind, c, book, w, a, m, i);
         i += 1;
     }
 }
 
-// All of the account's stock.
-fn account_stock(kind: usize, d: DayHead, basket: &[u64], stretch: &mut [u64], m: u64)
-    requires { ⌜ StockReady (dayOf d (now basket)) (now stretch) m ⌝ }
-    requires { ⌜ length (now basket) ≡ 1500 ⌝ }
-    ensures { λ _. ⌜ now (stretch .exit) ≡ eachLine (stockBy kind (dayOf d (now (basket .entry))) (now (stretch .entry)) m) (d .count) (now (stretch .entry)) ⌝ }
+// An order beside its stock, in a fund of `count` components: the fund's cash, and the account's units, cash and counter.
+pub fn move_rest(kind: usize, count: usize, book: &mut [u64], a: usize, units: u64, c: Money)
+    requires { ⌜ RestReady kind count (now book) a units (c .0) ⌝ }
+    ensures { λ _. ⌜ now (book .exit) ≡ restMoves kind count a units (c .0) (now (book .entry)) ⌝ }
 {
-    let mut i: usize = 0;
-    while i < d.count {
-        let c = day_parts::component_of(basket, i);
-        account_line(kind, c, stretch, m, i);
-        i += 1;
-    }
+    let w = width_of(count);
+    fund_head_of(kind, book, w, FUND, c);
+    account_rest_of(kind, book, w, a, count, units, c);
 }
 
-// The account's side of an order: stock, units, cash and counter.
-fn account_side(
-    kind: usize,
-    d: DayHead,
-    basket: &[u64],
-    stretch: &mut [u64],
-    units: u64,
-    m: u64,
-    c: Money,
-)
-    requires { ⌜ AccountReady kind (dayOf d (now basket)) (now stretch) units m (c .0) ⌝ }
-    requires { ⌜ length (now basket) ≡ 1500 ⌝ }
-    ensures { λ _. ⌜ now (stretch .exit) ≡ sideBy kind (dayOf d (now (basket .entry))) units m (c .0) (now (stretch .entry)) (now (stretch .entry)) ⌝ }
-{
-    let count = d.count;
-    account_stock(kind, d, basket, stretch, m);
-    unit_line(kind, stretch, count, units);
-    account_head(kind, stretch, units, c);
-}
-
-fn account_side_of(
-    kind: usize,
-    d: DayHead,
-    basket: &[u64],
-    book: &mut [u64],
-    w: usize,
-    a: usize,
-    units: u64,
-    m: u64,
-    c: Money,
-)
-    requires { ⌜ a * w + w ≤ length (now book) ⌝ }
-    requires { ⌜ AccountReady kind (dayOf d (now basket)) (stretchOf w (now book) a) units m (c .0) ⌝ }
-    requires { ⌜ length (now basket) ≡ 1500 ⌝ }
-    ensures { λ _. ⌜ now (book .exit) ≡ onStretch w a (sideBy kind (dayOf d (now (basket .entry))) units m (c .0) (stretchOf w (now (book .entry)) a)) (now (book .entry)) ⌝ }
-{
-    let start = a * w;
-    let end = start + w;
-    account_side(kind, d, basket, &mut book[start..end], units, m, c);
-}
-
-// Both sides of an order of account `a` for `units` in `m` baskets, with the cash `c`: the fund's side first, which reads what moves
-// off the account's lots as they are before the order.
+// Both sides of an order of account `a` for `units` in `m` baskets, with the cash `c`.
 pub fn move_order(
     kind: usize,
     d: DayHead,
@@ -411,8 +388,7 @@ pub fn move_order(
     requires { ⌜ length (now basket) ≡ 1500 ⌝ }
     ensures { λ _. ⌜ now (book .exit) ≡ orderMoves kind (dayOf d (now (basket .entry))) a units m (c .0) (now (book .entry)) ⌝ }
 {
-    let w = width_of(d.count);
-    fund_stock(kind, d, basket, book, a, m);
-    fund_head_of(kind, book, w, FUND, c);
-    account_side_of(kind, d, basket, book, w, a, units, m, c);
+    let count = d.count;
+    move_stock(kind, d, basket, book, a, m);
+    move_rest(kind, count, book, a, units, c);
 }

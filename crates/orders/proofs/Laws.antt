@@ -32,7 +32,7 @@ use Rattle.permission.specs.Form.{headOf, headSum, wholeUnits, switchOpen, limi
 use Rattle.value.specs.Worth.{Priceable}
 use Rattle.value.proofs.Laws.{priceable}
 use Rattle.scan.specs.Ready.{CreationReady, RedemptionReady}
-use Rattle.scan.proofs.Ready.{creation-ready, redemption-ready, due-fits, paid-fits}
+use Rattle.scan.proofs.Ready.{creation-ready, redemption-ready}
 use Rattle.trades.specs.Fits.{BookFits}
 use Rattle.trades.proofs.Laws.{sound-fits}
 use Rattle.orders.specs.Orders.{creationAnswer, redemptionAnswer, Formed}
@@ -121,17 +121,14 @@ module _ (d : Day) (b ps : List ℕ) (a units count : ℕ) (list : List ℕ) (ot
     records : recordsBy creation d (account d b a) units (baskets d units) other shanghai ≡ creationRecords d (account d b a) ps units
     records = rw (found .other-is, found .shanghai-is) (creation-records d (account d b a) ps units)
 
-    pub creation-makes : OrderReady creation d b a units (baskets d units) (other + shanghai) × (Writable creation d (account d b a) units (baskets d units) other shanghai list × ((0 < d .fund .«basket_size») × (other + shanghai ≤ 12_000_000_000_000_000_000)))
+    pub creation-makes : OrderReady creation d b a units (baskets d units) (other + shanghai) × (Writable creation d (account d b a) units (baskets d units) other shanghai list × (0 < d .fund .«basket_size»))
     creation-makes =
         let t = creates in
         let f = fund-sound (d .fund) (t .sound .fund-fields) in (
           rw due (creation-ready-to-move t),
           (
             sound-writable d b ps a (t .sound) (t .order .account-in) creation units (baskets d units) other shanghai list (omega arith) (t .order .baskets-high) (rw records (room-enough _ _ (t .listed))),
-            (
-              f .size-low,
-              rw due (due-fits d (account d b a) ps (baskets d units) (creation-ready d b ps (t .sound) (baskets d units) (t .order .baskets-high) a (t .order .account-in))),
-            ),
+            f .size-low,
           ),
         )
 
@@ -155,17 +152,14 @@ module _ (d : Day) (b ps : List ℕ) (a units count : ℕ) (list : List ℕ) (ot
     paid-records : recordsBy redemption d (account d b a) units (baskets d units) other shanghai ≡ redemptionRecords d units
     paid-records = rw (found .other-is, found .shanghai-is) (redemption-records d (account d b a) units)
 
-    pub redemption-makes : OrderReady redemption d b a units (baskets d units) (other + shanghai) × (Writable redemption d (account d b a) units (baskets d units) other shanghai list × ((0 < d .fund .«basket_size») × (other + shanghai ≤ 12_000_000_000_000_000_000)))
+    pub redemption-makes : OrderReady redemption d b a units (baskets d units) (other + shanghai) × (Writable redemption d (account d b a) units (baskets d units) other shanghai list × (0 < d .fund .«basket_size»))
     redemption-makes =
         let t = redeems in
         let f = fund-sound (d .fund) (t .sound .fund-fields) in (
           rw paid (redemption-ready-to-move t),
           (
             sound-writable d b ps a (t .sound) (t .order .account-in) redemption units (baskets d units) other shanghai list (omega arith) (t .order .baskets-high) (rw paid-records (room-enough _ _ (t .listed))),
-            (
-              f .size-low,
-              rw paid (paid-fits d (account d b 0) (baskets d units) (redemption-ready d b ps (t .sound) (baskets d units) (t .order .baskets-high))),
-            ),
+            f .size-low,
           ),
         )
 

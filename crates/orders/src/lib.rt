@@ -1,4 +1,4 @@
-// Creation and redemption on a sound day: test, write the records, move. A refusal stops after the tests, which only read.
+// Creation and redemption on a sound day: test, and settle. A refusal stops after the tests, which only read.
 ghost use mathlib.Core.Path.{_≡_};
 ghost use mathlib.Core.Bool.{true};
 ghost use Prim.Native.Nat.{_+_, _*_, _≤_, _<_};
@@ -139,7 +139,7 @@ pub fn redemption_tested(
     }
 }
 
-// Writes the records of an accepted order, and then moves it.
+// Settles an accepted order, in the baskets that its units are.
 fn make_order(
     kind: usize,
     d: DayHead,
@@ -153,24 +153,13 @@ fn make_order(
 )
     requires { ⌜ OrderReady kind (dayOf d (now basket)) (now book) a units (baskets (dayOf d (now basket)) units) (other .0 + shanghai .0) ⌝ }
     requires { ⌜ Writable kind (dayOf d (now basket)) (account (dayOf d (now basket)) (now book) a) units (baskets (dayOf d (now basket)) units) (other .0) (shanghai .0) (now list) ⌝ }
-    requires { ⌜ (0 < d .fund .«basket_size») × (other .0 + shanghai .0 ≤ 12_000_000_000_000_000_000) ⌝ }
+    requires { ⌜ 0 < d .fund .«basket_size» ⌝ }
     requires { ⌜ length (now basket) ≡ 1500 ⌝ }
     ensures book { λ _. ⌜ now (book .exit) ≡ orderMoves kind (dayOf d (now (basket .entry))) a units (baskets (dayOf d (now (basket .entry))) units) (other .0 + shanghai .0) (now (book .entry)) ⌝ }
     ensures list { λ _. ⌜ now (list .exit) ≡ withRecords (recordsBy kind (dayOf d (now (basket .entry))) (account (dayOf d (now (basket .entry))) (now (book .entry)) a) units (baskets (dayOf d (now (basket .entry))) units) (other .0) (shanghai .0)) (now (list .entry)) ⌝ }
 {
     let m = units / d.fund.basket_size;
-    let part = part_of(book, d.count, a);
-    records::write_records(list, kind, d, basket, part, units, m, other, shanghai);
-    book::move_order(
-        kind,
-        d,
-        basket,
-        book,
-        a,
-        units,
-        m,
-        Money(other.0 + shanghai.0),
-    );
+    settlement::settle(kind, d, basket, book, a, units, m, other, shanghai, list);
 }
 
 // A creation.

@@ -12,16 +12,13 @@ use Rattle.lists.specs.Below.{joinBelow, join-none, join-more}
 use Rattle.lists.specs.Runs.{sets-append, sets-front, join-grows}
 use Rattle.units.specs.Units.{splitSize}
 use Rattle.units.proofs.Laws.{under}
-use Rattle.lots.specs.declared.Lots.{Lots}
 use Rattle.lots.specs.Lots.{handable}
-use Rattle.fund.specs.declared.Component.{Component}
 use Rattle.rules.specs.declared.Day.{Day}
 use Rattle.rules.specs.declared.Record.{Record}
 use Rattle.rules.specs.Book.{lotsAt}
 use Rattle.rules.specs.Lines.{componentOf, codeOf}
 use Rattle.rules.specs.Records.{recordOf, cashParts, cashRecords, stockRecord, orderRecords, recordWidth, flatRecord, flatten, withRecords}
 use Rattle.rules.specs.Kinds.{movedBy, stockSide, restSide, recordsBy}
-use Rattle.book.specs.Moved.{movedOf, moved-of}
 use Rattle.records.specs.Written.{recordAt, behind, written, Fits, Wrote, lineRecord, stockRecords, recordsAfterStock}
 use Rattle.records.specs.Ready.{Movable, Writable}
 
@@ -139,14 +136,13 @@ cash-two code side c n l = rw (ne-eqb c 0 n, le-ltb c splitSize l)
 
 -- The records of stock.
 
-pub line-none : (kind : ℕ) (c : Component) (m : ℕ) (x : Lots) → movedOf kind c m x ≡ 0 → lineRecord kind c m x ≡ []
+pub line-none : (code side q : ℕ) → q ≡ 0 → lineRecord code side q ≡ []
 unfolding lineRecord
-line-none kind c m x e = rw (le-ltb 0 (movedOf kind c m x) (omega arith))
+line-none code side q e = rw (le-ltb 0 q (omega arith))
 
-pub line-one : (kind : ℕ) (c : Component) (m : ℕ) (x : Lots) (side q : ℕ) → side ≡ stockSide kind → q ≡ movedOf kind c m x → (q ≡ 0 → ⊥)
-    → lineRecord kind c m x ≡ recordOf (c .code) side q 0 ∷ []
+pub line-one : (code side q : ℕ) → (q ≡ 0 → ⊥) → lineRecord code side q ≡ recordOf code side q 0 ∷ []
 unfolding lineRecord
-line-one kind c m x side q e f n = rw (lt-ltb 0 (movedOf kind c m x) (omega arith), e, f)
+line-one code side q n = rw (lt-ltb 0 q (omega arith))
 
 module _ (kind : ℕ) (d : Day) (s : List ℕ) (m : ℕ) where
   -- the records of the components below i
@@ -157,11 +153,14 @@ module _ (kind : ℕ) (d : Day) (s : List ℕ) (m : ℕ) where
   unfolding stockBelow
   stock-none = join-none _
 
-  line-record : (i : ℕ) → stockRecord d (stockSide kind) (movedBy kind d s m) i ≡ lineRecord kind (componentOf d i) m (lotsAt s i)
-  unfolding stockRecord lineRecord codeOf
-  line-record i = rw (moved-of kind d s m i)
+  abbrev line : ℕ → List Record
+  line i = lineRecord (componentOf d i .code) (stockSide kind) (movedBy kind d s m i)
 
-  pub stock-more : (i : ℕ) → stockBelow (i + 1) ≡ stockBelow i ++ lineRecord kind (componentOf d i) m (lotsAt s i)
+  line-record : (i : ℕ) → stockRecord d (stockSide kind) (movedBy kind d s m) i ≡ line i
+  unfolding stockRecord lineRecord codeOf
+  line-record i = refl
+
+  pub stock-more : (i : ℕ) → stockBelow (i + 1) ≡ stockBelow i ++ line i
   unfolding stockBelow
   stock-more i = join-more _ i ∙ ap (λ (r : List Record). stockBelow i ++ r) (line-record i)
 
@@ -171,7 +170,7 @@ module _ (kind : ℕ) (d : Day) (s : List ℕ) (m : ℕ) where
 
   -- where all of them have room, the i-th line's have behind those below it
   pub line-room : {i p next : ℕ} {old mid : List ℕ} → i < d .count → Fits (stockRecords kind d s m) p old → Wrote (stockBelow i) p old mid next
-      → Fits (lineRecord kind (componentOf d i) m (lotsAt s i)) next mid
+      → Fits (line i) next mid
   unfolding stockBelow stockRecords
   line-room {i} l f w =
       let grows = join-grows (stockRecord d (stockSide kind) (movedBy kind d s m)) (d .count) (i + 1) (omega arith) in
@@ -200,7 +199,6 @@ module _ {kind : ℕ} {d : Day} {s : List ℕ} {units m other shanghai side : �
 
   -- all of them written from the first place on
   pub order-written : {new : List ℕ} {end : ℕ} → Wrote parts 0 list new end
-      → (end / 5 ≡ length (recordsBy kind d s units m other shanghai)) × (new ≡ withRecords (recordsBy kind d s units m other shanghai) list)
+      → new ≡ withRecords (recordsBy kind d s units m other shanghai) list
   order-written {new} {end} u =
-      let v = wrote-as parts-are u in
-      (omega (arith, v .place), v .list ∙ written-first (recordsBy kind d s units m other shanghai) list (omega (arith, w .room)))
+      wrote-as parts-are u .list ∙ written-first (recordsBy kind d s units m other shanghai) list (omega (arith, w .room))

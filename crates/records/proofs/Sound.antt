@@ -14,7 +14,7 @@ use Rattle.rules.specs.Orders.{mostBaskets}
 use Rattle.rules.specs.Records.{recordWidth, roomIn}
 use Rattle.rules.specs.Kinds.{recordsBy}
 use Rattle.rules.proofs.SoundDay.{SoundDay}
-use Rattle.records.specs.Ready.{Movable, Writable}
+use Rattle.records.specs.Ready.{Writable}
 
 -- a run that takes n records has that many numbers
 pub room-enough : (n : ℕ) (list : List ℕ) → n ≤ roomIn list → recordWidth * n ≤ length list

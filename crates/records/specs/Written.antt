@@ -7,13 +7,10 @@ use lib.Dec.{ltb}
 use lib.ListN.{length, getD}
 use lib.Seq.{sets}
 use Rattle.lists.specs.Below.{joinBelow}
-use Rattle.lots.specs.declared.Lots.{Lots}
-use Rattle.fund.specs.declared.Component.{Component}
 use Rattle.rules.specs.declared.Day.{Day}
 use Rattle.rules.specs.declared.Record.{Record}
 use Rattle.rules.specs.Kinds.{movedBy, stockSide}
 use Rattle.rules.specs.Records.{recordOf, cashRecords, stockRecord, recordWidth, flatten}
-use Rattle.book.specs.Moved.{movedOf}
 
 -- the k-th record of a run
 unfoldable pub recordAt : List ℕ → ℕ → Record
@@ -43,9 +40,9 @@ pub record Wrote (rs : List Record) (p : ℕ) (old new : List ℕ) (next : ℕ) 
   pub list : new ≡ written rs p old
   pub place : next ≡ behind rs p
 
--- the record of a component c in an order of m baskets by an account with the lots x: one where stock moves
-unfoldable pub lineRecord : ℕ → Component → ℕ → Lots → List Record
-lineRecord kind c m x = cond (ltb 0 (movedOf kind c m x)) (recordOf (c .code) (stockSide kind) (movedOf kind c m x) 0 ∷ []) []
+-- the record of a component of which q moves: none where that is 0
+unfoldable pub lineRecord : ℕ → ℕ → ℕ → List Record
+lineRecord code side q = cond (ltb 0 q) (recordOf code side q 0 ∷ []) []
 
 -- an order's records of stock
 unfoldable pub stockRecords : ℕ → Day → List ℕ → ℕ → List Record

@@ -3,17 +3,9 @@ ghost use mathlib.Core.Path.{_≡_};
 ghost use mathlib.Core.List.{[], _∷_};
 ghost use Prim.Native.Nat.{_+_, _*_, _≤_, _<_, _^_};
 ghost use lib.ListN.{length};
-ghost use Rattle.lots.specs.Lots.{handable};
-ghost use Rattle.day_parts.specs.Parts.{dayOf};
-ghost use Rattle.rules.specs.Records.{recordOf, cashRecords, withRecords};
-ghost use Rattle.rules.specs.Kinds.{stockSide, restSide, recordsBy};
-ghost use Rattle.records.specs.Written.{recordAt, Fits, Wrote, lineRecord, stockRecords, recordsAfterStock};
-ghost use Rattle.records.specs.Ready.{Movable, Writable};
-use book::lots_at;
-use book::stock_moved;
-use day_parts::DayHead;
-use fund::Component;
-use lots::Lots;
+ghost use Rattle.rules.specs.Records.{recordOf, cashRecords};
+ghost use Rattle.rules.specs.Kinds.{stockSide, restSide};
+ghost use Rattle.records.specs.Written.{recordAt, Fits, Wrote, lineRecord, recordsAfterStock};
 use rules::Record;
 use units::Money;
 
@@ -73,7 +65,7 @@ pub fn rest_side(kind: usize) -> u64
 }
 
 // Writes a record, and gives the next free place, as each of these does.
-fn put_record(out: &mut [u64], at: usize, r: Record) -> usize
+pub fn put_record(out: &mut [u64], at: usize, r: Record) -> usize
     requires { ⌜ Fits (r ∷ []) at (now out) ⌝ }
     ensures { λ next. ⌜ Wrote (r ∷ []) at (now (out .entry)) (now (out .exit)) next ⌝ }
 {
@@ -104,48 +96,20 @@ fn put_cash(out: &mut [u64], at: usize, code: u64, side: u64, c: Money) -> usize
     put_record(out, next, remainder)
 }
 
-// The record of one component, where its stock moves.
-fn put_line(out: &mut [u64], at: usize, kind: usize, c: Component, m: u64, x: Lots) -> usize
-    requires { ⌜ (m * c .quantity < 2 ^ 62) × (handable x < 2 ^ 62) ⌝ }
-    requires { ⌜ Fits (lineRecord kind c m x) at (now out) ⌝ }
-    ensures { λ next. ⌜ Wrote (lineRecord kind c m x) at (now (out .entry)) (now (out .exit)) next ⌝ }
+// The record of a component of whose stock `q` moves: none where that is 0.
+pub fn put_line(out: &mut [u64], at: usize, code: u64, side: u64, q: u64) -> usize
+    requires { ⌜ Fits (lineRecord code side q) at (now out) ⌝ }
+    ensures { λ next. ⌜ Wrote (lineRecord code side q) at (now (out .entry)) (now (out .exit)) next ⌝ }
 {
-    let q = stock_moved(kind, c, m, x);
     if q == 0 {
         return at;
     }
-    let r = record_of(c.code, stock_side(kind), q, Money(0));
+    let r = record_of(code, side, q, Money(0));
     put_record(out, at, r)
 }
 
-// The records of stock, from the place `from` on.
-fn put_stock(
-    out: &mut [u64],
-    from: usize,
-    kind: usize,
-    d: DayHead,
-    basket: &[u64],
-    stretch: &[u64],
-    m: u64,
-) -> usize
-    requires { ⌜ Movable kind (dayOf d (now basket)) (now stretch) m ⌝ }
-    requires { ⌜ Fits (stockRecords kind (dayOf d (now basket)) (now stretch) m) from (now out) ⌝ }
-    requires { ⌜ length (now basket) ≡ 1500 ⌝ }
-    ensures { λ next. ⌜ Wrote (stockRecords kind (dayOf d (now (basket .entry))) (now (stretch .entry)) m) from (now (out .entry)) (now (out .exit)) next ⌝ }
-{
-    let mut at = from;
-    let mut i = 0;
-    while i < d.count {
-        let c = day_parts::component_of(basket, i);
-        let x = lots_at(stretch, i);
-        at = put_line(out, at, kind, c, m, x);
-        i += 1;
-    }
-    at
-}
-
 // The records behind those of stock: other cash, Shanghai cash and the second unit.
-fn put_after_stock(
+pub fn put_after_stock(
     out: &mut [u64],
     at: usize,
     first_code: u64,
@@ -162,30 +126,4 @@ fn put_after_stock(
     let unit_at = put_cash(out, shanghai_at, first_code + SHANGHAI_CASH, side, shanghai);
     let unit = record_of(first_code + SECOND_UNIT, side, units, Money(0));
     put_record(out, unit_at, unit)
-}
-
-// Writes an order's records to `out` and gives their count. `stretch` is the account's part of the book before the order.
-pub fn write_records(
-    out: &mut [u64],
-    kind: usize,
-    d: DayHead,
-    basket: &[u64],
-    stretch: &[u64],
-    units: u64,
-    m: u64,
-    other: Money,
-    shanghai: Money,
-) -> usize
-    requires { ⌜ Writable kind (dayOf d (now basket)) (now stretch) units m (other .0) (shanghai .0) (now out) ⌝ }
-    requires { ⌜ length (now basket) ≡ 1500 ⌝ }
-    ensures answer { λ r. ⌜ r ≡ length (recordsBy kind (dayOf d (now (basket .entry))) (now (stretch .entry)) units m (other .0) (shanghai .0)) ⌝ }
-    ensures list { λ r. ⌜ now (out .exit) ≡ withRecords (recordsBy kind (dayOf d (now (basket .entry))) (now (stretch .entry)) units m (other .0) (shanghai .0)) (now (out .entry)) ⌝ }
-{
-    let first_code = d.fund.first_code;
-    let side = rest_side(kind);
-    let unit = record_of(first_code, side, units, Money(0));
-    let stock_at = put_record(out, 0, unit);
-    let cash_at = put_stock(out, stock_at, kind, d, basket, stretch, m);
-    let end = put_after_stock(out, cash_at, first_code, side, units, other, shanghai);
-    end / rules::RECORD_WIDTH
 }
