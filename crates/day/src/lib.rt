@@ -140,15 +140,8 @@ pub fn creation_test(
     if !sound::is_sound(head, &basket, book, prices) {
         return OrderAnswer::Refused(Refusal::UnsoundDay);
     }
-    let t = orders::creation_tested(
-        head,
-        &basket,
-        book,
-        prices,
-        a,
-        units,
-        length / rules::RECORD_WIDTH,
-    );
+    let room = length / rules::RECORD_WIDTH;
+    let t = orders::creation_tested(head, &basket, book, prices, a, units, room);
     t.answer
 }
 
@@ -169,14 +162,7 @@ pub fn redemption_test(
     if !sound::is_sound(head, &basket, book, prices) {
         return OrderAnswer::Refused(Refusal::UnsoundDay);
     }
-    let t = orders::redemption_tested(
-        head,
-        &basket,
-        book,
-        prices,
-        a,
-        units,
-        length / rules::RECORD_WIDTH,
-    );
+    let room = length / rules::RECORD_WIDTH;
+    let t = orders::redemption_tested(head, &basket, book, prices, a, units, room);
     t.answer
 }
