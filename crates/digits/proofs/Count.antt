@@ -101,7 +101,7 @@ wide-le u v n p q =
     (λ z. compare u v (λ h. h)
     (λ h. let a : 10 ^ suc v ≤ 10 ^ u = pow-le-pow-right {n = 10} (omega arith) h in absurd (omega (arith, p .lower z, q .upper))))
 
-wide-unique : (u v n : ℕ) → Wide u n → Wide v n → u ≡ v
+pub wide-unique : (u v n : ℕ) → Wide u n → Wide v n → u ≡ v
 wide-unique u v n p q = le-antisymm (wide-le u v n p q) (wide-le v u n q p)
 
 within-wide : (most n : ℕ) → n < 10 ^ suc most → Wide (tensWithin most n) n

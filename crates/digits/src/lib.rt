@@ -6,6 +6,8 @@ ghost use lib.ListN.{length, replicate};
 ghost use Rattle.digits.specs.Digits.{cap, fixed, tens, decimal, wholeText, plainText, signedText, numberText, from, capped, isWhole, isPlain, plainSize, isSigned, signedFigure, blanks, allBlank, isNumber, figureOf, sizeReading, reading, readOn, minusFigure, belowZero, aboveZero};
 ghost use Rattle.digits.specs.Written.{Written};
 
+pub mod aligned;
+
 // How a number stands in its field.
 pub struct Form {
     // So many digits before the point; 0 stands for as many as there are, with no spare zero.
@@ -316,7 +318,7 @@ pub fn put_blanks(dst: &mut [u8], at: usize, k: usize) -> usize
 }
 
 // Writes the last k digits of n.
-fn put_fixed(dst: &mut [u8], at: usize, k: usize, n: u64) -> usize
+pub fn put_fixed(dst: &mut [u8], at: usize, k: usize, n: u64) -> usize
     requires { ⌜ at + k ≤ length (now dst) ⌝ }
     ensures { λ r. ⌜ Written (now (dst .entry)) at (fixed k n) (now (dst .exit)) r ⌝ }
 {
