@@ -80,7 +80,7 @@ module _ (width n : ℕ) (some : 0 < width) (fits : n < 10 ^ width) (low : n < 1
   pub right-length : length (numberText (rightForm width 0) (plain n)) ≡ width
   right-length = ap length number-right ∙ right-long (width - 1) n ∙ omega arith
 
--- ---- the loop of `put_whole`: the bytes from p on are written, of the k before the last digit
+-- ---- the loop of `put_whole`: the bytes from the i-th on are written, of the k before the last digit
 
 -- the last k bytes of what is left of a number
 unfoldable pub leftText : ℕ → ℕ → List ℕ
@@ -98,51 +98,49 @@ left-last zero n = refl
 left-last (suc k) n =
     ap₂ (λ (b : ℕ) (l : List ℕ). digitOrBlank b ∷ l) (div-div-eq-div-mul n 10 (10 ^ k) ∙ rw pow-succ') (left-last k n)
 
-pub record LeftFrom (d : List ℕ) (at k n : ℕ) (d′ : List ℕ) (m p : ℕ) : Type 0 where
-  pub low : at ≤ p
-  pub high : p ≤ at + k
-  pub bytes : d′ ≡ put d p (leftText (at + k - p) n)
-  pub left : m ≡ n / 10 ^ (at + k - p)
+pub record LeftFrom (d : List ℕ) (at k n : ℕ) (d′ : List ℕ) (m i : ℕ) : Type 0 where
+  pub high : i ≤ k
+  pub bytes : d′ ≡ put d (at + i) (leftText (k - i) n)
+  pub left : m ≡ n / 10 ^ (k - i)
   pub long : length d′ ≡ length d
 
 module _ (d : List ℕ) (at k n : ℕ) where
-  pub left-start : LeftFrom d at k n d n (at + k)
+  pub left-start : LeftFrom d at k n d n k
   unfolding leftText
   left-start =
-      let e : at + k - (at + k) ≡ 0 = omega arith in
-      record { low = omega arith; high = omega arith; bytes = rw (e, put-nil); left = rw e (omega arith); long = refl }
+      let e : k - k ≡ 0 = omega arith in
+      record { high = omega arith; bytes = rw (e, put-nil); left = rw e (omega arith); long = refl }
 
-  module _ (d′ : List ℕ) (m p : ℕ) (i : LeftFrom d at k n d′ m p) where
-    pub left-again : at + k ≤ length d → at < p → {b : ℕ} → b ≡ digitOrBlank m → LeftFrom d at k n (set d′ (p - 1) b) (m / 10) (p - 1)
+  module _ (d′ : List ℕ) (m i : ℕ) (v : LeftFrom d at k n d′ m i) where
+    pub left-again : at + k ≤ length d → 0 < i → {b : ℕ} → b ≡ digitOrBlank m → LeftFrom d at k n (set d′ (at + (i - 1)) b) (m / 10) (i - 1)
     unfolding leftText
     left-again f h {b} e =
-        let j : ℕ = at + k - p in
-        let s : at + k - (p - 1) ≡ suc j = omega (arith, i .high) in
-        let q : p ≡ p - 1 + 1 = omega arith in
+        let j : ℕ = k - i in
+        let s : k - (i - 1) ≡ suc j = omega (arith, v .high) in
+        let q : at + i ≡ at + (i - 1) + 1 = omega arith in
         record {
-          low = omega arith;
-          high = omega (arith, i .high);
+          high = omega (arith, v .high);
           bytes =
-              rw (s, e, i .bytes, i .left)
-              (ap (λ (x : ℕ). set (put d x (leftText j n)) (p - 1) (digitOrBlank (n / 10 ^ j))) q
-              ∙ put-before d (p - 1) (digitOrBlank (n / 10 ^ j)) (leftText j n) (omega (arith, left-long j n, i .high)));
-          left = rw (s, i .left, pow-suc) (div-div-eq-div-mul n (10 ^ j) 10);
-          long = length-set d′ (p - 1) b ∙ i .long;
+              rw (s, e, v .bytes, v .left)
+              (ap (λ (x : ℕ). set (put d x (leftText j n)) (at + (i - 1)) (digitOrBlank (n / 10 ^ j))) q
+              ∙ put-before d (at + (i - 1)) (digitOrBlank (n / 10 ^ j)) (leftText j n) (omega (arith, left-long j n, v .high)));
+          left = rw (s, v .left, pow-suc) (div-div-eq-div-mul n (10 ^ j) 10);
+          long = length-set d′ (at + (i - 1)) b ∙ v .long;
         }
 
-    left-end : p ≤ at → Written d at (leftText k n) d′ (at + k)
+    left-end : i ≤ 0 → Written d at (leftText k n) d′ (at + k)
     left-end h =
-        let e : at + k - p ≡ k = omega (arith, i .low) in
-        let q : p ≡ at = omega (arith, i .low) in
-        record { bytes = i .bytes ∙ rw (e, q); next = rw (left-long k n) }
+        let e : k - i ≡ k = omega arith in
+        let q : at + i ≡ at = omega arith in
+        record { bytes = v .bytes ∙ rw (e, q); next = rw (left-long k n) }
 
 -- with the last digit
-pub right-put : (width n : ℕ) → 0 < width → n < 10 ^ width → n < 10 ^ 20 → {d d′ d″ : List ℕ} {at m p r : ℕ} → at + width ≤ length d
-    → LeftFrom d at (width - 1) (n / 10) d′ m p → p ≤ at → Written d′ (at + (width - 1)) ((48 + n % 10) ∷ []) d″ r
+pub right-put : (width n : ℕ) → 0 < width → n < 10 ^ width → n < 10 ^ 20 → {d d′ d″ : List ℕ} {at m i r : ℕ} → at + width ≤ length d
+    → LeftFrom d at (width - 1) (n / 10) d′ m i → i ≤ 0 → Written d′ (at + (width - 1)) ((48 + n % 10) ∷ []) d″ r
     → Written d at (numberText (rightForm width 0) (plain n)) d″ r
-right-put width n some fits low {d} {d′} {d″} {at} {m} {p} {r} room i h w =
+right-put width n some fits low {d} {d′} {d″} {at} {m} {i} {r} room v h w =
     rw (number-right width n some fits low, ← left-last (width - 1) n)
-    (written-then (left-end d at (width - 1) (n / 10) d′ m p i h) w (omega (arith, left-long (width - 1) (n / 10))))
+    (written-then (left-end d at (width - 1) (n / 10) d′ m i v h) w (omega (arith, left-long (width - 1) (n / 10))))
 
 -- ---- with decimals, where u is 10 ^ decimals
 module _ (width decimals n u : ℕ) (unit : u ≡ 10 ^ decimals) (some : 0 < decimals) (wide : decimals + 1 < width)

@@ -21,15 +21,14 @@ pub fn put_whole(dst: &mut [u8], at: usize, width: usize, n: u64) -> usize
     requires { ⌜ (0 < width) × (n < 10 ^ width) × (at + width ≤ length (now dst)) ⌝ }
     ensures { λ r. ⌜ Written (now (dst .entry)) at (numberText (rightForm width 0) (plain n)) (now (dst .exit)) r ⌝ }
 {
-    let last = at + (width - 1);
     let mut m = n / 10;
-    let mut p = last;
-    while at < p {
-        p -= 1;
-        dst[p] = digit_or_blank(m);
+    let mut i = width - 1;
+    while 0 < i {
+        i -= 1;
+        dst[at + i] = digit_or_blank(m);
         m = m / 10;
     }
-    crate::put_byte(dst, last, 48 + ((n % 10) as u8))
+    crate::put_byte(dst, at + (width - 1), 48 + ((n % 10) as u8))
 }
 
 // Writes a number with decimals.

@@ -323,10 +323,10 @@ pub fn put_fixed(dst: &mut [u8], at: usize, k: usize, n: u64) -> usize
     ensures { λ r. ⌜ Written (now (dst .entry)) at (fixed k n) (now (dst .exit)) r ⌝ }
 {
     let mut m = n;
-    let mut p = at + k;
-    while at < p {
-        p -= 1;
-        dst[p] = 48 + ((m % 10) as u8);
+    let mut i = k;
+    while 0 < i {
+        i -= 1;
+        dst[at + i] = 48 + ((m % 10) as u8);
         m = m / 10;
     }
     at + k
