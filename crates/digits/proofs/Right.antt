@@ -7,7 +7,7 @@ use native.Mathlib.Omega.{arith}
 use lib.ListN.{length, set, replicate, length-set, length-append, length-replicate}
 use borrow.Author.Tests.{eq-eqb, ne-eqb}
 use Rattle.digits.specs.Digits.{plain, fixed, tens, decimal, wholeText, plainText, signedText, numberText}
-use Rattle.digits.specs.Right.{rightForm, digitsForm, digitOrBlank}
+use Rattle.digits.specs.Right.{alignedForm, digitsForm, digitOrBlank}
 use Rattle.digits.specs.Written.{put, Written}
 use Rattle.digits.proofs.Read.{compare}
 use Rattle.digits.proofs.Put.{put-nil, put-before, written-then, written-length}
@@ -70,14 +70,14 @@ right-is (suc k) n h t =
     rw z (ap₂ (λ (b : ℕ) (l : List ℕ). b ∷ l) (sym (blank-here (n / 10 ^ suc k) (div-eq-of-lt less))) rest))
 
 module _ (width n : ℕ) (some : 0 < width) (fits : n < 10 ^ width) (low : n < 10 ^ 20) where
-  pub number-right : numberText (rightForm width 0) (plain n) ≡ rightText (width - 1) n
+  pub number-right : numberText (alignedForm width 0) (plain n) ≡ rightText (width - 1) n
   unfolding numberText signedText plainText wholeText
   number-right =
       let w : width ≡ suc (width - 1) = omega arith in
       let z : width - length (decimal n) ≡ width - 1 - tens n = omega (arith, decimal-length n) in
       rw z (sym (right-is (width - 1) n (subst (λ (k : ℕ). n < 10 ^ k) w fits) low))
 
-  pub right-length : length (numberText (rightForm width 0) (plain n)) ≡ width
+  pub right-length : length (numberText (alignedForm width 0) (plain n)) ≡ width
   right-length = ap length number-right ∙ right-long (width - 1) n ∙ omega arith
 
 -- ---- the loop of `put_whole`: the bytes from the i-th on are written, of the k before the last digit
@@ -137,7 +137,7 @@ module _ (d : List ℕ) (at k n : ℕ) where
 -- with the last digit
 pub right-put : (width n : ℕ) → 0 < width → n < 10 ^ width → n < 10 ^ 20 → {d d′ d″ : List ℕ} {at m i r : ℕ} → at + width ≤ length d
     → LeftFrom d at (width - 1) (n / 10) d′ m i → i ≤ 0 → Written d′ (at + (width - 1)) ((48 + n % 10) ∷ []) d″ r
-    → Written d at (numberText (rightForm width 0) (plain n)) d″ r
+    → Written d at (numberText (alignedForm width 0) (plain n)) d″ r
 right-put width n some fits low {d} {d′} {d″} {at} {m} {i} {r} room v h w =
     rw (number-right width n some fits low, ← left-last (width - 1) n)
     (written-then (left-end d at (width - 1) (n / 10) d′ m i v h) w (omega (arith, left-long (width - 1) (n / 10))))
@@ -146,9 +146,9 @@ right-put width n some fits low {d} {d′} {d″} {at} {m} {i} {r} room v h w =
 module _ (width decimals n u : ℕ) (unit : u ≡ 10 ^ decimals) (some : 0 < decimals) (wide : decimals + 1 < width)
     (fits : n / 10 ^ decimals < 10 ^ (width - (decimals + 1))) (low : n < 10 ^ 20) where
   abbrev front : List ℕ
-  front = numberText (rightForm (width - (decimals + 1)) 0) (plain (n / u))
+  front = numberText (alignedForm (width - (decimals + 1)) 0) (plain (n / u))
 
-  number-pointed : numberText (rightForm width decimals) (plain n) ≡ front ++ 46 ∷ fixed decimals n
+  number-pointed : numberText (alignedForm width decimals) (plain n) ≡ front ++ 46 ∷ fixed decimals n
   unfolding numberText signedText plainText wholeText
   number-pointed =
       let whole : List ℕ = decimal (n / 10 ^ decimals) in
@@ -164,7 +164,7 @@ module _ (width decimals n u : ℕ) (unit : u ≡ 10 ^ decimals) (some : 0 < dec
   front-length : length front ≡ width - (decimals + 1)
   front-length = right-length (width - (decimals + 1)) (n / u) (omega arith) front-fits (omega (arith, div-le-self n u))
 
-  pub pointed-length : length (numberText (rightForm width decimals) (plain n)) ≡ width
+  pub pointed-length : length (numberText (alignedForm width decimals) (plain n)) ≡ width
   pointed-length =
       ap length number-pointed ∙ length-append front (46 ∷ fixed decimals n) ∙ omega (arith, front-length, fixed-length decimals n)
 
@@ -173,7 +173,7 @@ module _ (width decimals n u : ℕ) (unit : u ≡ 10 ^ decimals) (some : 0 < dec
     point-room = omega (arith, front-length, x .next, written-length x (omega (arith, front-length)))
 
     pub pointed-put : {d₂ d₃ : List ℕ} {q r : ℕ} → Written d₁ p (46 ∷ []) d₂ q → Written d₂ q (fixed decimals n) d₃ r
-        → Written d at (numberText (rightForm width decimals) (plain n)) d₃ r
+        → Written d at (numberText (alignedForm width decimals) (plain n)) d₃ r
     pointed-put y z =
         let xy = written-then x y (omega (arith, front-length)) in
         let xyz = written-then xy z (omega (arith, front-length, length-append front (46 ∷ []), fixed-length decimals n)) in

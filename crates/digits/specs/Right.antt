@@ -5,8 +5,8 @@ use lib.Dec.{eqb}
 use Rattle.digits.specs.declared.Form.{Form}
 
 -- as many digits as there are, and so many decimals, right in so many bytes
-abbrev pub rightForm : ℕ → ℕ → Form
-rightForm width decimals = record { digits = 0; decimals = decimals; signed = false; width = width }
+abbrev pub alignedForm : ℕ → ℕ → Form
+alignedForm width decimals = record { digits = 0; decimals = decimals; signed = false; width = width }
 
 -- so many digits, which fill the field
 abbrev pub digitsForm : ℕ → Form

@@ -3,7 +3,7 @@ ghost use mathlib.Core.Path.{_≡_};
 ghost use Prim.Native.Nat.{_+_, _-_, _/_, _≤_, _<_, _^_};
 ghost use lib.ListN.{length};
 ghost use Rattle.digits.specs.Digits.{plain, numberText};
-ghost use Rattle.digits.specs.Right.{digitOrBlank, rightForm};
+ghost use Rattle.digits.specs.Right.{digitOrBlank, alignedForm};
 ghost use Rattle.digits.specs.Written.{Written};
 
 // The last digit of what is left of a number, and a blank where nothing is left.
@@ -19,7 +19,7 @@ fn digit_or_blank(m: u64) -> u8
 // Writes a whole number. Each byte takes one turn, whatever the number, so that no turn is guessed wrong.
 pub fn put_whole(dst: &mut [u8], at: usize, width: usize, n: u64) -> usize
     requires { ⌜ (0 < width) × (n < 10 ^ width) × (at + width ≤ length (now dst)) ⌝ }
-    ensures { λ r. ⌜ Written (now (dst .entry)) at (numberText (rightForm width 0) (plain n)) (now (dst .exit)) r ⌝ }
+    ensures { λ r. ⌜ Written (now (dst .entry)) at (numberText (alignedForm width 0) (plain n)) (now (dst .exit)) r ⌝ }
 {
     let mut m = n / 10;
     let mut i = width - 1;
@@ -35,7 +35,7 @@ pub fn put_whole(dst: &mut [u8], at: usize, width: usize, n: u64) -> usize
 pub fn put_pointed(dst: &mut [u8], at: usize, width: usize, decimals: usize, n: u64) -> usize
     requires { ⌜ (0 < decimals) × (decimals ≤ 9) × (decimals + 1 < width) × (at + width ≤ length (now dst)) ⌝ }
     requires { ⌜ n / 10 ^ decimals < 10 ^ (width - (decimals + 1)) ⌝ }
-    ensures { λ r. ⌜ Written (now (dst .entry)) at (numberText (rightForm width decimals) (plain n)) (now (dst .exit)) r ⌝ }
+    ensures { λ r. ⌜ Written (now (dst .entry)) at (numberText (alignedForm width decimals) (plain n)) (now (dst .exit)) r ⌝ }
 {
     let p = put_whole(dst, at, width - (decimals + 1), n / crate::power(decimals));
     let q = crate::put_byte(dst, p, 46);

@@ -10,7 +10,7 @@ use Rattle.lists.specs.Below.{joinBelow, tabulate, table-ext}
 use Rattle.flags.specs.Table.{entry, rateUsed, amountUsed}
 use Rattle.fund.specs.declared.Component.{Component}
 use Rattle.digits.specs.Digits.{plain, fixed, numberText}
-use Rattle.digits.specs.Right.{rightForm}
+use Rattle.digits.specs.Right.{alignedForm}
 use Rattle.digits.specs.Written.{Written}
 use Rattle.digits.proofs.Count.{fixed-length}
 use Rattle.digits.proofs.Put.{written-then, written-length}
@@ -46,7 +46,7 @@ eight-bytes s l = sym (table-ext (λ k. getD s k 0) 8 0 s l (λ k h. refl))
 -- A column that is not always used.
 
 module _ {b : Bool} (width decimals n : ℕ) {d d′ : List ℕ} {at p : ℕ} where
-  pub used-put : b ≡ true → Written d at (numberText (rightForm width decimals) (plain n)) d′ p → Written d at (usedText b width decimals n) d′ p
+  pub used-put : b ≡ true → Written d at (numberText (alignedForm width decimals) (plain n)) d′ p → Written d at (usedText b width decimals n) d′ p
   unfolding usedText
   used-put e w = rw e w
 
@@ -98,7 +98,7 @@ module _ (c : Component) where
   codeText = fixed 6 (c .code)
 
   abbrev quantityText : List ℕ
-  quantityText = numberText (rightForm 8 0) (plain (c .quantity))
+  quantityText = numberText (alignedForm 8 0) (plain (c .quantity))
 
   abbrev flagText : List ℕ
   flagText = fixed 1 (c .flag)

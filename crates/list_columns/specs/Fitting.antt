@@ -5,7 +5,7 @@ use mathlib.Core.List.{List}
 use lib.ListN.{replicate}
 use Rattle.fund.specs.declared.Component.{Component}
 use Rattle.digits.specs.Digits.{plain, numberText}
-use Rattle.digits.specs.Right.{rightForm}
+use Rattle.digits.specs.Right.{alignedForm}
 
 -- the numbers of a component are no wider than their columns
 pub record Fitting (c : Component) : Type 0 where
@@ -22,4 +22,4 @@ pub record Pointed (width decimals n : ℕ) : Type 0 where
 
 -- the number where it is used, and blanks where it is not
 unfoldable pub usedText : Bool → ℕ → ℕ → ℕ → List ℕ
-usedText used width decimals n = cond used (numberText (rightForm width decimals) (plain n)) (replicate width 32)
+usedText used width decimals n = cond used (numberText (alignedForm width decimals) (plain n)) (replicate width 32)

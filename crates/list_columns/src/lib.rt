@@ -5,7 +5,7 @@ ghost use mathlib.Core.List.{[], _∷_, _++_};
 ghost use Prim.Native.Nat.{_+_, _^_, _≤_, _<_};
 ghost use lib.ListN.{length};
 ghost use Rattle.digits.specs.Digits.{fixed, plain, numberText};
-ghost use Rattle.digits.specs.Right.{rightForm};
+ghost use Rattle.digits.specs.Right.{alignedForm};
 ghost use Rattle.digits.specs.Written.{Written};
 ghost use Rattle.lines.specs.Lines.{lineText};
 ghost use Rattle.list_rules.specs.Columns.{columnEntry, columnForm, columnStart, columnWidth, columnPart, holdsName, isUsed, isRow, isColumn, columnValue, flagOf, columnFault, componentOf, rowText};
@@ -267,7 +267,7 @@ fn put_digits(dst: &mut [u8], at: usize, width: usize, n: u64) -> usize
 // Writes a whole number right in its column, and its bar.
 fn put_whole(dst: &mut [u8], at: usize, width: usize, n: u64) -> usize
     requires { ⌜ (0 < width) × (n < 10 ^ width) × (at + (width + 1) ≤ length (now dst)) ⌝ }
-    ensures { λ r. ⌜ Written (now (dst .entry)) at (numberText (rightForm width 0) (plain n) ++ 124 ∷ []) (now (dst .exit)) r ⌝ }
+    ensures { λ r. ⌜ Written (now (dst .entry)) at (numberText (alignedForm width 0) (plain n) ++ 124 ∷ []) (now (dst .exit)) r ⌝ }
 {
     let p = digits::aligned::put_whole(dst, at, width, n);
     digits::put_byte(dst, p, BAR)
