@@ -101,7 +101,7 @@ wide-le u v n p q =
     (λ z. compare u v (λ h. h)
     (λ h. let a : 10 ^ suc v ≤ 10 ^ u = pow-le-pow-right {n = 10} (omega arith) h in absurd (omega (arith, p .lower z, q .upper))))
 
-wide-unique : (u v n : ℕ) → Wide u n → Wide v n → u ≡ v
+pub wide-unique : (u v n : ℕ) → Wide u n → Wide v n → u ≡ v
 wide-unique u v n p q = le-antisymm (wide-le u v n p q) (wide-le v u n q p)
 
 within-wide : (most n : ℕ) → n < 10 ^ suc most → Wide (tensWithin most n) n
@@ -207,41 +207,39 @@ module _ (n w m : ℕ) (t : Passed n w m) where
   pub passed-end : m < 10 → (w ≡ tens n) × (w ≤ 19)
   passed-end h = (omega (arith, t .count, tens-small (19 - w) m h), t .most)
 
--- ---- the loop of `put_fixed`: the digits from p on are written
-pub record FixedFrom (d : List ℕ) (at k n : ℕ) (d′ : List ℕ) (m p : ℕ) : Type 0 where
-  pub low : at ≤ p
-  pub high : p ≤ at + k
-  pub bytes : d′ ≡ put d p (fixed (at + k - p) n)
-  pub left : m ≡ n / 10 ^ (at + k - p)
+-- ---- the loop of `put_fixed`: the digits from the i-th on are written
+pub record FixedFrom (d : List ℕ) (at k n : ℕ) (d′ : List ℕ) (m i : ℕ) : Type 0 where
+  pub high : i ≤ k
+  pub bytes : d′ ≡ put d (at + i) (fixed (k - i) n)
+  pub left : m ≡ n / 10 ^ (k - i)
   pub long : length d′ ≡ length d
 
 module _ (d : List ℕ) (at k n : ℕ) where
-  pub fixed-start : FixedFrom d at k n d n (at + k)
+  pub fixed-start : FixedFrom d at k n d n k
   unfolding fixed
   fixed-start =
-      let e : at + k - (at + k) ≡ 0 = omega arith in
-      record { low = omega arith; high = omega arith; bytes = rw (e, put-nil); left = rw e (omega arith); long = refl }
+      let e : k - k ≡ 0 = omega arith in
+      record { high = omega arith; bytes = rw (e, put-nil); left = rw e (omega arith); long = refl }
 
-  module _ (d′ : List ℕ) (m p : ℕ) (i : FixedFrom d at k n d′ m p) where
-    pub fixed-again : at + k ≤ length d → at < p → FixedFrom d at k n (set d′ (p - 1) (48 + m % 10)) (m / 10) (p - 1)
+  module _ (d′ : List ℕ) (m i : ℕ) (v : FixedFrom d at k n d′ m i) where
+    pub fixed-again : at + k ≤ length d → 0 < i → FixedFrom d at k n (set d′ (at + (i - 1)) (48 + m % 10)) (m / 10) (i - 1)
     unfolding fixed
     fixed-again f h =
-        let j : ℕ = at + k - p in
-        let s : at + k - (p - 1) ≡ suc j = omega arith in
-        let q : p ≡ p - 1 + 1 = omega arith in
+        let j : ℕ = k - i in
+        let s : k - (i - 1) ≡ suc j = omega (arith, v .high) in
+        let q : at + i ≡ at + (i - 1) + 1 = omega arith in
         record {
-          low = omega arith;
-          high = omega arith;
+          high = omega (arith, v .high);
           bytes =
-              rw (s, i .bytes, i .left)
-              (ap (λ (x : ℕ). set (put d x (fixed j n)) (p - 1) (48 + n / 10 ^ j % 10)) q
-              ∙ put-before d (p - 1) (48 + n / 10 ^ j % 10) (fixed j n) (omega (arith, fixed-length j n)));
-          left = rw (s, i .left, pow-suc) (div-div-eq-div-mul n (10 ^ j) 10);
-          long = length-set d′ (p - 1) (48 + m % 10) ∙ i .long;
+              rw (s, v .bytes, v .left)
+              (ap (λ (x : ℕ). set (put d x (fixed j n)) (at + (i - 1)) (48 + n / 10 ^ j % 10)) q
+              ∙ put-before d (at + (i - 1)) (48 + n / 10 ^ j % 10) (fixed j n) (omega (arith, fixed-length j n, v .high)));
+          left = rw (s, v .left, pow-suc) (div-div-eq-div-mul n (10 ^ j) 10);
+          long = length-set d′ (at + (i - 1)) (48 + m % 10) ∙ v .long;
         }
 
-    pub fixed-end : p ≤ at → Written d at (fixed k n) d′ (at + k)
+    pub fixed-end : i ≤ 0 → Written d at (fixed k n) d′ (at + k)
     fixed-end h =
-        let e : at + k - p ≡ k = omega arith in
-        let q : p ≡ at = omega arith in
-        record { bytes = i .bytes ∙ rw (e, q); next = rw (fixed-length k n) }
+        let e : k - i ≡ k = omega arith in
+        let q : at + i ≡ at = omega arith in
+        record { bytes = v .bytes ∙ rw (e, q); next = rw (fixed-length k n) }

@@ -1,2 +1,3 @@
 pub mod Digits
 pub mod Written
+pub mod Right

@@ -6,6 +6,8 @@ ghost use lib.ListN.{length, replicate};
 ghost use Rattle.digits.specs.Digits.{cap, fixed, tens, decimal, wholeText, plainText, signedText, numberText, from, capped, isWhole, isPlain, plainSize, isSigned, signedFigure, blanks, allBlank, isNumber, figureOf, sizeReading, reading, readOn, minusFigure, belowZero, aboveZero};
 ghost use Rattle.digits.specs.Written.{Written};
 
+pub mod aligned;
+
 // How a number stands in its field.
 pub struct Form {
     // So many digits before the point; 0 stands for as many as there are, with no spare zero.
@@ -316,15 +318,15 @@ pub fn put_blanks(dst: &mut [u8], at: usize, k: usize) -> usize
 }
 
 // Writes the last k digits of n.
-fn put_fixed(dst: &mut [u8], at: usize, k: usize, n: u64) -> usize
+pub fn put_fixed(dst: &mut [u8], at: usize, k: usize, n: u64) -> usize
     requires { ⌜ at + k ≤ length (now dst) ⌝ }
     ensures { λ r. ⌜ Written (now (dst .entry)) at (fixed k n) (now (dst .exit)) r ⌝ }
 {
     let mut m = n;
-    let mut p = at + k;
-    while at < p {
-        p -= 1;
-        dst[p] = 48 + ((m % 10) as u8);
+    let mut i = k;
+    while 0 < i {
+        i -= 1;
+        dst[at + i] = 48 + ((m % 10) as u8);
         m = m / 10;
     }
     at + k

@@ -1,13 +1,16 @@
 // A component line of the list text: 48 bytes, six columns that a table drives, each followed by "|".
 ghost use mathlib.Core.Path.{_≡_};
 ghost use mathlib.Core.Bool.{true, false};
-ghost use Prim.Native.Nat.{_+_, _≤_, _<_};
+ghost use mathlib.Core.List.{[], _∷_, _++_};
+ghost use Prim.Native.Nat.{_+_, _^_, _≤_, _<_};
 ghost use lib.ListN.{length};
+ghost use Rattle.digits.specs.Digits.{fixed, plain, numberText};
+ghost use Rattle.digits.specs.Right.{alignedForm};
 ghost use Rattle.digits.specs.Written.{Written};
 ghost use Rattle.lines.specs.Lines.{lineText};
-ghost use Rattle.list_rules.specs.Columns.{columnEntry, columnForm, columnStart, columnWidth, columnPart, holdsName, isUsed, isRow, isColumn, columnValue, flagOf, columnFault, componentOf, valueAt, columnText, rowText};
+ghost use Rattle.list_rules.specs.Columns.{columnEntry, columnForm, columnStart, columnWidth, columnPart, holdsName, isUsed, isRow, isColumn, columnValue, flagOf, columnFault, componentOf, rowText};
 ghost use Rattle.list_columns.specs.Read.{isGood, sizeOf};
-use digits::Figure;
+ghost use Rattle.list_columns.specs.Fitting.{Fitting, Pointed, usedText};
 use digits::Form;
 use digits::Reading;
 use fund::Component;
@@ -32,6 +35,22 @@ const TABLE: [[usize; 5]; 6] = [
 const ALWAYS: usize = 6;
 
 const NAME: usize = 7;
+
+const CODE_WIDTH: usize = TABLE[0][1];
+
+const QUANTITY_WIDTH: usize = TABLE[2][1];
+
+const FLAG_WIDTH: usize = TABLE[3][1];
+
+const RATE_WIDTH: usize = TABLE[4][1];
+
+const RATE_DECIMALS: usize = TABLE[4][3];
+
+const AMOUNT_WIDTH: usize = TABLE[5][1];
+
+const AMOUNT_DECIMALS: usize = TABLE[5][3];
+
+const BAR: u8 = 124;
 
 fn table_entry(k: usize, column: usize) -> usize
     requires { ⌜ (k < 6) × (column < 5) ⌝ }
@@ -209,50 +228,99 @@ pub fn component_of(line: &[u8]) -> Component
     }
 }
 
-// The number of a component in column k; none for its name.
-fn value_at(c: Component, k: usize) -> u64
-    ensures { λ r. ⌜ r ≡ valueAt c k ⌝ }
+// The bytes of a name, all read before one is written, so that they are copied at once.
+fn name_bytes(name: &[u8]) -> [u8; 8]
+    requires { ⌜ length (now name) ≡ 8 ⌝ }
+    ensures { λ r. ⌜ r ≡ now (name .entry) ⌝ }
 {
-    match k {
-        0 => c.code,
-        2 => c.quantity,
-        3 => c.flag,
-        4 => c.rate.0,
-        5 => c.amount.0,
-        _ => 0,
-    }
+    [
+        name[0],
+        name[1],
+        name[2],
+        name[3],
+        name[4],
+        name[5],
+        name[6],
+        name[7],
+    ]
 }
 
-// Writes column k of a component's line.
-fn put_column(dst: &mut [u8], at: usize, k: usize, c: Component, name: &[u8]) -> usize
-    requires { ⌜ k < 6 ⌝ }
-    requires { ⌜ at + length (columnText c (now name) k) ≤ length (now dst) ⌝ }
-    ensures { λ r. ⌜ Written (now (dst .entry)) at (columnText c (now (name .entry)) k) (now (dst .exit)) r ⌝ }
+// Writes a name and its bar.
+fn put_name(dst: &mut [u8], at: usize, name: &[u8]) -> usize
+    requires { ⌜ (length (now name) ≡ 8) × (at + 9 ≤ length (now dst)) ⌝ }
+    ensures { λ r. ⌜ Written (now (dst .entry)) at (now (name .entry) ++ 124 ∷ []) (now (dst .exit)) r ⌝ }
 {
-    if holds_name(k) {
-        return digits::put_bytes(dst, at, name);
-    }
-    if is_used(c.flag, k) {
-        let z = Figure {
-            negative: false,
-            size: value_at(c, k),
-        };
-        return digits::put_number(dst, at, column_form(k), z);
-    }
-    digits::put_blanks(dst, at, column_width(k))
+    let bytes = name_bytes(name);
+    let p = digits::put_bytes(dst, at, &bytes);
+    digits::put_byte(dst, p, BAR)
 }
 
-// Writes a component's line.
+// Writes a number of so many digits and its bar.
+fn put_digits(dst: &mut [u8], at: usize, width: usize, n: u64) -> usize
+    requires { ⌜ at + (width + 1) ≤ length (now dst) ⌝ }
+    ensures { λ r. ⌜ Written (now (dst .entry)) at (fixed width n ++ 124 ∷ []) (now (dst .exit)) r ⌝ }
+{
+    let p = digits::put_fixed(dst, at, width, n);
+    digits::put_byte(dst, p, BAR)
+}
+
+// Writes a whole number right in its column, and its bar.
+fn put_whole(dst: &mut [u8], at: usize, width: usize, n: u64) -> usize
+    requires { ⌜ (0 < width) × (n < 10 ^ width) × (at + (width + 1) ≤ length (now dst)) ⌝ }
+    ensures { λ r. ⌜ Written (now (dst .entry)) at (numberText (alignedForm width 0) (plain n) ++ 124 ∷ []) (now (dst .exit)) r ⌝ }
+{
+    let p = digits::aligned::put_whole(dst, at, width, n);
+    digits::put_byte(dst, p, BAR)
+}
+
+// Writes a number with decimals right in its column where it is used, and blanks where it is not.
+fn put_used(dst: &mut [u8], at: usize, used: bool, width: usize, decimals: usize, n: u64) -> usize
+    requires { ⌜ Pointed width decimals n × (at + width ≤ length (now dst)) ⌝ }
+    ensures { λ r. ⌜ Written (now (dst .entry)) at (usedText used width decimals n) (now (dst .exit)) r ⌝ }
+{
+    if used {
+        return digits::aligned::put_pointed(dst, at, width, decimals, n);
+    }
+    digits::put_blanks(dst, at, width)
+}
+
+// The same with its bar.
+fn put_pointed(
+    dst: &mut [u8],
+    at: usize,
+    used: bool,
+    width: usize,
+    decimals: usize,
+    n: u64,
+) -> usize
+    requires { ⌜ Pointed width decimals n × (at + (width + 1) ≤ length (now dst)) ⌝ }
+    ensures { λ r. ⌜ Written (now (dst .entry)) at (usedText used width decimals n ++ 124 ∷ []) (now (dst .exit)) r ⌝ }
+{
+    let p = put_used(dst, at, used, width, decimals, n);
+    digits::put_byte(dst, p, BAR)
+}
+
+// Writes a component's line. Each column is written by its own call with what the table has for it, which is known when the code is
+// compiled.
 pub fn put_row(dst: &mut [u8], at: usize, c: Component, name: &[u8]) -> usize
+    requires { ⌜ Fitting c × (length (now name) ≡ 8) ⌝ }
     requires { ⌜ at + length (lineText (rowText c (now name))) ≤ length (now dst) ⌝ }
     ensures { λ r. ⌜ Written (now (dst .entry)) at (lineText (rowText c (now (name .entry)))) (now (dst .exit)) r ⌝ }
 {
-    let mut p = at;
-    let mut k = 0;
-    while k < COLUMNS {
-        let q = put_column(dst, p, k, c, name);
-        p = digits::put_byte(dst, q, 124);
-        k += 1;
-    }
-    digits::put_bytes(dst, p, b"\r\n")
+    let rate_used = flags::entry_of(c.flag, flags::RATE_USED);
+    let amount_used = flags::entry_of(c.flag, flags::AMOUNT_USED);
+    let p1 = put_digits(dst, at, CODE_WIDTH, c.code);
+    let p2 = put_name(dst, p1, name);
+    let p3 = put_whole(dst, p2, QUANTITY_WIDTH, c.quantity);
+    let p4 = put_digits(dst, p3, FLAG_WIDTH, c.flag);
+    let p5 = put_pointed(dst, p4, rate_used, RATE_WIDTH, RATE_DECIMALS, c.rate.0);
+    let p6 = put_pointed(
+        dst,
+        p5,
+        amount_used,
+        AMOUNT_WIDTH,
+        AMOUNT_DECIMALS,
+        c.amount.0,
+    );
+    digits::put_bytes(dst, p6, b"\r\n")
 }

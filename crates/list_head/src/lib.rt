@@ -39,12 +39,19 @@ pub struct HeadFields {
     pub figures: [Figure; 20],
 }
 
+// An entry of the table, which is narrow there, since the table is made anew at each use.
+fn wide(x: u8) -> usize
+    ensures { λ r. ⌜ r ≡ x ⌝ }
+{
+    x as usize
+}
+
 fn table_entry(k: usize, column: usize) -> usize
     requires { ⌜ (k < 20) × (column < 4) ⌝ }
     ensures { λ r. ⌜ r ≡ fieldEntry k column ⌝ }
 {
     let table = tables::TABLE;
-    table[k][column]
+    wide(table[k][column])
 }
 
 // The form of a field's number.

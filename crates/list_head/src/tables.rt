@@ -1,7 +1,7 @@
 // The tables that drive the head's lines.
 
 // For each field: digits, decimals, 1 where a "-" may stand, kind.
-pub const TABLE: [[usize; 4]; 20] = [
+pub const TABLE: [[u8; 4]; 20] = [
     [6, 0, 0, 0],
     [0, 0, 0, 0],
     [0, 5, 0, 0],

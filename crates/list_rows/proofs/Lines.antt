@@ -1,7 +1,7 @@
 -- The component lines and the names of a text as the code goes through them.
 use Prim.Native.Nat.{ℕ, zero, suc, _+_, _-_, _*_, _≤_, _<_}
 use mathlib.Core.Path.{_≡_, refl, sym, ap, ap₂, _∙_}
-use mathlib.Core.Bool.{Bool, not}
+use mathlib.Core.Bool.{Bool, true, not, and-eq-true-iff}
 use mathlib.Core.List.{List, [], _∷_}
 use native.Mathlib.Nat.{add-sub-cancel-left}
 use native.Mathlib.Omega.{arith}
@@ -9,7 +9,7 @@ use lib.Dec.{ltb}
 use lib.ListN.{length, take, drop, length-drop}
 use lib.Seq.{length-take-le, take-take, drop-drop}
 use borrow.Author.Tests.{le-leb, lt-leb}
-use Rattle.lists.specs.Below.{firstBelow, first-all, first-stops}
+use Rattle.lists.specs.Below.{firstBelow, first-all, first-end, first-stops}
 use Rattle.fund.specs.declared.Component.{Component}
 use Rattle.lines.specs.Lines.{nameByte, allBytes}
 use Rattle.list_rules.specs.Head.{headLines}
@@ -109,3 +109,28 @@ module _ (names : List ℕ) (j : ℕ) where
   pub bad-here : {b : Bool} → b ≡ allBytes nameByte (take (8 * j + 8 - 8 * j) (drop (8 * j) names)) → not b ≡ badAt names j
   unfolding badAt
   bad-here e = ap not (e ∙ ap (allBytes nameByte) part-name)
+
+-- where every byte may stand in a name, no name is at fault
+
+all-drop : (p : ℕ → Bool) (n : ℕ) (l : List ℕ) → allBytes p l ≡ true → allBytes p (drop n l) ≡ true
+unfolding allBytes
+all-drop p zero l e = e
+all-drop p (suc n) [] e = e
+all-drop p (suc n) (b ∷ r) e = all-drop p n r (and-eq-true-iff (p b) (allBytes p r) .0 e .1)
+
+all-take : (p : ℕ → Bool) (n : ℕ) (l : List ℕ) → allBytes p l ≡ true → allBytes p (take n l) ≡ true
+unfolding allBytes
+all-take p zero l e = refl
+all-take p (suc n) [] e = refl
+all-take p (suc n) (b ∷ r) e =
+    let both = and-eq-true-iff (p b) (allBytes p r) .0 e in
+    rw (both .0) (all-take p n r (both .1))
+
+pub names-fine : (names : List ℕ) (count : ℕ) → allBytes nameByte (take (8 * count) names) ≡ true → count ≡ nameFault names count
+unfolding nameFault nameAt
+names-fine names count e =
+    sym
+    (first-end (λ j. not (allBytes nameByte (take 8 (drop (8 * j) names)))) count
+    (λ j h.
+    ap (λ (l : List ℕ). not (allBytes nameByte l)) (sym (part-within (8 * j) 8 (8 * count) names (omega arith)))
+    ∙ ap not (all-take nameByte 8 (drop (8 * j) (take (8 * count) names)) (all-drop nameByte (8 * j) (take (8 * count) names) e))))

@@ -1,10 +1,11 @@
 -- Components stored in a run, and their lines written.
 use Prim.Native.Nat.{ℕ, _+_, _-_, _*_, _≤_, _<_, zero-le}
-use mathlib.Core.Path.{_≡_, refl, sym, ap, ap₂, _∙_}
+use mathlib.Core.Path.{_≡_, refl, sym, ap, ap₂, _∙_, subst}
 use mathlib.Core.List.{List, _++_}
+use native.Mathlib.Nat.{add-sub-cancel-left}
 use native.Mathlib.Omega.{arith}
-use lib.ListN.{length, getD, take, drop}
-use lib.Seq.{sets, length-sets}
+use lib.ListN.{length, getD, take, drop, length-drop}
+use lib.Seq.{sets, length-sets, length-take-le}
 use Rattle.lists.specs.Below.{joinBelow, join-none, join-more, join-length}
 use Rattle.lists.specs.Runs.{sets-append, sets-front}
 use Rattle.fund.specs.declared.Component.{Component}
@@ -12,6 +13,7 @@ use Rattle.fund.specs.Components.{blank, componentAt, componentNumbers, compone
 use Rattle.lines.specs.Lines.{lineText}
 use Rattle.list_rules.specs.Columns.{rowText}
 use Rattle.list_rules.specs.Writing.{nameAt}
+use Rattle.list_columns.specs.Fitting.{Fitting}
 use Rattle.list_rows.specs.Rows.{numbersOf, rowBytes}
 use Rattle.list_rows.proofs.Lines.{part-name}
 
@@ -63,3 +65,13 @@ pub line-is : (run names : List ℕ) (j : ℕ) {x : Component} → x ≡ compone
     → lineAt run names j ≡ lineText (rowText x (take (8 * j + 8 - 8 * j) (drop (8 * j) names)))
 unfolding lineAt
 line-is run names j e = ap₂ (λ (y : Component) (n : List ℕ). lineText (rowText y n)) (sym e) (sym (part-name names j))
+
+-- its numbers have room, and its name has eight bytes
+pub part-fits : (run : List ℕ) (count j : ℕ) → ((i : ℕ) → i < count → Fitting (componentAt run i)) → j < count
+    → {x : Component} → x ≡ componentAt run j → Fitting x
+part-fits run count j fit h e = subst Fitting (sym e) (fit j h)
+
+pub part-eight : (names : List ℕ) (count j : ℕ) → 8 * count ≤ length names → j < count
+    → length (take (8 * j + 8 - 8 * j) (drop (8 * j) names)) ≡ 8
+part-eight names count j room h =
+    rw (add-sub-cancel-left (8 * j) 8) (length-take-le 8 (drop (8 * j) names) (omega (arith, length-drop (8 * j) names)))

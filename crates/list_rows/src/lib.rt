@@ -1,13 +1,14 @@
 // The component lines of a list text: how many there are, what they say, and the lines written.
 ghost use mathlib.Core.Path.{_≡_};
 ghost use mathlib.Core.List.{_++_};
-ghost use Prim.Native.Nat.{_+_, _*_, _≤_, _<_};
+ghost use Prim.Native.Nat.{ℕ, _+_, _*_, _≤_, _<_};
 ghost use lib.ListN.{length, drop};
-ghost use Rattle.fund.specs.Components.{placesOf};
+ghost use Rattle.fund.specs.Components.{componentAt, placesOf};
 ghost use Rattle.digits.specs.Written.{Written};
 ghost use Rattle.list_rules.specs.Columns.{isRow, columnFault};
 ghost use Rattle.list_rules.specs.Reading.{startOf, lineStands, rowCount, rowOf, wrongRow, columnPlace, componentRead, nameFrom};
 ghost use Rattle.list_rules.specs.Writing.{nameFault};
+ghost use Rattle.list_columns.specs.Fitting.{Fitting};
 ghost use Rattle.list_rows.specs.Rows.{rowFrom, numbersOf, rowBytes};
 use fund::Component;
 use list_rules::NAME_WIDTH;
@@ -119,11 +120,16 @@ pub fn name_from(text: &[u8], first: usize, j: usize) -> &[u8]
     &text[at..at + NAME_WIDTH]
 }
 
-// The first of so many names with a byte that no name has, and their count where there is none.
+// The first of so many names with a byte that no name has, and their count where there is none. The names are gone through one by
+// one only where there is such a byte.
 pub fn name_fault(names: &[u8], count: usize) -> usize
     requires { ⌜ 8 * count ≤ length (now names) ⌝ }
     ensures { λ r. ⌜ r ≡ nameFault (now (names .entry)) count ⌝ }
 {
+    let n = NAME_WIDTH * count;
+    if lines::is_name(&names[..n]) {
+        return count;
+    }
     let mut j = 0;
     while j < count {
         let at = NAME_WIDTH * j;
@@ -138,6 +144,7 @@ pub fn name_fault(names: &[u8], count: usize) -> usize
 // Writes so many component lines.
 pub fn put_rows(dst: &mut [u8], at: usize, run: &[u64], names: &[u8], count: usize) -> usize
     requires { ⌜ (5 * count ≤ length (now run)) × (8 * count ≤ length (now names)) ⌝ }
+    requires { ⌜ ((j : ℕ) → j < count → Fitting (componentAt (now run) j)) ⌝ }
     requires { ⌜ at + length (rowBytes (now run) (now names) count) ≤ length (now dst) ⌝ }
     ensures { λ r. ⌜ Written (now (dst .entry)) at (rowBytes (now (run .entry)) (now (names .entry)) count) (now (dst .exit)) r ⌝ }
 {

@@ -12,6 +12,7 @@ use borrow.Author.Tests.{le-ltb, ne-eqb}
 use Rattle.lists.specs.Below.{tabulate, table-at}
 use Rattle.lists.specs.Every.{inside-facts}
 use Rattle.lists.specs.Checks.{passes}
+use Rattle.fund.specs.Components.{componentAt}
 use Rattle.digits.specs.declared.Figure.{Figure}
 use Rattle.digits.specs.Digits.{plain, numberText}
 use Rattle.digits.specs.Written.{Written, put}
@@ -22,6 +23,7 @@ use Rattle.list_rules.specs.Head.{fieldName, fieldForm, openingWord, isLetters,
 use Rattle.list_rules.specs.Fields.{figureAt}
 use Rattle.list_rules.specs.Writing.{Listing, headText, rowsText, textOf, listChecks}
 use Rattle.list_head.specs.Tables.{headBytes}
+use Rattle.list_columns.specs.Fitting.{Fitting}
 use Rattle.list_rows.specs.Rows.{rowBytes}
 use Rattle.list_trip.proofs.Below.{join-same, length-below}
 use Rattle.list_trip.proofs.WrittenPassing.{Passing, passing, component-fine, name-fine, name-eight}
@@ -45,6 +47,12 @@ line-same letters f g k e = pick (decLt (k - 1) 20)
 pub letters-few : (l : Listing) → Passing l → length (l .letters) ≤ 8
 unfolding isLetters
 letters-few l p = inside-facts 1 8 (length (l .letters)) (and-eq-true-iff _ _ .0 (p .letters) .0) .1
+
+-- the numbers of each component are no wider than their columns
+pub numbers-fit : (l : Listing) → Passing l → (j : ℕ) → j < l .fields .count → Fitting (componentAt (l .run) j)
+numbers-fit l p j h =
+    let r = component-fine l p j h in
+    record { quantity = omega (arith, r .quantity); rate = omega (arith, r .rate); amount = omega (arith, r .amount) }
 
 module _ (l : Listing) where
   pub head-is : headBytes (l .letters) (tabulate (figureAt (l .fields)) 20) 22 ≡ headText l 22

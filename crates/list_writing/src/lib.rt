@@ -37,8 +37,7 @@ fn write_fault(first_code: u64, run: &[u64], names: &[u8], count: usize) -> usiz
     requires { ⌜ (count ≤ 300) × (length (now run) ≡ 5 * count) × (length (now names) ≡ 8 * count) ⌝ }
     ensures { λ r. ⌜ r ≡ min (componentFault «first_code» (placesOf (componentAt (now (run .entry))) count) count) (nameFault (now (names .entry)) count) ⌝ }
 {
-    let components = fund::components_of(run, count);
-    let fault = fund::component_fault(first_code, components, count);
+    let fault = fund::run_fault(first_code, run, count);
     let name = list_rows::name_fault(names, count);
     if fault < name {
         return fault;

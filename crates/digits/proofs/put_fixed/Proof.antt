@@ -1,29 +1,29 @@
--- `digits::put_fixed` meets its contract. The loop's invariant: the digits from `p` on are written, and `m` is left.
+-- `digits::put_fixed` meets its contract. The loop's invariant: the digits from the `i`-th on are written, and `m` is left.
 use native.Mathlib.Omega.{arith}
 use Rattle.digits.proofs.Count.{FixedFrom, fixed-start, fixed-again, fixed-end}
 use Rattle.digits.proofs.put_fixed.Statement.{statement}
 use Rattle.digits.proofs.put_fixed.Tie as tie
 
 abbrev Inv-loop : tie.InvT-loop
-Inv-loop dst₀ at k n m₀ p₀ dst m p = FixedFrom dst₀ at k n dst m p
+Inv-loop dst₀ at k n m₀ i₀ dst m i = FixedFrom dst₀ at k n dst m i
 
 abbrev μ-loop : tie.MeasureT-loop
-μ-loop dst₀ at k n m₀ p₀ dst m p = p
-
-add-p : tie.Need-add-p Inv-loop μ-loop
-add-p c = omega arith
+μ-loop dst₀ at k n m₀ i₀ dst m i = i
 
 loop-holds : tie.Need-loop-holds Inv-loop μ-loop
 loop-holds c = fixed-start _ _ _ _
 
-sub-p : tie.Need-sub-p Inv-loop μ-loop
-sub-p c = omega arith
+sub-i : tie.Need-sub-i Inv-loop μ-loop
+sub-i c = omega arith
 
 cast-dst : tie.Need-cast-dst Inv-loop μ-loop
 cast-dst c = omega arith
 
 add-dst : tie.Need-add-dst Inv-loop μ-loop
 add-dst c = omega arith
+
+add-dst-2 : tie.Need-add-dst-2 Inv-loop μ-loop
+add-dst-2 c = omega arith
 
 slice-write-dst : tie.Need-slice-write-dst Inv-loop μ-loop
 slice-write-dst c = omega arith
@@ -49,11 +49,11 @@ put-fixed-spec =
     (tie.spec
     Inv-loop
     μ-loop
-    add-p
     loop-holds
-    sub-p
+    sub-i
     cast-dst
     add-dst
+    add-dst-2
     slice-write-dst
     loop-less
     loop-again

@@ -1,72 +1,106 @@
--- `list_columns::put_row` meets its contract. The loop's invariant: the columns below `k` and their bars are written.
-use Prim.Native.Nat.{_-_}
+-- `list_columns::put_row` meets its contract: the columns stand one behind the other, each with its bar, and 0D 0A behind them.
+use native.Mathlib.Omega.{arith}
 use borrow.Author.Needs.{needs}
-use Rattle.list_rules.specs.Columns.{columnCount}
-use Rattle.list_columns.proofs.Turns.{Joined, joined-start}
-use Rattle.list_columns.proofs.Texts.{cell, cell-room, bar-room, cell-written, end-room, row-written}
+use Rattle.list_columns.proofs.Texts.{rate-pointed, amount-pointed, used-same, code-room, name-room, quantity-room, flag-room, rate-room, amount-room, end-room, row-put}
 use Rattle.list_columns.proofs.put_row.Statement.{statement}
 use Rattle.list_columns.proofs.put_row.Tie as tie
 
-abbrev Inv-loop : tie.InvT-loop
-Inv-loop dst₀ at c name p₀ k₀ t8 dst p k = Joined (cell c name) columnCount dst₀ at dst p k
+entry-of-requires : tie.Need-entry-of-requires
+entry-of-requires c κs = search needs
 
-abbrev μ-loop : tie.MeasureT-loop
-μ-loop dst₀ at c name p₀ k₀ t8 dst p k = columnCount - k
+entry-of-requires-2 : tie.Need-entry-of-requires-2
+entry-of-requires-2 c κs = search needs
 
-loop-holds : tie.Need-loop-holds Inv-loop μ-loop
-loop-holds c = joined-start _ _ _ _
+put-digits-requires : tie.Need-put-digits-requires
+put-digits-requires c κs = let s = c .before .before .before .before .before in code-room _ _ (s .pre .0 .0) (s .pre .0 .1) (s .args .dst .now) _ (s .pre .1)
 
-put-column-requires : tie.Need-put-column-requires Inv-loop μ-loop
-put-column-requires c κs =
-    let t = c .before in
-    (t .loop-test .taken, cell-room _ _ (t .before .before .before .before .pre) (t .before .loop .inv) (t .loop-test .taken))
+put-name-requires : tie.Need-put-name-requires
+put-name-requires c κs =
+    let w₁ = c .before .before .before in
+    let f = w₁ .before .before in
+    let s = f .before .before .before .before in
+    (s .pre .0 .1, name-room _ _ (s .pre .0 .0) (s .pre .0 .1) _ _ (s .pre .1) (w₁ .put-digits .ensures))
 
-put-byte-requires : tie.Need-put-byte-requires Inv-loop μ-loop
-put-byte-requires c κs =
-    let t = c .before .before .before .before .before in
-    bar-room _ _ (t .before .before .before .before .pre) (t .before .loop .inv) (t .loop-test .taken)
-    (c .before .before .before .put-column .ensures)
+put-whole-requires : tie.Need-put-whole-requires
+put-whole-requires c κs =
+    let w₂ = c .before .before .before in
+    let w₁ = w₂ .before .before .before .before in
+    let f = w₁ .before .before in
+    let s = f .before .before .before .before in
+    (omega arith, s .pre .0 .0 .quantity, quantity-room _ _ (s .pre .0 .0) (s .pre .0 .1) _ _ (s .pre .1) (w₁ .put-digits .ensures) (w₂ .put-name .ensures))
 
-add-k : tie.Need-add-k Inv-loop μ-loop
-add-k c = search needs
+put-digits-requires-2 : tie.Need-put-digits-requires-2
+put-digits-requires-2 c κs =
+    let w₃ = c .before .before .before in
+    let w₂ = w₃ .before .before .before .before in
+    let w₁ = w₂ .before .before .before .before in
+    let f = w₁ .before .before in
+    let s = f .before .before .before .before in
+    flag-room _ _ (s .pre .0 .0) (s .pre .0 .1) _ _ (s .pre .1) (w₁ .put-digits .ensures) (w₂ .put-name .ensures) (w₃ .put-whole .ensures)
 
-loop-less : tie.Need-loop-less Inv-loop μ-loop
-loop-less c = search needs
+put-pointed-requires : tie.Need-put-pointed-requires
+put-pointed-requires c κs =
+    let w₄ = c .before .before .before in
+    let w₃ = w₄ .before .before .before .before in
+    let w₂ = w₃ .before .before .before .before in
+    let w₁ = w₂ .before .before .before .before in
+    let f = w₁ .before .before in
+    let s = f .before .before .before .before in
+    (rate-pointed _ (s .pre .0 .0), rate-room _ _ (s .pre .0 .0) (s .pre .0 .1) _ _ (s .pre .1) (w₁ .put-digits .ensures) (w₂ .put-name .ensures) (w₃ .put-whole .ensures) (w₄ .put-digits2 .ensures))
 
-loop-again : tie.Need-loop-again Inv-loop μ-loop
-loop-again c =
-    let t = c .before .before .before .before .before .before .before .before in
-    cell-written _ _ (t .before .before .before .before .pre) (t .before .loop .inv) (t .loop-test .taken)
-    (c .before .before .before .before .before .before .put-column .ensures) (c .before .before .put-byte .ensures)
+put-pointed-requires-2 : tie.Need-put-pointed-requires-2
+put-pointed-requires-2 c κs =
+    let w₅ = c .before .before .before in
+    let w₄ = w₅ .before .before .before .before in
+    let w₃ = w₄ .before .before .before .before in
+    let w₂ = w₃ .before .before .before .before in
+    let w₁ = w₂ .before .before .before .before in
+    let f = w₁ .before .before in
+    let s = f .before .before .before .before in
+    (amount-pointed _ (s .pre .0 .0), amount-room _ _ (s .pre .0 .0) (s .pre .0 .1) _ _ (s .pre .1) (w₁ .put-digits .ensures) (w₂ .put-name .ensures) (w₃ .put-whole .ensures) (w₄ .put-digits2 .ensures) (used-same _ _ _ (f .before .entry-of .ensures) (w₅ .put-pointed .ensures)))
 
-slice-aggregate-put-bytes : tie.Need-slice-aggregate-put-bytes Inv-loop μ-loop
+slice-aggregate-put-bytes : tie.Need-slice-aggregate-put-bytes
 slice-aggregate-put-bytes c = search needs
 
-put-bytes-requires : tie.Need-put-bytes-requires Inv-loop μ-loop
+put-bytes-requires : tie.Need-put-bytes-requires
 put-bytes-requires c κs =
-    let t = c .before .before in
-    end-room _ _ (t .before .before .before .before .pre) (t .before .loop .inv) (t .loop-test .left)
+    let w₆ = c .before .before .before .before in
+    let w₅ = w₆ .before .before .before .before in
+    let w₄ = w₅ .before .before .before .before in
+    let w₃ = w₄ .before .before .before .before in
+    let w₂ = w₃ .before .before .before .before in
+    let w₁ = w₂ .before .before .before .before in
+    let f = w₁ .before .before in
+    let s = f .before .before .before .before in
+    end-room _ _ (s .pre .0 .0) (s .pre .0 .1) _ _ (s .pre .1) (w₁ .put-digits .ensures) (w₂ .put-name .ensures) (w₃ .put-whole .ensures) (w₄ .put-digits2 .ensures) (used-same _ _ _ (f .before .entry-of .ensures) (w₅ .put-pointed .ensures)) (used-same _ _ _ (f .entry-of2 .ensures) (w₆ .put-pointed2 .ensures))
 
-same-length : tie.Need-same-length Inv-loop μ-loop
+same-length : tie.Need-same-length
 same-length c = search needs
 
-returns : tie.Need-returns Inv-loop μ-loop
+returns : tie.Need-returns
 returns c =
-    let t = c .before .before .before .before .before in
-    row-written _ _ (t .before .before .before .before .pre) (t .before .loop .inv) (t .loop-test .left) (c .before .before .put-bytes .ensures)
+    let w₆ = c .before .before .before .before .before .before .before in
+    let w₅ = w₆ .before .before .before .before in
+    let w₄ = w₅ .before .before .before .before in
+    let w₃ = w₄ .before .before .before .before in
+    let w₂ = w₃ .before .before .before .before in
+    let w₁ = w₂ .before .before .before .before in
+    let f = w₁ .before .before in
+    let s = f .before .before .before .before in
+    row-put _ _ (s .pre .0 .0) (s .pre .0 .1) _ _ (s .pre .1) (w₁ .put-digits .ensures) (w₂ .put-name .ensures) (w₃ .put-whole .ensures) (w₄ .put-digits2 .ensures) (used-same _ _ _ (f .before .entry-of .ensures) (w₅ .put-pointed .ensures)) (used-same _ _ _ (f .entry-of2 .ensures) (w₆ .put-pointed2 .ensures)) (c .before .before .put-bytes .ensures)
 
 pub put-row-spec : {M : Type 1} → statement M
 put-row-spec =
     tie.close
     (tie.spec
-    Inv-loop
-    μ-loop
-    loop-holds
-    put-column-requires
-    put-byte-requires
-    add-k
-    loop-less
-    loop-again
+    entry-of-requires
+    entry-of-requires-2
+    put-digits-requires
+    put-name-requires
+    put-whole-requires
+    put-digits-requires-2
+    put-pointed-requires
+    put-pointed-requires-2
     slice-aggregate-put-bytes
     put-bytes-requires
     same-length

@@ -1,17 +1,31 @@
--- `list_rows::name_fault` meets its contract. The loop's invariant: no name below `j` is at fault.
+-- `list_rows::name_fault` meets its contract. Where every byte is fine, no name is at fault. The loop's invariant: no name below `j` is at
+-- fault.
 use Prim.Native.Nat.{_-_}
 use mathlib.Core.Path.{sym, _∙_}
+use lib.Seq.{length-take-le}
 use borrow.Author.Needs.{needs}
 use Rattle.list_columns.proofs.Turns.{Sought, sought-start, sought-again, sought-found, sought-end}
-use Rattle.list_rows.proofs.Lines.{badAt, bad-here, bad-first}
+use Rattle.list_rows.proofs.Lines.{badAt, bad-here, bad-first, names-fine}
 use Rattle.list_rows.proofs.name_fault.Statement.{statement}
 use Rattle.list_rows.proofs.name_fault.Tie as tie
 
 abbrev Inv-loop : tie.InvT-loop
-Inv-loop names count j₀ j = Sought (badAt names) count j
+Inv-loop names count n j₀ j = Sought (badAt names) count j
 
 abbrev μ-loop : tie.MeasureT-loop
-μ-loop names count j₀ j = count - j
+μ-loop names count n j₀ j = count - j
+
+mul-n : tie.Need-mul-n Inv-loop μ-loop
+mul-n c = search needs
+
+slice-aggregate-is-name : tie.Need-slice-aggregate-is-name Inv-loop μ-loop
+slice-aggregate-is-name c = sym (length-take-le _ (c .before .before .args .names .now) (c .before .before .pre))
+
+is-name-requires : tie.Need-is-name-requires Inv-loop μ-loop
+is-name-requires c κs = search needs
+
+returns : tie.Need-returns Inv-loop μ-loop
+returns c = names-fine _ _ (sym (c .before .is-name .ensures) ∙ c .if1 .taken)
 
 loop-holds : tie.Need-loop-holds Inv-loop μ-loop
 loop-holds c = sought-start _ _
@@ -31,13 +45,13 @@ part-is-name-start c = search needs
 part-is-name-end : tie.Need-part-is-name-end Inv-loop μ-loop
 part-is-name-end c = search needs
 
-is-name-requires : tie.Need-is-name-requires Inv-loop μ-loop
-is-name-requires c κs = search needs
+is-name-requires-2 : tie.Need-is-name-requires-2 Inv-loop μ-loop
+is-name-requires-2 c κs = search needs
 
-returns : tie.Need-returns Inv-loop μ-loop
-returns c =
+returns-2 : tie.Need-returns-2 Inv-loop μ-loop
+returns-2 c =
     let t = c .before .before .before in
-    sought-found _ _ _ (t .before .loop .inv) (t .loop-test .taken) (sym (bad-here _ _ (c .before .is-name .ensures)) ∙ c .if1 .taken)
+    sought-found _ _ _ (t .before .loop .inv) (t .loop-test .taken) (sym (bad-here _ _ (c .before .is-name2 .ensures)) ∙ c .if2 .taken)
     ∙ bad-first _ _
 
 add-j : tie.Need-add-j Inv-loop μ-loop
@@ -49,10 +63,10 @@ loop-less c = search needs
 loop-again : tie.Need-loop-again Inv-loop μ-loop
 loop-again c =
     let t = c .before .before .before in
-    sought-again _ _ _ (t .before .loop .inv) (t .loop-test .taken) (sym (bad-here _ _ (c .before .is-name .ensures)) ∙ c .if1 .left)
+    sought-again _ _ _ (t .before .loop .inv) (t .loop-test .taken) (sym (bad-here _ _ (c .before .is-name2 .ensures)) ∙ c .if2 .left)
 
-returns-2 : tie.Need-returns-2 Inv-loop μ-loop
-returns-2 c = sought-end _ _ _ (c .before .loop .inv) (c .loop-test .left) ∙ bad-first _ _
+returns-3 : tie.Need-returns-3 Inv-loop μ-loop
+returns-3 c = sought-end _ _ _ (c .before .loop .inv) (c .loop-test .left) ∙ bad-first _ _
 
 pub name-fault-spec : {M : Type 1} → statement M
 name-fault-spec =
@@ -60,15 +74,19 @@ name-fault-spec =
     (tie.spec
     Inv-loop
     μ-loop
+    mul-n
+    slice-aggregate-is-name
+    is-name-requires
+    returns
     loop-holds
     mul-at
     add-is-name
     sub-is-name
     part-is-name-start
     part-is-name-end
-    is-name-requires
-    returns
+    is-name-requires-2
+    returns-2
     add-j
     loop-less
     loop-again
-    returns-2)
+    returns-3)

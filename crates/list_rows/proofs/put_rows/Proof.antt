@@ -4,7 +4,7 @@ use mathlib.Core.Path.{sym}
 use borrow.Author.Needs.{needs}
 use Rattle.list_columns.proofs.Turns.{Joined, joined-start, joined-room, joined-again, joined-end}
 use Rattle.list_columns.proofs.Texts.{text-room, text-written}
-use Rattle.list_rows.proofs.Runs.{lineAt, lines-joined, line-is}
+use Rattle.list_rows.proofs.Runs.{lineAt, lines-joined, line-is, part-fits, part-eight}
 use Rattle.list_rows.proofs.put_rows.Statement.{statement}
 use Rattle.list_rows.proofs.put_rows.Tie as tie
 
@@ -38,9 +38,11 @@ part-put-row-end c = search needs
 put-row-requires : tie.Need-put-row-requires Inv-loop μ-loop
 put-row-requires c κs =
     let t = c .before .before .before in
-    let s = t .before .before .before .before .before in
-    text-room (line-is _ _ _ (c .before .component-at .ensures)) _ _
-    (joined-room _ _ _ _ (text-room (sym (lines-joined _ _ _)) _ _ (s .pre .1)) _ _ _ (t .before .loop .inv) (t .loop-test .taken))
+    let s = t .before .before .before .before .before in (
+      (part-fits _ _ _ (s .pre .1 .0) (t .loop-test .taken) (c .before .component-at .ensures), part-eight _ _ _ (s .pre .0 .1) (t .loop-test .taken)),
+      text-room (line-is _ _ _ (c .before .component-at .ensures)) _ _
+          (joined-room _ _ _ _ (text-room (sym (lines-joined _ _ _)) _ _ (s .pre .1 .1)) _ _ _ (t .before .loop .inv) (t .loop-test .taken)),
+    )
 
 add-j : tie.Need-add-j Inv-loop μ-loop
 add-j c = search needs
@@ -52,7 +54,7 @@ loop-again : tie.Need-loop-again Inv-loop μ-loop
 loop-again c =
     let t = c .before .before .before .before .before .before in
     let s = t .before .before .before .before .before in
-    joined-again _ _ _ _ (text-room (sym (lines-joined _ _ _)) _ _ (s .pre .1)) _ _ _ (t .before .loop .inv) (t .loop-test .taken) _ _
+    joined-again _ _ _ _ (text-room (sym (lines-joined _ _ _)) _ _ (s .pre .1 .1)) _ _ _ (t .before .loop .inv) (t .loop-test .taken) _ _
     (text-written (line-is _ _ _ (c .before .before .before .before .component-at .ensures)) (c .before .before .put-row .ensures))
 
 same-length : tie.Need-same-length Inv-loop μ-loop
@@ -60,7 +62,7 @@ same-length c = search needs
 
 returns : tie.Need-returns Inv-loop μ-loop
 returns c =
-    let room = text-room (sym (lines-joined _ _ _)) _ _ (c .before .before .before .before .before .pre .1) in
+    let room = text-room (sym (lines-joined _ _ _)) _ _ (c .before .before .before .before .before .pre .1 .1) in
     text-written (sym (lines-joined _ _ _)) (joined-end _ _ _ _ room _ _ _ (c .before .loop .inv) (c .loop-test .left))
 
 pub put-rows-spec : {M : Type 1} → statement M

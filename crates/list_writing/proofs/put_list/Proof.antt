@@ -9,7 +9,7 @@ use Rattle.lines.specs.Lines.{lineText}
 use Rattle.list_rules.specs.Writing.{Listing, listing, headText, rowsText}
 use Rattle.list_head.specs.Tables.{headBytes}
 use Rattle.list_trip.proofs.WrittenPassing.{Passing, passing}
-use Rattle.list_writing.proofs.Sizes.{head-is, rows-are, head-room, rows-room, end-room, text-put}
+use Rattle.list_writing.proofs.Sizes.{numbers-fit, head-is, rows-are, head-room, rows-room, end-room, text-put}
 use Rattle.list_writing.proofs.put_list.Statement.{statement}
 use Rattle.list_writing.proofs.put_list.Tie as tie
 
@@ -41,7 +41,7 @@ put-head-requires c κs = rw (head (c .before)) (head-room (list (c .before .bef
 put-rows-requires : tie.Need-put-rows-requires
 put-rows-requires c κs =
     let f = fine (c .before .before .before .before .before .before .before .before .before .before) in
-    ((le-of-eq (sym (f .run-length)), le-of-eq (sym (f .names-length))), rw (rows-are (list (c .before .before .before .before .before .before .before .before .before .before))) (rows-room (list (c .before .before .before .before .before .before .before .before .before .before)) (c .before .before .before .before .before .before .before .before .before .before .args .output .now) (c .before .before .before .before .before .before .before .before .before .before .pre .1) (headed (c .before .before .before))))
+    ((le-of-eq (sym (f .run-length)), le-of-eq (sym (f .names-length))), (numbers-fit _ f, rw (rows-are (list (c .before .before .before .before .before .before .before .before .before .before))) (rows-room (list (c .before .before .before .before .before .before .before .before .before .before)) (c .before .before .before .before .before .before .before .before .before .before .args .output .now) (c .before .before .before .before .before .before .before .before .before .before .pre .1) (headed (c .before .before .before)))))
 
 slice-aggregate-put-bytes : tie.Need-slice-aggregate-put-bytes
 slice-aggregate-put-bytes c = search needs

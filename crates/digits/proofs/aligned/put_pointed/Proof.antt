@@ -1,0 +1,67 @@
+-- `digits::aligned::put_pointed` meets its contract: the digits before the point behind blanks, the point, and the decimals.
+use native.Mathlib.Omega.{arith}
+use Rattle.digits.proofs.Count.{power-positive}
+use Rattle.digits.proofs.Right.{front-fits, point-room, pointed-put}
+use Rattle.digits.proofs.aligned.put_pointed.Statement.{statement}
+use Rattle.digits.proofs.aligned.put_pointed.Tie as tie
+
+add-put-whole : tie.Need-add-put-whole
+add-put-whole c = omega arith
+
+sub-put-whole : tie.Need-sub-put-whole
+sub-put-whole c = omega arith
+
+power-requires : tie.Need-power-requires
+power-requires c κs = omega arith
+
+div-put-whole : tie.Need-div-put-whole
+div-put-whole c = omega (arith, power-positive (c .before .before .before .args .decimals))
+
+put-whole-requires : tie.Need-put-whole-requires
+put-whole-requires c κs =
+    let s = c .before .before .before in
+    (omega arith, front-fits _ _ (s .args .n) _ (c .power .ensures) (s .pre .0 .0) (s .pre .0 .2) (s .pre .1) (omega arith), omega arith)
+
+put-byte-requires : tie.Need-put-byte-requires
+put-byte-requires c κs =
+    let w = c .before .before .before in
+    let u = w .before in
+    let s = u .before .before .before in
+    let room = point-room _ _ (s .args .n) _ (u .power .ensures) (s .pre .0 .0) (s .pre .0 .2) (s .pre .1) (omega arith) (s .pre .0 .3) (w .put-whole .ensures) in
+    omega (arith, room)
+
+put-fixed-requires : tie.Need-put-fixed-requires
+put-fixed-requires c κs =
+    let b = c .before .before .before in
+    let w = b .before .before .before .before in
+    let u = w .before in
+    let s = u .before .before .before in
+    let room = point-room _ _ (s .args .n) _ (u .power .ensures) (s .pre .0 .0) (s .pre .0 .2) (s .pre .1) (omega arith) (s .pre .0 .3) (w .put-whole .ensures) in
+    omega (arith, room, b .put-byte .ensures .next)
+
+same-length : tie.Need-same-length
+same-length c = omega arith
+
+returns : tie.Need-returns
+returns c =
+    let d = c .before .before in
+    let b = d .before .before .before .before in
+    let w = b .before .before .before .before in
+    let u = w .before in
+    let s = u .before .before .before in
+    pointed-put _ _ _ _ (u .power .ensures) (s .pre .0 .0) (s .pre .0 .2) (s .pre .1) (omega arith) (s .pre .0 .3)
+    (w .put-whole .ensures) (b .put-byte .ensures) (d .put-fixed .ensures)
+
+pub put-pointed-spec : {M : Type 1} → statement M
+put-pointed-spec =
+    tie.close
+    (tie.spec
+    add-put-whole
+    sub-put-whole
+    power-requires
+    div-put-whole
+    put-whole-requires
+    put-byte-requires
+    put-fixed-requires
+    same-length
+    returns)

@@ -1,0 +1,44 @@
+-- `list_columns::put_name` meets its contract: its bytes, then the bar.
+use Prim.Native.Nat.{ℕ}
+use mathlib.Core.Path.{sym, ap, _∙_}
+use mathlib.Core.List.{List, [], _∷_, _++_}
+use lib.ListN.{length}
+use borrow.Author.Needs.{needs}
+use Rattle.list_columns.proofs.Texts.{barred-put, text-written}
+use Rattle.list_columns.proofs.put_name.Statement.{statement}
+use Rattle.list_columns.proofs.put_name.Tie as tie
+
+name-bytes-requires : tie.Need-name-bytes-requires
+name-bytes-requires c κs = search needs
+
+slice-aggregate-put-bytes : tie.Need-slice-aggregate-put-bytes
+slice-aggregate-put-bytes c = search needs
+
+put-bytes-requires : tie.Need-put-bytes-requires
+put-bytes-requires c κs = search needs
+
+put-byte-requires : tie.Need-put-byte-requires
+put-byte-requires c κs = search needs
+
+same-length : tie.Need-same-length
+same-length c = search needs
+
+returns : tie.Need-returns
+returns c =
+    let w = c .before .before .before .before .before .before in
+    let n = w .before .before .before in
+    let s = n .before .before .before in
+    let e = n .name-bytes .ensures in
+    text-written (ap (λ (l : List ℕ). l ++ 124 ∷ []) (sym e))
+    (barred-put _ 8 (ap length e ∙ s .pre .0) (s .pre .1) (w .put-bytes .ensures) (c .before .before .put-byte .ensures))
+
+pub put-name-spec : {M : Type 1} → statement M
+put-name-spec =
+    tie.close
+    (tie.spec
+    name-bytes-requires
+    slice-aggregate-put-bytes
+    put-bytes-requires
+    put-byte-requires
+    same-length
+    returns)
