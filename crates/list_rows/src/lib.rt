@@ -19,7 +19,7 @@ fn row_stands(text: &[u8], at: usize) -> bool
     requires { ⌜ at ≤ length (now text) ⌝ }
     ensures { λ r. ⌜ r ≡ lineStands isRow (now (text .entry)) at ⌝ }
 {
-    let n = lines::line_len(&text[at..]);
+    let n = lines::likely_len(&text[at..], ROW_WIDTH);
     if text.len() - at <= n {
         return false;
     }
