@@ -162,11 +162,11 @@ module _ (digits : ℕ) (s : List ℕ) where
 -- ---- with the decimals of the form
 
 -- what a size that is read says of its test
-size-ill : (b : Bool) (n : ℕ) → sizeReading b n ≡ NoSize → b ≡ false
+pub size-ill : (b : Bool) (n : ℕ) → sizeReading b n ≡ NoSize → b ≡ false
 size-ill true n e = let z : _≡_ {A = ℕ} 0 1 = cc in absurd (omega arith)
 size-ill false n e = refl
 
-size-known : (b : Bool) (n v : ℕ) → sizeReading b n ≡ Known v → (b ≡ true) × (n ≡ v)
+pub size-known : (b : Bool) (n v : ℕ) → sizeReading b n ≡ Known v → (b ≡ true) × (n ≡ v)
 size-known true n v e = (refl, cc)
 size-known false n v e = let z : _≡_ {A = ℕ} 0 1 = cc in absurd (omega arith)
 

@@ -56,7 +56,7 @@ fn next_size(a: u64, digit: u64) -> u64
 }
 
 // The digits of s, read on after the number before; any count of them.
-fn read_on(s: &[u8], before: u64) -> Size
+pub fn read_on(s: &[u8], before: u64) -> Size
     requires { ⌜ before ≤ cap ⌝ }
     ensures { λ r. ⌜ r ≡ readOn before (now (s .entry)) ⌝ }
 {
@@ -77,7 +77,7 @@ fn read_on(s: &[u8], before: u64) -> Size
 }
 
 // What stands before the point.
-fn read_whole(digits: usize, s: &[u8]) -> Size
+pub fn read_whole(digits: usize, s: &[u8]) -> Size
     ensures { λ r. ⌜ r ≡ sizeReading (isWhole digits (now (s .entry))) (capped (from 0 (now (s .entry)))) ⌝ }
 {
     if digits == 0 {
@@ -177,7 +177,7 @@ fn read_signed(form: Form, s: &[u8]) -> Reading
 }
 
 // How many blanks stand first.
-fn leading_blanks(s: &[u8]) -> usize
+pub fn leading_blanks(s: &[u8]) -> usize
     ensures { λ r. ⌜ (r ≡ blanks (now (s .entry))) × (r ≤ length (now (s .entry))) ⌝ }
 {
     let mut i = 0;

@@ -2,7 +2,7 @@
 use mathlib.Core.Path.{_≡_, refl, sym, ap, ap₂, _∙_}
 use mathlib.Core.Bool.{Bool, true, false, not, _&&_, and-eq-true-iff, true≢false, false≢true}
 use mathlib.Core.List.{List, [], _∷_, _++_, append-assoc}
-use Prim.Native.Nat.{ℕ, suc, _+_, _-_, _≤_, _<_, zero-le}
+use Prim.Native.Nat.{ℕ, zero, suc, _+_, _-_, _≤_, _<_, zero-le}
 use native.Mathlib.Nat.{le-of-eq, add-sub-cancel-left}
 use native.Mathlib.Numerals.{add-one}
 use native.Mathlib.Omega.{arith}
@@ -11,7 +11,7 @@ use lib.ListN.{length, getD, take, drop, length-append, length-take, length-drop
 use lib.Seq.{length-take-le, take-all, take-append-seam, getD-append-seam, drop-append-add, split-at}
 use borrow.Author.Tests.{lt-ltb, le-ltb, ltb-true, eq-eqb, ne-eqb, eqb-true, not-true}
 use Rattle.lists.specs.Every.{every-none, every-more, every-at, inside}
-use Rattle.lines.specs.Lines.{lenAfter, lineLen, ended, firstLine, nextAt, lineText}
+use Rattle.lines.specs.Lines.{endAt, lenAfter, lineLen, otherByte, ended, firstLine, nextAt, lineText}
 use Rattle.lines.specs.Lines.{lower, sameBy, same, sameInAnyCase, isNamed, nameByte, letterByte, allBytes}
 
 -- both tests, where both pass
@@ -74,6 +74,16 @@ pub line-room : (s : List ℕ) → lineLen s < length s → lineLen s + 2 ≤ le
 line-room s h =
     let front = length-take-le (lineLen s) s (line-le s) in
     omega (arith, ap length (end-bytes s h), length-take (lineLen s + 2) s, length-append (take (lineLen s) s) (13 ∷ 10 ∷ []))
+
+-- 0D 0A behind n bytes, none of which is 0D, ends the first line
+pub plain-len : (s : List ℕ) (n : ℕ) → n < length s → endAt s n ≡ true → allBytes otherByte (take n s) ≡ true → lineLen s ≡ n
+unfolding lineLen endAt allBytes otherByte
+plain-len [] n h e p = absurd (omega arith)
+plain-len (b ∷ r) zero h e p = rw e
+plain-len (b ∷ r) (suc n) h e p =
+    let i = both-true (not (eqb b 13)) (allBytes otherByte (take n r)) p in
+    let rest : lineLen r ≡ n = plain-len r n (omega arith) (rw (add-one n) (rw (add-one (suc n)) at e)) (i .1) in
+    rw (not-true (eqb b 13) (i .0), rest, add-one)
 
 -- A line as it is written, where no byte of it is 0D.
 

@@ -1,6 +1,6 @@
 -- The turns of the loops: what is said of the whole is said of the part from i on.
 use mathlib.Core.Path.{_≡_, refl, sym, _∙_}
-use mathlib.Core.Bool.{Bool, true, false, _&&_}
+use mathlib.Core.Bool.{Bool, true, false, _&&_, and-true, and-assoc}
 use mathlib.Core.List.{List}
 use Prim.Native.Nat.{ℕ, suc, _+_, _≤_, _<_, zero-le}
 use native.Mathlib.Nat.{add-zero}
@@ -81,7 +81,7 @@ module _ (f : ℕ → ℕ) where
           let k : length b ≤ i = omega arith in
           sym (v .rest ∙ rw (drop-of-length-le a h, drop-of-length-le b k))
 
--- `is_name` and `is_letters`: the bytes before i pass.
+-- `is_letters`: the bytes before i pass.
 
 module _ (p : ℕ → Bool) (s : List ℕ) where
   pub record Pass (i : ℕ) : Type 0 where
@@ -105,3 +105,23 @@ module _ (p : ℕ → Bool) (s : List ℕ) where
     pub pass-end : length s ≤ i → true ≡ allBytes p s
     unfolding allBytes
     pass-end h = sym (v .rest ∙ rw (drop-of-length-le s h))
+
+-- `is_name` and `has_no_return`: `good` says whether the bytes before i pass.
+
+module _ (p : ℕ → Bool) (s : List ℕ) where
+  pub record Tested (good : Bool) (i : ℕ) : Type 0 where
+    pub within : i ≤ length s
+    pub whole : allBytes p s ≡ good && allBytes p (drop i s)
+
+  pub tested-start : Tested true 0
+  tested-start = record { within = zero-le; whole = refl }
+
+  module _ (good : Bool) (i : ℕ) (v : Tested good i) where
+    pub tested-again : i < length s → (b : Bool) → b ≡ p (getD s i 0) → Tested (good && b) (i + 1)
+    unfolding allBytes
+    tested-again h b e =
+        record { within = omega arith; whole = v .whole ∙ rw (drop-cons s i 0, add-one, e) (sym (and-assoc good _ _)) }
+
+    pub tested-end : length s ≤ i → good ≡ allBytes p s
+    unfolding allBytes
+    tested-end h = sym (v .whole ∙ rw (drop-of-length-le s h) (and-true good))

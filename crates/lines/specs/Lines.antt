@@ -29,6 +29,10 @@ firstLine s = take (lineLen s) s
 unfoldable pub nextAt : List ℕ → ℕ → ℕ
 nextAt text at = at + (lineLen (drop at text) + 2)
 
+-- a byte that starts no line's end
+unfoldable pub otherByte : ℕ → Bool
+otherByte b = not (eqb b 13)
+
 -- a line as it is written
 unfoldable pub lineText : List ℕ → List ℕ
 lineText l = l ++ 13 ∷ 10 ∷ []

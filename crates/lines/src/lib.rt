@@ -1,8 +1,9 @@
 // Lines of a text, words compared in any case, and bytes that a name may have.
 ghost use mathlib.Core.Path.{_≡_};
+ghost use mathlib.Core.Bool.{true};
 ghost use Prim.Native.Nat.{_+_, _≤_, _<_};
 ghost use lib.ListN.{length};
-ghost use Rattle.lines.specs.Lines.{endAt, lineLen, lower, same, sameInAnyCase, isNamed, nameByte, letterByte, allBytes};
+ghost use Rattle.lines.specs.Lines.{endAt, lineLen, otherByte, lower, same, sameInAnyCase, isNamed, nameByte, letterByte, allBytes};
 
 // Whether 0D 0A stands at i.
 fn end_at(s: &[u8], i: usize) -> bool
@@ -31,6 +32,42 @@ pub fn line_len(s: &[u8]) -> usize
         i += 1;
     }
     i
+}
+
+// Whether no byte is 0D. There is no way out of the loop before its end, so that many bytes are tested at once.
+fn has_no_return(s: &[u8]) -> bool
+    ensures { λ r. ⌜ r ≡ allBytes otherByte (now (s .entry)) ⌝ }
+{
+    let mut good = true;
+    let mut i = 0;
+    while i < s.len() {
+        good = good & (s[i] != 13);
+        i += 1;
+    }
+    good
+}
+
+// Whether 0D 0A stands behind n bytes, none of which is 0D.
+fn is_plain_line(s: &[u8], n: usize) -> bool
+    ensures { λ r. ⌜ (r ≡ true → (lineLen (now (s .entry)) ≡ n) × (n ≤ length (now (s .entry)))) ⌝ }
+{
+    if s.len() <= n {
+        return false;
+    }
+    if !end_at(s, n) {
+        return false;
+    }
+    has_no_return(&s[..n])
+}
+
+// The same as `line_len`, quick where the line has n bytes.
+pub fn likely_len(s: &[u8], n: usize) -> usize
+    ensures { λ r. ⌜ (r ≡ lineLen (now (s .entry))) × (r ≤ length (now (s .entry))) ⌝ }
+{
+    if is_plain_line(s, n) {
+        return n;
+    }
+    line_len(s)
 }
 
 // Whether the two are the same bytes.
@@ -110,14 +147,13 @@ fn name_byte(b: u8) -> bool
 pub fn is_name(s: &[u8]) -> bool
     ensures { λ r. ⌜ r ≡ allBytes nameByte (now (s .entry)) ⌝ }
 {
+    let mut good = true;
     let mut i = 0;
     while i < s.len() {
-        if !name_byte(s[i]) {
-            return false;
-        }
+        good = good & name_byte(s[i]);
         i += 1;
     }
-    true
+    good
 }
 
 fn letter_byte(b: u8) -> bool

@@ -1,24 +1,28 @@
 -- What the code's tests and turns say of a component line and of its columns.
 use Prim.Native.Nat.{ℕ, _+_, _-_, _≤_, _<_, zero-le}
-use mathlib.Core.Path.{_≡_, refl, sym, ap, ap₂, _∙_}
-use mathlib.Core.Bool.{Bool, true, false, not, and-false}
+use mathlib.Core.Path.{_≡_, refl, sym, ap, _∙_}
+use mathlib.Core.Bool.{Bool, true, false, cond, not, and-false}
 use mathlib.Core.List.{List}
 use native.Mathlib.Nat.{add-sub-cancel-left}
 use native.Mathlib.Omega.{arith}
 use lib.Dec.{eqb}
-use lib.ListN.{length, getD, take, drop}
-use borrow.Author.Tests.{lt-ltb, le-ltb, eq-eqb, ne-eqb, not-false}
-use Rattle.lists.specs.Below.{allBelow, firstBelow, all-none, all-more, all-false, first-all}
+use lib.ListN.{length, getD, take, drop, length-drop}
+use lib.Seq.{length-take-le}
+use borrow.Author.Tests.{lt-ltb, le-ltb, eq-eqb, ne-eqb}
+use Rattle.lists.specs.Below.{allBelow, firstBelow, all-none, all-more, all-false}
 use Rattle.flags.specs.Table.{entry}
 use Rattle.fund.specs.declared.Component.{Component}
-use Rattle.digits.specs.declared.Figure.{Figure}
-use Rattle.digits.specs.declared.Form.{Form}
-use Rattle.digits.specs.declared.Reading.{Reading}
-use Rattle.digits.specs.Digits.{isNumber, figureOf, reading, allBlank}
+use Rattle.digits.specs.declared.Size.{Size}
+use Rattle.digits.specs.declared.Size.the-variants.{Known, Ill}
+use Rattle.digits.specs.Digits.{allBlank, isPlain, plainSize, hasMinus, isSigned, signedFigure, trimmed, isNumber, figureOf, sizeReading}
+use Rattle.digits.proofs.Read.{size-ill, size-known}
 use Rattle.lines.specs.Lines.{nameByte, allBytes}
-use Rattle.list_rules.specs.Columns.{columnCount, columnEntry, columnStart, columnWidth, columnForm, holdsName, isUsed, isRow, columnPart}
+use Rattle.list_rules.specs.Columns.{columnCount, rowWidth, columnTable, columnEntry, columnStart, columnWidth, columnForm, holdsName, isUsed, isRow, columnPart}
 use Rattle.list_rules.specs.Columns.{isColumn, columnValue, flagOf, columnFault, componentOf}
-use Rattle.list_columns.specs.Read.{isGood, sizeOf}
+use Rattle.list_columns.specs.declared.Row.{Row}
+use Rattle.list_columns.specs.Read.{rightForm, numberSize, columnSize}
+use Rattle.list_columns.proofs.Entries.{entry-facts}
+use Rattle.list_columns.proofs.Turns.{Sought, sought-found}
 
 -- When a column is used.
 
@@ -30,6 +34,11 @@ module _ (flag k column : ℕ) (e : column ≡ columnEntry k 4) where
   pub used-always : 6 ≤ column → true ≡ isUsed flag k
   unfolding isUsed
   used-always h = rw (← e, le-ltb column 6 h)
+
+-- with the flag of a line, where the flag table says no or yes
+pub line-used : (l : List ℕ) (k : ℕ) {flag column : ℕ} → flag ≡ flagOf l → column ≡ columnEntry k 4 → column < 6 → {b t : Bool}
+    → b ≡ entry flag column → b ≡ t → isUsed (flagOf l) k ≡ t
+line-used l k {flag} {column} f e h {b} g q = ap (λ (x : ℕ). isUsed x k) (sym f) ∙ sym (used-by-flag flag k column e h b g) ∙ q
 
 -- The bars of a line: those before column k stand.
 
@@ -88,72 +97,73 @@ pub part-is : (l : List ℕ) (k a w : ℕ) → a ≡ columnStart k → w ≡ col
 unfolding columnPart
 part-is l k a w e f = rw (add-sub-cancel-left a w, e, f)
 
--- The characters of a column.
+-- a column of a line is as long as it is wide
+pub part-long : (l : List ℕ) (k : ℕ) → length l ≡ rowWidth → k < columnCount → {s : List ℕ} → s ≡ columnPart k l → length s ≡ columnWidth k
+unfolding columnPart columnStart columnWidth
+part-long l k long h e =
+    ap length e
+    ∙ length-take-le (columnEntry k 1) (drop (columnEntry k 0) l) (omega (arith, entry-facts k h .width, length-drop (columnEntry k 0) l))
 
-module _ (flag k : ℕ) (s : List ℕ) where
-  pub column-name : holdsName k ≡ true → allBytes nameByte s ≡ isColumn flag k s
-  unfolding isColumn
-  column-name n = rw n
-
-  module _ (other : holdsName k ≡ false) where
-    pub column-number : isUsed flag k ≡ true → isNumber (columnForm k) s ≡ isColumn flag k s
-    unfolding isColumn
-    column-number u = rw (other, u)
-
-    pub column-blank : isUsed flag k ≡ false → allBlank s ≡ isColumn flag k s
-    unfolding isColumn
-    column-blank u = rw (other, u)
-
--- what is read is good where the number is well written
-good-reading : (well : Bool) (z : Figure) → isGood (reading well z) ≡ well
-good-reading true z = refl
-good-reading false z = refl
-
-pub good-column : (k : ℕ) (s : List ℕ) {f : Form} {r : Reading} → f ≡ columnForm k → r ≡ reading (isNumber f s) (figureOf f s)
-    → isGood r ≡ isNumber (columnForm k) s
-good-column k s e g = ap isGood g ∙ good-reading _ _ ∙ ap (λ (x : Form). isNumber x s) e
-
--- A column at fault, with the flag and the part that the code has.
+-- A column at fault.
 
 pub faultAt : List ℕ → ℕ → Bool
 faultAt l k = not (isColumn (flagOf l) k (columnPart k l))
-
-pub fault-here : (l : List ℕ) (k : ℕ) {flag : ℕ} {s : List ℕ} → flag ≡ flagOf l → s ≡ columnPart k l
-    → {b : Bool} → b ≡ isColumn flag k s → not b ≡ faultAt l k
-unfolding faultAt
-fault-here l k e f g = ap not (g ∙ ap₂ (λ (x : ℕ) (t : List ℕ). isColumn x k t) e f)
 
 pub fault-first : (l : List ℕ) → firstBelow (faultAt l) columnCount ≡ columnFault l
 unfolding columnFault faultAt
 fault-first l = refl
 
--- where no column is at fault, each is well written
-pub column-good : (l : List ℕ) → columnFault l ≡ columnCount → (k : ℕ) → k < columnCount
-    → isColumn (flagOf l) k (columnPart k l) ≡ true
+-- a line with a column at fault, and none before it
+pub fault-row : (l : List ℕ) (k : ℕ) (r : Row) → k < columnCount → Sought (faultAt l) columnCount k → faultAt l k ≡ true → r .fault ≡ k
+    → (r .fault ≡ columnFault l) × (6 ≤ r .fault → r .component ≡ componentOf l)
+fault-row l k r h v e f = (f ∙ sought-found (faultAt l) columnCount k v h e ∙ fault-first l, λ high. absurd (omega (arith, f)))
+
+-- the name
+pub name-column : (l : List ℕ) {s : List ℕ} → s ≡ columnPart 1 l → allBytes nameByte s ≡ isColumn (flagOf l) 1 (columnPart 1 l)
+unfolding isColumn holdsName columnEntry columnTable
+name-column l e = ap (allBytes nameByte) e
+
+pub name-fault : (l : List ℕ) {b : Bool} → b ≡ isColumn (flagOf l) 1 (columnPart 1 l) → {t : Bool} → not b ≡ t → faultAt l 1 ≡ t
 unfolding faultAt
-column-good l e k h = not-false _ (first-all (faultAt l) columnCount (fault-first l ∙ e) k h)
+name-fault l e f = ap not (sym e) ∙ f
 
--- The number of a column.
+-- What is read of a column.
 
-module _ (flag k : ℕ) (s : List ℕ) where
-  pub value-used : holdsName k ≡ false → isColumn flag k s ≡ true → isUsed flag k ≡ true
-      → {f : Form} {r : Reading} → f ≡ columnForm k → r ≡ reading (isNumber f s) (figureOf f s) → sizeOf r ≡ columnValue flag k s
-  unfolding columnValue
-  value-used other e u {f} {r} q g = ap sizeOf g ∙ rw (q, column-number flag k s other u ∙ e, u)
+pub column-ill : (l : List ℕ) (k : ℕ) → columnSize l k ≡ Ill → faultAt l k ≡ true
+unfolding columnSize faultAt
+column-ill l k e = ap not (size-ill (isColumn (flagOf l) k (columnPart k l)) (columnValue (flagOf l) k (columnPart k l)) e)
 
-  pub value-none : isUsed flag k ≡ false → 0 ≡ columnValue flag k s
-  unfolding columnValue
-  value-none u = rw u
+pub column-known : (l : List ℕ) (k : ℕ) {v : ℕ} → columnSize l k ≡ Known v
+    → (faultAt l k ≡ false) × (v ≡ columnValue (flagOf l) k (columnPart k l))
+unfolding columnSize faultAt
+column-known l k {v} e =
+    let p = size-known (isColumn (flagOf l) k (columnPart k l)) (columnValue (flagOf l) k (columnPart k l)) v e in
+    (ap not (p .0), sym (p .1))
+
+-- a test and a number by whether the column is used
+size-used : (used a b : Bool) (n : ℕ) → sizeReading (cond used a b) (cond used n 0) ≡ cond used (sizeReading a n) (sizeReading b 0)
+size-used true a b n = refl
+size-used false a b n = refl
+
+module _ (l : List ℕ) (k : ℕ) (other : holdsName k ≡ false) (wide : eqb (columnWidth k) 0 ≡ false) {s : List ℕ}
+    (part : s ≡ columnPart k l) where
+  -- a column of some width has the form of a number right in it
+  number-form : numberSize (rightForm (columnEntry k 2) (columnEntry k 3)) s ≡ numberSize (columnForm k) s
+  unfolding numberSize rightForm columnForm isNumber figureOf trimmed isSigned signedFigure hasMinus isPlain plainSize
+  number-form = rw wide
+
+  by-use : columnSize l k ≡ cond (isUsed (flagOf l) k) (numberSize (columnForm k) s) (sizeReading (allBlank s) 0)
+  unfolding columnSize isColumn columnValue numberSize
+  by-use = rw (other, ← part) (size-used (isUsed (flagOf l) k) _ _ _)
+
+  pub number-column : isUsed (flagOf l) k ≡ true → {n d : ℕ} → n ≡ columnEntry k 2 → d ≡ columnEntry k 3 → {r : Size} → r ≡ numberSize (rightForm n d) s
+      → r ≡ columnSize l k
+  number-column u e f g = g ∙ rw (e, f) (number-form ∙ sym (by-use ∙ rw u))
+
+  pub blank-column : isUsed (flagOf l) k ≡ false → {r : Size} → r ≡ sizeReading (allBlank s) 0 → r ≡ columnSize l k
+  blank-column u g = g ∙ sym (by-use ∙ rw u)
 
 -- The component that a line says.
-
--- the number and the characters of a column, with the flag and the part that the code has
-module _ (l : List ℕ) (flag k : ℕ) (s : List ℕ) (flagged : flag ≡ flagOf l) (part : s ≡ columnPart k l) where
-  pub value-of : {v : ℕ} → v ≡ columnValue flag k s → v ≡ columnValue (flagOf l) k (columnPart k l)
-  value-of e = e ∙ ap₂ (λ (x : ℕ) (t : List ℕ). columnValue x k t) flagged part
-
-  pub good-of : columnFault l ≡ columnCount → k < columnCount → isColumn flag k s ≡ true
-  good-of e h = ap₂ (λ (x : ℕ) (t : List ℕ). isColumn x k t) flagged part ∙ column-good l e k h
 
 pub component-is : (l : List ℕ) {flag code quantity rate amount : ℕ} → flag ≡ flagOf l
     → code ≡ columnValue (flagOf l) 0 (columnPart 0 l)

@@ -1,4 +1,5 @@
 pub mod Entries
 pub mod Turns
+pub mod Numbers
 pub mod Cells
 pub mod Texts

@@ -4,19 +4,25 @@ ghost use mathlib.Core.Bool.{true, false};
 ghost use mathlib.Core.List.{[], _∷_, _++_};
 ghost use Prim.Native.Nat.{_+_, _^_, _≤_, _<_};
 ghost use lib.ListN.{length};
-ghost use Rattle.digits.specs.Digits.{fixed, plain, numberText};
+ghost use Rattle.digits.specs.Digits.{fixed, plain, numberText, allBlank, sizeReading};
 ghost use Rattle.digits.specs.Right.{alignedForm};
 ghost use Rattle.digits.specs.Written.{Written};
 ghost use Rattle.lines.specs.Lines.{lineText};
-ghost use Rattle.list_rules.specs.Columns.{columnEntry, columnForm, columnStart, columnWidth, columnPart, holdsName, isUsed, isRow, isColumn, columnValue, flagOf, columnFault, componentOf, rowText};
-ghost use Rattle.list_columns.specs.Read.{isGood, sizeOf};
+ghost use Rattle.list_rules.specs.Columns.{columnEntry, columnForm, columnStart, columnWidth, columnPart, holdsName, isUsed, isRow, isColumn, flagOf, columnFault, componentOf, rowText};
+ghost use Rattle.list_columns.specs.Read.{rightForm, numberSize, columnSize};
 ghost use Rattle.list_columns.specs.Fitting.{Fitting, Pointed, usedText};
 use digits::Form;
-use digits::Reading;
+use digits::Size;
 use fund::Component;
 use list_rules::ROW_WIDTH;
 use units::Money;
 use units::Rate;
+
+// What a component line says: its first column at fault, or all columns and then its component.
+pub struct Row {
+    pub fault: usize,
+    pub component: Component,
+}
 
 // How many columns a component line has.
 pub const COLUMNS: usize = 6;
@@ -135,29 +141,6 @@ fn column_part(line: &[u8], k: usize) -> &[u8]
     &line[a..b]
 }
 
-fn is_good(r: Reading) -> bool
-    ensures { λ b. ⌜ b ≡ isGood r ⌝ }
-{
-    match r {
-        Reading::Ill => false,
-        Reading::Good(_) => true,
-    }
-}
-
-// Whether the characters of column k are as they are to be written, in a line with that flag.
-fn is_column(flag: u64, k: usize, s: &[u8]) -> bool
-    requires { ⌜ k < 6 ⌝ }
-    ensures { λ r. ⌜ r ≡ isColumn flag k (now (s .entry)) ⌝ }
-{
-    if holds_name(k) {
-        return lines::is_name(s);
-    }
-    if is_used(flag, k) {
-        return is_good(digits::read_number(column_form(k), s));
-    }
-    digits::is_blank(s)
-}
-
 // The flag's digit; 0 where it is none.
 fn flag_of(line: &[u8]) -> u64
     requires { ⌜ length (now line) ≡ 48 ⌝ }
@@ -170,61 +153,135 @@ fn flag_of(line: &[u8]) -> u64
     (b - 48) as u64
 }
 
-// The first column at fault, and 6 where there is none.
-pub fn column_fault(line: &[u8]) -> usize
+// A whole number of n digits, or for 0 of as many as there are, right in its column.
+fn read_right(n: usize, s: &[u8]) -> Size
+    ensures { λ r. ⌜ r ≡ numberSize (rightForm n 0) (now (s .entry)) ⌝ }
+{
+    let b = digits::leading_blanks(s);
+    digits::read_whole(n, &s[b..])
+}
+
+// A number with decimals, right in its column, so that the point stands at a known place.
+fn read_point(decimals: usize, s: &[u8]) -> Size
+    requires { ⌜ (0 < decimals) × (decimals < length (now s)) ⌝ }
+    ensures { λ r. ⌜ r ≡ numberSize (rightForm 0 decimals) (now (s .entry)) ⌝ }
+{
+    let p = s.len() - (decimals + 1);
+    if s[p] != 46 {
+        return Size::Ill;
+    }
+    let head = read_right(0, &s[..p]);
+    match head {
+        Size::Ill => Size::Ill,
+        Size::Known(v) => digits::read_on(&s[p + 1..], v),
+    }
+}
+
+// 0 for a column of blanks.
+fn read_blanks(s: &[u8]) -> Size
+    ensures { λ r. ⌜ r ≡ sizeReading (allBlank (now (s .entry))) 0 ⌝ }
+{
+    if digits::is_blank(s) {
+        return Size::Known(0);
+    }
+    Size::Ill
+}
+
+// The columns, each by itself: their numbers are constants, so that nothing is left of the table.
+fn read_code(line: &[u8]) -> Size
     requires { ⌜ length (now line) ≡ 48 ⌝ }
-    ensures { λ r. ⌜ r ≡ columnFault (now (line .entry)) ⌝ }
+    ensures { λ r. ⌜ r ≡ columnSize (now (line .entry)) 0 ⌝ }
+{
+    read_right(table_entry(0, 2), column_part(line, 0))
+}
+
+fn has_name(line: &[u8]) -> bool
+    requires { ⌜ length (now line) ≡ 48 ⌝ }
+    ensures { λ r. ⌜ r ≡ isColumn (flagOf (now (line .entry))) 1 (columnPart 1 (now (line .entry))) ⌝ }
+{
+    lines::is_name(column_part(line, 1))
+}
+
+fn read_quantity(line: &[u8]) -> Size
+    requires { ⌜ length (now line) ≡ 48 ⌝ }
+    ensures { λ r. ⌜ r ≡ columnSize (now (line .entry)) 2 ⌝ }
+{
+    read_right(table_entry(2, 2), column_part(line, 2))
+}
+
+fn read_flag(line: &[u8]) -> Size
+    requires { ⌜ length (now line) ≡ 48 ⌝ }
+    ensures { λ r. ⌜ r ≡ columnSize (now (line .entry)) 3 ⌝ }
+{
+    read_right(table_entry(3, 2), column_part(line, 3))
+}
+
+fn read_rate(line: &[u8], flag: u64) -> Size
+    requires { ⌜ (length (now line) ≡ 48) × (flag ≡ flagOf (now line)) ⌝ }
+    ensures { λ r. ⌜ r ≡ columnSize (now (line .entry)) 4 ⌝ }
+{
+    if flags::entry_of(flag, table_entry(4, 4)) {
+        return read_point(table_entry(4, 3), column_part(line, 4));
+    }
+    read_blanks(column_part(line, 4))
+}
+
+fn read_amount(line: &[u8], flag: u64) -> Size
+    requires { ⌜ (length (now line) ≡ 48) × (flag ≡ flagOf (now line)) ⌝ }
+    ensures { λ r. ⌜ r ≡ columnSize (now (line .entry)) 5 ⌝ }
+{
+    if flags::entry_of(flag, table_entry(5, 4)) {
+        return read_point(table_entry(5, 3), column_part(line, 5));
+    }
+    read_blanks(column_part(line, 5))
+}
+
+// A line with column k at fault.
+fn faulty(k: usize) -> Row
+    ensures { λ r. ⌜ r .fault ≡ k ⌝ }
+{
+    let component = fund::blank_component();
+    Row {
+        fault: k,
+        component,
+    }
+}
+
+// What a component line says.
+pub fn read_row(line: &[u8]) -> Row
+    requires { ⌜ length (now line) ≡ 48 ⌝ }
+    ensures { λ r. ⌜ r .fault ≡ columnFault (now (line .entry)) ⌝ }
+    ensures { λ r. ⌜ (6 ≤ r .fault → r .component ≡ componentOf (now (line .entry))) ⌝ }
 {
     let flag = flag_of(line);
-    let mut k = 0;
-    while k < COLUMNS {
-        if !is_column(flag, k, column_part(line, k)) {
-            return k;
-        }
-        k += 1;
+    let Size::Known(code) = read_code(line) else {
+        return faulty(0);
+    };
+    if !has_name(line) {
+        return faulty(1);
     }
-    k
-}
-
-fn size_of(r: Reading) -> u64
-    ensures { λ n. ⌜ n ≡ sizeOf r ⌝ }
-{
-    match r {
-        Reading::Ill => 0,
-        Reading::Good(z) => z.size,
-    }
-}
-
-// The number that column k says; 0 where it is not used.
-fn column_value(flag: u64, k: usize, s: &[u8]) -> u64
-    requires { ⌜ k < 6 ⌝ }
-    requires { ⌜ holdsName k ≡ false ⌝ }
-    requires { ⌜ isColumn flag k (now s) ≡ true ⌝ }
-    ensures { λ r. ⌜ r ≡ columnValue flag k (now (s .entry)) ⌝ }
-{
-    if is_used(flag, k) {
-        return size_of(digits::read_number(column_form(k), s));
-    }
-    0
-}
-
-// The component that the line says.
-pub fn component_of(line: &[u8]) -> Component
-    requires { ⌜ length (now line) ≡ 48 ⌝ }
-    requires { ⌜ columnFault (now line) ≡ 6 ⌝ }
-    ensures { λ r. ⌜ r ≡ componentOf (now (line .entry)) ⌝ }
-{
-    let flag = flag_of(line);
-    let code = column_value(flag, 0, column_part(line, 0));
-    let quantity = column_value(flag, 2, column_part(line, 2));
-    let rate = column_value(flag, 4, column_part(line, 4));
-    let amount = column_value(flag, 5, column_part(line, 5));
-    Component {
+    let Size::Known(quantity) = read_quantity(line) else {
+        return faulty(2);
+    };
+    let Size::Known(_) = read_flag(line) else {
+        return faulty(3);
+    };
+    let Size::Known(rate) = read_rate(line, flag) else {
+        return faulty(4);
+    };
+    let Size::Known(amount) = read_amount(line, flag) else {
+        return faulty(5);
+    };
+    let component = Component {
         code,
         quantity,
         flag,
         rate: Rate(rate),
         amount: Money(amount),
+    };
+    Row {
+        fault: COLUMNS,
+        component,
     }
 }
 

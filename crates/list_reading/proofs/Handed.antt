@@ -3,17 +3,18 @@ use mathlib.Core.Path.{_≡_, sym, ap, ap₂, _∙_}
 use mathlib.Core.Bool.{Bool, true, false, not, _&&_, and-eq-true-iff}
 use mathlib.Core.List.{List, [], _++_}
 use Prim.Native.Nat.{ℕ, _+_, _*_, _≤_, _<_}
-use native.Mathlib.Nat.{le-antisymm}
 use native.Mathlib.Omega.{arith}
 use lib.Dec.{leb, ltb, eqb}
-use lib.ListN.{length, getD, drop}
-use borrow.Author.Tests.{lt-ltb, le-ltb, ltb-true, ltb-false, lt-leb, le-leb, eqb-true, not-true}
-use Rattle.lists.specs.Below.{first-le, tabulate, table-at}
+use lib.ListN.{length, getD, take, drop}
+use lib.Seq.{length-take-le}
+use borrow.Author.Tests.{lt-ltb, le-ltb, lt-leb, le-leb, eqb-true, not-true}
+use Rattle.lists.specs.Below.{tabulate, table-at}
+use Rattle.lists.specs.Stretch.{stretch-join}
 use Rattle.lists.specs.Every.{inside, inside-facts}
 use Rattle.lists.specs.Checks.{reply, passes}
 use Rattle.fund.specs.declared.Component.{Component}
-use Rattle.fund.specs.Components.{blank, componentFault, componentWidth, componentNumbers, placesOf}
-use Rattle.fund.proofs.Places.{places-at}
+use Rattle.fund.specs.Components.{componentAt, componentFault, componentWidth, componentNumbers, placesOf}
+use Rattle.fund.proofs.Stored.{numbers-length, component-is}
 use Rattle.rules.specs.declared.Refusal.{Refusal}
 use Rattle.rules.specs.Replies.{refusalReply}
 use Rattle.digits.specs.declared.Figure.{Figure}
@@ -22,15 +23,13 @@ use Rattle.digits.proofs.Trip.{figure-capped}
 use Rattle.list_rules.specs.declared.ListFields.{ListFields}
 use Rattle.list_rules.specs.declared.ListRead.{ListRead}
 use Rattle.list_rules.specs.declared.ListAnswer.the-variants.{Done}
-use Rattle.list_rules.specs.Columns.{columnCount, columnFault}
 use Rattle.list_rules.specs.Fields.{fieldsFrom, fieldsInRange}
 use Rattle.list_rules.proofs.Fields.{fields-same}
-use Rattle.list_rules.specs.Reading.{startOf, rowCount, shapeChecks, wrongField, fieldStart, figureRead, rowOf, componentRead, wrongRow, columnPlace, fieldsRead, isCounted, readFault, readReply, componentsRun, nameRead, nameFrom, rowStart}
-use Rattle.list_rows.specs.Rows.{numbersOf}
-use Rattle.list_trip.proofs.Below.{first-found, join-same}
+use Rattle.list_rules.specs.Reading.{rowCount, shapeChecks, wrongField, fieldStart, figureRead, rowOf, componentRead, wrongRow, columnPlace, fieldsRead, isCounted, readFault, readReply, componentsRun, nameRead, nameFrom, rowStart}
+use Rattle.list_trip.proofs.WrittenRuns.{places-same}
 use Rattle.list_reading.specs.declared.Shape.{Shape}
-use Rattle.list_reading.specs.Outcome.{ReadOutcome, Rows, Shaped, Spelled, Ranged, refusedRead}
-use Rattle.list_reading.proofs.Replies.{fieldWrong, countWrong, field-facts, fields-pass, reply-18, reply-19-field, reply-19-row, reply-20, reply-2, reply-3, reply-16, reply-0}
+use Rattle.list_reading.specs.Outcome.{ReadOutcome, Rows, Shaped, Found, Spelled, Ranged, refusedRead}
+use Rattle.list_reading.proofs.Replies.{fieldWrong, countWrong, fields-pass, reply-18, reply-19-field, reply-19-row, reply-20, reply-2, reply-3, reply-16, reply-0}
 use Rattle.list_reading.proofs.Stages.{outcome-refused, outcome-read}
 
 -- a refusal that the code hands back
@@ -74,14 +73,6 @@ module _ (text : List ℕ) (start count : ℕ) (r : Rows text start count) where
         row-reply room place h g =
             ap (λ (p : ℕ). reply 19 p 0) (g ∙ ap (columnPlace text) f)
             ∙ reply-19-row text room (r .lines-stand) fields-right (rw (f, r .count-is) at (lt-ltb row count h))
-
-        pub row-place : row < count → (start + (50 * row + 48) ≤ length text) × ((start ≡ startOf text 22) × (columnFault (rowOf text row) < 6))
-        unfolding wrongRow
-        row-place h =
-            let t : ltb (columnFault (rowOf text (wrongRow text))) columnCount ≡ true =
-            first-found (λ j. ltb (columnFault (rowOf text j)) columnCount) (rowCount text) (rw (f, r .count-is) at h)
-            in
-            (omega (arith, r .room), (r .start-is, ltb-true _ _ (rw (← f) at t)))
 
         pub spelled : (figures : List Figure) → count ≤ row → figures ≡ tabulate (figureRead text) 20 → Spelled text start count figures
         spelled figures h g =
@@ -148,15 +139,30 @@ module _ (text : List ℕ) (start count : ℕ) (fields : ListFields) (s : Ranged
         s .rows .count-is,
       )
 
-  pub rows-well : wrongRow text ≡ count
-  unfolding wrongRow
-  rows-well =
-      le-antisymm (first-le _ _) (ltb-false _ _ (field-facts text (s .fields-well) .1)) ∙ sym (s .rows .count-is)
+  -- the numbers found are those of the text's components
+  module _ (numbers : List ℕ) (f : Found text count numbers) where
+    found-are : take (5 * count) numbers ≡ componentsRun text
+    found-are = f .numbers-are few
 
-  module _ (components : List Component) (e : components ≡ placesOf (componentRead text) count) where
-    pub fault-is : (fault : ℕ) → fault ≡ componentFault (fields .fund .«first_code») components count → fault ≡ readFault text
+    pub found-long : length (take (5 * count) numbers) ≡ 5 * count
+    found-long = length-take-le (5 * count) numbers (omega (arith, f .long, few))
+
+    component-found : (j : ℕ) → j < count → componentAt (take (5 * count) numbers) j ≡ componentRead text j
+    unfolding componentsRun
+    component-found j l =
+        ap (λ (r : List ℕ). componentAt r j) found-are
+        ∙ component-is _ j (componentRead text j)
+        (stretch-join (λ i. componentNumbers (componentRead text i)) (rowCount text) componentWidth j
+        (λ k. numbers-length (componentRead text k)) (omega (arith, s .rows .count-is)))
+
+    pub fault-is : (fault : ℕ)
+        → fault ≡ componentFault (fields .fund .«first_code») (placesOf (componentAt (take (5 * count) numbers)) count) count
+        → fault ≡ readFault text
     unfolding readFault
-    fault-is fault h = h ∙ rw (e, s .fields-are, s .rows .count-is)
+    fault-is fault h =
+        h
+        ∙ ap (λ (cs : List Component). componentFault (fields .fund .«first_code») cs count) (places-same _ _ count component-found)
+        ∙ rw (s .fields-are, s .rows .count-is)
 
     module _ (fault : ℕ) (h : fault ≡ readFault text) where
       below : {b : Bool} → ltb fault count ≡ b → ltb (readFault text) (rowCount text) ≡ b
@@ -181,16 +187,9 @@ module _ (text : List ℕ) (start count : ℕ) (fields : ListFields) (s : Ranged
             reply-0 text room (s .rows .lines-stand) (s .fields-well) (ap not (s .counted)) (ap not (s .ranged))
             (below (le-ltb fault count high)) (rest (le-ltb room (5 * count) l))
 
-    -- the stored run is the text's components
-    numbers-are : numbersOf components count ≡ componentsRun text
-    unfolding numbersOf componentsRun
-    numbers-are =
-        rw (← s .rows .count-is)
-        (join-same _ _ count (λ j l. ap componentNumbers (ap (λ (z : List Component). getD z j blank) e ∙ places-at (componentRead text) count j l few)))
-
     pub read-outcome : (run run′ : List ℕ) → reply 0 0 (rowCount text) ≡ readReply text (length run)
-        → run′ ≡ numbersOf components count ++ drop (5 * count) run
+        → run′ ≡ take (5 * count) numbers ++ drop (length (take (5 * count) numbers)) run
         → ReadOutcome text run (record { answer = Done count; fields = fields; «first_row» = start }) run′
     read-outcome run run′ q w =
         outcome-read text run run′ _ q (ap Done (s .rows .count-is)) (s .fields-are) (s .rows .start-is)
-        (w ∙ ap₂ (λ (a : List ℕ) (n : ℕ). a ++ drop (5 * n) run) numbers-are (s .rows .count-is))
+        (w ∙ ap₂ (λ (a : List ℕ) (n : ℕ). a ++ drop n run) found-are (found-long ∙ ap (λ (n : ℕ). 5 * n) (s .rows .count-is)))

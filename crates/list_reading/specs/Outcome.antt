@@ -4,7 +4,7 @@ use mathlib.Core.Path.{_≡_}
 use mathlib.Core.Bool.{true, false, not, _&&_}
 use mathlib.Core.List.{List}
 use lib.Dec.{leb}
-use lib.ListN.{length}
+use lib.ListN.{length, take}
 use Rattle.lists.specs.Below.{tabulate}
 use Rattle.lists.specs.Checks.{reply, answered, passes}
 use Rattle.list_rules.specs.declared.ListRead.{ListRead}
@@ -14,7 +14,7 @@ use Rattle.rules.specs.declared.Refusal.{Refusal}
 use Rattle.digits.specs.declared.Figure.{Figure}
 use Rattle.list_rules.specs.Replies.{listReply}
 use Rattle.list_rules.specs.Fields.{fieldsInRange, blankFields}
-use Rattle.list_rules.specs.Reading.{startOf, rowCount, wrongLine, shapeChecks, fieldChecks, figureRead, fieldsRead, isCounted, readReply, fieldsHanded, firstHanded, runAfter}
+use Rattle.list_rules.specs.Reading.{startOf, rowCount, wrongLine, shapeChecks, fieldChecks, figureRead, fieldsRead, isCounted, readReply, componentsRun, fieldsHanded, firstHanded, runAfter}
 use Rattle.list_reading.specs.declared.Shape.{Shape}
 
 -- what reading a text into a lent run hands back, and what it leaves of the run
@@ -43,6 +43,11 @@ wrongAt place = record { wrong = true; place = place; start = 0; count = 0 }
 
 abbrev pub rowsAt : ℕ → ℕ → Shape
 rowsAt start count = record { wrong = false; place = 0; start = start; count = count }
+
+-- the numbers of the text's components stand at the front of an array, where they are not too many
+pub record Found (text : List ℕ) (count : ℕ) (numbers : List ℕ) : Type 0 where
+  pub long : length numbers ≡ 1500
+  pub numbers-are : count ≤ 300 → take (5 * count) numbers ≡ componentsRun text
 
 -- the text's fields are all well written, and these are the head's figures
 pub record Spelled (text : List ℕ) (start count : ℕ) (figures : List Figure) : Type 0 where

@@ -5,7 +5,7 @@ ghost use lib.ListN.{length};
 ghost use Rattle.lines.specs.Lines.{same};
 ghost use Rattle.list_rules.specs.Head.{endWord};
 ghost use Rattle.list_rules.specs.Reading.{startOf, lineStands, wrongLine, isCounted, nameRead, lettersRead, nameFrom};
-ghost use Rattle.list_reading.specs.Outcome.{ReadOutcome, Rows, Shaped, wrongAt, Spelled, Ranged, refusedRead};
+ghost use Rattle.list_reading.specs.Outcome.{ReadOutcome, Rows, Shaped, wrongAt, Found, Spelled, Ranged, refusedRead};
 use digits::Figure;
 use list_rules::ListAnswer;
 use list_rules::ListFields;
@@ -112,20 +112,23 @@ fn read_components(
     start: usize,
     count: usize,
     fields: ListFields,
+    numbers: &[u64],
     run: &mut [u64],
 ) -> ListRead
     requires { ⌜ Ranged (now text) start count fields ⌝ }
+    requires { ⌜ Found (now text) count (now numbers) ⌝ }
     ensures { λ r. ⌜ ReadOutcome (now (text .entry)) (now (run .entry)) r (now (run .exit)) ⌝ }
 {
-    let components = list_rows::components_read(text, start, count);
-    let fault = fund::component_fault(fields.fund.first_code, components, count);
+    let n = fund::COMPONENT_WIDTH * count;
+    let found = &numbers[..n];
+    let fault = fund::run_fault(fields.fund.first_code, found, count);
     if fault < count {
         return refused(Refusal::Component(fault));
     }
-    if run.len() < fund::COMPONENT_WIDTH * count {
+    if run.len() < n {
         return refused(Refusal::ListTooShort);
     }
-    list_rows::store_components(run, components, count);
+    list_rows::store_numbers(run, found);
     ListRead {
         answer: ListAnswer::Done(count),
         fields,
@@ -139,9 +142,11 @@ fn read_values(
     start: usize,
     count: usize,
     figures: [Figure; 20],
+    numbers: &[u64],
     run: &mut [u64],
 ) -> ListRead
     requires { ⌜ Spelled (now text) start count figures ⌝ }
+    requires { ⌜ Found (now text) count (now numbers) ⌝ }
     ensures { λ r. ⌜ ReadOutcome (now (text .entry)) (now (run .entry)) r (now (run .exit)) ⌝ }
 {
     if !is_counted(figures[5].size, count) {
@@ -154,10 +159,10 @@ fn read_values(
     if !list_fields::fields_in_range(fields) {
         return refused(Refusal::FundField);
     }
-    read_components(text, start, count, fields, run)
+    read_components(text, start, count, fields, numbers, run)
 }
 
-// Refusal 19, and what follows.
+// Refusal 19, and what follows. The numbers of the components wait in an array until all is tested.
 fn read_fields(text: &[u8], start: usize, count: usize, run: &mut [u64]) -> ListRead
     requires { ⌜ Rows (now text) start count ⌝ }
     ensures { λ r. ⌜ ReadOutcome (now (text .entry)) (now (run .entry)) r (now (run .exit)) ⌝ }
@@ -166,13 +171,13 @@ fn read_fields(text: &[u8], start: usize, count: usize, run: &mut [u64]) -> List
     if head.wrong < list_head::FIELDS {
         return refused(Refusal::TextField(head.place));
     }
-    let row = list_rows::wrong_row(text, start, count);
-    if row < count {
-        let place = list_rows::column_place(text, start, row);
-        return refused(Refusal::TextField(place));
+    let mut numbers: [u64; 1500] = [0; 1500];
+    let rows = list_rows::read_rows(text, start, count, &mut numbers);
+    if rows.row < count {
+        return refused(Refusal::TextField(rows.place));
     }
     let figures = head.figures;
-    read_values(text, start, count, figures, run)
+    read_values(text, start, count, figures, &numbers, run)
 }
 
 // Reads a list: its fields, and its components at the front of the lent run. A refusal changes nothing, and its fields are blank.

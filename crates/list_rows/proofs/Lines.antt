@@ -9,15 +9,13 @@ use lib.Dec.{ltb}
 use lib.ListN.{length, take, drop, length-drop}
 use lib.Seq.{length-take-le, take-take, drop-drop}
 use borrow.Author.Tests.{le-leb, lt-leb}
-use Rattle.lists.specs.Below.{firstBelow, first-all, first-end, first-stops}
+use Rattle.lists.specs.Below.{firstBelow, first-end}
 use Rattle.fund.specs.declared.Component.{Component}
 use Rattle.lines.specs.Lines.{nameByte, allBytes}
 use Rattle.list_rules.specs.Head.{headLines}
-use Rattle.list_rules.specs.Columns.{columnCount, rowWidth, rowPitch, columnTable, columnEntry, columnStart, columnWidth, columnPart, nameOf}
-use Rattle.list_rules.specs.Columns.{columnFault, componentOf}
+use Rattle.list_rules.specs.Columns.{columnCount, rowWidth, rowPitch, columnTable, columnEntry, columnStart, columnWidth, columnPart, nameOf, columnFault, componentOf}
 use Rattle.list_rules.specs.Reading.{startOf, rowStart, rowCount, rowOf, wrongRow, columnPlace, componentRead, nameFrom}
 use Rattle.list_rules.specs.Writing.{nameAt, nameFault}
-use Rattle.list_columns.proofs.Cells.{faultAt, fault-first}
 use Rattle.list_rows.specs.Rows.{rowFrom}
 
 -- The j-th component line.
@@ -55,16 +53,6 @@ wrong-first text count e = ap (firstBelow (wrongAt text)) e
 pub wrong-here : (text : List ℕ) (j : ℕ) {k : ℕ} → k ≡ columnFault (rowOf text j) → ltb k columnCount ≡ wrongAt text j
 unfolding wrongAt
 wrong-here text j e = ap (λ (x : ℕ). ltb x columnCount) e
-
--- where no line is wrong, no column of a line is at fault
-pub row-good : (text : List ℕ) (count : ℕ) → count ≡ rowCount text → wrongRow text ≡ count → (j : ℕ) → j < count
-    → {l : List ℕ} → l ≡ rowOf text j → columnFault l ≡ columnCount
-unfolding wrongAt
-row-good text count n e j h f =
-    ap columnFault f
-    ∙ sym (fault-first (rowOf text j))
-    ∙ first-stops (faultAt (rowOf text j)) columnCount
-    (rw fault-first (first-all (wrongAt text) count (wrong-first text count n ∙ e) j h))
 
 pub component-read : (text : List ℕ) (j : ℕ) {l : List ℕ} {x : Component} → l ≡ rowOf text j → x ≡ componentOf l → x ≡ componentRead text j
 unfolding componentRead

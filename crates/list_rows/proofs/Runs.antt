@@ -1,55 +1,143 @@
 -- Components stored in a run, and their lines written.
-use Prim.Native.Nat.{ℕ, _+_, _-_, _*_, _≤_, _<_, zero-le}
+use Prim.Native.Nat.{ℕ, _+_, _-_, _*_, _≤_, _<_, zero-le, suc}
 use mathlib.Core.Path.{_≡_, refl, sym, ap, ap₂, _∙_, subst}
-use mathlib.Core.List.{List, _++_}
+use mathlib.Core.List.{List, _++_, append-assoc}
 use native.Mathlib.Nat.{add-sub-cancel-left}
 use native.Mathlib.Omega.{arith}
-use lib.ListN.{length, getD, take, drop, length-drop}
-use lib.Seq.{sets, length-sets, length-take-le}
+use lib.ListN.{length, getD, take, drop, length-drop, set, length-set}
+use lib.Seq.{sets, length-sets, length-take-le, set-at, take-at, take-suc, take-length, drop-cons}
+use mathlib.Core.Bool.{true, false}
+use native.Mathlib.Numerals.{add-one}
 use Rattle.lists.specs.Below.{joinBelow, join-none, join-more, join-length}
 use Rattle.lists.specs.Runs.{sets-append, sets-front}
 use Rattle.fund.specs.declared.Component.{Component}
 use Rattle.fund.specs.Components.{blank, componentAt, componentNumbers, componentWidth}
+use Rattle.fund.proofs.Stored.{numbers-length}
 use Rattle.lines.specs.Lines.{lineText}
 use Rattle.list_rules.specs.Columns.{rowText}
+use Rattle.list_rules.specs.Reading.{rowCount, wrongRow, columnPlace, componentRead, componentsRun}
 use Rattle.list_rules.specs.Writing.{nameAt}
 use Rattle.list_columns.specs.Fitting.{Fitting}
+use Rattle.list_columns.proofs.Turns.{Sought, sought-start, sought-again, sought-found, sought-end}
+use Rattle.list_rows.specs.declared.RowFault.{RowFault}
 use Rattle.list_rows.specs.Rows.{numbersOf, rowBytes}
-use Rattle.list_rows.proofs.Lines.{part-name}
+use Rattle.list_rows.proofs.Lines.{wrongAt, wrong-first, part-name}
 
--- `store_components`: j components stand at the front of the run.
+-- Components of a family f, stored one behind the other.
 
-pub record Stored (components : List Component) (count : ℕ) (run run′ : List ℕ) (j : ℕ) : Type 0 where
-  pub turns : j ≤ count
+pub numbersBelow : (ℕ → Component) → ℕ → List ℕ
+numbersBelow f n = joinBelow (λ j. componentNumbers (f j)) n
+
+-- the first j components stand at the front of the run
+pub record Filled (f : ℕ → Component) (run run′ : List ℕ) (j : ℕ) : Type 0 where
   pub long : length run′ ≡ length run
-  pub stored : run′ ≡ sets run 0 (numbersOf components j)
+  pub filled : run′ ≡ sets run 0 (numbersBelow f j)
 
-module _ (components : List Component) where
-  numbers-length : (n : ℕ) → length (numbersOf components n) ≡ componentWidth * n
-  unfolding numbersOf componentNumbers
-  numbers-length n = omega (arith, join-length (λ j. componentNumbers (getD components j blank)) n componentWidth (λ k. refl))
+module _ (f : ℕ → Component) where
+  numbers-long : (n : ℕ) → length (numbersBelow f n) ≡ componentWidth * n
+  unfolding numbersBelow
+  numbers-long n = omega (arith, join-length (λ j. componentNumbers (f j)) n componentWidth (λ k. numbers-length (f k)))
 
-  module _ (count : ℕ) (run : List ℕ) where
-    pub stored-start : Stored components count run run 0
-    unfolding numbersOf
-    stored-start = record { turns = zero-le; long = refl; stored = rw join-none }
+  module _ (run : List ℕ) where
+    pub filled-start : Filled f run run 0
+    unfolding numbersBelow
+    filled-start = record { long = refl; filled = rw join-none }
 
-    module _ (run′ : List ℕ) (j : ℕ) (v : Stored components count run run′ j) where
-      pub stored-again : j < count → (run″ : List ℕ)
-          → run″ ≡ sets run′ (componentWidth * j) (componentNumbers (getD components j blank)) → Stored components count run run″ (j + 1)
-      unfolding numbersOf
-      stored-again h run″ e =
-          let behind : componentWidth * j ≡ 0 + length (numbersOf components j) = omega (arith, numbers-length j) in
+    module _ (run′ : List ℕ) (j : ℕ) (v : Filled f run run′ j) where
+      pub filled-again : {x : Component} → x ≡ f j → (run″ : List ℕ) → run″ ≡ sets run′ (componentWidth * j) (componentNumbers x)
+          → Filled f run run″ (j + 1)
+      unfolding numbersBelow
+      filled-again q run″ e =
+          let behind : componentWidth * j ≡ 0 + length (numbersBelow f j) = omega (arith, numbers-long j) in
           record {
-            turns = omega arith;
             long = ap length e ∙ (simp length-sets) ∙ v .long;
-            stored = e ∙ rw (v .stored, behind, join-more) (sets-append (numbersOf components j) _ run 0);
+            filled = e ∙ rw (v .filled, behind, q, join-more) (sets-append (numbersBelow f j) _ run 0);
           }
 
-      pub stored-end : count ≤ j → componentWidth * count ≤ length run → run′ ≡ numbersOf components count ++ drop (componentWidth * count) run
-      stored-end h w =
-          let e : j ≡ count = omega arith in
-          v .stored ∙ rw e (sets-front (numbersOf components count) run (omega (arith, numbers-length count)) ∙ rw numbers-length)
+      pub filled-end : componentWidth * j ≤ length run → run′ ≡ numbersBelow f j ++ drop (componentWidth * j) run
+      filled-end w = v .filled ∙ sets-front (numbersBelow f j) run (omega (arith, numbers-long j)) ∙ rw numbers-long
+
+-- `store_components`
+
+pub stored-end : (components : List Component) (count : ℕ) (run run′ : List ℕ) (j : ℕ) → Filled (λ k. getD components k blank) run run′ j
+    → j ≤ count → count ≤ j → componentWidth * count ≤ length run → run′ ≡ numbersOf components count ++ drop (componentWidth * count) run
+unfolding numbersOf numbersBelow
+stored-end components count run run′ j v l h w =
+    let e : count ≡ j = omega arith in
+    rw e (filled-end (λ k. getD components k blank) run run′ j v (omega arith))
+
+-- `store_numbers`: the first i numbers stand at the front of the run.
+
+pub record Copied (run numbers run′ : List ℕ) (i : ℕ) : Type 0 where
+  pub turns : i ≤ length numbers
+  pub long : length run′ ≡ length run
+  pub copied : run′ ≡ take i numbers ++ drop i run
+
+module _ (run numbers : List ℕ) where
+  pub copied-start : Copied run numbers run 0
+  copied-start = record { turns = zero-le; long = refl; copied = refl }
+
+  module _ (run′ : List ℕ) (i : ℕ) (v : Copied run numbers run′ i) where
+    pub copied-again : i < length numbers → length numbers ≤ length run → Copied run numbers (set run′ i (getD numbers i 0)) (i + 1)
+    copied-again h w =
+        let front = set-at (take i numbers) (getD run i 0) (drop (suc i) run) (getD numbers i 0) i (length-take-le i numbers (omega arith)) in
+        record {
+          turns = omega arith;
+          long = length-set run′ i (getD numbers i 0) ∙ v .long;
+          copied = rw (v .copied, drop-cons run i 0 (omega arith), add-one, take-suc numbers i 0 h) (front ∙ sym (append-assoc (take i numbers) _ _));
+        }
+
+    pub copied-end : length numbers ≤ i → run′ ≡ numbers ++ drop (length numbers) run
+    copied-end h =
+        let e : i ≡ length numbers = omega (arith, v .turns) in
+        v .copied ∙ rw (e, take-length)
+
+-- `read_rows`: no line below j has a column at fault, and the components of the first 300 stand at the front of the run.
+
+pub record RowsRead (text : List ℕ) (count : ℕ) (run run′ : List ℕ) (j : ℕ) : Type 0 where
+  pub none : Sought (wrongAt text) count j
+  pub long : length run′ ≡ length run
+  pub kept : j ≤ 300 → Filled (componentRead text) run run′ j
+
+module _ (text : List ℕ) (count : ℕ) (run : List ℕ) where
+  pub rows-start : RowsRead text count run run 0
+  rows-start = record { none = sought-start _ _; long = refl; kept = λ _. filled-start (componentRead text) run }
+
+  -- what the code answers
+  abbrev pub Answered : List ℕ → RowFault → Type 0
+  Answered run′ r =
+      (r .row ≡ wrongRow text)
+      × ((r .row < count → r .place ≡ columnPlace text (r .row))
+      × (count ≤ r .row → count ≤ 300 → take (componentWidth * count) run′ ≡ componentsRun text))
+
+  module _ (run′ : List ℕ) (j : ℕ) (v : RowsRead text count run run′ j) where
+    pub rows-again : j < count → wrongAt text j ≡ false → {x : Component} → x ≡ componentRead text j → (run″ : List ℕ) → length run″ ≡ length run′
+        → (j < 300 → run″ ≡ sets run′ (componentWidth * j) (componentNumbers x)) → RowsRead text count run run″ (j + 1)
+    rows-again h w q run″ l e =
+        record {
+          none = sought-again _ _ _ (v .none) h w;
+          long = l ∙ v .long;
+          kept = λ low. filled-again (componentRead text) run run′ j (v .kept (omega arith)) q run″ (e (omega arith));
+        }
+
+    pub rows-wrong : count ≡ rowCount text → j < count → wrongAt text j ≡ true → (place : ℕ) → place ≡ columnPlace text j
+        → Answered run′ (record { row = j; place = place })
+    rows-wrong e h w place f =
+        (sought-found _ _ _ (v .none) h w ∙ wrong-first text count e, ((λ _. f), λ past. absurd (omega (arith, past))))
+
+    pub rows-end : count ≡ rowCount text → count ≤ j → length run ≡ 1500 → Answered run′ (record { row = j; place = 0 })
+    unfolding componentsRun numbersBelow
+    rows-end e h l =
+        let q : j ≡ count = omega (arith, v .none .turns) in (
+          sought-end _ _ _ (v .none) h ∙ wrong-first text count e,
+          ((λ low. absurd (omega (arith, low))), λ _ few. stored (rw q at (v .kept (omega arith))) few),
+        )
+      where
+        stored : Filled (componentRead text) run run′ count → count ≤ 300 → take (componentWidth * count) run′ ≡ componentsRun text
+        stored f few =
+            ap (take (componentWidth * count)) (filled-end (componentRead text) run run′ count f (omega arith))
+            ∙ take-at (numbersBelow (componentRead text) count) _ _ (numbers-long (componentRead text) count)
+            ∙ ap (numbersBelow (componentRead text)) e
 
 -- `put_rows`: the line of the j-th component.
 

@@ -2,11 +2,12 @@
 ghost use mathlib.Core.Path.{_≡_};
 ghost use mathlib.Core.List.{_++_};
 ghost use Prim.Native.Nat.{ℕ, _+_, _*_, _≤_, _<_};
-ghost use lib.ListN.{length, drop};
-ghost use Rattle.fund.specs.Components.{componentAt, placesOf};
+ghost use lib.ListN.{length, drop, take};
+ghost use Rattle.fund.specs.Components.{componentAt, componentNumbers};
+ghost use lib.Seq.{sets};
 ghost use Rattle.digits.specs.Written.{Written};
-ghost use Rattle.list_rules.specs.Columns.{isRow, columnFault};
-ghost use Rattle.list_rules.specs.Reading.{startOf, lineStands, rowCount, rowOf, wrongRow, columnPlace, componentRead, nameFrom};
+ghost use Rattle.list_rules.specs.Columns.{isRow};
+ghost use Rattle.list_rules.specs.Reading.{startOf, lineStands, rowCount, wrongRow, columnPlace, componentsRun, nameFrom};
 ghost use Rattle.list_rules.specs.Writing.{nameFault};
 ghost use Rattle.list_columns.specs.Fitting.{Fitting};
 ghost use Rattle.list_rows.specs.Rows.{rowFrom, numbersOf, rowBytes};
@@ -15,12 +16,18 @@ use list_rules::NAME_WIDTH;
 use list_rules::ROW_PITCH;
 use list_rules::ROW_WIDTH;
 
+// The first component line with a column at fault and the place of that column, or the count of the lines.
+pub struct RowFault {
+    pub row: usize,
+    pub place: usize,
+}
+
 // Whether a component line with its end stands at a place.
 fn row_stands(text: &[u8], at: usize) -> bool
     requires { ⌜ at ≤ length (now text) ⌝ }
     ensures { λ r. ⌜ r ≡ lineStands isRow (now (text .entry)) at ⌝ }
 {
-    let n = lines::line_len(&text[at..]);
+    let n = lines::likely_len(&text[at..], ROW_WIDTH);
     if text.len() - at <= n {
         return false;
     }
@@ -50,48 +57,36 @@ fn row_part(text: &[u8], start: usize, j: usize) -> &[u8]
     &text[at..at + ROW_WIDTH]
 }
 
-// The first of so many component lines with a column at fault, and their count where there is none.
-pub fn wrong_row(text: &[u8], start: usize, count: usize) -> usize
+// Stores the j-th component where it is one of the first 300.
+fn keep_component(run: &mut [u64], j: usize, c: Component)
+    requires { ⌜ length (now run) ≡ 1500 ⌝ }
+    ensures { λ _. ⌜ (j < 300 → now (run .exit) ≡ sets (now (run .entry)) (5 * j) (componentNumbers c)) ⌝ }
+{
+    if j < fund::MOST_COMPONENTS {
+        fund::put_component(run, j, c);
+    }
+}
+
+// Reads so many component lines, as far as the first with a column at fault. The numbers of the first 300 go to the run.
+pub fn read_rows(text: &[u8], start: usize, count: usize, run: &mut [u64]) -> RowFault
     requires { ⌜ start + 50 * count ≤ length (now text) ⌝ }
     requires { ⌜ (start ≡ startOf (now text) 22) × (count ≡ rowCount (now text)) ⌝ }
-    ensures { λ r. ⌜ r ≡ wrongRow (now (text .entry)) ⌝ }
+    requires { ⌜ length (now run) ≡ 1500 ⌝ }
+    ensures { λ r. ⌜ r .row ≡ wrongRow (now (text .entry)) ⌝ }
+    ensures { λ r. ⌜ (r .row < count → r .place ≡ columnPlace (now (text .entry)) (r .row)) ⌝ }
+    ensures { λ r. ⌜ (count ≤ r .row → count ≤ 300 → take (5 * count) (now (run .exit)) ≡ componentsRun (now (text .entry))) ⌝ }
 {
     let mut j = 0;
     while j < count {
-        if list_columns::column_fault(row_part(text, start, j)) < list_columns::COLUMNS {
-            return j;
+        let row = list_columns::read_row(row_part(text, start, j));
+        if row.fault < list_columns::COLUMNS {
+            let place = (start + ROW_PITCH * j) + list_columns::column_start(row.fault);
+            return RowFault { row: j, place };
         }
+        keep_component(run, j, row.component);
         j += 1;
     }
-    j
-}
-
-// The place of the first column at fault of the j-th component line.
-pub fn column_place(text: &[u8], start: usize, j: usize) -> usize
-    requires { ⌜ start + (50 * j + 48) ≤ length (now text) ⌝ }
-    requires { ⌜ start ≡ startOf (now text) 22 ⌝ }
-    requires { ⌜ columnFault (rowOf (now text) j) < 6 ⌝ }
-    ensures { λ r. ⌜ r ≡ columnPlace (now (text .entry)) j ⌝ }
-{
-    let k = list_columns::column_fault(row_part(text, start, j));
-    (start + ROW_PITCH * j) + list_columns::column_start(k)
-}
-
-// The components of a text's lines, then blank ones.
-pub fn components_read(text: &[u8], start: usize, count: usize) -> [Component; 300]
-    requires { ⌜ (count ≤ 300) × (start + 50 * count ≤ length (now text)) ⌝ }
-    requires { ⌜ (start ≡ startOf (now text) 22) × (count ≡ rowCount (now text)) ⌝ }
-    requires { ⌜ wrongRow (now text) ≡ count ⌝ }
-    ensures { λ r. ⌜ r ≡ placesOf (componentRead (now (text .entry))) count ⌝ }
-{
-    let blank = fund::blank_component();
-    let mut components = [blank; 300];
-    let mut j = 0;
-    while j < count {
-        components[j] = list_columns::component_of(row_part(text, start, j));
-        j += 1;
-    }
-    components
+    RowFault { row: j, place: 0 }
 }
 
 // Stores so many components at the front of a run.
@@ -103,6 +98,18 @@ pub fn store_components(run: &mut [u64], components: [Component; 300], count: us
     while j < count {
         fund::put_component(run, j, components[j]);
         j += 1;
+    }
+}
+
+// Stores so many numbers at the front of a run.
+pub fn store_numbers(run: &mut [u64], numbers: &[u64])
+    requires { ⌜ length (now numbers) ≤ length (now run) ⌝ }
+    ensures { λ _. ⌜ now (run .exit) ≡ now (numbers .entry) ++ drop (length (now (numbers .entry))) (now (run .entry)) ⌝ }
+{
+    let mut i = 0;
+    while i < numbers.len() {
+        run[i] = numbers[i];
+        i += 1;
     }
 }
 

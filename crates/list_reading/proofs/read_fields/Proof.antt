@@ -1,6 +1,6 @@
 -- `list_reading::read_fields` meets its contract: each return is the reply of a law for what was tested before it.
 use borrow.Author.Needs.{needs}
-use Rattle.list_reading.proofs.Handed.{refused-with, field-reply, row-reply, row-place, spelled}
+use Rattle.list_reading.proofs.Handed.{refused-with, field-reply, row-reply, spelled}
 use Rattle.list_reading.proofs.read_fields.Statement.{statement}
 use Rattle.list_reading.proofs.read_fields.Tie as tie
 
@@ -12,27 +12,44 @@ refused-requires c κs = search needs
 
 returns : tie.Need-returns
 returns c =
-    let e = c .before .before .before .head-fields .ensures in
-    refused-with _ _ _ _ (c .refused .ensures) (field-reply _ _ _ (c .before .before .before .before .before .before .pre) _ (e .0) _ _ (c .before .if1 .taken) (e .1 .0 (c .before .if1 .taken)))
+    let h = c .before .before .before in
+    let e = h .head-fields .ensures in
+    refused-with _ _ _ _ (c .refused .ensures)
+    (field-reply _ _ _ (h .before .before .before .pre) _ (e .0) _ _ (c .before .if1 .taken) (e .1 .0 (c .before .if1 .taken)))
 
-wrong-row-requires : tie.Need-wrong-row-requires
-wrong-row-requires c κs = search needs
+slice-aggregate-read-rows : tie.Need-slice-aggregate-read-rows
+slice-aggregate-read-rows c = search needs
 
-column-place-requires : tie.Need-column-place-requires
-column-place-requires c κs = row-place _ _ _ (c .before .before .before .before .before .before .before .pre) _ (c .before .before .before .before .head-fields .ensures .0) (c .before .before .if1 .left) _ (c .before .wrong-row .ensures) (c .if2 .taken)
+read-rows-requires : tie.Need-read-rows-requires
+read-rows-requires c κs = search needs
 
 refused-requires-2 : tie.Need-refused-requires-2
 refused-requires-2 c κs = search needs
 
 returns-2 : tie.Need-returns-2
 returns-2 c =
+    let r = c .before .before .before .before in
+    let t = r .before .before in
+    let h = t .before .before in
+    let e = r .read-rows .ensures in
     refused-with _ _ _ _ (c .refused2 .ensures)
-    (row-reply _ _ _ (c .before .before .before .before .before .before .before .before .before .pre) _ (c .before .before .before .before .before .before .head-fields .ensures .0) (c .before .before .before .before .if1 .left) _ (c .before .before .before .wrong-row .ensures) _ _ (c .before .before .if2 .taken) (c .before .column-place .ensures))
+    (row-reply _ _ _ (h .before .before .before .pre) _ (h .head-fields .ensures .0) (t .if1 .left) _ (e .0) _ _ (c .before .if2 .taken) (e .1 .0 (c .before .if2 .taken)))
+
+slice-aggregate-read-values : tie.Need-slice-aggregate-read-values
+slice-aggregate-read-values c = search needs
 
 read-values-requires : tie.Need-read-values-requires
 read-values-requires c κs =
-    let e = c .before .before .before .before .before .before .head-fields .ensures in
-    spelled _ _ _ (c .before .before .before .before .before .before .before .before .before .pre) _ (e .0) (c .before .before .before .before .if1 .left) _ (c .before .before .before .wrong-row .ensures) _ (c .before .before .if2 .left) (e .1 .1 (c .before .before .before .before .if1 .left))
+    let i = c .before .before .before in
+    let r = i .before .before .before in
+    let t = r .before .before in
+    let h = t .before .before in
+    let s = h .before .before .before .pre in
+    let e = h .head-fields .ensures in
+    let f = r .read-rows .ensures in (
+      spelled _ _ _ s _ (e .0) (t .if1 .left) _ (f .0) _ (i .if2 .left) (e .1 .1 (t .if1 .left)),
+      record { long = r .read-rows .kept .1 .1 .1 .0; numbers-are = f .1 .1 (i .if2 .left) },
+    )
 
 same-length : tie.Need-same-length
 same-length c = search needs
@@ -47,10 +64,11 @@ read-fields-spec =
     head-fields-requires
     refused-requires
     returns
-    wrong-row-requires
-    column-place-requires
+    slice-aggregate-read-rows
+    read-rows-requires
     refused-requires-2
     returns-2
+    slice-aggregate-read-values
     read-values-requires
     same-length
     returns-3)

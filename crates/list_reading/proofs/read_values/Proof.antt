@@ -14,14 +14,14 @@ use Rattle.list_reading.proofs.read_values.Statement.{statement}
 use Rattle.list_reading.proofs.read_values.Tie as tie
 
 -- the count is well, and the fields are the text's
-counted : (c : tie.Else1) → let a = c .before .before .before .before .args in isCounted (getD (a .t4) 5 (plain 0) .size) (a .count) ≡ true
+counted : (c : tie.Else1) → let a = c .before .before .before .before .before .args in isCounted (getD (a .t4) 5 (plain 0) .size) (a .count) ≡ true
 counted c = sym (c .before .is-counted .ensures) ∙ not-false _ (c .if1 .left)
 
 figure : (c : tie.Start) (k : ℕ) → k < 20 → getD (c .args .t4) k (plain 0) .size ≡ figureRead (c .args .text .now) k .size
-figure c k h = ap (λ (z : Figure). z .size) (figure-at _ _ _ _ (c .pre) k (plain 0) h)
+figure c k h = ap (λ (z : Figure). z .size) (figure-at _ _ _ _ (c .pre .0) k (plain 0) h)
 
-fields : (c : tie.After-fields-of) → c .fields-of .result ≡ fieldsRead (c .before .before .before .before .before .before .args .text .now)
-fields c = fields-are _ _ _ _ (c .before .before .before .before .before .before .pre) _ (c .fields-of .ensures)
+fields : (c : tie.After-fields-of) → c .fields-of .result ≡ fieldsRead (c .before .before .before .before .before .before .before .args .text .now)
+fields c = fields-are _ _ _ _ (c .before .before .before .before .before .before .before .pre .0) _ (c .fields-of .ensures)
 
 element-copy-out-is-counted : tie.Need-element-copy-out-is-counted
 element-copy-out-is-counted c = search needs
@@ -35,7 +35,7 @@ refused-requires c κs = search needs
 returns : tie.Need-returns
 returns c =
     refused-with _ _ _ _ (c .refused .ensures)
-    (count-reply _ _ _ _ (c .before .before .before .before .before .pre) _ (figure (c .before .before .before .before .before) 5 (omega arith)) _ (sym (c .before .before .is-counted .ensures) ∙ not-true _ (c .before .if1 .taken)))
+    (count-reply _ _ _ _ (c .before .before .before .before .before .before .pre .0) _ (figure (c .before .before .before .before .before .before) 5 (omega arith)) _ (sym (c .before .before .is-counted .ensures) ∙ not-true _ (c .before .if1 .taken)))
 
 element-copy-out-if2 : tie.Need-element-copy-out-if2
 element-copy-out-if2 c = search needs
@@ -46,10 +46,10 @@ refused-requires-2 c κs = search needs
 returns-2 : tie.Need-returns-2
 returns-2 c =
     refused-with _ _ _ _ (c .refused2 .ensures)
-    (first-reply _ _ _ _ (c .before .before .before .before .before .before .pre) _ (figure (c .before .before .before .before .before .before) 5 (omega arith)) (counted (c .before .before)) _ _ (figure (c .before .before .before .before .before .before) 0 (omega arith)) (c .before .if2 .taken))
+    (first-reply _ _ _ _ (c .before .before .before .before .before .before .before .pre .0) _ (figure (c .before .before .before .before .before .before .before) 5 (omega arith)) (counted (c .before .before)) _ _ (figure (c .before .before .before .before .before .before .before) 0 (omega arith)) (c .before .if2 .taken))
 
 fields-of-requires : tie.Need-fields-of-requires
-fields-of-requires c κs = (c .if2 .left, figures-capped _ _ _ _ (c .before .before .before .before .before .pre))
+fields-of-requires c κs = (c .if2 .left, figures-capped _ _ _ _ (c .before .before .before .before .before .before .pre .0))
 
 fields-in-range-requires : tie.Need-fields-in-range-requires
 fields-in-range-requires c κs = search needs
@@ -60,13 +60,17 @@ refused-requires-3 c κs = search needs
 returns-3 : tie.Need-returns-3
 returns-3 c =
     refused-with _ _ _ _ (c .refused3 .ensures)
-    (range-reply _ _ _ _ (c .before .before .before .before .before .before .before .before .before .pre) _ (figure (c .before .before .before .before .before .before .before .before .before) 5 (omega arith)) (counted (c .before .before .before .before .before)) _ (figure (c .before .before .before .before .before .before .before .before .before) 0 (omega arith)) (c .before .before .before .before .if2 .left) _ (fields (c .before .before .before)) _
+    (range-reply _ _ _ _ (c .before .before .before .before .before .before .before .before .before .before .pre .0) _ (figure (c .before .before .before .before .before .before .before .before .before .before) 5 (omega arith)) (counted (c .before .before .before .before .before)) _ (figure (c .before .before .before .before .before .before .before .before .before .before) 0 (omega arith)) (c .before .before .before .before .if2 .left) _ (fields (c .before .before .before)) _
     (sym (c .before .before .fields-in-range .ensures) ∙ not-true _ (c .before .if3 .taken)))
 
 read-components-requires : tie.Need-read-components-requires
 read-components-requires c κs =
-    ranged _ _ _ _ (c .before .before .before .before .before .before .before .before .before .pre) _ (figure (c .before .before .before .before .before .before .before .before .before) 5 (omega arith)) (counted (c .before .before .before .before .before)) _ (figure (c .before .before .before .before .before .before .before .before .before) 0 (omega arith)) (c .before .before .before .before .if2 .left) _ (fields (c .before .before .before))
-    (sym (c .before .before .fields-in-range .ensures) ∙ not-false _ (c .before .if3 .left))
+    let s = c .before .before .before .before .before .before .before .before .before .before in (
+      ranged _ _ _ _ (s .pre .0) _ (figure s 5 (omega arith)) (counted (c .before .before .before .before .before)) _ (figure s 0 (omega arith))
+          (c .before .before .before .before .if2 .left) _ (fields (c .before .before .before))
+          (sym (c .before .before .fields-in-range .ensures) ∙ not-false _ (c .before .if3 .left)),
+      s .pre .1,
+    )
 
 same-length : tie.Need-same-length
 same-length c = search needs

@@ -5,23 +5,23 @@ use Rattle.list_rows.proofs.Standing.{stands-open, stands-ended}
 use Rattle.list_rows.proofs.row_stands.Statement.{statement}
 use Rattle.list_rows.proofs.row_stands.Tie as tie
 
-sub-line-len : tie.Need-sub-line-len
-sub-line-len c = search needs
+sub-likely-len : tie.Need-sub-likely-len
+sub-likely-len c = search needs
 
-part-line-len-start : tie.Need-part-line-len-start
-part-line-len-start c = search needs
+part-likely-len-start : tie.Need-part-likely-len-start
+part-likely-len-start c = search needs
 
-part-line-len-end : tie.Need-part-line-len-end
-part-line-len-end c = search needs
+part-likely-len-end : tie.Need-part-likely-len-end
+part-likely-len-end c = search needs
 
-line-len-requires : tie.Need-line-len-requires
-line-len-requires c κs = search needs
+likely-len-requires : tie.Need-likely-len-requires
+likely-len-requires c κs = search needs
 
 sub-if1 : tie.Need-sub-if1
 sub-if1 c = search needs
 
 returns : tie.Need-returns
-returns c = stands-open isRow _ _ _ (c .before .line-len .ensures .0) (c .if1 .taken)
+returns c = stands-open isRow _ _ _ (c .before .likely-len .ensures .0) (c .if1 .taken)
 
 add-is-row : tie.Need-add-is-row
 add-is-row c = search needs
@@ -39,16 +39,16 @@ is-row-requires : tie.Need-is-row-requires
 is-row-requires c κs = search needs
 
 returns-2 : tie.Need-returns-2
-returns-2 c = stands-ended isRow _ _ _ (c .before .before .before .line-len .ensures .0) (c .before .before .if1 .left) (c .is-row .ensures)
+returns-2 c = stands-ended isRow _ _ _ (c .before .before .before .likely-len .ensures .0) (c .before .before .if1 .left) (c .is-row .ensures)
 
 pub row-stands-spec : {M : Type 1} → statement M
 row-stands-spec =
     tie.close
     (tie.spec
-    sub-line-len
-    part-line-len-start
-    part-line-len-end
-    line-len-requires
+    sub-likely-len
+    part-likely-len-start
+    part-likely-len-end
+    likely-len-requires
     sub-if1
     returns
     add-is-row
