@@ -13,12 +13,11 @@ use mir.Val.{boolByte}
 use Rattle.lists.specs.Below.{join-length, tabulate, table-length}
 use Rattle.lists.specs.Runs.{sets-append, sets-front}
 use Rattle.fund.specs.declared.Fund.{Fund}
-use Rattle.fund.specs.Components.{blank}
+use Rattle.fund.specs.Components.{blank, numbersOf}
 use Rattle.fund.proofs.Stored.{numbers-length}
 use Rattle.rules.specs.declared.Day.{Day}
 use Rattle.list_rules.specs.declared.ListFields.{ListFields}
 use Rattle.list_rules.specs.Fields.{signedFigure}
-use Rattle.list_rows.specs.Rows.{numbersOf}
 use Rattle.flat.specs.Flat.{signedNumbers, fundNumbers, dayNumbers, fieldsNumbers}
 
 -- a run stored in all of a run

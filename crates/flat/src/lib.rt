@@ -142,7 +142,7 @@ pub fn put_day(run: &mut [u64], d: Day)
     let fund = d.fund;
     put_fund(run, 2, fund);
     let components = d.components;
-    list_rows::store_components(
+    fund::put_components(
         &mut run[COMPONENTS_FROM..],
         components,
         fund::MOST_COMPONENTS,

@@ -5,14 +5,13 @@ use mathlib.Core.List.{List, _++_, append-assoc}
 use native.Mathlib.Nat.{add-sub-cancel-left}
 use native.Mathlib.Omega.{arith}
 use lib.ListN.{length, getD, take, drop, length-drop, set, length-set}
-use lib.Seq.{sets, length-sets, length-take-le, set-at, take-at, take-suc, take-length, drop-cons}
+use lib.Seq.{sets, length-take-le, set-at, take-at, take-suc, take-length, drop-cons}
 use mathlib.Core.Bool.{true, false}
 use native.Mathlib.Numerals.{add-one}
-use Rattle.lists.specs.Below.{joinBelow, join-none, join-more, join-length}
-use Rattle.lists.specs.Runs.{sets-append, sets-front}
+use Rattle.lists.specs.Below.{joinBelow}
 use Rattle.fund.specs.declared.Component.{Component}
-use Rattle.fund.specs.Components.{blank, componentAt, componentNumbers, componentWidth}
-use Rattle.fund.proofs.Stored.{numbers-length}
+use Rattle.fund.specs.Components.{componentAt, componentNumbers, componentWidth}
+use Rattle.fund.proofs.Runs.{numbersBelow, Filled, filled-start, filled-again, filled-end}
 use Rattle.lines.specs.Lines.{lineText}
 use Rattle.list_rules.specs.Columns.{rowText}
 use Rattle.list_rules.specs.Reading.{rowCount, wrongRow, columnPlace, componentRead, componentsRun}
@@ -20,51 +19,8 @@ use Rattle.list_rules.specs.Writing.{nameAt}
 use Rattle.list_columns.specs.Fitting.{Fitting}
 use Rattle.list_columns.proofs.Turns.{Sought, sought-start, sought-again, sought-found, sought-end}
 use Rattle.list_rows.specs.declared.RowFault.{RowFault}
-use Rattle.list_rows.specs.Rows.{numbersOf, rowBytes}
+use Rattle.list_rows.specs.Rows.{rowBytes}
 use Rattle.list_rows.proofs.Lines.{wrongAt, wrong-first, part-name}
-
--- Components of a family f, stored one behind the other.
-
-pub numbersBelow : (ℕ → Component) → ℕ → List ℕ
-numbersBelow f n = joinBelow (λ j. componentNumbers (f j)) n
-
--- the first j components stand at the front of the run
-pub record Filled (f : ℕ → Component) (run run′ : List ℕ) (j : ℕ) : Type 0 where
-  pub long : length run′ ≡ length run
-  pub filled : run′ ≡ sets run 0 (numbersBelow f j)
-
-module _ (f : ℕ → Component) where
-  numbers-long : (n : ℕ) → length (numbersBelow f n) ≡ componentWidth * n
-  unfolding numbersBelow
-  numbers-long n = omega (arith, join-length (λ j. componentNumbers (f j)) n componentWidth (λ k. numbers-length (f k)))
-
-  module _ (run : List ℕ) where
-    pub filled-start : Filled f run run 0
-    unfolding numbersBelow
-    filled-start = record { long = refl; filled = rw join-none }
-
-    module _ (run′ : List ℕ) (j : ℕ) (v : Filled f run run′ j) where
-      pub filled-again : {x : Component} → x ≡ f j → (run″ : List ℕ) → run″ ≡ sets run′ (componentWidth * j) (componentNumbers x)
-          → Filled f run run″ (j + 1)
-      unfolding numbersBelow
-      filled-again q run″ e =
-          let behind : componentWidth * j ≡ 0 + length (numbersBelow f j) = omega (arith, numbers-long j) in
-          record {
-            long = ap length e ∙ (simp length-sets) ∙ v .long;
-            filled = e ∙ rw (v .filled, behind, q, join-more) (sets-append (numbersBelow f j) _ run 0);
-          }
-
-      pub filled-end : componentWidth * j ≤ length run → run′ ≡ numbersBelow f j ++ drop (componentWidth * j) run
-      filled-end w = v .filled ∙ sets-front (numbersBelow f j) run (omega (arith, numbers-long j)) ∙ rw numbers-long
-
--- `store_components`
-
-pub stored-end : (components : List Component) (count : ℕ) (run run′ : List ℕ) (j : ℕ) → Filled (λ k. getD components k blank) run run′ j
-    → j ≤ count → count ≤ j → componentWidth * count ≤ length run → run′ ≡ numbersOf components count ++ drop (componentWidth * count) run
-unfolding numbersOf numbersBelow
-stored-end components count run run′ j v l h w =
-    let e : count ≡ j = omega arith in
-    rw e (filled-end (λ k. getD components k blank) run run′ j v (omega arith))
 
 -- `store_numbers`: the first i numbers stand at the front of the run.
 

@@ -1,10 +1,10 @@
 -- Component lines as the code goes through them, in a text whose component lines start at a given place.
 use Prim.Native.Nat.{ℕ, _+_, _*_}
 use mathlib.Core.List.{List}
-use lib.ListN.{getD, take, drop}
+use lib.ListN.{take, drop}
 use Rattle.lists.specs.Below.{joinBelow}
 use Rattle.fund.specs.declared.Component.{Component}
-use Rattle.fund.specs.Components.{blank, componentAt, componentNumbers}
+use Rattle.fund.specs.Components.{componentAt}
 use Rattle.lines.specs.Lines.{lineText}
 use Rattle.list_rules.specs.Columns.{rowWidth, rowPitch, rowText}
 use Rattle.list_rules.specs.Writing.{nameAt}
@@ -12,10 +12,6 @@ use Rattle.list_rules.specs.Writing.{nameAt}
 -- the j-th component line behind a place
 unfoldable pub rowFrom : List ℕ → ℕ → ℕ → List ℕ
 rowFrom text start j = take rowWidth (drop (start + rowPitch * j) text)
-
--- the numbers of the first n components
-unfoldable pub numbersOf : List Component → ℕ → List ℕ
-numbersOf places n = joinBelow (λ j. componentNumbers (getD places j blank)) n
 
 -- the first n component lines as they are written
 unfoldable pub rowBytes : List ℕ → List ℕ → ℕ → List ℕ

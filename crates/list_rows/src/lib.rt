@@ -10,7 +10,7 @@ ghost use Rattle.list_rules.specs.Columns.{isRow};
 ghost use Rattle.list_rules.specs.Reading.{startOf, lineStands, rowCount, wrongRow, columnPlace, componentsRun, nameFrom};
 ghost use Rattle.list_rules.specs.Writing.{nameFault};
 ghost use Rattle.list_columns.specs.Fitting.{Fitting};
-ghost use Rattle.list_rows.specs.Rows.{rowFrom, numbersOf, rowBytes};
+ghost use Rattle.list_rows.specs.Rows.{rowFrom, rowBytes};
 use fund::Component;
 use list_rules::NAME_WIDTH;
 use list_rules::ROW_PITCH;
@@ -87,18 +87,6 @@ pub fn read_rows(text: &[u8], start: usize, count: usize, run: &mut [u64]) -> Ro
         j += 1;
     }
     RowFault { row: j, place: 0 }
-}
-
-// Stores so many components at the front of a run.
-pub fn store_components(run: &mut [u64], components: [Component; 300], count: usize)
-    requires { ⌜ (count ≤ 300) × (5 * count ≤ length (now run)) ⌝ }
-    ensures { λ _. ⌜ now (run .exit) ≡ numbersOf components count ++ drop (5 * count) (now (run .entry)) ⌝ }
-{
-    let mut j = 0;
-    while j < count {
-        fund::put_component(run, j, components[j]);
-        j += 1;
-    }
 }
 
 // Stores so many numbers at the front of a run.

@@ -18,20 +18,20 @@ put-fund-requires c κs = (simp length-set (omega arith), c .before .before .bef
 size : (c : tie.After-put-fund) → length (c .put-fund .last .0) ≡ 1516
 size c = ap length (c .put-fund .ensures) ∙ simp (length-sets, length-set) (c .before .before .before .before .pre .0)
 
-sub-store-components : tie.Need-sub-store-components
-sub-store-components c = omega (arith, size (c .before .before .before))
+sub-put-components : tie.Need-sub-put-components
+sub-put-components c = omega (arith, size (c .before .before .before))
 
-part-store-components-start : tie.Need-part-store-components-start
-part-store-components-start c = omega (arith, size (c .before .before .before))
+part-put-components-start : tie.Need-part-put-components-start
+part-put-components-start c = omega (arith, size (c .before .before .before))
 
-store-components-requires : tie.Need-store-components-requires
-store-components-requires c κs = (omega arith, simp (length-take, length-drop) (omega (arith, size (c .before .before .before .before))))
+put-components-requires : tie.Need-put-components-requires
+put-components-requires c κs = (omega arith, simp (length-take, length-drop) (omega (arith, size (c .before .before .before .before))))
 
 returns : tie.Need-returns
 returns c =
     let put = c .before .before .before .before .before .before .before in
     let start = put .before .before .before .before in
-    day-stored _ (start .args .run .now) _ _ (start .pre .0) (put .put-fund .ensures) (c .before .before .store-components .ensures)
+    day-stored _ (start .args .run .now) _ _ (start .pre .0) (put .put-fund .ensures) (c .before .before .put-components .ensures)
 
 same-length : tie.Need-same-length
 same-length c =
@@ -45,9 +45,9 @@ put-day-spec =
     (λ c. search needs)
     slice-write-run-2
     put-fund-requires
-    sub-store-components
-    part-store-components-start
+    sub-put-components
+    part-put-components-start
     (λ c. search needs)
-    store-components-requires
+    put-components-requires
     same-length
     returns)

@@ -1,18 +1,22 @@
 -- `fund::put_components` meets its contract. The loop's invariant: the first `i` components stand at the front of the run.
-use Prim.Native.Nat.{_-_}
+use Prim.Native.Nat.{_-_, _≤_}
+use mathlib.Core.Path.{refl}
+use native.Mathlib.Omega.{arith}
+use lib.ListN.{getD}
 use borrow.Author.Needs.{needs}
-use Rattle.fund.proofs.Runs.{Stored, stored-start, stored-again, stored-end}
+use Rattle.fund.specs.Components.{blank}
+use Rattle.fund.proofs.Runs.{Filled, filled-start, filled-again, stored-end}
 use Rattle.fund.proofs.put_components.Statement.{statement}
 use Rattle.fund.proofs.put_components.Tie as tie
 
 abbrev Inv-loop : tie.InvT-loop
-Inv-loop run₀ count components i₀ run i = Stored components count run₀ run i
+Inv-loop run₀ count components i₀ run i = (i ≤ count) × Filled (λ k. getD components k blank) run₀ run i
 
 abbrev μ-loop : tie.MeasureT-loop
 μ-loop run₀ count components i₀ run i = count - i
 
 loop-holds : tie.Need-loop-holds Inv-loop μ-loop
-loop-holds c = stored-start _ _ _
+loop-holds c = (omega arith, filled-start _ _)
 
 mul-put-component : tie.Need-mul-put-component Inv-loop μ-loop
 mul-put-component c = search needs
@@ -32,13 +36,13 @@ loop-less c = search needs
 loop-again : tie.Need-loop-again Inv-loop μ-loop
 loop-again c =
     let t = c .before .before .before .before .before in
-    stored-again _ _ _ _ _ (t .before .loop .inv) (t .loop-test .taken) _ (c .before .before .put-component .ensures)
+    (omega arith, filled-again _ _ _ _ (t .before .loop .inv .1) refl _ (c .before .before .put-component .ensures))
 
 same-length : tie.Need-same-length Inv-loop μ-loop
 same-length c = search needs
 
 returns : tie.Need-returns Inv-loop μ-loop
-returns c = stored-end _ _ _ _ _ (c .before .loop .inv) (c .loop-test .left) (c .before .before .before .pre .1)
+returns c = let v = c .before .loop .inv in stored-end _ _ _ _ _ (v .1) (v .0) (c .loop-test .left) (c .before .before .before .pre .1)
 
 pub put-components-spec : {M : Type 1} → statement M
 put-components-spec =
