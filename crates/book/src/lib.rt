@@ -319,7 +319,7 @@ fn account_rest_of(
     account_rest(kind, &mut book[start..end], line, units, c);
 }
 
-// The stock of one component: what moves is read off the account's lots, and given back. Where nothing moves, nothing is stored.
+// Moves the stock of one component and gives how much, read off the account's lots. Where nothing moves, nothing is stored.
 pub fn move_line(
     kind: usize,
     c: Component,
