@@ -1,16 +1,17 @@
--- The totals over the accounts: those of the first a accounts, each below 2^62, and what one or three stretches more make of them.
+-- The totals over the accounts: those of the first a accounts, each below 2^62, and what one or eight stretches more make of them.
 use mathlib.Core.Path.{_≡_, refl, sym, ap, _∙_, subst}
 use mathlib.Core.Bool.{Bool, true, false, not, _||_, false≢true}
 use mathlib.Core.List.{List}
 use mathlib.Core.Logic.{⊎-elim}
 use Prim.Native.Nat.{ℕ, zero, suc, _+_, _-_, _*_, _%_, _^_, _≤_, _<_}
-use native.Mathlib.Nat.{le-trans, le-of-eq, le-step, lt-suc-self, suc-mul, mul-le-mul-right, not-suc-le-zero, eq-or-lt-of-le, le-of-suc-le-suc, add-zero}
-use native.Mathlib.Numerals.{add-one}
+use native.Mathlib.Nat.{le-trans, le-of-eq, le-step, lt-suc-self, add-mul, mul-le-mul-right, not-suc-le-zero, eq-or-lt-of-le, le-of-suc-le-suc, add-zero}
 use native.Mathlib.Omega.{arith}
+use lib.Bits.{bitOr}
 use lib.ListN.{length, getD}
 use borrow.Author.Tests.{lt-leb, leb-false, not-true}
 use Rattle.lists.specs.Below.{sumBelow, sum-none, sum-more, anyBelow}
-use Rattle.sound.specs.Totals.{widest, top, plusOne, plusThree, reaches, placeAt, total, Low}
+use Rattle.sound.specs.Totals.{widest, top, quickMost, plusOne, eightAt, plusEight, reaches, placeAt, total, Low}
+use Rattle.sound.proofs.Top.{or-zero-left, or-zero-right}
 
 or-left : (a b : Bool) → (a || b) ≡ false → a ≡ false
 or-left true b e = e
@@ -81,30 +82,35 @@ total-step b w a n k s e h =
     let m = total-more b w a k in
     (omega arith, omega (arith, total-grows b w (a + 1) n k (omega arith)))
 
-next : (w a c : ℕ) → a + 1 ≡ c → a * w + w ≡ c * w
-next w a c e = sym (suc-mul a w) ∙ ap (λ (n : ℕ). n * w) (sym (add-one a) ∙ e)
-
-two : (w a : ℕ) → a * w + w + w ≡ (a + 2) * w
-two w a = ap (λ (n : ℕ). n + w) (next w a (a + 1) refl) ∙ next w (a + 1) (a + 2) (omega arith)
-
--- three stretches lie within the first n of them
-pub within-three : (w a n : ℕ) → a + 3 ≤ n → a * w + w + w + w ≤ n * w
-within-three w a n h =
-    le-trans (le-of-eq (ap (λ (k : ℕ). k + w) (two w a) ∙ next w (a + 2) (a + 3) (omega arith))) (mul-le-mul-right w h)
+-- eight stretches lie within the first n of them
+pub within-eight : (w a n : ℕ) → a + 8 ≤ n → a * w + 8 * w ≤ n * w
+within-eight w a n h = le-trans (le-of-eq (sym (add-mul a 8 w))) (mul-le-mul-right w h)
 
 plus-one : (t b : List ℕ) (w a k : ℕ) → getD t k 0 ≡ total b w a k → plusOne t b (a * w) k ≡ total b w (a + 1) k
 unfolding plusOne
 plus-one t b w a k e = ap (λ (n : ℕ). n + getD b (a * w + k) 0) e ∙ sym (total-more b w a k)
 
-more : (f : ℕ → ℕ) (a c : ℕ) → a + 1 ≡ c → sumBelow f c ≡ sumBelow f a + f a
-more f a c e = ap (sumBelow f) (sym e) ∙ sum-more f a
+-- account c, the i-th after a, more: its number is at p
+more-at : (b : List ℕ) (w a i k c d p : ℕ) → c ≡ a + i → d ≡ c + 1 → p ≡ a * w + i * w + k → total b w d k ≡ total b w c k + getD b p 0
+more-at b w a i k c d p e f g =
+    let q : c * w + k ≡ p = omega (arith, g, add-mul a i w, ap (λ (n : ℕ). n * w) e) in
+    ap (λ (n : ℕ). total b w n k) f ∙ total-more b w c k ∙ ap (λ (n : ℕ). total b w c k + getD b n 0) q
 
-plus-three : (t b : List ℕ) (w a k : ℕ) → getD t k 0 ≡ total b w a k → plusThree t b (a * w) w k ≡ total b w (a + 3) k
-unfolding plusThree total placeAt
-plus-three t b w a k e =
-    let y : getD b (a * w + w + k) 0 ≡ getD b ((a + 1) * w + k) 0 = ap (λ (n : ℕ). getD b (n + k) 0) (next w a (a + 1) refl) in
-    let z : getD b (a * w + w + w + k) 0 ≡ getD b ((a + 2) * w + k) 0 = ap (λ (n : ℕ). getD b (n + k) 0) (two w a) in
-    omega (arith, e, y, z, more (placeAt b w k) a (a + 1) refl, more (placeAt b w k) (a + 1) (a + 2) (omega arith), more (placeAt b w k) (a + 2) (a + 3) (omega arith))
+-- eight accounts more
+pub total-eight : (b : List ℕ) (w a k : ℕ) → total b w (a + 8) k ≡ total b w a k + eightAt b (a * w) w k
+unfolding eightAt
+total-eight b w a k =
+    omega (
+      arith,
+      more-at b w a 0 k a (a + 1) (a * w + k) (omega arith) (omega arith) (omega arith),
+      more-at b w a 1 k (a + 1) (a + 2) (a * w + w + k) (omega arith) (omega arith) (omega arith),
+      more-at b w a 2 k (a + 2) (a + 3) (a * w + w + w + k) (omega arith) (omega arith) (omega arith),
+      more-at b w a 3 k (a + 3) (a + 4) (a * w + w + w + w + k) (omega arith) (omega arith) (omega arith),
+      more-at b w a 4 k (a + 4) (a + 5) (a * w + w + w + w + w + k) (omega arith) (omega arith) (omega arith),
+      more-at b w a 5 k (a + 5) (a + 6) (a * w + w + w + w + w + w + k) (omega arith) (omega arith) (omega arith),
+      more-at b w a 6 k (a + 6) (a + 7) (a * w + w + w + w + w + w + w + k) (omega arith) (omega arith) (omega arith),
+      more-at b w a 7 k (a + 7) (a + 8) (a * w + w + w + w + w + w + w + w + k) (omega arith) (omega arith) (omega arith),
+    )
 
 -- t holds the totals of the first a accounts, each below 2^62
 pub record Counted (t b : List ℕ) (w a : ℕ) : Type 0 where
@@ -150,10 +156,7 @@ module _ (b : List ℕ) (w c : ℕ) (F : ℕ → ℕ) (same : (k : ℕ) → k < 
       pick true q = refl
       pick false q = absurd (some-reaches F w on (low q))
 
-pub reached-before : (b : List ℕ) (w a n : ℕ) → a ≤ n → anyBelow (reaches (total b w a)) w ≡ true → anyBelow (reaches (total b w n)) w ≡ true
-reached-before b w a n = reached b w a (total b w a) (λ k h. refl) n
-
--- one stretch more, and three
+-- one stretch more
 module _ {t b : List ℕ} {w a : ℕ} (q : Counted t b w a) where
   pub counted-one : (t′ : List ℕ) → anyBelow (reaches (plusOne t b (a * w))) w ≡ false → length t′ ≡ widest
       → ((k : ℕ) → k < w → getD t′ k 0 ≡ plusOne t b (a * w) k % 2 ^ 64) → Counted t′ b w (a + 1)
@@ -162,12 +165,41 @@ module _ {t b : List ℕ} {w a : ℕ} (q : Counted t b w a) where
   pub reached-one : (n : ℕ) → a + 1 ≤ n → anyBelow (reaches (plusOne t b (a * w))) w ≡ true → anyBelow (reaches (total b w n)) w ≡ true
   reached-one = reached b w (a + 1) (plusOne t b (a * w)) (λ k h. plus-one t b w a k (q .same k h))
 
-  pub counted-three : (t′ : List ℕ) → anyBelow (reaches (plusThree t b (a * w) w)) w ≡ false → length t′ ≡ widest
-      → ((k : ℕ) → k < w → getD t′ k 0 ≡ plusThree t b (a * w) w k % 2 ^ 64) → Counted t′ b w (a + 3)
-  counted-three t′ = counted-next b w (a + 3) (plusThree t b (a * w) w) (λ k h. plus-three t b w a k (q .same k h)) t′
+-- t holds the totals of the first a accounts, wrapped; where h is 0, each of their numbers is below 2^56
+pub record Quick (t b : List ℕ) (w a h : ℕ) : Type 0 where
+  pub same : (k : ℕ) → k < w → getD t k 0 ≡ total b w a k % 2 ^ 64
+  pub small : h ≡ 0 → (k : ℕ) → k < w → total b w a k ≤ a * quickMost
+  pub size : length t ≡ widest
 
-  pub reached-three : (n : ℕ) → a + 3 ≤ n → anyBelow (reaches (plusThree t b (a * w) w)) w ≡ true → anyBelow (reaches (total b w n)) w ≡ true
-  reached-three = reached b w (a + 3) (plusThree t b (a * w) w) (λ k h. plus-three t b w a k (q .same k h))
+pub quick-none : (t b : List ℕ) (w : ℕ) → ((k : ℕ) → k < w → getD t k 0 ≡ 0) → length t ≡ widest → Quick t b w 0 0
+quick-none t b w z e =
+    record {
+      same = λ k h. omega (arith, z k h, total-none b w k);
+      small = λ _ k h. omega (arith, total-none b w k);
+      size = e;
+    }
+
+module _ {t b : List ℕ} {w a h : ℕ} (q : Quick t b w a h) where
+  -- eight stretches more, whose high bits are g
+  pub quick-eight : (t′ : List ℕ) (g : ℕ) → (g ≡ 0 → (k : ℕ) → k < w → eightAt b (a * w) w k ≤ 8 * quickMost) → length t′ ≡ widest
+      → ((k : ℕ) → k < w → getD t′ k 0 ≡ plusEight t b (a * w) w k % 2 ^ 64) → Quick t′ b w (a + 8) (bitOr h g)
+  unfolding plusEight
+  quick-eight t′ g low e got =
+      record {
+        same = λ k i. omega (arith, got k i, q .same k i, total-eight b w a k);
+        small = λ z k i. omega (arith, q .small (or-zero-left h g z) k i, low (or-zero-right h g z) k i, total-eight b w a k);
+        size = e;
+      }
+
+  -- of at most 64 accounts: no total reached 2^62, so none wrapped
+  pub quick-end : h ≡ 0 → a ≤ 64 → Counted t b w a
+  quick-end z l =
+      let low : (k : ℕ) → k < w → total b w a k < top = λ k i. omega (arith, q .small z k i, l) in
+      record {
+        same = λ k i. omega (arith, q .same k i, low k i);
+        low = low;
+        size = q .size;
+      }
 
 -- What the code answers of the totals t of the first n accounts: r, false where one reaches 2^62.
 abbrev pub Answer : Bool → List ℕ → List ℕ → ℕ → ℕ → Type 0
@@ -186,5 +218,21 @@ answered r t b w n q e =
     record {
       same = q .1 .1 e;
       low = none-reaches (total b w n) w (not-true _ (sym (q .0) ∙ e));
+      size = q .1 .0;
+    }
+
+-- What the quick way answers of the totals t of the first r of m accounts.
+abbrev pub Start : ℕ → List ℕ → List ℕ → ℕ → ℕ → Type 0
+Start r t b w m = (r ≤ m) × ((length t ≡ widest) × (((k : ℕ) → k < w → getD t k 0 ≡ total b w r k) × Low w t))
+
+pub start-at : {t b : List ℕ} {w a : ℕ} → Counted t b w a → (r m : ℕ) → a ≡ r → r ≤ m → Start r t b w m
+start-at {t} {b} {w} {a} q r m e l =
+    subst (λ (n : ℕ). n ≤ m → Start n t b w m) e (λ h. (h, (q .size, (q .same, counted-low q)))) l
+
+pub started : (r : ℕ) (t b : List ℕ) (w m : ℕ) → Start r t b w m → Counted t b w r
+started r t b w m q =
+    record {
+      same = q .1 .1 .0;
+      low = λ k h. omega (arith, q .1 .1 .0 k h, q .1 .1 .1 k h);
       size = q .1 .0;
     }

@@ -2,7 +2,7 @@
 -- the wrapped sum reaches 2^62 just where the sum does.
 use mathlib.Core.Path.{_≡_, refl, sym, ap, _∙_, subst}
 use mathlib.Core.Bool.{Bool, true, false, not, _||_}
-use Prim.Native.Nat.{ℕ, _+_, _%_, _^_, _≤_, _<_}
+use Prim.Native.Nat.{ℕ, _+_, _*_, _%_, _^_, _≤_, _<_}
 use native.Mathlib.Nat.{le-refl, le-trans, le-of-eq, add-le-add, add-le-add-iff-right}
 use native.Mathlib.Omega.{arith}
 use lib.Dec.{leb, ltb}
@@ -43,37 +43,32 @@ or-one h a x t s q =
     ∙ ap (λ (n : ℕ). leb top h || (leb top x || leb top n)) q
     ∙ ap (λ (c : Bool). leb top h || c) (carry-cases a x _ _ s refl refl)
 
-carry-three : (a x y z : ℕ) (p q r s : Bool) → a < top → leb top x ≡ p → leb top y ≡ q → leb top z ≡ r → leb top (a + x + y + z) ≡ s
-    → (p || (q || (r || leb top ((a + x + y + z) % 2 ^ 64)))) ≡ s
-carry-three a x y z true q r true l e f g h = refl
-carry-three a x y z true q r false l e f g h = absurd (omega (arith, leb-true top x e, leb-false top (a + x + y + z) h))
-carry-three a x y z false true r true l e f g h = refl
-carry-three a x y z false true r false l e f g h = absurd (omega (arith, leb-true top y f, leb-false top (a + x + y + z) h))
-carry-three a x y z false false true true l e f g h = refl
-carry-three a x y z false false true false l e f g h = absurd (omega (arith, leb-true top z g, leb-false top (a + x + y + z) h))
-carry-three a x y z false false false true l e f g h =
-    le-leb top ((a + x + y + z) % 2 ^ 64) (omega (arith, l, leb-false top x e, leb-false top y f, leb-false top z g, leb-true top (a + x + y + z) h))
-carry-three a x y z false false false false l e f g h = lt-leb top ((a + x + y + z) % 2 ^ 64) (omega (arith, leb-false top (a + x + y + z) h))
+-- a sum added after it wrapped
+pub add-wrapped : (a x s : ℕ) → s ≡ x % 2 ^ 64 → (a + s) % 2 ^ 64 ≡ (a + x) % 2 ^ 64
+add-wrapped a x s e = omega (arith, e)
 
--- the three wrapped sums that the code makes are one
-pub wrapped-three : (a x y z xy za : ℕ) → xy ≡ (x + y) % 2 ^ 64 → za ≡ (z + a) % 2 ^ 64 → (xy + za) % 2 ^ 64 ≡ (a + x + y + z) % 2 ^ 64
-wrapped-three a x y z xy za e f = omega (arith, e, f)
+-- an or is 0 only where both sides are
+pub or-zero-left : (a b : ℕ) → bitOr a b ≡ 0 → a ≡ 0
+or-zero-left a b e = omega (arith, le-or-left a b)
 
-ors : (a b c d e : Bool) → ((((a || b) || c) || d) || e) ≡ (a || (b || (c || (d || e))))
-ors true b c d e = refl
-ors false true c d e = refl
-ors false false true d e = refl
-ors false false false d e = refl
+pub or-zero-right : (a b : ℕ) → bitOr a b ≡ 0 → b ≡ 0
+or-zero-right a b e = omega (arith, le-or-right a b)
 
--- the same for three numbers
-pub or-three : (h a x y z t : ℕ) → a < top → t ≡ (a + x + y + z) % 2 ^ 64
-    → leb top (bitOr (bitOr (bitOr (bitOr h x) y) z) t) ≡ (leb top h || leb top (a + x + y + z))
-or-three h a x y z t s q =
-    or-top (bitOr (bitOr (bitOr h x) y) z) t
-    ∙ ap (λ (c : Bool). c || leb top t) (or-top (bitOr (bitOr h x) y) z ∙ ap (λ (c : Bool). c || leb top z) (or-top (bitOr h x) y ∙ ap (λ (c : Bool). c || leb top y) (or-top h x)))
-    ∙ ors (leb top h) (leb top x) (leb top y) (leb top z) (leb top t)
-    ∙ ap (λ (n : ℕ). leb top h || (leb top x || (leb top y || (leb top z || leb top n)))) q
-    ∙ ap (λ (c : Bool). leb top h || c) (carry-three a x y z _ _ _ _ s refl refl refl refl)
+-- an or below a bound: so are eight numbers of at most that
+pub or-eight : (a b c d e f g h m : ℕ) → bitOr (bitOr (bitOr (bitOr (bitOr (bitOr (bitOr a b) c) d) e) f) g) h ≤ m
+    → a + b + c + d + (e + f + g + h) ≤ 8 * m
+or-eight a b c d e f g h m l =
+    let i = or-sides _ h m l in
+    let j = or-sides _ g m (i .0) in
+    let k = or-sides _ f m (j .0) in
+    let n = or-sides _ e m (k .0) in
+    let o = or-sides _ d m (n .0) in
+    let p = or-sides _ c m (o .0) in
+    let q = or-sides a b m (p .0) in
+    omega (arith, i .1, j .1, k .1, n .1, o .1, p .1, q .0, q .1)
+  where
+    or-sides : (u v m : ℕ) → bitOr u v ≤ m → (u ≤ m) × (v ≤ m)
+    or-sides u v m l = (le-trans (le-or-left u v) l, le-trans (le-or-right u v) l)
 
 pub below-top : (h : ℕ) (b : Bool) → leb top h ≡ b → ltb h top ≡ not b
 below-top h true e = le-ltb h top (leb-true top h e)

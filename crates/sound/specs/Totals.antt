@@ -14,6 +14,10 @@ widest = 906
 abbrev pub top : ℕ
 top = 4_611_686_018_427_387_904
 
+-- the most below 2^56: 64 numbers of at most that add up to less than 2^62
+abbrev pub quickMost : ℕ
+quickMost = 72_057_594_037_927_935
+
 -- the number at a place of a list
 unfoldable pub numberAt : List ℕ → ℕ → ℕ
 numberAt s k = getD s k 0
@@ -30,9 +34,15 @@ total b w n k = sumBelow (placeAt b w k) n
 unfoldable pub plusOne : List ℕ → List ℕ → ℕ → ℕ → ℕ
 plusOne t b from k = getD t k 0 + getD b (from + k) 0
 
--- the same once the three stretches from there on, each w wide, are added
-unfoldable pub plusThree : List ℕ → List ℕ → ℕ → ℕ → ℕ → ℕ
-plusThree t b from w k = getD t k 0 + getD b (from + k) 0 + getD b (from + w + k) 0 + getD b (from + w + w + k) 0
+-- the sum at place k of the eight stretches from there on, each w wide
+unfoldable pub eightAt : List ℕ → ℕ → ℕ → ℕ → ℕ
+eightAt b from w k =
+    getD b (from + k) 0 + getD b (from + w + k) 0 + getD b (from + w + w + k) 0 + getD b (from + w + w + w + k) 0
+    + (getD b (from + w + w + w + w + k) 0 + getD b (from + w + w + w + w + w + k) 0 + getD b (from + w + w + w + w + w + w + k) 0 + getD b (from + w + w + w + w + w + w + w + k) 0)
+
+-- the total at place k once these are added
+unfoldable pub plusEight : List ℕ → List ℕ → ℕ → ℕ → ℕ → ℕ
+plusEight t b from w k = getD t k 0 + eightAt b from w k
 
 unfoldable pub reaches : (ℕ → ℕ) → ℕ → Bool
 reaches f k = leb top (f k)

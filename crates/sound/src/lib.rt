@@ -7,7 +7,7 @@ ghost use Rattle.lists.specs.Below.{anyBelow, allBelow};
 ghost use Rattle.day_parts.specs.Parts.{dayOf};
 ghost use Rattle.rules.specs.Book.{widthOf};
 ghost use Rattle.rules.specs.Sound.{isSound, isKept};
-ghost use Rattle.sound.specs.Totals.{widest, top, numberAt, total, plusOne, plusThree, reaches, Low};
+ghost use Rattle.sound.specs.Totals.{widest, top, quickMost, numberAt, total, plusOne, eightAt, plusEight, reaches, Low};
 ghost use Rattle.sound.specs.Parts.{sizesFit, mostOf, lineFits, totalsFit, lineStill, stretchStill, priceFits, roomLeft};
 use day_parts::DayHead;
 
@@ -48,59 +48,109 @@ fn add_one(totals: &mut [u64; 906], book: &[u64], from: usize, width: usize) -> 
     high < TOP
 }
 
-// The same for the three stretches from there on, in one pass.
-fn add_three(totals: &mut [u64; 906], book: &[u64], from: usize, width: usize) -> bool
-    requires { ⌜ (width ≤ widest) × (from + width + width + width ≤ length (now book)) × Low width (now totals) × (length (now totals) ≡ widest) ⌝ }
-    ensures { λ r. ⌜ r ≡ not (anyBelow (reaches (plusThree (now (totals .entry)) (now (book .entry)) from width)) width) ⌝ }
+// The sum of four numbers, wrapped.
+fn sum_four(a: u64, b: u64, c: u64, d: u64) -> u64
+    ensures { λ r. ⌜ r ≡ (a + b + c + d) % 2 ^ 64 ⌝ }
+{
+    let left = std::num::wrapping_add_u64(a, b);
+    let right = std::num::wrapping_add_u64(c, d);
+    std::num::wrapping_add_u64(left, right)
+}
+
+fn sum_eight(a: u64, b: u64, c: u64, d: u64, e: u64, f: u64, g: u64, h: u64) -> u64
+    ensures { λ r. ⌜ r ≡ (a + b + c + d + (e + f + g + h)) % 2 ^ 64 ⌝ }
+{
+    let left = sum_four(a, b, c, d);
+    let right = sum_four(e, f, g, h);
+    std::num::wrapping_add_u64(left, right)
+}
+
+// The bits from 2^56 on that one of the eight has, 0 only where all are below 2^56. Shifted down, so that the compiler does not chain
+// the ors of one turn of the loop to those of the next.
+fn high_bits(a: u64, b: u64, c: u64, d: u64, e: u64, f: u64, g: u64, h: u64) -> u64
+    ensures { λ r. ⌜ (r ≡ 0 → a + b + c + d + (e + f + g + h) ≤ 8 * quickMost) ⌝ }
+{
+    (a | b | c | d | e | f | g | h) >> 56
+}
+
+// Adds the eight stretches from `from` on to the totals in one pass. 0 only where all their numbers are below 2^56.
+fn add_eight(totals: &mut [u64; 906], book: &[u64], from: usize, width: usize) -> u64
+    requires { ⌜ (width ≤ widest) × (from + 8 * width ≤ length (now book)) × (length (now totals) ≡ widest) ⌝ }
+    ensures { λ r. ⌜ (r ≡ 0 → (k : ℕ) → k < width → eightAt (now (book .entry)) from width k ≤ 8 * quickMost) ⌝ }
     ensures long { λ r. ⌜ length (now (totals .exit)) ≡ widest ⌝ }
-    ensures sums { λ r. ⌜ ((k : ℕ) → k < width → getD (now (totals .exit)) k 0 ≡ plusThree (now (totals .entry)) (now (book .entry)) from width k % 2 ^ 64) ⌝ }
+    ensures sums { λ r. ⌜ ((k : ℕ) → k < width → getD (now (totals .exit)) k 0 ≡ plusEight (now (totals .entry)) (now (book .entry)) from width k % 2 ^ 64) ⌝ }
 {
     let second = from + width;
     let third = second + width;
+    let fourth = third + width;
+    let fifth = fourth + width;
+    let sixth = fifth + width;
+    let seventh = sixth + width;
+    let eighth = seventh + width;
     let mut high: u64 = 0;
     let mut j = 0;
     while j < width {
-        let x = book[from + j];
-        let y = book[second + j];
-        let z = book[third + j];
-        let xy = std::num::wrapping_add_u64(x, y);
-        let zt = std::num::wrapping_add_u64(z, totals[j]);
-        let t = std::num::wrapping_add_u64(xy, zt);
+        let a = book[from + j];
+        let b = book[second + j];
+        let c = book[third + j];
+        let d = book[fourth + j];
+        let e = book[fifth + j];
+        let f = book[sixth + j];
+        let g = book[seventh + j];
+        let h = book[eighth + j];
+        let sum = sum_eight(a, b, c, d, e, f, g, h);
+        let t = std::num::wrapping_add_u64(totals[j], sum);
         totals[j] = t;
-        high = high | x | y | z | t;
+        high = high | high_bits(a, b, c, d, e, f, g, h);
         j += 1;
     }
-    high < TOP
+    high
 }
 
-// Fills the totals, zeros at first, with those of the first `end` accounts, three at a time. False where one reaches 2^62.
-fn add_threes(totals: &mut [u64; 906], book: &[u64], end: usize, width: usize) -> bool
-    requires { ⌜ (width ≤ widest) × (end % 3 ≡ 0) × (end * width ≤ length (now book)) × ((k : ℕ) → k < width → getD (now totals) k 0 ≡ 0) × (length (now totals) ≡ widest) ⌝ }
-    ensures { λ r. ⌜ r ≡ not (anyBelow (reaches (total (now (book .entry)) width end)) width) ⌝ }
-    ensures long { λ r. ⌜ length (now (totals .exit)) ≡ widest ⌝ }
-    ensures sums { λ r. ⌜ (r ≡ true → (k : ℕ) → k < width → getD (now (totals .exit)) k 0 ≡ total (now (book .entry)) width end k) ⌝ }
+// Makes all totals 0.
+fn clear(totals: &mut [u64; 906])
+    requires { ⌜ length (now totals) ≡ widest ⌝ }
+    ensures long { λ _. ⌜ length (now (totals .exit)) ≡ widest ⌝ }
+    ensures zeros { λ _. ⌜ ((k : ℕ) → k < widest → getD (now (totals .exit)) k 0 ≡ 0) ⌝ }
 {
+    let mut j = 0;
+    while j < 906 {
+        totals[j] = 0;
+        j += 1;
+    }
+}
+
+// Fills the totals, zeros at first, with those of the first accounts, eight at a time, and says of how many. Where all their numbers are
+// below 2^56 no total reaches 2^62, so that none has to be looked at. Else the totals are 0, those of no account.
+fn add_eights(totals: &mut [u64; 906], book: &[u64], accounts: usize, width: usize) -> usize
+    requires { ⌜ (width ≤ widest) × (accounts ≤ 64) × (length (now book) ≡ accounts * width) × ((k : ℕ) → k < width → getD (now totals) k 0 ≡ 0) × (length (now totals) ≡ widest) ⌝ }
+    ensures { λ r. ⌜ r ≤ accounts ⌝ }
+    ensures long { λ r. ⌜ length (now (totals .exit)) ≡ widest ⌝ }
+    ensures sums { λ r. ⌜ ((k : ℕ) → k < width → getD (now (totals .exit)) k 0 ≡ total (now (book .entry)) width r k) ⌝ }
+    ensures low { λ r. ⌜ Low width (now (totals .exit)) ⌝ }
+{
+    let end = accounts - accounts % 8;
+    let mut high: u64 = 0;
     let mut a = 0;
     while a < end {
-        if !add_three(totals, book, a * width, width) {
-            return false;
-        }
-        a += 3;
+        high = high | add_eight(totals, book, a * width, width);
+        a += 8;
     }
-    true
+    if high == 0 {
+        return end;
+    }
+    clear(totals);
+    0
 }
 
 // Fills the totals, zeros at first, with those of all accounts. False where one reaches 2^62.
 fn add_all(totals: &mut [u64; 906], book: &[u64], accounts: usize, width: usize) -> bool
-    requires { ⌜ (width ≤ widest) × (length (now book) ≡ accounts * width) × ((k : ℕ) → k < width → getD (now totals) k 0 ≡ 0) × (length (now totals) ≡ widest) ⌝ }
+    requires { ⌜ (width ≤ widest) × (accounts ≤ 64) × (length (now book) ≡ accounts * width) × ((k : ℕ) → k < width → getD (now totals) k 0 ≡ 0) × (length (now totals) ≡ widest) ⌝ }
     ensures { λ r. ⌜ r ≡ not (anyBelow (reaches (total (now (book .entry)) width accounts)) width) ⌝ }
     ensures long { λ r. ⌜ length (now (totals .exit)) ≡ widest ⌝ }
     ensures sums { λ r. ⌜ (r ≡ true → (k : ℕ) → k < width → getD (now (totals .exit)) k 0 ≡ total (now (book .entry)) width accounts k) ⌝ }
 {
-    let mut a = accounts - accounts % 3;
-    if !add_threes(totals, book, a, width) {
-        return false;
-    }
+    let mut a = add_eights(totals, book, accounts, width);
     while a < accounts {
         if !add_one(totals, book, a * width, width) {
             return false;
@@ -154,7 +204,7 @@ fn totals_fit(totals: &[u64; 906], n: usize) -> bool
 
 // The same of the totals of a book. One that reaches 2^62 is above its limit.
 fn book_fits(book: &[u64], accounts: usize, n: usize) -> bool
-    requires { ⌜ (n ≤ 300) × (length (now book) ≡ accounts * widthOf n) ⌝ }
+    requires { ⌜ (n ≤ 300) × (accounts ≤ 64) × (length (now book) ≡ accounts * widthOf n) ⌝ }
     ensures { λ r. ⌜ r ≡ totalsFit n (total (now (book .entry)) (widthOf n) accounts) ⌝ }
 {
     let mut totals = [0u64; 906];

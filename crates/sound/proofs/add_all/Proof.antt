@@ -1,12 +1,12 @@
 -- `sound::add_all` meets its contract. The loop's invariant: the totals are those of the first `a` accounts, each below 2^62. It holds at
--- the start by `add_threes`, and a total over some accounts that reaches 2^62 does so over all.
+-- the start by `add_eights`, and a total over some accounts that reaches 2^62 does so over all.
 use mathlib.Core.Path.{sym, _∙_}
-use Prim.Native.Nat.{_+_, _-_, _*_, _%_, _≤_}
-use native.Mathlib.Nat.{le-trans, le-of-eq, mul-le-mul-right}
+use Prim.Native.Nat.{_+_, _-_, _*_, _≤_}
+use native.Mathlib.Nat.{le-trans, le-of-eq}
 use native.Mathlib.Omega.{arith}
 use borrow.Author.Tests.{not-true, not-false}
 use Rattle.lists.specs.Stretch.{within}
-use Rattle.sound.proofs.Accounts.{Counted, counted-low, counted-one, reached-one, reached-before, answer-true, answer-false, answered}
+use Rattle.sound.proofs.Accounts.{Counted, counted-low, counted-one, reached-one, answer-true, answer-false, started}
 use Rattle.sound.proofs.add_all.Statement.{statement}
 use Rattle.sound.proofs.add_all.Tie as tie
 
@@ -16,35 +16,14 @@ Inv-loop totals₀ book accounts width a₀ totals a = (a ≤ accounts) × Count
 abbrev μ-loop : tie.MeasureT-loop
 μ-loop totals₀ book accounts width a₀ totals a = accounts - a
 
-sub-a : tie.Need-sub-a Inv-loop μ-loop
-sub-a c = omega arith
-
-add-threes-requires : tie.Need-add-threes-requires Inv-loop μ-loop
-add-threes-requires c κs =
-    let s = c .before .before in
-    let n = s .args .accounts in
-    let low : n - n % 3 ≤ n = omega arith in (
-      s .pre .0,
-      omega arith,
-      le-trans (mul-le-mul-right (s .args .width) low) (le-of-eq (sym (s .pre .1))),
-      s .pre .2,
-      s .pre .3,
-    )
-
-returns : tie.Need-returns Inv-loop μ-loop
-returns c =
-    answer-false (c .before .add-threes .last .0) _ _ _
-    (reached-before _ _ _ _ (omega arith) (not-false _ (sym (c .before .add-threes .ensures .0) ∙ not-true _ (c .if1 .taken))))
-    (c .before .add-threes .ensures .1 .0)
+add-eights-requires : tie.Need-add-eights-requires Inv-loop μ-loop
+add-eights-requires c κs = c .before .before .pre
 
 loop-holds : tie.Need-loop-holds Inv-loop μ-loop
-loop-holds c = (
-  omega arith,
-  answered _ _ _ _ _ (c .before .add-threes .ensures) (not-false _ (c .if1 .left)),
-)
+loop-holds c = (c .add-eights .ensures .0, started _ _ _ _ _ (c .add-eights .ensures))
 
 -- the stretch that is added lies in the book
-inside : (c : tie.After-add-one-arg Inv-loop μ-loop) → c .before .before .loop .a * c .before .before .before .before .before .before .before .args .width + c .before .before .before .before .before .before .before .args .width ≤ c .before .before .before .before .before .before .before .args .accounts * c .before .before .before .before .before .before .before .args .width
+inside : (c : tie.After-add-one-arg Inv-loop μ-loop) → c .before .before .loop .a * c .before .before .before .before .before .before .args .width + c .before .before .before .before .before .before .args .width ≤ c .before .before .before .before .before .before .args .accounts * c .before .before .before .before .before .before .args .width
 inside c = within _ _ _ (c .before .loop-test .taken)
 
 mul-add-one : tie.Need-mul-add-one Inv-loop μ-loop
@@ -53,17 +32,17 @@ mul-add-one c = omega (arith, inside c)
 add-one-requires : tie.Need-add-one-requires Inv-loop μ-loop
 add-one-requires c κs =
     let l = c .before .before .loop in
-    let s = c .before .before .before .before .before .before .before in (
+    let s = c .before .before .before .before .before .before in (
       s .pre .0,
-      le-trans (inside c) (le-of-eq (sym (s .pre .1))),
+      le-trans (inside c) (le-of-eq (sym (s .pre .2))),
       counted-low (l .inv .1),
       l .inv .1 .size,
     )
 
-returns-2 : tie.Need-returns-2 Inv-loop μ-loop
-returns-2 c =
+returns : tie.Need-returns Inv-loop μ-loop
+returns c =
     answer-false (c .before .add-one .last .0) _ _ _
-    (reached-one (c .before .before .before .before .loop .inv .1) _ (omega arith) (not-false _ (sym (c .before .add-one .ensures .0) ∙ not-true _ (c .if2 .taken))))
+    (reached-one (c .before .before .before .before .loop .inv .1) _ (omega arith) (not-false _ (sym (c .before .add-one .ensures .0) ∙ not-true _ (c .if1 .taken))))
     (c .before .add-one .ensures .1 .0)
 
 add-a : tie.Need-add-a Inv-loop μ-loop
@@ -75,11 +54,11 @@ loop-less c = omega arith
 loop-again : tie.Need-loop-again Inv-loop μ-loop
 loop-again c = (
   omega arith,
-  counted-one (c .before .before .before .before .loop .inv .1) _ (not-true _ (sym (c .before .add-one .ensures .0) ∙ not-false _ (c .if2 .left))) (c .before .add-one .ensures .1 .0) (c .before .add-one .ensures .1 .1),
+  counted-one (c .before .before .before .before .loop .inv .1) _ (not-true _ (sym (c .before .add-one .ensures .0) ∙ not-false _ (c .if1 .left))) (c .before .add-one .ensures .1 .0) (c .before .add-one .ensures .1 .1),
 )
 
-returns-3 : tie.Need-returns-3 Inv-loop μ-loop
-returns-3 c = answer-true (c .before .loop .inv .1) _ (omega arith)
+returns-2 : tie.Need-returns-2 Inv-loop μ-loop
+returns-2 c = answer-true (c .before .loop .inv .1) _ (omega arith)
 
 pub add-all-spec : {M : Type 1} → statement M
 add-all-spec =
@@ -87,14 +66,12 @@ add-all-spec =
     (tie.spec
     Inv-loop
     μ-loop
-    sub-a
-    add-threes-requires
-    returns
+    add-eights-requires
     loop-holds
     mul-add-one
     add-one-requires
-    returns-2
+    returns
     add-a
     loop-less
     loop-again
-    returns-3)
+    returns-2)

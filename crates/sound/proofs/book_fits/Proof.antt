@@ -39,7 +39,8 @@ width-of-requires c κs = search needs
 add-all-requires : tie.Need-add-all-requires
 add-all-requires c κs = (
   omega arith,
-  c .before .before .before .pre .1 ∙ ap (λ (w : ℕ). c .before .before .before .args .accounts * w) (sym (c .width-of .ensures)),
+  c .before .before .before .pre .1,
+  c .before .before .before .pre .2 ∙ ap (λ (w : ℕ). c .before .before .before .args .accounts * w) (sym (c .width-of .ensures)),
   (λ k h. getD-replicate 906 k 0 0 (omega arith)),
   omega arith,
 )

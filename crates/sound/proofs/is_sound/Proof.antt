@@ -67,7 +67,9 @@ returns-5 : tie.Need-returns-5
 returns-5 c = sym (unsound _ _ _ (λ s. true≢false (sym (still-true _ _ (day-still s)) ∙ sym (c .before .fund-still .ensures) ∙ not-true _ (c .if5 .taken))))
 
 book-fits-requires : tie.Need-book-fits-requires
-book-fits-requires c κs = (sizes (c .before .before .before .before .before .before .before .before) .count-high, sizes (c .before .before .before .before .before .before .before .before) .book-size)
+book-fits-requires c κs =
+    let s = sizes (c .before .before .before .before .before .before .before .before) in
+    (s .count-high, s .accounts-high, s .book-size)
 
 returns-6 : tie.Need-returns-6
 returns-6 c =
