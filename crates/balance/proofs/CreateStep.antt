@@ -2,7 +2,7 @@
 use mathlib.Core.Path.{_≡_, refl, sym, ap, subst, _∙_}
 use mathlib.Core.Bool.{Bool, true, false, cond}
 use mathlib.Core.List.{List}
-use Prim.Native.Nat.{ℕ, _+_, _-_, _*_, _≤_, _<_, min}
+use Prim.Native.Nat.{ℕ, _+_, _-_, _≤_, _<_, min}
 use native.Mathlib.Decide.{ℕ-discrete, decLt}
 use native.Mathlib.Omega.{arith}
 use lib.Dec.{ltb}
@@ -11,7 +11,7 @@ use borrow.Author.Tests.{lt-ltb, le-ltb}
 use Rattle.lists.specs.Checks.{Reply, isAccepted}
 use Rattle.lists.specs.Same.{whenSame, when-same, when-other}
 use Rattle.lots.specs.declared.Lots.{Lots}
-use Rattle.lots.specs.Lots.{handInOf, getOf, takeInOf, handable, lotsTotal}
+use Rattle.lots.specs.Lots.{handInOf, getOf, takeInOf, handable}
 use Rattle.fund.specs.Fund.{ceiling, limitOf}
 use Rattle.rules.specs.declared.Day.{Day}
 use Rattle.rules.specs.Book.{cash, created, redeemed, headAt, lotsAt, account, headTotal, lineTotal}
@@ -19,7 +19,7 @@ use Rattle.rules.specs.Lines.{codeOf, movesStock}
 use Rattle.rules.specs.Orders.{creation, redemption, baskets, need, fundCount, shanghaiCash, otherCash}
 use Rattle.rules.specs.Records.{sideB, sideS, roomIn, withRecords}
 use Rattle.rules.specs.Creation.{available, handedIn, creationCash, creationDue, creationRecords, creationReply, creationMoves, createdBook, createdList}
-use Rattle.rules.proofs.SoundDay.{SoundDay, Kept, sound-moved}
+use Rattle.rules.proofs.SoundDay.{Kept, sound-moved}
 use Rattle.rules.proofs.Accepted.{Creates, creation-facts, creation-value}
 use Rattle.balance.specs.Calls.{State, Lent, create, step}
 use Rattle.balance.specs.Counts.{stockQuantity, soldBy, boughtBy, gotBy, handedBy, createdBy, redeemedBy, unitsCreated, unitsRedeemed}

@@ -7,12 +7,12 @@ use native.Mathlib.Decide.{ℕ-discrete, decLt}
 use native.Mathlib.Omega.{arith}
 use lib.ListN.{length}
 use Rattle.lists.specs.Same.{whenSame, when-same, when-other}
-use Rattle.lists.specs.Stretch.{stretchOf, over, onStretch, within, stretch-length, Changed, changed-both, changed-over}
+use Rattle.lists.specs.Stretch.{over, onStretch, within, stretch-length, Changed, changed-both, changed-over}
 use Rattle.lots.specs.declared.Lots.{Lots}
 use Rattle.lots.specs.Lots.{lotsTotal}
 use Rattle.fund.specs.Fund.{limitOf}
 use Rattle.rules.specs.declared.Day.{Day}
-use Rattle.rules.specs.Book.{cash, created, redeemed, headAt, lotsAt, width, account, headTotal, lineTotal}
+use Rattle.rules.specs.Book.{cash, headAt, lotsAt, width, account, headTotal, lineTotal}
 use Rattle.rules.specs.Orders.{countOf, fundCount, accountSide, fundSide}
 use Rattle.rules.proofs.SoundDay.{SoundDay}
 use Rattle.rules.proofs.Sides.{account-length, account-cash, account-count, account-head, account-line, account-unit, fund-length, fund-cash, fund-head, fund-line, fund-unit}

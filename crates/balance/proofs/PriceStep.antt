@@ -1,5 +1,5 @@
 -- A price call: the book stays, and the prices stay in their range.
-use mathlib.Core.Path.{_≡_, refl, sym, ap, subst⁻¹, _∙_}
+use mathlib.Core.Path.{_≡_, refl, subst⁻¹, _∙_}
 use mathlib.Core.Bool.{Bool, true, false, cond}
 use mathlib.Core.List.{List}
 use Prim.Native.Nat.{ℕ, _≤_, _<_}
@@ -12,7 +12,7 @@ use Rattle.rules.specs.declared.Day.{Day}
 use Rattle.rules.specs.Lines.{priceOf}
 use Rattle.rules.specs.Sound.{mostPrice}
 use Rattle.rules.specs.Price.{priceReply, pricedPrices}
-use Rattle.rules.proofs.SoundDay.{SoundDay, Kept}
+use Rattle.rules.proofs.SoundDay.{Kept}
 use Rattle.rules.proofs.Accepted.{Prices, price-facts}
 use Rattle.balance.specs.Calls.{State, Lent, price, step}
 use Rattle.balance.specs.Counts.{soldBy, boughtBy, gotBy, handedBy, createdBy, redeemedBy, unitsCreated, unitsRedeemed}

@@ -2,24 +2,22 @@
 use mathlib.Core.Path.{_≡_, refl, sym, ap, subst, _∙_}
 use mathlib.Core.Bool.{Bool, true, false, cond}
 use mathlib.Core.List.{List}
-use Prim.Native.Nat.{ℕ, _+_, _-_, _*_, _≤_, _<_}
+use Prim.Native.Nat.{ℕ, _+_, _-_, _≤_, _<_}
 use native.Mathlib.Decide.{ℕ-discrete, decLt}
 use native.Mathlib.Omega.{arith}
 use lib.Dec.{ltb}
-use lib.ListN.{length}
 use borrow.Author.Tests.{lt-ltb, le-ltb}
 use Rattle.lists.specs.Checks.{Reply, isAccepted}
 use Rattle.lists.specs.Same.{whenSame, when-same, when-other}
 use Rattle.lots.specs.declared.Lots.{Lots}
-use Rattle.lots.specs.Lots.{handInOf, getOf, payOutOf, handable, lotsTotal}
+use Rattle.lots.specs.Lots.{handInOf, getOf, payOutOf}
 use Rattle.rules.specs.declared.Day.{Day}
 use Rattle.rules.specs.Book.{cash, created, redeemed, headAt, lotsAt, account, headTotal, lineTotal}
 use Rattle.fund.specs.Fund.{ceiling}
-use Rattle.rules.specs.Lines.{quantity, movesStock}
 use Rattle.rules.specs.Orders.{creation, redemption, baskets, need, fundCount}
 use Rattle.rules.specs.Records.{roomIn, withRecords}
 use Rattle.rules.specs.Redemption.{delivered, redemptionPaid, redemptionRecords, redemptionReply, redemptionMoves, redeemedBook, redeemedList}
-use Rattle.rules.proofs.SoundDay.{SoundDay, Kept, sound-moved}
+use Rattle.rules.proofs.SoundDay.{Kept, sound-moved}
 use Rattle.rules.proofs.Accepted.{Redeems, redemption-facts}
 use Rattle.balance.specs.Calls.{State, Lent, redeem, step}
 use Rattle.balance.specs.Counts.{soldBy, boughtBy, gotBy, handedBy, createdBy, redeemedBy, unitsCreated, unitsRedeemed}

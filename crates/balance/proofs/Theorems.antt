@@ -1,10 +1,10 @@
 -- The theorems beside demand 3: the kept property holds from an accepted opening on, 5 never comes, and a refused call
 -- changes nothing.
 use mathlib.Core.Path.{_≡_, refl, sym, ap, subst, _∙_}
-use mathlib.Core.Bool.{Bool, true, false, cond, not}
-use mathlib.Core.List.{List, [], _∷_, _++_}
+use mathlib.Core.Bool.{true, false, not}
+use mathlib.Core.List.{List, [], _∷_}
 use Prim.Native.Nat.{ℕ}
-use lib.Dec.{T, eqb}
+use lib.Dec.{T}
 use Rattle.lists.specs.Checks.{Check, Reply, isAccepted, answered, avoids, never-answered}
 use Rattle.rules.specs.declared.Day.{Day}
 use Rattle.rules.specs.Sound.{isSound, onSoundDay}

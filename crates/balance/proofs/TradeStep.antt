@@ -8,19 +8,18 @@ use native.Mathlib.Omega.{arith}
 use lib.ListN.{length}
 use Rattle.lists.specs.Checks.{isAccepted}
 use Rattle.lists.specs.Same.{whenSame, when-same, when-other}
-use Rattle.lists.specs.Stretch.{stretchOf, over, within, stretch-length, Changed, changed-both, changed-over}
-use Rattle.lots.specs.declared.Lots.{Lots}
+use Rattle.lists.specs.Stretch.{over, within, stretch-length, Changed, changed-both, changed-over}
 use Rattle.lots.specs.Lots.{sellOf, buyOf, lotsTotal}
 use Rattle.rules.specs.declared.Day.{Day}
 use Rattle.rules.specs.Book.{cash, created, redeemed, headAt, lotsAt, width, account, headTotal, lineTotal}
 use Rattle.rules.specs.Orders.{countOf, fundCount}
 use Rattle.rules.specs.Trade.{tradeReply, sellSide, buySide, tradeMoves, tradedBook}
-use Rattle.rules.proofs.SoundDay.{SoundDay, Kept, sound-moved}
+use Rattle.rules.proofs.SoundDay.{Kept, sound-moved}
 use Rattle.rules.proofs.Sides.{side-length, side-cash, side-counter, side-line, side-other}
 use Rattle.rules.proofs.Accepted.{Trades, trade-facts}
 use Rattle.balance.specs.Calls.{State, Lent, trade, step}
 use Rattle.balance.specs.Counts.{soldBy, boughtBy, gotBy, handedBy, createdBy, redeemedBy, unitsCreated, unitsRedeemed}
-use Rattle.balance.proofs.Relation.{Tally, Keeps, keeps-same, tallyIf, callTally, StepKeeps, Drawn, drawn-same, drawn-sell, drawn-buy, drawn-eq, Limits, limits-same}
+use Rattle.balance.proofs.Relation.{Tally, Keeps, keeps-same, tallyIf, callTally, StepKeeps, Drawn, drawn-same, drawn-sell, drawn-buy, drawn-eq, limits-same}
 
 module _ (d : Day) (b ps : List ℕ) (line q p seller buyer : ℕ) (t : Trades d b ps line q p seller buyer) where
   abbrev after : List ℕ

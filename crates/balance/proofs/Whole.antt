@@ -1,6 +1,6 @@
 -- Demand 3: the whole list of calls, from an accepted opening on.
 use mathlib.Core.Path.{_≡_, refl, sym, ap, subst, _∙_}
-use mathlib.Core.Bool.{Bool, true, false, cond}
+use mathlib.Core.Bool.{true}
 use mathlib.Core.List.{List, [], _∷_}
 use Prim.Native.Nat.{ℕ, _+_, _-_, _≤_, _<_}
 use native.Mathlib.Decide.{ℕ-discrete}
@@ -19,10 +19,10 @@ use Rattle.rules.specs.Orders.{creation, redemption, countOf, fundCount}
 use Rattle.rules.proofs.SoundDay.{Kept}
 use Rattle.rules.proofs.OpenedDay.{opened-day, opened-kept, opened-money, opened-line, opened-component, opened-account, opened-lots, opened-created, opened-redeemed, opened-counter}
 use Rattle.balance.specs.Calls.{State, Lent, Call, Result, Event, price, trade, create, redeem, value, step, Happened}
-use Rattle.balance.specs.Counts.{counted, soldBy, boughtBy, gotBy, handedBy, createdBy, redeemedBy, unitsCreated, unitsRedeemed, sold, bought, got, handedIn, createdByAll, redeemedByAll}
+use Rattle.balance.specs.Counts.{counted, createdBy, redeemedBy, sold, bought, got, handedIn, createdByAll, redeemedByAll}
 use Rattle.balance.specs.Counts
 use Rattle.balance.specs.Balanced.{opened, Balanced}
-use Rattle.balance.proofs.Relation.{Tally, Keeps, keeps-same, keeps-then, StepKeeps, resultTally, Limits, Fresh, fresh-limits}
+use Rattle.balance.proofs.Relation.{Tally, Keeps, keeps-same, keeps-then, StepKeeps, Limits, Fresh, fresh-limits}
 use Rattle.balance.proofs.PriceStep.{price-step}
 use Rattle.balance.proofs.TradeStep.{trade-step}
 use Rattle.balance.proofs.CreateStep.{create-step}

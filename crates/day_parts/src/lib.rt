@@ -1,7 +1,7 @@
 // A day taken apart for the calls: its head by value and its components lent as a run of numbers, the basket, so that no call has to
 // copy the 300 components.
 ghost use mathlib.Core.Path.{_≡_};
-ghost use Prim.Native.Nat.{_≤_, _<_};
+ghost use Prim.Native.Nat.{_<_};
 ghost use lib.ListN.{length, getD};
 ghost use Rattle.fund.specs.Components.{blank, componentAt, placesOf};
 ghost use Rattle.day_parts.specs.Parts.{headOf, basketOf};

@@ -3,7 +3,7 @@ ghost use mathlib.Core.Path.{_≡_};
 ghost use Prim.Native.Nat.{_+_, _*_, _≤_, _<_, _^_};
 ghost use mathlib.Core.List.{[], _∷_};
 ghost use lib.ListN.{length, replicate};
-ghost use Rattle.digits.specs.Digits.{cap, fixed, tens, decimal, wholeText, plainText, signedText, numberText, from, capped, isWhole, isPlain, plainSize, isSigned, signedFigure, blanks, allBlank, isNumber, figureOf, sizeReading, reading, readOn, minusFigure, belowZero, aboveZero};
+ghost use Rattle.digits.specs.Digits.{cap, fixed, tens, wholeText, plainText, signedText, numberText, from, capped, isWhole, isPlain, plainSize, isSigned, signedFigure, blanks, allBlank, isNumber, figureOf, sizeReading, reading, readOn, minusFigure, belowZero, aboveZero};
 ghost use Rattle.digits.specs.Written.{Written};
 
 pub mod aligned;

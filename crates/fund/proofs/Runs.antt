@@ -14,7 +14,7 @@ use Rattle.fund.specs.Components.{blank, componentAt, componentNumbers, 
 use Rattle.fund.proofs.Stored.{numbers-length, component-is}
 
 -- the numbers of the first n of a family of components
-pub numbersBelow : (ℕ → Component) → ℕ → List ℕ
+unfoldable pub numbersBelow : (ℕ → Component) → ℕ → List ℕ
 numbersBelow f n = joinBelow (λ j. componentNumbers (f j)) n
 
 -- the first j components stand at the front of the run

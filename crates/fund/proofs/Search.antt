@@ -3,12 +3,11 @@ use mathlib.Core.Path.{_≡_, sym, ap, _∙_}
 use mathlib.Core.Bool.{true, false, not}
 use mathlib.Core.List.{List}
 use Prim.Native.Nat.{ℕ, _+_, _<_}
-use native.Mathlib.Omega.{arith}
-use lib.ListN.{length, getD}
+use lib.ListN.{getD}
 use Rattle.lists.specs.Below.{firstBelow, first-more, first-here}
 use Rattle.fund.specs.declared.Component.{Component}
 use Rattle.fund.specs.Components.{blank, fits, faultAt, componentFault}
-use Rattle.fund.proofs.Laws.{codeBefore, fault-fits, fault-past}
+use Rattle.fund.proofs.Laws.{codeBefore, fault-fits}
 
 module _ (g : ℕ) (cs : List Component) (n i previous : ℕ) (none : firstBelow (faultAt g cs) i ≡ i) (last : previous ≡ codeBefore cs i) where
   fault-here : not (fits g i previous (getD cs i blank)) ≡ faultAt g cs i
@@ -20,7 +19,3 @@ module _ (g : ℕ) (cs : List Component) (n i previous : ℕ) (none : firstBelow
 
   pub goes-on : not (fits g i previous (getD cs i blank)) ≡ false → firstBelow (faultAt g cs) (i + 1) ≡ i + 1
   goes-on e = first-more (faultAt g cs) i none (sym fault-here ∙ e)
-
-  pub ends : i < n → i ≡ 300 → length cs ≡ 300 → componentFault g cs n ≡ i
-  unfolding componentFault
-  ends l e size = first-here (faultAt g cs) n i l none (fault-past g cs i (omega arith) (omega arith))

@@ -224,28 +224,7 @@ fn component_fits(first_code: u64, i: usize, previous: u64, c: Component) -> boo
     previous < c.code
 }
 
-// Refusal 3's test: the first component at fault of the first `count`, and `count` where none is. There is none behind the last
-// place, and what stands there is at fault.
-pub fn component_fault(first_code: u64, components: [Component; 300], count: usize) -> usize
-    ensures { λ r. ⌜ r ≡ componentFault «first_code» components count ⌝ }
-{
-    let mut previous: u64 = 0;
-    let mut i = 0;
-    while i < count {
-        if i == MOST_COMPONENTS {
-            return i;
-        }
-        let c = components[i];
-        if !component_fits(first_code, i, previous, c) {
-            return i;
-        }
-        previous = c.code;
-        i += 1;
-    }
-    i
-}
-
-// The same of a run of components.
+// Refusal 3's test: the first component at fault of a run's first `count`, and `count` where none is.
 pub fn run_fault(first_code: u64, run: &[u64], count: usize) -> usize
     requires { ⌜ (count ≤ 300) × (5 * count ≤ length (now run)) ⌝ }
     ensures { λ r. ⌜ r ≡ componentFault «first_code» (placesOf (componentAt (now (run .entry))) count) count ⌝ }

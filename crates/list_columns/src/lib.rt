@@ -1,6 +1,5 @@
 // A component line of the list text: 48 bytes, six columns that a table drives, each followed by "|".
 ghost use mathlib.Core.Path.{_≡_};
-ghost use mathlib.Core.Bool.{true, false};
 ghost use mathlib.Core.List.{[], _∷_, _++_};
 ghost use Prim.Native.Nat.{_+_, _^_, _≤_, _<_};
 ghost use lib.ListN.{length};
@@ -8,10 +7,9 @@ ghost use Rattle.digits.specs.Digits.{fixed, plain, numberText, allBlank, sizeR
 ghost use Rattle.digits.specs.Right.{alignedForm};
 ghost use Rattle.digits.specs.Written.{Written};
 ghost use Rattle.lines.specs.Lines.{lineText};
-ghost use Rattle.list_rules.specs.Columns.{columnEntry, columnForm, columnStart, columnWidth, columnPart, holdsName, isUsed, isRow, isColumn, flagOf, columnFault, componentOf, rowText};
+ghost use Rattle.list_rules.specs.Columns.{columnEntry, columnStart, columnWidth, columnPart, isRow, isColumn, flagOf, columnFault, componentOf, rowText};
 ghost use Rattle.list_columns.specs.Read.{rightForm, numberSize, columnSize};
 ghost use Rattle.list_columns.specs.Fitting.{Fitting, Pointed, usedText};
-use digits::Form;
 use digits::Size;
 use fund::Component;
 use list_rules::ROW_WIDTH;
@@ -42,6 +40,7 @@ const ALWAYS: usize = 6;
 
 const NAME: usize = 7;
 
+// What writing takes off the table.
 const CODE_WIDTH: usize = TABLE[0][1];
 
 const QUANTITY_WIDTH: usize = TABLE[2][1];
@@ -78,39 +77,6 @@ fn column_width(k: usize) -> usize
     ensures { λ r. ⌜ (r ≡ columnWidth k) × (columnStart k + r < 48) ⌝ }
 {
     table_entry(k, 1)
-}
-
-// The form of a column's number.
-fn column_form(k: usize) -> Form
-    requires { ⌜ k < 6 ⌝ }
-    ensures { λ r. ⌜ r ≡ columnForm k ⌝ }
-    ensures { λ r. ⌜ (r .decimals ≤ 9) × (r .digits ≤ 20) ⌝ }
-{
-    Form {
-        digits: table_entry(k, 2),
-        decimals: table_entry(k, 3),
-        signed: false,
-        width: table_entry(k, 1),
-    }
-}
-
-fn holds_name(k: usize) -> bool
-    requires { ⌜ k < 6 ⌝ }
-    ensures { λ r. ⌜ r ≡ holdsName k ⌝ }
-{
-    table_entry(k, 4) == NAME
-}
-
-// Whether a component with that flag uses the column.
-fn is_used(flag: u64, k: usize) -> bool
-    requires { ⌜ k < 6 ⌝ }
-    ensures { λ r. ⌜ r ≡ isUsed flag k ⌝ }
-{
-    let column = table_entry(k, 4);
-    if column < ALWAYS {
-        return flags::entry_of(flag, column);
-    }
-    true
 }
 
 // Whether the line has its width and its bars.

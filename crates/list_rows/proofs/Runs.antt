@@ -11,7 +11,7 @@ use native.Mathlib.Numerals.{add-one}
 use Rattle.lists.specs.Below.{joinBelow}
 use Rattle.fund.specs.declared.Component.{Component}
 use Rattle.fund.specs.Components.{componentAt, componentNumbers, componentWidth}
-use Rattle.fund.proofs.Runs.{numbersBelow, Filled, filled-start, filled-again, filled-end}
+use Rattle.fund.proofs.Runs.{numbersBelow, numbers-long, Filled, filled-start, filled-again, filled-end}
 use Rattle.lines.specs.Lines.{lineText}
 use Rattle.list_rules.specs.Columns.{rowText}
 use Rattle.list_rules.specs.Reading.{rowCount, wrongRow, columnPlace, componentRead, componentsRun}

@@ -1,11 +1,9 @@
 -- The third stage of an order as the code runs it: from a scan of the basket.
 use Prim.Native.Nat.{ℕ, _+_}
-use mathlib.Core.Path.{_≡_, refl}
+use mathlib.Core.Path.{_≡_}
 use mathlib.Core.Bool.{Bool, not, _&&_}
 use mathlib.Core.List.{List, [], _∷_, _++_}
 use lib.Dec.{ltb}
-use lib.ListN.{length}
-use Rattle.lists.specs.Below.{sumBelow}
 use Rattle.lists.specs.Checks.{Check, check}
 use Rattle.units.specs.Units.{ratioBound}
 use Rattle.rules.specs.declared.Day.{Day}
@@ -16,8 +14,8 @@ use Rattle.scan.proofs.Counts.{creation-count, redemption-count}
 use Rattle.rules.specs.Book.{cash, headAt}
 use Rattle.rules.specs.Value.{referenceValue, hasValue}
 use Rattle.rules.specs.Orders.{baskets, otherCash, shanghaiCash}
-use Rattle.rules.specs.Creation.{firstShort, isMissing, missingWorth, creationCash, creationDue, ratioPassed, creationRecords, creationMeans}
-use Rattle.rules.specs.Redemption.{unitsAvailable, firstLacking, redemptionCash, redemptionPaid, redemptionRecords, redemptionMeans}
+use Rattle.rules.specs.Creation.{creationCash, creationDue, ratioPassed, creationMeans}
+use Rattle.rules.specs.Redemption.{unitsAvailable, redemptionCash, redemptionPaid, redemptionMeans}
 
 -- 14 and 15: whether anything is missing, and its worth
 unfoldable pub ratioTests : Day → List ℕ → ℕ → Bool → ℕ → List Check

@@ -95,9 +95,9 @@ module _ (o : Opening) where
       let end : o .count + 2 ≤ linePlace = omega arith in
       rw (← later e, f, le-ltb componentPlace (o .count) past, le-ltb linePlace (o .count + 2) end)
 
-  pub places-fault : (places : List Component) (fault : ℕ) → places ≡ placesOf (componentAt (o .components)) (o .count) → fault ≡ componentFault (o .fund .«first_code») places (o .count) → fault ≡ componentPlace
+  pub places-fault : (fault : ℕ) → fault ≡ componentFault (o .fund .«first_code») (placesOf (componentAt (o .components)) (o .count)) (o .count) → fault ≡ componentPlace
   unfolding componentsOpened
-  places-fault places fault e p = p ∙ ap (λ (cs : List Component). componentFault (o .fund .«first_code») cs (o .count)) e
+  places-fault fault p = p
 
   -- what an accepted opening says of the lent lengths
   accepted-sizes : isAccepted (openingReply o) ≡ true → LentSizes

@@ -143,8 +143,7 @@ fn opening_answer(
     if !fund::fund_in_range(fund) {
         return Answer::Refused(Refusal::FundField);
     }
-    let places = fund::components_of(components, count);
-    let fault = fund::component_fault(fund.first_code, places, count);
+    let fault = fund::run_fault(fund.first_code, components, count);
     if fault < count {
         return Answer::Refused(Refusal::Component(fault));
     }

@@ -1,20 +1,20 @@
 -- From a sound day and an order's form to what its third stage, its records and its move ask.
-use mathlib.Core.Path.{_≡_, refl, sym, ap, _∙_}
-use mathlib.Core.Bool.{Bool, true, false}
+use mathlib.Core.Path.{_≡_, sym, ap, _∙_}
+use mathlib.Core.Bool.{true, false}
 use mathlib.Core.List.{List, _++_, append-assoc}
 use Prim.Native.Nat.{ℕ, _+_, _*_, _≤_, _<_}
 use native.Mathlib.Omega.{arith}
 use lib.ListN.{length}
 use borrow.Author.Tests.{not-false}
 use Rattle.lists.specs.Checks.{Check, reply, answered, isAccepted, all-passed, answered-next, answered-stop, accepted-passes, refused-stops}
-use Rattle.lists.specs.Stretch.{stretchOf, within, stretch-length}
+use Rattle.lists.specs.Stretch.{within, stretch-length}
 use Rattle.fund.proofs.Laws.{FundRanges, fund-sound}
 use Rattle.rules.specs.declared.Day.{Day}
 use Rattle.rules.specs.declared.Refusal.{Refusal}
 use Rattle.rules.specs.Book.{widthOf, account, headTotal}
 use Rattle.rules.specs.Replies.{refusalReply}
 use Rattle.rules.specs.Sound.{isSound}
-use Rattle.rules.specs.Orders.{creation, redemption, baskets, mostBaskets, wholeBaskets, formChecks, switchAllows, countOf, fundCount, withinLimits, permissionChecks}
+use Rattle.rules.specs.Orders.{creation, redemption, baskets, wholeBaskets, countOf, fundCount, withinLimits}
 use Rattle.rules.specs.declared.Record.{Record}
 use Rattle.rules.specs.Records.{roomIn, withRecords}
 use Rattle.rules.specs.Creation.{creationDue, creationRecords, creationMeans, creationChecks, creationReply, creationMoves}
@@ -28,12 +28,11 @@ use Rattle.book.proofs.Ready.{creation-ready as creation-ready-to-move, redempt
 use Rattle.records.specs.Ready.{Writable}
 use Rattle.records.proofs.Sound.{sound-writable, room-enough}
 use Rattle.means.specs.Tests.{CreationFound, RedemptionFound}
-use Rattle.permission.specs.Form.{headOf, headSum, wholeUnits, switchOpen, limitsHeld, orderForm, order-form}
+use Rattle.permission.specs.Form.{headOf, headSum, wholeUnits, limitsHeld, orderForm, order-form}
 use Rattle.value.specs.Worth.{Priceable}
 use Rattle.value.proofs.Laws.{priceable}
 use Rattle.scan.specs.Ready.{CreationReady, RedemptionReady}
 use Rattle.scan.proofs.Ready.{creation-ready, redemption-ready}
-use Rattle.trades.specs.Fits.{BookFits}
 use Rattle.trades.proofs.Laws.{sound-fits}
 use Rattle.orders.specs.Orders.{creationAnswer, redemptionAnswer, Formed}
 

@@ -1,10 +1,10 @@
 -- The answers of creation and redemption on a sound day, and what makes an accepted order possible.
-use Prim.Native.Nat.{ℕ, _+_}
+use Prim.Native.Nat.{ℕ}
 use mathlib.Core.Path.{_≡_}
 use mathlib.Core.Bool.{true}
 use mathlib.Core.List.{List}
 use lib.ListN.{length}
-use Rattle.lists.specs.Checks.{Reply, reply, answered, isAccepted}
+use Rattle.lists.specs.Checks.{Reply, reply, answered}
 use Rattle.rules.specs.declared.Day.{Day}
 use Rattle.rules.specs.Book.{account}
 use Rattle.rules.specs.Sound.{isSound}

@@ -1,5 +1,5 @@
 -- Head numbers and their sums as the code reads them, and what a sound day gives.
-use mathlib.Core.Path.{_≡_, refl, sym, ap, _∙_}
+use mathlib.Core.Path.{_≡_, ap, _∙_}
 use mathlib.Core.Bool.{Bool, true, false, not}
 use mathlib.Core.List.{List, [], _∷_}
 use Prim.Native.Nat.{ℕ, _+_, _-_, _*_, _/_, _%_, _≤_, _<_}
@@ -15,7 +15,7 @@ use Rattle.lists.specs.Every.{every, every-at, inside, inside-facts}
 use Rattle.lists.specs.Stretch.{stretchOf, over, within, stretch-at}
 use Rattle.fund.specs.declared.Fund.{Fund}
 use Rattle.fund.specs.Fund.{ceiling, limitOf}
-use Rattle.fund.proofs.Laws.{FundRanges, fund-sound}
+use Rattle.fund.proofs.Laws.{fund-sound}
 use Rattle.rules.specs.declared.Day.{Day}
 use Rattle.rules.specs.Book.{widthOf, created, redeemed, headAt, headTotal}
 use Rattle.rules.specs.Trade.{isInvestor}

@@ -1,23 +1,22 @@
 -- What an accepted call has passed, fact by fact.
-use mathlib.Core.Path.{_≡_, refl, sym, ap, _∙_}
-use mathlib.Core.Bool.{Bool, true, false, not, _||_, false≢true}
-use mathlib.Core.List.{List, [], _∷_, _++_}
+use mathlib.Core.Path.{_≡_, refl, sym}
+use mathlib.Core.Bool.{Bool, true, false, not, _||_}
+use mathlib.Core.List.{List, [], _∷_}
 use Prim.Native.Nat.{ℕ, _+_, _-_, _*_, _%_, _≤_, _<_}
 use native.Mathlib.Omega.{arith}
 use lib.Dec.{leb, ltb, eqb}
 use lib.ListN.{length}
 use borrow.Author.Tests.{leb-true, ltb-false, leb-false, eqb-true, eqb-false, not-false}
-use Rattle.lists.specs.Below.{firstBelow, first-all, first-stops}
+use Rattle.lists.specs.Below.{first-all, first-stops}
 use Rattle.lists.specs.Every.{every, every-at, inside, inside-facts}
 use Rattle.lists.specs.Checks.{isAccepted, all-passed, accepted-value}
 use Rattle.lots.specs.Lots.{sellable}
 use Rattle.fund.specs.Fund.{ceiling, limitOf}
 use Rattle.rules.specs.declared.Day.{Day}
 use Rattle.rules.specs.Book.{cash, headAt, lotsAt, account}
-use Rattle.rules.specs.Sound.{isSound, onSoundDay, mostPrice}
+use Rattle.rules.specs.Sound.{onSoundDay, mostPrice}
 use Rattle.rules.specs.Price.{priceChecks, priceReply}
 use Rattle.rules.specs.Trade.{isInvestor, tradeMeans, tradeChecks, tradeReply}
-use Rattle.rules.specs.Value.{hasValue, valueChecks, worthReply}
 use Rattle.rules.specs.Orders.{creation, redemption, baskets, mostBaskets, wholeBaskets, formChecks, switchAllows, withinLimit, countOf, fundCount, withinLimits, permissionChecks}
 use Rattle.rules.specs.Creation.{firstShort, isShort, creationDue, creationRecords, creationMeans, creationChecks, creationReply}
 use Rattle.rules.specs.Redemption.{delivered, fundLacks, firstLacking, unitsAvailable, redemptionPaid, redemptionRecords, redemptionMeans, redemptionChecks, redemptionReply}

@@ -1,27 +1,24 @@
 -- What an accepted opening leaves, account by account, and that it has the kept property.
 use mathlib.Core.Path.{_≡_, refl, sym, ap, _∙_}
-use mathlib.Core.Bool.{true, cond}
+use mathlib.Core.Bool.{true}
 use mathlib.Core.List.{List, [], _∷_}
-use Prim.Native.Nat.{ℕ, suc, _+_, _-_, _*_, _≤_, _<_}
-use native.Mathlib.Nat.{mul-comm, add-zero}
+use Prim.Native.Nat.{ℕ, suc, _+_, _-_, _*_, _<_}
+use native.Mathlib.Nat.{add-zero}
 use native.Mathlib.Omega.{arith}
-use lib.Dec.{ltb, eqb}
 use lib.ListN.{length, getD, replicate, length-replicate, getD-replicate}
-use borrow.Author.Tests.{lt-ltb, eqb-true}
-use Rattle.lists.specs.Below.{joinBelow, join-length, sumBelow, sum-same, sum-zero, table-at}
-use Rattle.lists.specs.Every.{every-at}
+use Rattle.lists.specs.Below.{joinBelow, join-length, sum-same, sum-zero}
 use Rattle.lists.specs.Checks.{isAccepted, all-passed}
 use Rattle.lists.specs.Stretch.{stretchOf, over, stretch-join, stretch-at}
 use Rattle.lots.specs.declared.Lots.{Lots}
 use Rattle.lots.specs.Lots.{lotsTotal}
 use Rattle.lots.proofs.Laws.{lots, lots-eq}
-use Rattle.fund.specs.Components.{blank, componentAt, componentWidth}
+use Rattle.fund.specs.Components.{blank, componentAt}
 use Rattle.fund.proofs.Places.{places-at}
 use Rattle.rules.specs.declared.Day.{Day}
 use Rattle.rules.specs.Book.{widthOf, cash, created, redeemed, headAt, lotsAt, width, account, headTotal, lineTotal}
 use Rattle.rules.specs.Lines.{componentOf, priceOf}
 use Rattle.rules.specs.Opening.{Opening, holdingsOf, cashOpened, heldOpened, openedTotal, openedCash, mostOfLine, dayChecks, componentsOpened, lengthsFit, openingReply, openedDay, openedStretch, openedBook, openedPrices}
-use Rattle.rules.proofs.SoundDay.{Opens, opens-facts, SoundDay, Kept}
+use Rattle.rules.proofs.SoundDay.{Opens, opens-facts, Kept}
 
 -- one account's stretch
 module _ (n : ℕ) (h : List ℕ) where

@@ -1,7 +1,7 @@
 -- Answers and replies: Done is accepted and every refusal is not, so what a call leaves follows from its answer.
 use mathlib.Core.Path.{_≡_, refl, sym, ap, _∙_}
-use mathlib.Core.Bool.{Bool, true, false, not}
-use mathlib.Core.List.{List, _∷_}
+use mathlib.Core.Bool.{true, false, not}
+use mathlib.Core.List.{List}
 use Prim.Native.Nat.{ℕ}
 use Rattle.lists.specs.Checks.{Check, Reply, reply, isAccepted, answered}
 use Rattle.rules.specs.declared.Day.{Day}

@@ -1,14 +1,12 @@
 -- What the two sides of a trade and of an order make of an account's stretch.
-use mathlib.Core.Path.{_≡_, refl, sym, ap, _∙_}
+use mathlib.Core.Path.{_≡_, ap, _∙_}
 use mathlib.Core.Logic.{_≢_}
 use mathlib.Core.List.{List}
 use Prim.Native.Nat.{ℕ, _+_, _-_, _*_, _≤_, _<_}
 use native.Mathlib.Omega.{arith}
 use lib.ListN.{length}
 use Rattle.lots.specs.declared.Lots.{Lots}
-use Rattle.lots.specs.Lots.{sellOf, buyOf}
 use Rattle.rules.specs.Book.{cash, headAt, putHead, lotsAt, onLine, eachLine}
-use Rattle.rules.specs.Trade.{sellSide, buySide}
 use Rattle.rules.specs.Orders.{accountSide, fundSide}
 use Rattle.rules.proofs.Account.{put-head-length, head-put-same, head-put-other, lots-put-head, on-length, head-on, on-other, on-same, each-length, head-each, each-later, each-at}
 

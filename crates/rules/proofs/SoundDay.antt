@@ -1,15 +1,14 @@
 -- What refusal 5 says of a day, fact by fact.
 use mathlib.Core.Path.{_≡_, refl, sym, ap, subst⁻¹, _∙_}
-use mathlib.Core.Bool.{Bool, true, false, cond, not, _||_, true≢false}
+use mathlib.Core.Bool.{Bool, true, false, not, _||_, true≢false}
 use mathlib.Core.List.{List, [], _∷_}
 use Prim.Native.Nat.{ℕ, _+_, _-_, _*_, _≤_, _<_}
-use native.Mathlib.Nat.{le-antisymm}
 use native.Mathlib.Decide.{decLt, ℕ-discrete}
 use native.Mathlib.Omega.{arith}
 use lib.Dec.{leb, ltb, eqb}
 use lib.ListN.{length}
-use borrow.Author.Tests.{le-leb, leb-true, lt-ltb, le-ltb, ltb-true, ltb-false, eq-eqb, ne-eqb, eqb-true, not-true, not-false}
-use Rattle.lists.specs.Below.{allBelow, all-at, all-true, firstBelow, first-all, first-end, first-le, first-stops}
+use borrow.Author.Tests.{le-leb, leb-true, lt-ltb, le-ltb, ltb-false, eq-eqb, ne-eqb, eqb-true, not-false}
+use Rattle.lists.specs.Below.{allBelow, all-at, all-true, first-all, first-end, first-stops}
 use Rattle.lists.specs.Every.{every, every-at, every-more, every-none, inside, inside-facts, inside-true}
 use Rattle.lists.specs.Checks.{Passed, passes, passed-all, passes-all}
 use Rattle.fund.specs.declared.Fund.{Fund}

@@ -5,7 +5,7 @@ use mathlib.Core.List.{List, [], _∷_, _++_, map}
 use Prim.Native.Nat.{ℕ, zero, suc, _+_, _*_, _≤_, _<_}
 use native.Mathlib.Omega.{arith}
 use lib.Dec.{ltb}
-use lib.ListN.{length, getD, drop, length-append}
+use lib.ListN.{length, getD, drop}
 use borrow.Author.Tests.{ltb-false}
 use Rattle.lists.specs.Below.{sumBelow, sum-head, sum-none, sum-only, sum-same, cond-le, joinBelow}
 use Rattle.lists.specs.Same.{whenSame, when-same, when-other}

@@ -1,6 +1,5 @@
 -- `day_parts::component_of` meets its contract: a component of the run is the one at its place.
 use mathlib.Core.Path.{sym, _∙_}
-use Prim.Native.Nat.{_≤_}
 use native.Mathlib.Omega.{arith}
 use Rattle.fund.specs.Components.{componentAt}
 use Rattle.fund.proofs.Places.{places-at}

@@ -1,7 +1,7 @@
 -- `day_parts::put_basket` meets its contract: the numbers of 300 components fill the basket.
 use mathlib.Core.Path.{_≡_, sym, ap, _∙_}
 use mathlib.Core.List.{List, _++_, append-nil}
-use Prim.Native.Nat.{ℕ, _≤_}
+use Prim.Native.Nat.{ℕ}
 use native.Mathlib.Omega.{arith}
 use lib.ListN.{length, drop, drop-of-length-le}
 use Rattle.day_parts.specs.Parts.{basketOf}

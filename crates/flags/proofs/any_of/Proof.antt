@@ -1,5 +1,4 @@
 -- `flags::any_of` meets its contract: the first that is true decides, and else the last.
-use mathlib.Core.Bool.{_||_}
 use Rattle.flags.proofs.any_of.Statement.{statement}
 use Rattle.flags.proofs.any_of.Tie as tie
 

@@ -1,5 +1,4 @@
 -- `flags::of_row` meets its contract: another flag's row says nothing, and the flag's own its entry.
-use mathlib.Core.Bool.{_&&_}
 use borrow.Author.Tests.{ne-eqb, eq-eqb}
 use Rattle.flags.proofs.of_row.Statement.{statement}
 use Rattle.flags.proofs.of_row.Tie as tie

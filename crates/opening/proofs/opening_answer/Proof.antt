@@ -29,8 +29,8 @@ in-range : (c : tie.Else2) → fundInRange (c .before .before .before .before .b
 in-range c = sym (c .before .fund-in-range .ensures) ∙ not-false _ (c .if2 .left)
 
 -- the component at fault
-component : (c : tie.After-component-fault) → c .component-fault .result ≡ componentPlace (opening (c .before .before .before .before .before .before .before .before .before .before))
-component c = places-fault (opening (c .before .before .before .before .before .before .before .before .before .before)) _ _ (c .before .components-of .ensures) (c .component-fault .ensures)
+component : (c : tie.After-run-fault) → c .run-fault .result ≡ componentPlace (opening (c .before .before .before .before .before .before .before .before .before))
+component c = places-fault (opening (c .before .before .before .before .before .before .before .before .before)) _ (c .run-fault .ensures)
 
 sizes-fit-requires : tie.Need-sizes-fit-requires
 sizes-fit-requires c κs = search needs
@@ -44,30 +44,27 @@ fund-in-range-requires c κs = search needs
 returns-2 : tie.Need-returns-2
 returns-2 c = answer-fund (opening (c .before .before .before .before .before .before .before .before)) (fits (c .before .before)) (sym (c .before .fund-in-range .ensures) ∙ not-true _ (c .if2 .taken))
 
-components-of-requires : tie.Need-components-of-requires
-components-of-requires c κs =
+run-fault-requires : tie.Need-run-fault-requires
+run-fault-requires c κs =
     let s = sizes (c .before .before) in
-    (s .sized .count-high, s .components-size)
-
-component-fault-requires : tie.Need-component-fault-requires
-component-fault-requires c κs = search needs
+    (s .sized .count-high, omega (arith, s .components-size))
 
 returns-3 : tie.Need-returns-3
-returns-3 c = answer-component (opening (c .before .before .before .before .before .before .before .before .before .before .before)) _ (fits (c .before .before .before .before .before)) (in-range (c .before .before .before)) (component (c .before)) (c .if3 .taken)
+returns-3 c = answer-component (opening (c .before .before .before .before .before .before .before .before .before .before)) _ (fits (c .before .before .before .before)) (in-range (c .before .before)) (component (c .before)) (c .if3 .taken)
 
 total-fault-requires : tie.Need-total-fault-requires
 total-fault-requires c κs =
-    let s = sizes (c .before .before .before .before .before) in
+    let s = sizes (c .before .before .before .before) in
     (s .sized, s .holdings-size)
 
 add-if4 : tie.Need-add-if4
-add-if4 c = omega (arith, sizes (c .before .before .before .before .before .before) .sized .count-high)
+add-if4 c = omega (arith, sizes (c .before .before .before .before .before) .sized .count-high)
 
 returns-4 : tie.Need-returns-4
-returns-4 c = answer-total (opening (c .before .before .before .before .before .before .before .before .before .before .before .before .before)) _ _ (fits (c .before .before .before .before .before .before .before)) (in-range (c .before .before .before .before .before)) (component (c .before .before .before)) (c .before .before .if3 .left) (c .before .total-fault .ensures) (c .if4 .taken)
+returns-4 c = answer-total (opening (c .before .before .before .before .before .before .before .before .before .before .before .before)) _ _ (fits (c .before .before .before .before .before .before)) (in-range (c .before .before .before .before)) (component (c .before .before .before)) (c .before .before .if3 .left) (c .before .total-fault .ensures) (c .if4 .taken)
 
 returns-5 : tie.Need-returns-5
-returns-5 c = answer-done (opening (c .before .before .before .before .before .before .before .before .before .before .before .before .before)) _ _ (fits (c .before .before .before .before .before .before .before)) (in-range (c .before .before .before .before .before)) (component (c .before .before .before)) (c .before .before .if3 .left) (c .before .total-fault .ensures) (c .if4 .left)
+returns-5 c = answer-done (opening (c .before .before .before .before .before .before .before .before .before .before .before .before)) _ _ (fits (c .before .before .before .before .before .before)) (in-range (c .before .before .before .before)) (component (c .before .before .before)) (c .before .before .if3 .left) (c .before .total-fault .ensures) (c .if4 .left)
 
 pub opening-answer-spec : {M : Type 1} → statement M
 opening-answer-spec =
@@ -77,8 +74,7 @@ opening-answer-spec =
     returns
     fund-in-range-requires
     returns-2
-    components-of-requires
-    component-fault-requires
+    run-fault-requires
     returns-3
     total-fault-requires
     add-if4

@@ -1,7 +1,6 @@
 -- `orders::creation_stage` meets its contract: the part is the account's stretch.
-use mathlib.Core.Path.{_≡_, refl, sym, ap, _∙_}
+use mathlib.Core.Path.{refl}
 use native.Mathlib.Omega.{arith}
-use borrow.Author.Needs.{needs}
 use Rattle.rules.specs.Orders.{baskets}
 use Rattle.orders.proofs.Laws.{sound, order, fund, inside, creation-asks, prices-ask}
 use Rattle.orders.proofs.creation_stage.Statement.{statement}

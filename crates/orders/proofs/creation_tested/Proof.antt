@@ -1,5 +1,5 @@
 -- `orders::creation_tested` meets its contract: the form decides first, and else the third stage.
-use mathlib.Core.Path.{_≡_, sym, ap, _∙_}
+use mathlib.Core.Path.{sym, ap, _∙_}
 use mathlib.Core.Bool.{false≢true}
 use borrow.Author.Needs.{needs}
 use Rattle.rules.specs.Replies.{answerReply, orderReply}

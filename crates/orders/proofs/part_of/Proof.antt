@@ -1,10 +1,9 @@
 -- `orders::part_of` meets its contract: the part from the account's start on, of the width of a stretch.
 use mathlib.Core.Path.{_≡_, ap}
 use Prim.Native.Nat.{ℕ, _*_}
-use native.Mathlib.Nat.{add-sub-cancel-left}
 use native.Mathlib.Omega.{arith}
 use borrow.Author.Needs.{needs}
-use Rattle.lists.specs.Stretch.{stretchOf, part-is}
+use Rattle.lists.specs.Stretch.{part-is}
 use Rattle.rules.specs.Book.{widthOf}
 use Rattle.orders.proofs.part_of.Statement.{statement}
 use Rattle.orders.proofs.part_of.Tie as tie

@@ -1,7 +1,6 @@
 -- `orders::redemption_stage` meets its contract: the parts are the account's stretch and the fund's.
-use mathlib.Core.Path.{_≡_, refl}
+use mathlib.Core.Path.{refl}
 use native.Mathlib.Omega.{arith}
-use borrow.Author.Needs.{needs}
 use Rattle.rules.specs.Orders.{baskets}
 use Rattle.orders.proofs.Laws.{sound, order, fund, inside, first, redemption-asks, units-ask}
 use Rattle.orders.proofs.redemption_stage.Statement.{statement}

@@ -1,6 +1,6 @@
 -- `permission::head_sum` meets its contract. The invariant: the total is that of the accounts passed. It fits, as the whole sum does.
 use mathlib.Core.Path.{_≡_, sym}
-use Prim.Native.Nat.{ℕ, _+_, _-_, _*_, _≤_}
+use Prim.Native.Nat.{_+_, _-_, _*_, _≤_}
 use native.Mathlib.Omega.{arith}
 use lib.ListN.{length, getD}
 use denote.Ref.{now}
