@@ -97,8 +97,19 @@ pub extern "C" fn roffelaine_price(
     ensures { λ r. ⌜ Told (priceReply (dayAt (now (day .entry))) (now (book .entry)) (now (prices .entry)) line price) r (now (place .exit)) (now (value .exit)) ⌝ }
     ensures prices { λ r. ⌜ now (prices .exit) ≡ pricedPrices (dayAt (now (day .entry))) (now (book .entry)) (now (prices .entry)) line price ⌝ }
 {
-    let d = flat::day_of(day);
-    let answer = day::price(d, book, prices, line, price);
+    if day.len() != flat::DAY_WIDTH {
+        return tell(numbers::of_refusal(Refusal::UnsoundDay), place, value);
+    }
+    let head = flat::head_of(day);
+    let answer = calls::price(
+        false,
+        head,
+        &day[flat::COMPONENTS_FROM..],
+        book,
+        prices,
+        line,
+        price,
+    );
     tell(numbers::of_answer(answer), place, value)
 }
 
@@ -119,8 +130,22 @@ pub extern "C" fn roffelaine_trade(
     ensures { λ r. ⌜ Told (tradeReply (dayAt (now (day .entry))) (now (book .entry)) (now (prices .entry)) line quantity price seller buyer) r (now (place .exit)) (now (value .exit)) ⌝ }
     ensures book { λ r. ⌜ now (book .exit) ≡ tradedBook (dayAt (now (day .entry))) (now (book .entry)) (now (prices .entry)) line quantity price seller buyer ⌝ }
 {
-    let d = flat::day_of(day);
-    let answer = day::trade(d, book, prices, line, quantity, price, seller, buyer);
+    if day.len() != flat::DAY_WIDTH {
+        return tell(numbers::of_refusal(Refusal::UnsoundDay), place, value);
+    }
+    let head = flat::head_of(day);
+    let answer = calls::trade(
+        false,
+        head,
+        &day[flat::COMPONENTS_FROM..],
+        book,
+        prices,
+        line,
+        quantity,
+        price,
+        seller,
+        buyer,
+    );
     tell(numbers::of_answer(answer), place, value)
 }
 
@@ -135,8 +160,11 @@ pub extern "C" fn roffelaine_reference_value(
 ) -> u64
     ensures { λ r. ⌜ Told (worthReply (dayAt (now (day .entry))) (now (book .entry)) (now (prices .entry))) r (now (place .exit)) (now (value .exit)) ⌝ }
 {
-    let d = flat::day_of(day);
-    let answer = day::reference_value(d, book, prices);
+    if day.len() != flat::DAY_WIDTH {
+        return tell(numbers::of_refusal(Refusal::UnsoundDay), place, value);
+    }
+    let head = flat::head_of(day);
+    let answer = calls::reference_value(false, head, &day[flat::COMPONENTS_FROM..], book, prices);
     tell(numbers::of_value(answer), place, value)
 }
 
@@ -156,8 +184,20 @@ pub extern "C" fn roffelaine_create(
     ensures book { λ r. ⌜ now (book .exit) ≡ createdBook (dayAt (now (day .entry))) (now (book .entry)) (now (prices .entry)) account units (roomIn (now (list .entry))) ⌝ }
     ensures list { λ r. ⌜ now (list .exit) ≡ createdList (dayAt (now (day .entry))) (now (book .entry)) (now (prices .entry)) account units (now (list .entry)) ⌝ }
 {
-    let d = flat::day_of(day);
-    let answer = day::create(d, book, prices, account, units, list);
+    if day.len() != flat::DAY_WIDTH {
+        return tell(numbers::of_refusal(Refusal::UnsoundDay), place, value);
+    }
+    let head = flat::head_of(day);
+    let answer = calls::create(
+        false,
+        head,
+        &day[flat::COMPONENTS_FROM..],
+        book,
+        prices,
+        account,
+        units,
+        list,
+    );
     tell(numbers::of_order(answer), place, value)
 }
 
@@ -177,8 +217,20 @@ pub extern "C" fn roffelaine_redeem(
     ensures book { λ r. ⌜ now (book .exit) ≡ redeemedBook (dayAt (now (day .entry))) (now (book .entry)) (now (prices .entry)) account units (roomIn (now (list .entry))) ⌝ }
     ensures list { λ r. ⌜ now (list .exit) ≡ redeemedList (dayAt (now (day .entry))) (now (book .entry)) (now (prices .entry)) account units (now (list .entry)) ⌝ }
 {
-    let d = flat::day_of(day);
-    let answer = day::redeem(d, book, prices, account, units, list);
+    if day.len() != flat::DAY_WIDTH {
+        return tell(numbers::of_refusal(Refusal::UnsoundDay), place, value);
+    }
+    let head = flat::head_of(day);
+    let answer = calls::redeem(
+        false,
+        head,
+        &day[flat::COMPONENTS_FROM..],
+        book,
+        prices,
+        account,
+        units,
+        list,
+    );
     tell(numbers::of_order(answer), place, value)
 }
 

@@ -1,6 +1,7 @@
 // The calls on a day that is known to be sound or is to be tested: 5 where it is not sound, and else the core's answer.
 // `known` says that the day is sound, so that a list of calls tests it once.
 ghost use mathlib.Core.Path.{_≡_};
+ghost use Prim.Native.Nat.{_/_};
 ghost use mathlib.Core.Bool.{true};
 ghost use lib.ListN.{length};
 ghost use Rattle.day_parts.specs.Parts.{dayOf};
@@ -8,7 +9,7 @@ ghost use Rattle.rules.specs.Replies.{answerReply, orderReply, valueReply};
 ghost use Rattle.rules.specs.Price.{priceReply, pricedPrices};
 ghost use Rattle.rules.specs.Trade.{tradeReply, tradedBook};
 ghost use Rattle.rules.specs.Value.{worthReply};
-ghost use Rattle.rules.specs.Records.{roomIn};
+ghost use Rattle.rules.specs.Records.{recordWidth, roomIn};
 ghost use Rattle.rules.specs.Creation.{creationReply, createdBook, createdList};
 ghost use Rattle.rules.specs.Redemption.{redemptionReply, redeemedBook, redeemedList};
 ghost use Rattle.rules.specs.Sound.{isSound};
@@ -137,4 +138,46 @@ pub fn redeem(
         return OrderAnswer::Refused(Refusal::UnsoundDay);
     }
     orders::redeem(d, basket, book, prices, a, units, list)
+}
+
+// The tests of a creation alone, with the length of the list: the answer that the creation would give.
+pub fn creation_test(
+    d: DayHead,
+    basket: &[u64],
+    book: &[u64],
+    prices: &[u64],
+    a: usize,
+    units: u64,
+    list_length: usize,
+) -> OrderAnswer
+    requires { ⌜ length (now basket) ≡ 1500 ⌝ }
+    ensures { λ r. ⌜ orderReply r ≡ creationReply (dayOf d (now (basket .entry))) (now (book .entry)) (now (prices .entry)) a units («list_length» / recordWidth) ⌝ }
+{
+    if !sound::is_sound(d, basket, book, prices) {
+        return OrderAnswer::Refused(Refusal::UnsoundDay);
+    }
+    let room = list_length / rules::RECORD_WIDTH;
+    let t = orders::creation_tested(d, basket, book, prices, a, units, room);
+    t.answer
+}
+
+// The tests of a redemption alone.
+pub fn redemption_test(
+    d: DayHead,
+    basket: &[u64],
+    book: &[u64],
+    prices: &[u64],
+    a: usize,
+    units: u64,
+    list_length: usize,
+) -> OrderAnswer
+    requires { ⌜ length (now basket) ≡ 1500 ⌝ }
+    ensures { λ r. ⌜ orderReply r ≡ redemptionReply (dayOf d (now (basket .entry))) (now (book .entry)) (now (prices .entry)) a units («list_length» / recordWidth) ⌝ }
+{
+    if !sound::is_sound(d, basket, book, prices) {
+        return OrderAnswer::Refused(Refusal::UnsoundDay);
+    }
+    let room = list_length / rules::RECORD_WIDTH;
+    let t = orders::redemption_tested(d, basket, book, prices, a, units, room);
+    t.answer
 }

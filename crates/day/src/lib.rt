@@ -15,7 +15,6 @@ use rules::Answer;
 use rules::Day;
 use rules::Opened;
 use rules::OrderAnswer;
-use rules::Refusal;
 use rules::ValueAnswer;
 
 // Opens a day: the book and the prices are filled, and the day handed back with the answer; the blank day where it is refused.
@@ -137,12 +136,7 @@ pub fn creation_test(
     let mut basket = [0u64; 1500];
     day_parts::put_basket(&mut basket, d);
     let head = day_parts::head_of(d);
-    if !sound::is_sound(head, &basket, book, prices) {
-        return OrderAnswer::Refused(Refusal::UnsoundDay);
-    }
-    let room = length / rules::RECORD_WIDTH;
-    let t = orders::creation_tested(head, &basket, book, prices, a, units, room);
-    t.answer
+    calls::creation_test(head, &basket, book, prices, a, units, length)
 }
 
 // The tests of a redemption alone.
@@ -159,10 +153,5 @@ pub fn redemption_test(
     let mut basket = [0u64; 1500];
     day_parts::put_basket(&mut basket, d);
     let head = day_parts::head_of(d);
-    if !sound::is_sound(head, &basket, book, prices) {
-        return OrderAnswer::Refused(Refusal::UnsoundDay);
-    }
-    let room = length / rules::RECORD_WIDTH;
-    let t = orders::redemption_tested(head, &basket, book, prices, a, units, room);
-    t.answer
+    calls::redemption_test(head, &basket, book, prices, a, units, length)
 }

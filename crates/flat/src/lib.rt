@@ -6,8 +6,10 @@ ghost use lib.ListN.{length, getD};
 ghost use lib.Seq.{sets};
 ghost use Rattle.lists.specs.Below.{tabulate};
 ghost use Rattle.fund.specs.Fund.{cashInRange};
+ghost use Rattle.day_parts.specs.Parts.{headOf};
 ghost use Rattle.digits.specs.Digits.{capped};
 ghost use Rattle.flat.specs.Flat.{signedAt, signedNumbers, fundAt, fundNumbers, dayAt, dayNumbers, fieldsAt, fieldsNumbers};
+use day_parts::DayHead;
 use digits::Figure;
 use fund::Fund;
 use list_rules::ListFields;
@@ -17,7 +19,7 @@ use units::Rate;
 // How many numbers a day takes, and where its components start.
 pub const DAY_WIDTH: usize = 1516;
 
-const COMPONENTS_FROM: usize = 16;
+pub const COMPONENTS_FROM: usize = 16;
 
 // How many numbers a fund and a list's fields take.
 pub const FUND_WIDTH: usize = 14;
@@ -128,6 +130,19 @@ pub fn day_of(run: &[u64]) -> Day
         count: run[1] as usize,
         fund,
         components,
+    }
+}
+
+// The head of a day's run; its basket is the run from its components on.
+pub fn head_of(run: &[u64]) -> DayHead
+    requires { ⌜ length (now run) ≡ 1516 ⌝ }
+    ensures { λ r. ⌜ r ≡ headOf (dayAt (now (run .entry))) ⌝ }
+{
+    let fund = fund_of(run, 2);
+    DayHead {
+        accounts: run[0] as usize,
+        count: run[1] as usize,
+        fund,
     }
 }
 

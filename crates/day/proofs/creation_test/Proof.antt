@@ -1,10 +1,8 @@
--- `day::creation_test` meets its contract: 5 where the day taken apart is not sound, and else what the core answers.
-use mathlib.Core.Path.{_≡_, sym, ap, _∙_}
+-- `day::creation_test` meets its contract: the call on the day taken apart.
+use mathlib.Core.Path.{_≡_, ap, _∙_}
 use lib.ListN.{length}
 use borrow.Author.Needs.{needs}
-use borrow.Author.Tests.{not-true, not-false}
 use Rattle.day_parts.proofs.Laws.{basket-length, parts-make, unmapped}
-use Rattle.calls.proofs.Laws.{creation-five, creation-own}
 use Rattle.day.proofs.creation_test.Statement.{statement}
 use Rattle.day.proofs.creation_test.Tie as tie
 
@@ -21,27 +19,14 @@ put-basket-requires c κs = search needs
 head-of-requires : tie.Need-head-of-requires
 head-of-requires c κs = search needs
 
-slice-aggregate-is-sound : tie.Need-slice-aggregate-is-sound
-slice-aggregate-is-sound c = search needs
+slice-aggregate-creation-test : tie.Need-slice-aggregate-creation-test
+slice-aggregate-creation-test c = search needs
 
-is-sound-requires : tie.Need-is-sound-requires
-is-sound-requires c κs = ap length (c .before .before .before .put-basket .ensures) ∙ basket-length (c .before .before .before .before .before .before .before .args .d)
+creation-test-requires : tie.Need-creation-test-requires
+creation-test-requires c κs = ap length (c .before .before .before .put-basket .ensures) ∙ basket-length (c .before .before .before .before .before .before .before .args .d)
 
 returns : tie.Need-returns
-returns c =
-    let unsound = rw (parts-make (c .before .before .before .before .before .before .before .before .before .args .d) (full (c .before .before .before .before .before .before .before .before .before)) _ _ (c .before .before .before .head-of .ensures) (c .before .before .before .before .before .put-basket .ensures)) at (sym (c .before .is-sound .ensures) ∙ not-true _ (c .if1 .taken)) in
-    creation-five _ _ _ unsound _ _ _
-
-slice-aggregate-creation-tested : tie.Need-slice-aggregate-creation-tested
-slice-aggregate-creation-tested c = search needs
-
-creation-tested-requires : tie.Need-creation-tested-requires
-creation-tested-requires c κs = (sym (c .before .before .is-sound .ensures) ∙ not-false _ (c .before .if1 .left), ap length (c .before .before .before .before .before .before .put-basket .ensures) ∙ basket-length (c .before .before .before .before .before .before .before .before .before .before .args .d))
-
-returns-2 : tie.Need-returns-2
-returns-2 c =
-    let sound = sym (c .before .before .before .is-sound .ensures) ∙ not-false _ (c .before .before .if1 .left) in
-    rw (parts-make (c .before .before .before .before .before .before .before .before .before .before .before .args .d) (full (c .before .before .before .before .before .before .before .before .before .before .before)) _ _ (c .before .before .before .before .before .head-of .ensures) (c .before .before .before .before .before .before .before .put-basket .ensures)) at (c .creation-tested .ensures .0 ∙ creation-own _ _ _ sound _ _ _)
+returns c = rw (parts-make (c .before .before .before .before .before .before .before .before .args .d) (full (c .before .before .before .before .before .before .before .before)) _ _ (c .before .before .head-of .ensures) (c .before .before .before .before .put-basket .ensures)) at (c .creation-test .ensures)
 
 pub creation-test-spec : {M : Type 1} → statement M
 creation-test-spec =
@@ -50,9 +35,6 @@ creation-test-spec =
     slice-aggregate-put-basket
     put-basket-requires
     head-of-requires
-    slice-aggregate-is-sound
-    is-sound-requires
-    returns
-    slice-aggregate-creation-tested
-    creation-tested-requires
-    returns-2)
+    slice-aggregate-creation-test
+    creation-test-requires
+    returns)
