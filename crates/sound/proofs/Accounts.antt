@@ -90,7 +90,7 @@ plus-one : (t b : List ℕ) (w a k : ℕ) → getD t k 0 ≡ total b w a k → p
 unfolding plusOne
 plus-one t b w a k e = ap (λ (n : ℕ). n + getD b (a * w + k) 0) e ∙ sym (total-more b w a k)
 
--- account c, the i-th after a, more: its number is at p
+-- one account more: c, the i-th after a, with its number at p
 more-at : (b : List ℕ) (w a i k c d p : ℕ) → c ≡ a + i → d ≡ c + 1 → p ≡ a * w + i * w + k → total b w d k ≡ total b w c k + getD b p 0
 more-at b w a i k c d p e f g =
     let q : c * w + k ≡ p = omega (arith, g, add-mul a i w, ap (λ (n : ℕ). n * w) e) in
@@ -165,7 +165,7 @@ module _ {t b : List ℕ} {w a : ℕ} (q : Counted t b w a) where
   pub reached-one : (n : ℕ) → a + 1 ≤ n → anyBelow (reaches (plusOne t b (a * w))) w ≡ true → anyBelow (reaches (total b w n)) w ≡ true
   reached-one = reached b w (a + 1) (plusOne t b (a * w)) (λ k h. plus-one t b w a k (q .same k h))
 
--- t holds the totals of the first a accounts, wrapped; where h is 0, each of their numbers is below 2^56
+-- t holds the totals of the first a accounts, wrapped; where h is 0, each is at most that of a numbers below 2^56
 pub record Quick (t b : List ℕ) (w a h : ℕ) : Type 0 where
   pub same : (k : ℕ) → k < w → getD t k 0 ≡ total b w a k % 2 ^ 64
   pub small : h ≡ 0 → (k : ℕ) → k < w → total b w a k ≤ a * quickMost

@@ -60,7 +60,8 @@ seen-end F j h w s l m =
     let e : j ≡ w = le-antisymm l m in
     below-top h _ (rw e at s)
 
--- The or h of a pass that adds the eight stretches from `from` on: where it is 0, their numbers below j are below 2^56.
+-- The or h of a pass that adds the eight stretches from `from` on: where it is 0, they add up, at each place below j, to at most what
+-- eight numbers below 2^56 do.
 abbrev pub Small : (b : List ℕ) (from w j h : ℕ) → Type 0
 Small b from w j h = h ≡ 0 → (k : ℕ) → k < j → eightAt b from w k ≤ 8 * quickMost
 

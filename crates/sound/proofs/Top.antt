@@ -1,5 +1,5 @@
 -- 2^62 and `|`: an or reaches 2^62 just where a side does. Of a total below 2^62 and the numbers added to it, one of the numbers or
--- the wrapped sum reaches 2^62 just where the sum does.
+-- the wrapped sum reaches 2^62 just where the sum does. And no side is above an or.
 use mathlib.Core.Path.{_≡_, refl, sym, ap, _∙_, subst}
 use mathlib.Core.Bool.{Bool, true, false, not, _||_}
 use Prim.Native.Nat.{ℕ, _+_, _*_, _%_, _^_, _≤_, _<_}
@@ -43,7 +43,7 @@ or-one h a x t s q =
     ∙ ap (λ (n : ℕ). leb top h || (leb top x || leb top n)) q
     ∙ ap (λ (c : Bool). leb top h || c) (carry-cases a x _ _ s refl refl)
 
--- a sum added after it wrapped
+-- a sum that wrapped before it was added
 pub add-wrapped : (a x s : ℕ) → s ≡ x % 2 ^ 64 → (a + s) % 2 ^ 64 ≡ (a + x) % 2 ^ 64
 add-wrapped a x s e = omega (arith, e)
 
@@ -54,7 +54,7 @@ or-zero-left a b e = omega (arith, le-or-left a b)
 pub or-zero-right : (a b : ℕ) → bitOr a b ≡ 0 → b ≡ 0
 or-zero-right a b e = omega (arith, le-or-right a b)
 
--- an or below a bound: so are eight numbers of at most that
+-- eight numbers whose or is at most m: each is
 pub or-eight : (a b c d e f g h m : ℕ) → bitOr (bitOr (bitOr (bitOr (bitOr (bitOr (bitOr a b) c) d) e) f) g) h ≤ m
     → a + b + c + d + (e + f + g + h) ≤ 8 * m
 or-eight a b c d e f g h m l =

@@ -57,6 +57,7 @@ fn sum_four(a: u64, b: u64, c: u64, d: u64) -> u64
     std::num::wrapping_add_u64(left, right)
 }
 
+// The same of eight.
 fn sum_eight(a: u64, b: u64, c: u64, d: u64, e: u64, f: u64, g: u64, h: u64) -> u64
     ensures { λ r. ⌜ r ≡ (a + b + c + d + (e + f + g + h)) % 2 ^ 64 ⌝ }
 {

@@ -1,5 +1,5 @@
 -- `sound::add_eight` meets its contract. The loop's invariant: `Pass`, with the places below `j` done, and `Small`: where the or is 0, the
--- eight numbers of each of these places are below 2^56.
+-- eight numbers of each of these places add up to at most what eight below 2^56 do.
 use borrow.Author.Needs.{needs}
 use mathlib.Core.Path.{_≡_, ap, _∙_}
 use Prim.Native.Nat.{ℕ, _+_, _-_, _%_, _^_}

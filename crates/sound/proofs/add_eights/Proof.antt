@@ -1,5 +1,5 @@
 -- `sound::add_eights` meets its contract. The loop's invariant: the totals are those of the first `a` accounts, wrapped, and where the or is
--- 0 no number of these accounts reaches 2^56. Then no total of at most 64 accounts reaches 2^62.
+-- 0 each is at most that of `a` numbers below 2^56. Of at most 64 accounts, no total then reaches 2^62.
 use mathlib.Core.Path.{_≡_, refl, sym}
 use Prim.Native.Nat.{_-_, _%_, _≤_, zero-le}
 use native.Mathlib.Nat.{le-trans, le-of-eq}
