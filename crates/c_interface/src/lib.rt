@@ -101,15 +101,8 @@ pub extern "C" fn roffelaine_price(
         return tell(numbers::of_refusal(Refusal::UnsoundDay), place, value);
     }
     let head = flat::head_of(day);
-    let answer = calls::price(
-        false,
-        head,
-        &day[flat::COMPONENTS_FROM..],
-        book,
-        prices,
-        line,
-        price,
-    );
+    let basket = &day[flat::COMPONENTS_FROM..];
+    let answer = calls::price(false, head, basket, book, prices, line, price);
     tell(numbers::of_answer(answer), place, value)
 }
 
@@ -134,10 +127,11 @@ pub extern "C" fn roffelaine_trade(
         return tell(numbers::of_refusal(Refusal::UnsoundDay), place, value);
     }
     let head = flat::head_of(day);
+    let basket = &day[flat::COMPONENTS_FROM..];
     let answer = calls::trade(
         false,
         head,
-        &day[flat::COMPONENTS_FROM..],
+        basket,
         book,
         prices,
         line,
@@ -164,7 +158,8 @@ pub extern "C" fn roffelaine_reference_value(
         return tell(numbers::of_refusal(Refusal::UnsoundDay), place, value);
     }
     let head = flat::head_of(day);
-    let answer = calls::reference_value(false, head, &day[flat::COMPONENTS_FROM..], book, prices);
+    let basket = &day[flat::COMPONENTS_FROM..];
+    let answer = calls::reference_value(false, head, basket, book, prices);
     tell(numbers::of_value(answer), place, value)
 }
 
@@ -188,16 +183,8 @@ pub extern "C" fn roffelaine_create(
         return tell(numbers::of_refusal(Refusal::UnsoundDay), place, value);
     }
     let head = flat::head_of(day);
-    let answer = calls::create(
-        false,
-        head,
-        &day[flat::COMPONENTS_FROM..],
-        book,
-        prices,
-        account,
-        units,
-        list,
-    );
+    let basket = &day[flat::COMPONENTS_FROM..];
+    let answer = calls::create(false, head, basket, book, prices, account, units, list);
     tell(numbers::of_order(answer), place, value)
 }
 
@@ -221,16 +208,8 @@ pub extern "C" fn roffelaine_redeem(
         return tell(numbers::of_refusal(Refusal::UnsoundDay), place, value);
     }
     let head = flat::head_of(day);
-    let answer = calls::redeem(
-        false,
-        head,
-        &day[flat::COMPONENTS_FROM..],
-        book,
-        prices,
-        account,
-        units,
-        list,
-    );
+    let basket = &day[flat::COMPONENTS_FROM..];
+    let answer = calls::redeem(false, head, basket, book, prices, account, units, list);
     tell(numbers::of_order(answer), place, value)
 }
 
@@ -248,8 +227,12 @@ pub extern "C" fn roffelaine_creation_test(
 ) -> u64
     ensures { λ r. ⌜ Told (creationReply (dayAt (now (day .entry))) (now (book .entry)) (now (prices .entry)) account units (length / recordWidth)) r (now (place .exit)) (now (value .exit)) ⌝ }
 {
-    let d = flat::day_of(day);
-    let answer = day::creation_test(d, book, prices, account, units, length);
+    if day.len() != flat::DAY_WIDTH {
+        return tell(numbers::of_refusal(Refusal::UnsoundDay), place, value);
+    }
+    let head = flat::head_of(day);
+    let basket = &day[flat::COMPONENTS_FROM..];
+    let answer = calls::creation_test(head, basket, book, prices, account, units, length);
     tell(numbers::of_order(answer), place, value)
 }
 
@@ -267,8 +250,12 @@ pub extern "C" fn roffelaine_redemption_test(
 ) -> u64
     ensures { λ r. ⌜ Told (redemptionReply (dayAt (now (day .entry))) (now (book .entry)) (now (prices .entry)) account units (length / recordWidth)) r (now (place .exit)) (now (value .exit)) ⌝ }
 {
-    let d = flat::day_of(day);
-    let answer = day::redemption_test(d, book, prices, account, units, length);
+    if day.len() != flat::DAY_WIDTH {
+        return tell(numbers::of_refusal(Refusal::UnsoundDay), place, value);
+    }
+    let head = flat::head_of(day);
+    let basket = &day[flat::COMPONENTS_FROM..];
+    let answer = calls::redemption_test(head, basket, book, prices, account, units, length);
     tell(numbers::of_order(answer), place, value)
 }
 
