@@ -38,7 +38,19 @@ fundInRange f =
     ∷ limitsInRange (f .«basket_size») (f .limits)
     ∷ [])
 
--- the limits stand in the list text's order: creation and redemption by turns (side 0 and 1), and of these
--- cumulative for the fund, cumulative per account, net for the fund, net per account (kind 0 to 3)
+-- the four limits on a kind of order: cumulative for the fund, cumulative per account, net for the fund, net per account
+abbrev pub cumulative : ℕ
+cumulative = 0
+
+abbrev pub cumulativeEach : ℕ
+cumulativeEach = 1
+
+abbrev pub net : ℕ
+net = 2
+
+abbrev pub netEach : ℕ
+netEach = 3
+
+-- they stand in the list text's order, of creation and of redemption by turns
 unfoldable pub limitOf : Fund → ℕ → ℕ → ℕ
-limitOf f kind side = getD (f .limits) (2 * kind + side) 0
+limitOf f limit kind = getD (f .limits) (2 * limit + kind) 0

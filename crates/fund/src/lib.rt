@@ -31,6 +31,15 @@ pub struct Component {
 // The most that a limit, and fund-wide created or redeemed units, may be.
 pub const CEILING: u64 = 999_999_999_999;
 
+// The limits on a kind of order: cumulative for the fund and per account, net for the fund and per account.
+pub const CUMULATIVE: usize = 0;
+
+pub const CUMULATIVE_EACH: usize = 1;
+
+pub const NET: usize = 2;
+
+pub const NET_EACH: usize = 3;
+
 // How many components a day has room for.
 pub const MOST_COMPONENTS: usize = 300;
 
