@@ -12,7 +12,7 @@ use Rattle.lists.specs.Checks.{Reply, isAccepted}
 use Rattle.lists.specs.Same.{whenSame, when-same, when-other}
 use Rattle.lots.specs.declared.Lots.{Lots}
 use Rattle.lots.specs.Lots.{handInOf, getOf, takeInOf, handable}
-use Rattle.fund.specs.Fund.{ceiling, limitOf}
+use Rattle.fund.specs.Fund.{ceiling, limitOf, cumulativeLimit}
 use Rattle.rules.specs.declared.Day.{Day}
 use Rattle.rules.specs.Book.{cash, created, redeemed, headAt, lotsAt, account, headTotal, lineTotal}
 use Rattle.rules.specs.Lines.{codeOf, movesStock}
@@ -82,7 +82,7 @@ module _ (d : Day) (b ps : List ℕ) (a units room : ℕ) (t : Creates d b ps a 
   unfolding fundCount
   redeemed-same = facts .fund-count-same redemption (omega arith) (λ q. omega arith)
 
-  limit-held : 0 < limitOf (d .fund) 0 creation → fundCount d after creation ≤ limitOf (d .fund) 0 creation
+  limit-held : 0 < limitOf (d .fund) cumulativeLimit creation → fundCount d after creation ≤ limitOf (d .fund) cumulativeLimit creation
   limit-held p = omega (arith, facts .fund-count-more, t .order .limit p)
 
   below : headTotal d b created + units ≤ ceiling
@@ -162,7 +162,7 @@ module _ (d : Day) (b ps : List ℕ) (a units room : ℕ) (t : Creates d b ps a 
 
 -- an accepted creation does not end above the creation limit
 pub create-within : (s : State) (a units : ℕ) (lent : Lent) → isAccepted (step s (create a units) lent .reply) ≡ true
-    → 0 < limitOf (s .day .fund) 0 creation → fundCount (s .day) (step s (create a units) lent .after .book) creation ≤ limitOf (s .day .fund) 0 creation
+    → 0 < limitOf (s .day .fund) cumulativeLimit creation → fundCount (s .day) (step s (create a units) lent .after .book) creation ≤ limitOf (s .day .fund) cumulativeLimit creation
 unfolding step createdBook
 create-within s a units lent e p =
     omega (

@@ -10,7 +10,7 @@ use Rattle.lists.specs.Same.{whenSame, when-same, when-other}
 use Rattle.lists.specs.Stretch.{over, onStretch, within, stretch-length, Changed, changed-both, changed-over}
 use Rattle.lots.specs.declared.Lots.{Lots}
 use Rattle.lots.specs.Lots.{lotsTotal}
-use Rattle.fund.specs.Fund.{limitOf}
+use Rattle.fund.specs.Fund.{limitOf, cumulativeLimit, cumulativeLimitEach, netLimit, netLimitEach}
 use Rattle.rules.specs.declared.Day.{Day}
 use Rattle.rules.specs.Book.{cash, headAt, lotsAt, width, account, headTotal, lineTotal}
 use Rattle.rules.specs.Orders.{countOf, fundCount, accountSide, fundSide}
@@ -199,17 +199,17 @@ module _ (d : Day) (b ps : List ℕ) (kind a units : ℕ) (f : ℕ → Lots → 
     other : 1 - kind ≡ kind → ⊥
     other q = omega arith
 
-    all-own : 0 < limitOf (d .fund) 0 kind → fundCount d moved kind ≤ limitOf (d .fund) 0 kind
+    all-own : 0 < limitOf (d .fund) cumulativeLimit kind → fundCount d moved kind ≤ limitOf (d .fund) cumulativeLimit kind
     all-own p = omega (arith, fund-count-more, order .limit p)
 
-    each-own : (i : ℕ) → i < d .accounts → 0 < limitOf (d .fund) 1 kind → Dec (i ≡ a) → countOf d moved kind i ≤ limitOf (d .fund) 1 kind
+    each-own : (i : ℕ) → i < d .accounts → 0 < limitOf (d .fund) cumulativeLimitEach kind → Dec (i ≡ a) → countOf d moved kind i ≤ limitOf (d .fund) cumulativeLimitEach kind
     each-own i h p (yes q) = omega (arith, own-count, order .limit-each p, ap (λ (k : ℕ). countOf d moved kind k) q)
     each-own i h p (no n) = omega (arith, other-account kind i either n (ℕ-discrete i 0), l .each kind either i h p)
 
-    net-own : 0 < limitOf (d .fund) 2 kind → fundCount d moved kind - fundCount d moved (1 - kind) ≤ limitOf (d .fund) 2 kind
+    net-own : 0 < limitOf (d .fund) netLimit kind → fundCount d moved kind - fundCount d moved (1 - kind) ≤ limitOf (d .fund) netLimit kind
     net-own p = omega (arith, fund-count-more, fund-count-same (1 - kind) (omega arith) other, order .net-limit p)
 
-    net-each-own : (i : ℕ) → i < d .accounts → 0 < limitOf (d .fund) 3 kind → Dec (i ≡ a) → countOf d moved kind i - countOf d moved (1 - kind) i ≤ limitOf (d .fund) 3 kind
+    net-each-own : (i : ℕ) → i < d .accounts → 0 < limitOf (d .fund) netLimitEach kind → Dec (i ≡ a) → countOf d moved kind i - countOf d moved (1 - kind) i ≤ limitOf (d .fund) netLimitEach kind
     net-each-own i h p (yes q) =
         omega (
           arith,
@@ -222,22 +222,22 @@ module _ (d : Day) (b ps : List ℕ) (kind a units : ℕ) (f : ℕ → Lots → 
     net-each-own i h p (no n) =
         omega (arith, other-account kind i either n (ℕ-discrete i 0), count-same (1 - kind) (omega arith) other i, l .net-each kind either i h p)
 
-    all-of : (j : ℕ) → j < 2 → Dec (kind ≡ j) → 0 < limitOf (d .fund) 0 j → fundCount d moved j ≤ limitOf (d .fund) 0 j
-    all-of j h (yes q) = subst (λ (k : ℕ). 0 < limitOf (d .fund) 0 k → fundCount d moved k ≤ limitOf (d .fund) 0 k) q all-own
+    all-of : (j : ℕ) → j < 2 → Dec (kind ≡ j) → 0 < limitOf (d .fund) cumulativeLimit j → fundCount d moved j ≤ limitOf (d .fund) cumulativeLimit j
+    all-of j h (yes q) = subst (λ (k : ℕ). 0 < limitOf (d .fund) cumulativeLimit k → fundCount d moved k ≤ limitOf (d .fund) cumulativeLimit k) q all-own
     all-of j h (no n) = λ p. omega (arith, fund-count-same j h (λ q. n (sym q)), l .all j h p)
 
-    each-of : (j : ℕ) → j < 2 → Dec (kind ≡ j) → (i : ℕ) → i < d .accounts → 0 < limitOf (d .fund) 1 j → countOf d moved j i ≤ limitOf (d .fund) 1 j
-    each-of j h (yes q) i m = subst (λ (k : ℕ). 0 < limitOf (d .fund) 1 k → countOf d moved k i ≤ limitOf (d .fund) 1 k) q (λ p. each-own i m p (ℕ-discrete i a))
+    each-of : (j : ℕ) → j < 2 → Dec (kind ≡ j) → (i : ℕ) → i < d .accounts → 0 < limitOf (d .fund) cumulativeLimitEach j → countOf d moved j i ≤ limitOf (d .fund) cumulativeLimitEach j
+    each-of j h (yes q) i m = subst (λ (k : ℕ). 0 < limitOf (d .fund) cumulativeLimitEach k → countOf d moved k i ≤ limitOf (d .fund) cumulativeLimitEach k) q (λ p. each-own i m p (ℕ-discrete i a))
     each-of j h (no n) i m = λ p. omega (arith, count-same j h (λ q. n (sym q)) i, l .each j h i m p)
 
-    net-of : (j : ℕ) → j < 2 → Dec (kind ≡ j) → 0 < limitOf (d .fund) 2 j → fundCount d moved j - fundCount d moved (1 - j) ≤ limitOf (d .fund) 2 j
-    net-of j h (yes q) = subst (λ (k : ℕ). 0 < limitOf (d .fund) 2 k → fundCount d moved k - fundCount d moved (1 - k) ≤ limitOf (d .fund) 2 k) q net-own
+    net-of : (j : ℕ) → j < 2 → Dec (kind ≡ j) → 0 < limitOf (d .fund) netLimit j → fundCount d moved j - fundCount d moved (1 - j) ≤ limitOf (d .fund) netLimit j
+    net-of j h (yes q) = subst (λ (k : ℕ). 0 < limitOf (d .fund) netLimit k → fundCount d moved k - fundCount d moved (1 - k) ≤ limitOf (d .fund) netLimit k) q net-own
     net-of j h (no n) = λ p.
         let q : 1 - j ≡ kind = omega arith in
         omega (arith, fund-count-same j h (λ q. n (sym q)), fund-count-more, l .net j h p, ap (fundCount d moved) q, ap (fundCount d b) q)
 
-    net-each-of : (j : ℕ) → j < 2 → Dec (kind ≡ j) → (i : ℕ) → i < d .accounts → 0 < limitOf (d .fund) 3 j → countOf d moved j i - countOf d moved (1 - j) i ≤ limitOf (d .fund) 3 j
-    net-each-of j h (yes q) i m = subst (λ (k : ℕ). 0 < limitOf (d .fund) 3 k → countOf d moved k i - countOf d moved (1 - k) i ≤ limitOf (d .fund) 3 k) q (λ p. net-each-own i m p (ℕ-discrete i a))
+    net-each-of : (j : ℕ) → j < 2 → Dec (kind ≡ j) → (i : ℕ) → i < d .accounts → 0 < limitOf (d .fund) netLimitEach j → countOf d moved j i - countOf d moved (1 - j) i ≤ limitOf (d .fund) netLimitEach j
+    net-each-of j h (yes q) i m = subst (λ (k : ℕ). 0 < limitOf (d .fund) netLimitEach k → countOf d moved k i - countOf d moved (1 - k) i ≤ limitOf (d .fund) netLimitEach k) q (λ p. net-each-own i m p (ℕ-discrete i a))
     net-each-of j h (no n) i m = λ p.
         let q : 1 - j ≡ kind = omega arith in
         omega (

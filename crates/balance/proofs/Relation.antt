@@ -7,7 +7,7 @@ use Prim.Native.Nat.{ℕ, _+_, _-_, _≤_, _<_}
 use native.Mathlib.Omega.{arith}
 use Rattle.lots.specs.declared.Lots.{Lots}
 use Rattle.lots.specs.Lots.{sellOf, buyOf, getOf, handInOf, sellable, handable}
-use Rattle.fund.specs.Fund.{limitOf}
+use Rattle.fund.specs.Fund.{limitOf, cumulativeLimit, cumulativeLimitEach, netLimit, netLimitEach}
 use Rattle.rules.specs.declared.Day.{Day}
 use Rattle.rules.specs.Book.{cash, account, lotsAt, headTotal, lineTotal}
 use Rattle.rules.specs.Orders.{creation, redemption, countOf, fundCount}
@@ -101,10 +101,10 @@ drawn-then d e = omega arith
 
 -- no limit is passed by the counters of the book; kind 0 is creation, 1 redemption
 pub record Limits (d : Day) (b : List ℕ) : Type 0 where
-  pub all : (kind : ℕ) → kind < 2 → 0 < limitOf (d .fund) 0 kind → fundCount d b kind ≤ limitOf (d .fund) 0 kind
-  pub each : (kind : ℕ) → kind < 2 → (a : ℕ) → a < d .accounts → 0 < limitOf (d .fund) 1 kind → countOf d b kind a ≤ limitOf (d .fund) 1 kind
-  pub net : (kind : ℕ) → kind < 2 → 0 < limitOf (d .fund) 2 kind → fundCount d b kind - fundCount d b (1 - kind) ≤ limitOf (d .fund) 2 kind
-  pub net-each : (kind : ℕ) → kind < 2 → (a : ℕ) → a < d .accounts → 0 < limitOf (d .fund) 3 kind → countOf d b kind a - countOf d b (1 - kind) a ≤ limitOf (d .fund) 3 kind
+  pub all : (kind : ℕ) → kind < 2 → 0 < limitOf (d .fund) cumulativeLimit kind → fundCount d b kind ≤ limitOf (d .fund) cumulativeLimit kind
+  pub each : (kind : ℕ) → kind < 2 → (a : ℕ) → a < d .accounts → 0 < limitOf (d .fund) cumulativeLimitEach kind → countOf d b kind a ≤ limitOf (d .fund) cumulativeLimitEach kind
+  pub net : (kind : ℕ) → kind < 2 → 0 < limitOf (d .fund) netLimit kind → fundCount d b kind - fundCount d b (1 - kind) ≤ limitOf (d .fund) netLimit kind
+  pub net-each : (kind : ℕ) → kind < 2 → (a : ℕ) → a < d .accounts → 0 < limitOf (d .fund) netLimitEach kind → countOf d b kind a - countOf d b (1 - kind) a ≤ limitOf (d .fund) netLimitEach kind
 
 -- the counters are the same
 pub limits-same : {d : Day} {b b′ : List ℕ} → ((kind : ℕ) → kind < 2 → fundCount d b′ kind ≡ fundCount d b kind)

@@ -2,7 +2,7 @@
 use Prim.Native.Nat.{ℕ, _+_, _-_, _≤_, _<_}
 use mathlib.Core.Path.{_≡_}
 use mathlib.Core.List.{List}
-use Rattle.fund.specs.Fund.{limitOf}
+use Rattle.fund.specs.Fund.{limitOf, cumulativeLimit, cumulativeLimitEach, netLimit, netLimitEach}
 use Rattle.fund.specs.Components.{componentAt}
 use Rattle.rules.specs.declared.Day.{Day}
 use Rattle.rules.specs.Book.{cash, headTotal, lineTotal}
@@ -37,11 +37,11 @@ pub record Balanced (o : Opening) (es : List Event) (t : State) : Type 0 where
   pub sales : (a l : ℕ) → a < o .accounts → l ≤ o .count → sold a l (opened o) es ≤ heldOpened l (holdingsOf o a) + got a l (opened o) es
   pub handing-in : (a l : ℕ) → a < o .accounts → l ≤ o .count → handedIn a l (opened o) es ≤ heldOpened l (holdingsOf o a) + bought a l (opened o) es
   -- no limit is passed: cumulative and per account, then net and net per account
-  pub creation-limit : Within (limitOf (o .fund) 0 creation) (createdByAll (opened o) es)
-  pub redemption-limit : Within (limitOf (o .fund) 0 redemption) (redeemedByAll (opened o) es)
-  pub creation-limit-each : (a : ℕ) → a < o .accounts → Within (limitOf (o .fund) 1 creation) (created a (opened o) es)
-  pub redemption-limit-each : (a : ℕ) → a < o .accounts → Within (limitOf (o .fund) 1 redemption) (redeemed a (opened o) es)
-  pub net-creation-limit : Within (limitOf (o .fund) 2 creation) (createdByAll (opened o) es - redeemedByAll (opened o) es)
-  pub net-redemption-limit : Within (limitOf (o .fund) 2 redemption) (redeemedByAll (opened o) es - createdByAll (opened o) es)
-  pub net-creation-limit-each : (a : ℕ) → a < o .accounts → Within (limitOf (o .fund) 3 creation) (created a (opened o) es - redeemed a (opened o) es)
-  pub net-redemption-limit-each : (a : ℕ) → a < o .accounts → Within (limitOf (o .fund) 3 redemption) (redeemed a (opened o) es - created a (opened o) es)
+  pub creation-limit : Within (limitOf (o .fund) cumulativeLimit creation) (createdByAll (opened o) es)
+  pub redemption-limit : Within (limitOf (o .fund) cumulativeLimit redemption) (redeemedByAll (opened o) es)
+  pub creation-limit-each : (a : ℕ) → a < o .accounts → Within (limitOf (o .fund) cumulativeLimitEach creation) (created a (opened o) es)
+  pub redemption-limit-each : (a : ℕ) → a < o .accounts → Within (limitOf (o .fund) cumulativeLimitEach redemption) (redeemed a (opened o) es)
+  pub net-creation-limit : Within (limitOf (o .fund) netLimit creation) (createdByAll (opened o) es - redeemedByAll (opened o) es)
+  pub net-redemption-limit : Within (limitOf (o .fund) netLimit redemption) (redeemedByAll (opened o) es - createdByAll (opened o) es)
+  pub net-creation-limit-each : (a : ℕ) → a < o .accounts → Within (limitOf (o .fund) netLimitEach creation) (created a (opened o) es - redeemed a (opened o) es)
+  pub net-redemption-limit-each : (a : ℕ) → a < o .accounts → Within (limitOf (o .fund) netLimitEach redemption) (redeemed a (opened o) es - created a (opened o) es)

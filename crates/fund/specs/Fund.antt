@@ -39,17 +39,17 @@ fundInRange f =
     ∷ [])
 
 -- the four limits on a kind of order: cumulative for the fund, cumulative per account, net for the fund, net per account
-abbrev pub cumulative : ℕ
-cumulative = 0
+abbrev pub cumulativeLimit : ℕ
+cumulativeLimit = 0
 
-abbrev pub cumulativeEach : ℕ
-cumulativeEach = 1
+abbrev pub cumulativeLimitEach : ℕ
+cumulativeLimitEach = 1
 
-abbrev pub net : ℕ
-net = 2
+abbrev pub netLimit : ℕ
+netLimit = 2
 
-abbrev pub netEach : ℕ
-netEach = 3
+abbrev pub netLimitEach : ℕ
+netLimitEach = 3
 
 -- they stand in the list text's order, of creation and of redemption by turns
 unfoldable pub limitOf : Fund → ℕ → ℕ → ℕ

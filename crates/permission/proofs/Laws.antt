@@ -14,7 +14,7 @@ use Rattle.lists.specs.Checks.{reply, answered}
 use Rattle.lists.specs.Every.{every, every-at, inside, inside-facts}
 use Rattle.lists.specs.Stretch.{stretchOf, over, within, stretch-at}
 use Rattle.fund.specs.declared.Fund.{Fund}
-use Rattle.fund.specs.Fund.{ceiling, limitOf}
+use Rattle.fund.specs.Fund.{ceiling, limitOf, cumulativeLimit, cumulativeLimitEach, netLimit, netLimitEach}
 use Rattle.fund.proofs.Laws.{fund-sound}
 use Rattle.rules.specs.declared.Day.{Day}
 use Rattle.rules.specs.Book.{widthOf, created, redeemed, headAt, headTotal}
@@ -87,9 +87,9 @@ sum-most k n f b q kind h = case (ℕ-discrete kind 0)
 -- the tests as the code has them, each from its own reading
 pub limits-law : (k n : ℕ) (f : Fund) (b : List ℕ) (kind a units all back own own-back l0 l1 l2 l3 net own-net : ℕ) (x0 x1 x2 x3 r : Bool)
     → all ≡ headSum k n b (1 + kind) → back ≡ headSum k n b (1 + (1 - kind)) → own ≡ headOf n b a (1 + kind) → own-back ≡ headOf n b a (1 + (1 - kind))
-    → l0 ≡ limitOf f 0 kind → x0 ≡ withinLimit l0 (all + units) → l1 ≡ limitOf f 1 kind → x1 ≡ withinLimit l1 (own + units)
-    → l2 ≡ limitOf f 2 kind → net ≡ all + units - back → x2 ≡ withinLimit l2 net
-    → own-net ≡ own + units - own-back → l3 ≡ limitOf f 3 kind → x3 ≡ withinLimit l3 own-net
+    → l0 ≡ limitOf f cumulativeLimit kind → x0 ≡ withinLimit l0 (all + units) → l1 ≡ limitOf f cumulativeLimitEach kind → x1 ≡ withinLimit l1 (own + units)
+    → l2 ≡ limitOf f netLimit kind → net ≡ all + units - back → x2 ≡ withinLimit l2 net
+    → own-net ≡ own + units - own-back → l3 ≡ limitOf f netLimitEach kind → x3 ≡ withinLimit l3 own-net
     → r ≡ every (x0 ∷ x1 ∷ x2 ∷ x3 ∷ leb (all + units) ceiling ∷ []) → r ≡ limitsHeld k n f b kind a units
 unfolding limitsHeld
 limits-law k n f b kind a units all back own own-back l0 l1 l2 l3 net own-net x0 x1 x2 x3 r e1 e2 e3 e4 f0 g0 f1 g1 f2 h2 g2 h3 f3 g3 q = cc

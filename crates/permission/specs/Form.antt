@@ -9,7 +9,7 @@ use Rattle.lists.specs.Every.{every, inside}
 use Rattle.lists.specs.Checks.{Check, check}
 use Rattle.lists.specs.Stretch.{stretchOf, over}
 use Rattle.fund.specs.declared.Fund.{Fund}
-use Rattle.fund.specs.Fund.{ceiling, limitOf}
+use Rattle.fund.specs.Fund.{ceiling, limitOf, cumulativeLimit, cumulativeLimitEach, netLimit, netLimitEach}
 use Rattle.rules.specs.declared.Day.{Day}
 use Rattle.rules.specs.Book.{widthOf, created, redeemed, headAt, headTotal}
 use Rattle.rules.specs.Trade.{isInvestor}
@@ -25,10 +25,10 @@ headSum k n b place = over (widthOf n) k (λ s. headAt s place) b
 unfoldable pub limitsHeld : ℕ → ℕ → Fund → List ℕ → ℕ → ℕ → ℕ → Bool
 limitsHeld k n f b kind a units =
     every
-    (withinLimit (limitOf f 0 kind) (headSum k n b (1 + kind) + units)
-    ∷ withinLimit (limitOf f 1 kind) (headOf n b a (1 + kind) + units)
-    ∷ withinLimit (limitOf f 2 kind) (headSum k n b (1 + kind) + units - headSum k n b (1 + (1 - kind)))
-    ∷ withinLimit (limitOf f 3 kind) (headOf n b a (1 + kind) + units - headOf n b a (1 + (1 - kind)))
+    (withinLimit (limitOf f cumulativeLimit kind) (headSum k n b (1 + kind) + units)
+    ∷ withinLimit (limitOf f cumulativeLimitEach kind) (headOf n b a (1 + kind) + units)
+    ∷ withinLimit (limitOf f netLimit kind) (headSum k n b (1 + kind) + units - headSum k n b (1 + (1 - kind)))
+    ∷ withinLimit (limitOf f netLimitEach kind) (headOf n b a (1 + kind) + units - headOf n b a (1 + (1 - kind)))
     ∷ leb (headSum k n b (1 + kind) + units) ceiling
     ∷ [])
 

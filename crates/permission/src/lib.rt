@@ -62,11 +62,14 @@ fn limits_held(
     let reverse = head_sum(accounts, count, book, 1 + (1 - kind));
     let own = head_of(count, book, a, 1 + kind) + units;
     let own_reverse = head_of(count, book, a, 1 + (1 - kind));
-    let all_held = ranges::within_limit(limit_of(fund, 0, kind), all);
-    let own_held = ranges::within_limit(limit_of(fund, 1, kind), own);
-    let net_held = ranges::within_limit(limit_of(fund, 2, kind), ranges::excess(all, reverse));
+    let all_held = ranges::within_limit(limit_of(fund, fund::CUMULATIVE, kind), all);
+    let own_held = ranges::within_limit(limit_of(fund, fund::CUMULATIVE_EACH, kind), own);
+    let net_held = ranges::within_limit(
+        limit_of(fund, fund::NET, kind),
+        ranges::excess(all, reverse),
+    );
     let own_net = ranges::excess(own, own_reverse);
-    let own_net_held = ranges::within_limit(limit_of(fund, 3, kind), own_net);
+    let own_net_held = ranges::within_limit(limit_of(fund, fund::NET_EACH, kind), own_net);
     let below = all <= fund::CEILING;
     ranges::all_of(all_held, own_held, net_held, own_net_held, below)
 }

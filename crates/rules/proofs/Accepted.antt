@@ -11,7 +11,7 @@ use Rattle.lists.specs.Below.{first-all, first-stops}
 use Rattle.lists.specs.Every.{every, every-at, inside, inside-facts}
 use Rattle.lists.specs.Checks.{isAccepted, all-passed, accepted-value}
 use Rattle.lots.specs.Lots.{sellable}
-use Rattle.fund.specs.Fund.{ceiling, limitOf}
+use Rattle.fund.specs.Fund.{ceiling, limitOf, cumulativeLimit, cumulativeLimitEach, netLimit, netLimitEach}
 use Rattle.rules.specs.declared.Day.{Day}
 use Rattle.rules.specs.Book.{cash, headAt, lotsAt, account}
 use Rattle.rules.specs.Sound.{onSoundDay, mostPrice}
@@ -103,10 +103,10 @@ pub record Orders (d : Day) (b : List ℕ) (kind a units : ℕ) : Type 0 where
   pub whole : units % d .fund .«basket_size» ≡ 0
   pub baskets-low : 1 ≤ baskets d units
   pub baskets-high : baskets d units ≤ mostBaskets
-  pub limit : 0 < limitOf (d .fund) 0 kind → fundCount d b kind + units ≤ limitOf (d .fund) 0 kind
-  pub limit-each : 0 < limitOf (d .fund) 1 kind → countOf d b kind a + units ≤ limitOf (d .fund) 1 kind
-  pub net-limit : 0 < limitOf (d .fund) 2 kind → fundCount d b kind + units - fundCount d b (1 - kind) ≤ limitOf (d .fund) 2 kind
-  pub net-limit-each : 0 < limitOf (d .fund) 3 kind → countOf d b kind a + units - countOf d b (1 - kind) a ≤ limitOf (d .fund) 3 kind
+  pub limit : 0 < limitOf (d .fund) cumulativeLimit kind → fundCount d b kind + units ≤ limitOf (d .fund) cumulativeLimit kind
+  pub limit-each : 0 < limitOf (d .fund) cumulativeLimitEach kind → countOf d b kind a + units ≤ limitOf (d .fund) cumulativeLimitEach kind
+  pub net-limit : 0 < limitOf (d .fund) netLimit kind → fundCount d b kind + units - fundCount d b (1 - kind) ≤ limitOf (d .fund) netLimit kind
+  pub net-limit-each : 0 < limitOf (d .fund) netLimitEach kind → countOf d b kind a + units - countOf d b (1 - kind) a ≤ limitOf (d .fund) netLimitEach kind
   pub below-ceiling : fundCount d b kind + units ≤ ceiling
 
 pub order-facts : (d : Day) (b : List ℕ) (kind a units : ℕ) → 2 ≤ d .accounts → isInvestor (d .accounts) a ≡ true → wholeBaskets mostBaskets d units ≡ true → withinLimits d b kind a units ≡ true → Orders d b kind a units
@@ -115,7 +115,7 @@ order-facts d b kind a units two i w l =
     let who = investor-facts d a two i in
     let whole = every-at (eqb (units % d .fund .«basket_size») 0 ∷ inside 1 mostBaskets (baskets d units) ∷ []) w in
     let count = inside-facts 1 mostBaskets (baskets d units) (whole 1) in
-    let at = every-at (withinLimit (limitOf (d .fund) 0 kind) (fundCount d b kind + units) ∷ withinLimit (limitOf (d .fund) 1 kind) (countOf d b kind a + units) ∷ withinLimit (limitOf (d .fund) 2 kind) (fundCount d b kind + units - fundCount d b (1 - kind)) ∷ withinLimit (limitOf (d .fund) 3 kind) (countOf d b kind a + units - countOf d b (1 - kind) a) ∷ leb (fundCount d b kind + units) ceiling ∷ []) l in
+    let at = every-at (withinLimit (limitOf (d .fund) cumulativeLimit kind) (fundCount d b kind + units) ∷ withinLimit (limitOf (d .fund) cumulativeLimitEach kind) (countOf d b kind a + units) ∷ withinLimit (limitOf (d .fund) netLimit kind) (fundCount d b kind + units - fundCount d b (1 - kind)) ∷ withinLimit (limitOf (d .fund) netLimitEach kind) (countOf d b kind a + units - countOf d b (1 - kind) a) ∷ leb (fundCount d b kind + units) ceiling ∷ []) l in
     record {
       account-low = who .0;
       account-in = who .1;

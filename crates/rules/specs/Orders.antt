@@ -7,7 +7,7 @@ use Rattle.lists.specs.Below.{sumBelow}
 use Rattle.lists.specs.Every.{every, inside}
 use Rattle.lists.specs.Checks.{Check, check}
 use Rattle.lots.specs.declared.Lots.{Lots}
-use Rattle.fund.specs.Fund.{ceiling, limitOf}
+use Rattle.fund.specs.Fund.{ceiling, limitOf, cumulativeLimit, cumulativeLimitEach, netLimit, netLimitEach}
 use Rattle.rules.specs.declared.Day.{Day}
 use Rattle.rules.specs.Book.{cash, headAt, putHead, onLine, eachLine, account, headTotal}
 use Rattle.rules.specs.Lines.{quantity, isShanghai}
@@ -59,10 +59,10 @@ fundCount d b side = headTotal d b (1 + side)
 unfoldable pub withinLimits : Day → List ℕ → ℕ → ℕ → ℕ → Bool
 withinLimits d b side a units =
     every
-    (withinLimit (limitOf (d .fund) 0 side) (fundCount d b side + units)
-    ∷ withinLimit (limitOf (d .fund) 1 side) (countOf d b side a + units)
-    ∷ withinLimit (limitOf (d .fund) 2 side) (fundCount d b side + units - fundCount d b (1 - side))
-    ∷ withinLimit (limitOf (d .fund) 3 side) (countOf d b side a + units - countOf d b (1 - side) a)
+    (withinLimit (limitOf (d .fund) cumulativeLimit side) (fundCount d b side + units)
+    ∷ withinLimit (limitOf (d .fund) cumulativeLimitEach side) (countOf d b side a + units)
+    ∷ withinLimit (limitOf (d .fund) netLimit side) (fundCount d b side + units - fundCount d b (1 - side))
+    ∷ withinLimit (limitOf (d .fund) netLimitEach side) (countOf d b side a + units - countOf d b (1 - side) a)
     ∷ leb (fundCount d b side + units) ceiling
     ∷ [])
 
