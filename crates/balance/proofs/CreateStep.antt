@@ -13,11 +13,12 @@ use Rattle.lists.specs.Same.{whenSame, when-same, when-other}
 use Rattle.lots.specs.declared.Lots.{Lots}
 use Rattle.lots.specs.Lots.{handInOf, getOf, takeInOf, handable}
 use Rattle.fund.specs.Fund.{ceiling, limitOf, cumulativeLimit}
-use Rattle.rules.specs.declared.Day.{Day}
-use Rattle.rules.specs.Book.{cash, created, redeemed, headAt, lotsAt, account, headTotal, lineTotal}
+use Rattle.layout.specs.Day.{Day}
+use Rattle.layout.specs.Book.{cash, created, redeemed, headAt, lotsAt, account, headTotal, lineTotal}
 use Rattle.rules.specs.Lines.{codeOf, movesStock}
 use Rattle.rules.specs.Orders.{creation, redemption, baskets, need, fundCount, shanghaiCash, otherCash}
-use Rattle.rules.specs.Records.{sideB, sideS, roomIn, withRecords}
+use Rattle.rules.specs.Records.{sideB, sideS}
+use Rattle.layout.specs.Records.{roomIn, withRecords}
 use Rattle.rules.specs.Creation.{available, handedIn, creationCash, creationDue, creationRecords, creationReply, creationMoves, createdBook, createdList}
 use Rattle.rules.proofs.SoundDay.{Kept, sound-moved}
 use Rattle.rules.proofs.Accepted.{Creates, creation-facts, creation-value}

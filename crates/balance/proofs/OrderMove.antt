@@ -11,8 +11,8 @@ use Rattle.lists.specs.Stretch.{over, onStretch, within, stretch-length, Change
 use Rattle.lots.specs.declared.Lots.{Lots}
 use Rattle.lots.specs.Lots.{lotsTotal}
 use Rattle.fund.specs.Fund.{limitOf, cumulativeLimit, cumulativeLimitEach, netLimit, netLimitEach}
-use Rattle.rules.specs.declared.Day.{Day}
-use Rattle.rules.specs.Book.{cash, headAt, lotsAt, width, account, headTotal, lineTotal}
+use Rattle.layout.specs.Day.{Day}
+use Rattle.layout.specs.Book.{cash, headAt, lotsAt, width, account, headTotal, lineTotal}
 use Rattle.rules.specs.Orders.{countOf, fundCount, accountSide, fundSide}
 use Rattle.rules.proofs.SoundDay.{SoundDay}
 use Rattle.rules.proofs.Sides.{account-length, account-cash, account-count, account-head, account-line, account-unit, fund-length, fund-cash, fund-head, fund-line, fund-unit}

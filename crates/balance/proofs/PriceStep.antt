@@ -8,7 +8,7 @@ use native.Mathlib.Omega.{arith}
 use lib.ListN.{length, set, length-set}
 use lib.Seq.{getD-set-same, getD-set-other}
 use Rattle.lists.specs.Checks.{isAccepted}
-use Rattle.rules.specs.declared.Day.{Day}
+use Rattle.layout.specs.Day.{Day}
 use Rattle.rules.specs.Lines.{priceOf}
 use Rattle.rules.specs.Sound.{mostPrice}
 use Rattle.rules.specs.Price.{priceReply, pricedPrices}

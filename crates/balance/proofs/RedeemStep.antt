@@ -11,11 +11,11 @@ use Rattle.lists.specs.Checks.{Reply, isAccepted}
 use Rattle.lists.specs.Same.{whenSame, when-same, when-other}
 use Rattle.lots.specs.declared.Lots.{Lots}
 use Rattle.lots.specs.Lots.{handInOf, getOf, payOutOf}
-use Rattle.rules.specs.declared.Day.{Day}
-use Rattle.rules.specs.Book.{cash, created, redeemed, headAt, lotsAt, account, headTotal, lineTotal}
+use Rattle.layout.specs.Day.{Day}
+use Rattle.layout.specs.Book.{cash, created, redeemed, headAt, lotsAt, account, headTotal, lineTotal}
 use Rattle.fund.specs.Fund.{ceiling}
 use Rattle.rules.specs.Orders.{creation, redemption, baskets, need, fundCount}
-use Rattle.rules.specs.Records.{roomIn, withRecords}
+use Rattle.layout.specs.Records.{roomIn, withRecords}
 use Rattle.rules.specs.Redemption.{delivered, redemptionPaid, redemptionRecords, redemptionReply, redemptionMoves, redeemedBook, redeemedList}
 use Rattle.rules.proofs.SoundDay.{Kept, sound-moved}
 use Rattle.rules.proofs.Accepted.{Redeems, redemption-facts}

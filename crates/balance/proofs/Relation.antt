@@ -8,8 +8,8 @@ use native.Mathlib.Omega.{arith}
 use Rattle.lots.specs.declared.Lots.{Lots}
 use Rattle.lots.specs.Lots.{sellOf, buyOf, getOf, handInOf, sellable, handable}
 use Rattle.fund.specs.Fund.{limitOf, cumulativeLimit, cumulativeLimitEach, netLimit, netLimitEach}
-use Rattle.rules.specs.declared.Day.{Day}
-use Rattle.rules.specs.Book.{cash, account, lotsAt, headTotal, lineTotal}
+use Rattle.layout.specs.Day.{Day}
+use Rattle.layout.specs.Book.{cash, account, lotsAt, headTotal, lineTotal}
 use Rattle.rules.specs.Orders.{creation, redemption, countOf, fundCount}
 use Rattle.rules.proofs.SoundDay.{Kept}
 use Rattle.lists.specs.Checks.{isAccepted}

@@ -4,16 +4,17 @@ use mathlib.Core.List.{List, _++_}
 use Prim.Native.Nat.{ℕ, suc, _+_, _≤_, _<_}
 use native.Mathlib.Omega.{arith}
 use lib.ListN.{length, getD}
-use Rattle.rules.specs.declared.Day.{Day}
-use Rattle.rules.specs.declared.Record.{Record}
+use Rattle.layout.specs.Day.{Day}
+use Rattle.layout.specs.declared.Record.{Record}
 use Rattle.rules.specs.Lines.{codeOf}
-use Rattle.rules.specs.Records.{orderRecords, flatRecord, withRecords}
+use Rattle.rules.specs.Records.{orderRecords}
+use Rattle.layout.specs.Records.{recordNumbers, withRecords}
 use Rattle.rules.proofs.SoundDay.{SoundDay}
 use Rattle.rules.proofs.Stock.{list-tally, stock-moved, stock-once}
 use Rattle.balance.specs.Counts.{stockQuantity, stockRecords}
 
 -- the third number of a record is its quantity
-quantity-later : (r : Record) (xs : List ℕ) (p : ℕ) → getD (flatRecord r ++ xs) (5 + p + 2) 0 ≡ getD xs (p + 2) 0
+quantity-later : (r : Record) (xs : List ℕ) (p : ℕ) → getD (recordNumbers r ++ xs) (5 + p + 2) 0 ≡ getD xs (p + 2) 0
 quantity-later r xs p =
     let e : 5 + p + 2 ≡ suc (suc (suc (suc (suc (p + 2))))) = omega arith in
     rw e

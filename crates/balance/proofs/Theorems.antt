@@ -6,7 +6,7 @@ use mathlib.Core.List.{List, [], _∷_}
 use Prim.Native.Nat.{ℕ}
 use lib.Dec.{T}
 use Rattle.lists.specs.Checks.{Check, Reply, isAccepted, answered, avoids, never-answered}
-use Rattle.rules.specs.declared.Day.{Day}
+use Rattle.layout.specs.Day.{Day}
 use Rattle.rules.specs.Sound.{isSound, onSoundDay}
 use Rattle.rules.specs.Opening.{Opening, openingReply}
 use Rattle.rules.specs.Price.{priceChecks, priceReply, pricedPrices}

@@ -10,8 +10,8 @@ use Rattle.lists.specs.Checks.{isAccepted}
 use Rattle.lists.specs.Same.{whenSame, when-same, when-other}
 use Rattle.lists.specs.Stretch.{over, within, stretch-length, Changed, changed-both, changed-over}
 use Rattle.lots.specs.Lots.{sellOf, buyOf, lotsTotal}
-use Rattle.rules.specs.declared.Day.{Day}
-use Rattle.rules.specs.Book.{cash, created, redeemed, headAt, lotsAt, width, account, headTotal, lineTotal}
+use Rattle.layout.specs.Day.{Day}
+use Rattle.layout.specs.Book.{cash, created, redeemed, headAt, lotsAt, width, account, headTotal, lineTotal}
 use Rattle.rules.specs.Orders.{countOf, fundCount}
 use Rattle.rules.specs.Trade.{tradeReply, sellSide, buySide, tradeMoves, tradedBook}
 use Rattle.rules.proofs.SoundDay.{Kept, sound-moved}

@@ -9,10 +9,10 @@ use Rattle.lists.specs.Checks.{isAccepted}
 use Rattle.lists.specs.Stretch.{stretchOf}
 use Rattle.lots.specs.declared.Lots.{Lots}
 use Rattle.lots.proofs.Laws.{lots}
-use Rattle.fund.specs.declared.Fund.{Fund}
+use Rattle.layout.specs.declared.Fund.{Fund}
 use Rattle.fund.specs.Fund.{limitOf}
-use Rattle.rules.specs.declared.Day.{Day}
-use Rattle.rules.specs.Book.{widthOf, cash, headAt, lotsAt, account, headTotal, lineTotal}
+use Rattle.layout.specs.Day.{Day}
+use Rattle.layout.specs.Book.{widthOf, cash, headAt, lotsAt, account, headTotal, lineTotal}
 use Rattle.rules.specs.Lines.{componentOf}
 use Rattle.rules.specs.Opening.{Opening, holdingsOf, heldOpened, openingReply, openedDay, openedStretch, openedBook, openedPrices}
 use Rattle.rules.specs.Orders.{creation, redemption, countOf, fundCount}

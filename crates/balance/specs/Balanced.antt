@@ -3,9 +3,9 @@ use Prim.Native.Nat.{ℕ, _+_, _-_, _≤_, _<_}
 use mathlib.Core.Path.{_≡_}
 use mathlib.Core.List.{List}
 use Rattle.fund.specs.Fund.{limitOf, cumulativeLimit, cumulativeLimitEach, netLimit, netLimitEach}
-use Rattle.fund.specs.Components.{componentAt}
-use Rattle.rules.specs.declared.Day.{Day}
-use Rattle.rules.specs.Book.{cash, headTotal, lineTotal}
+use Rattle.layout.specs.Components.{componentAt}
+use Rattle.layout.specs.Day.{Day}
+use Rattle.layout.specs.Book.{cash, headTotal, lineTotal}
 use Rattle.rules.specs.Lines.{componentOf}
 use Rattle.rules.specs.Opening.{Opening, holdingsOf, heldOpened, openedTotal, openedCash, openedDay, openedBook, openedPrices}
 use Rattle.rules.specs.Orders.{creation, redemption}

@@ -3,11 +3,11 @@ use Prim.Native.Nat.{ℕ}
 use mathlib.Core.Path.{_≡_}
 use mathlib.Core.List.{List, [], _∷_}
 use Rattle.lists.specs.Checks.{Reply}
-use Rattle.rules.specs.declared.Day.{Day}
+use Rattle.layout.specs.Day.{Day}
 use Rattle.rules.specs.Price.{priceReply, pricedPrices}
 use Rattle.rules.specs.Trade.{tradeReply, tradedBook}
 use Rattle.rules.specs.Value.{worthReply}
-use Rattle.rules.specs.Records.{roomIn}
+use Rattle.layout.specs.Records.{roomIn}
 use Rattle.rules.specs.Creation.{creationReply, createdBook, createdList}
 use Rattle.rules.specs.Redemption.{redemptionReply, redeemedBook, redeemedList}
 

@@ -7,10 +7,10 @@ use lib.ListN.{getD}
 use Rattle.lists.specs.Below.{sumBelow}
 use Rattle.lists.specs.Checks.{isAccepted}
 use Rattle.lists.specs.Same.{whenSame}
-use Rattle.rules.specs.declared.Day.{Day}
+use Rattle.layout.specs.Day.{Day}
 use Rattle.rules.specs.Lines.{codeOf, quantity, movesStock}
 use Rattle.rules.specs.Orders.{baskets}
-use Rattle.rules.specs.Records.{recordWidth}
+use Rattle.layout.specs.Places.{recordWidth}
 use Rattle.balance.specs.Calls.{State, Lent, Call, Result, Event, price, trade, create, redeem, value}
 
 -- the quantity of the stock record with a component's code, among the first n records of a list

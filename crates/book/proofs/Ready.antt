@@ -12,8 +12,8 @@ use Rattle.units.proofs.Laws.{under}
 use Rattle.lots.specs.Lots.{handable, lotsTotal}
 use Rattle.fund.specs.Fund.{ceiling}
 use Rattle.fund.proofs.Laws.{components-fine}
-use Rattle.rules.specs.declared.Day.{Day}
-use Rattle.rules.specs.Book.{cash, headAt, lotsAt, width, account, headTotal, lineTotal}
+use Rattle.layout.specs.Day.{Day}
+use Rattle.layout.specs.Book.{cash, headAt, lotsAt, width, account, headTotal, lineTotal}
 use Rattle.rules.specs.Opening.{mostCash}
 use Rattle.rules.specs.Sound.{mostUnits}
 use Rattle.rules.specs.Orders.{creation, redemption, baskets, fundCount}

@@ -10,7 +10,7 @@ use Rattle.lots.specs.declared.Lots.{Lots}
 use Rattle.lots.specs.Lots.{handInOf, getOf, takeInOf, payOutOf, handable}
 use Rattle.lots.proofs.Laws.{lots-eq}
 use Rattle.flags.specs.Table
-use Rattle.fund.specs.declared.Component.{Component}
+use Rattle.layout.specs.declared.Component.{Component}
 use Rattle.rules.specs.Orders.{creation}
 use Rattle.rules.specs.Kinds.{byKind, stockLots, fundLots}
 use Rattle.book.specs.Moved.{movedOf}

@@ -6,7 +6,7 @@ use native.Mathlib.Omega.{arith}
 use lib.ListN.{length}
 use Rattle.lists.specs.Stretch.{stretchOf, putStretch, onStretch, stretch-length, put-length, stretch-put-other}
 use Rattle.lots.specs.Lots.{sellOf}
-use Rattle.rules.specs.Book.{cash, headAt, lotsAt, widthOf}
+use Rattle.layout.specs.Book.{cash, headAt, lotsAt, widthOf}
 use Rattle.rules.specs.Trade.{sellSide}
 use Rattle.rules.proofs.Sides.{side-length}
 use Rattle.book.specs.Ready.{Tradable}

@@ -8,11 +8,11 @@ use lib.ListN.{length}
 use lib.Seq.{set-getD}
 use Rattle.lists.specs.Stretch.{stretchOf, onStretch, stretch-length}
 use Rattle.lots.specs.declared.Lots.{Lots}
-use Rattle.rules.specs.declared.Day.{Day}
-use Rattle.rules.specs.Book.{width, account, lotsAt, putLots, onLine, eachLine}
+use Rattle.layout.specs.Day.{Day}
+use Rattle.layout.specs.Book.{width, account, lotsAt, putLots, onLine, eachLine}
 use Rattle.rules.specs.Lines.{componentOf}
 use Rattle.rules.specs.Kinds.{movedBy, stockLots, fundLots}
-use Rattle.rules.proofs.Account.{on-length, each-length, each-later, each-more}
+use Rattle.layout.proofs.Account.{on-length, each-length, each-later, each-more}
 use Rattle.book.specs.Moved.{movedOf, moved-of, stockBy, fundBy, withSides, lineMoves, stockMoves}
 use Rattle.book.specs.Ready.{LineReady, StockReady, FundReady}
 use Rattle.book.proofs.Stock.{stock-zero, fund-zero}

@@ -7,11 +7,11 @@ use lib.ListN.{length}
 use Rattle.lists.specs.Stretch.{stretchOf, onStretch, stretch-length, put-length}
 use Rattle.lots.specs.declared.Lots.{Lots}
 use Rattle.lots.specs.Lots.{handable}
-use Rattle.rules.specs.declared.Day.{Day}
-use Rattle.rules.specs.Book.{cash, widthOf, width, account, headAt, putHead, lotsAt, onLine, eachLine}
+use Rattle.layout.specs.Day.{Day}
+use Rattle.layout.specs.Book.{cash, widthOf, width, account, headAt, putHead, lotsAt, onLine, eachLine}
 use Rattle.rules.specs.Orders.{creation, accountSide, fundSide}
 use Rattle.rules.specs.Kinds.{unitLots, accountCash, fundCash, orderMoves}
-use Rattle.rules.proofs.Account.{put-head-length, on-length, head-on, head-each, each-later}
+use Rattle.layout.proofs.Account.{put-head-length, on-length, head-on, head-each, each-later}
 use Rattle.rules.proofs.Sides.{fund-length}
 use Rattle.book.specs.Moved.{stockBy, fundBy, withSides, stockMoves, restOf, restMoves}
 use Rattle.book.specs.Ready.{RestReady, OrderReady}

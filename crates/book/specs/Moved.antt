@@ -7,9 +7,9 @@ use Rattle.lists.specs.Stretch.{stretchOf, putStretch}
 use Rattle.lots.specs.declared.Lots.{Lots}
 use Rattle.lots.specs.Lots.{handable}
 use Rattle.flags.specs.Table
-use Rattle.fund.specs.declared.Component.{Component}
-use Rattle.rules.specs.declared.Day.{Day}
-use Rattle.rules.specs.Book.{cash, widthOf, width, account, headAt, putHead, lotsAt, onLine, eachLine}
+use Rattle.layout.specs.declared.Component.{Component}
+use Rattle.layout.specs.Day.{Day}
+use Rattle.layout.specs.Book.{cash, widthOf, width, account, headAt, putHead, lotsAt, onLine, eachLine}
 use Rattle.rules.specs.Lines.{componentOf, quantity, column}
 use Rattle.rules.specs.Orders.{need}
 use Rattle.rules.specs.Creation.{available, handedIn}

@@ -5,9 +5,9 @@ use mathlib.Core.List.{List}
 use lib.ListN.{length}
 use Rattle.lists.specs.Stretch.{stretchOf}
 use Rattle.lots.specs.Lots.{sellable, handable, lotsTotal}
-use Rattle.fund.specs.declared.Component.{Component}
-use Rattle.rules.specs.declared.Day.{Day}
-use Rattle.rules.specs.Book.{cash, headAt, lotsAt, widthOf, width, account}
+use Rattle.layout.specs.declared.Component.{Component}
+use Rattle.layout.specs.Day.{Day}
+use Rattle.layout.specs.Book.{cash, headAt, lotsAt, widthOf, width, account}
 use Rattle.rules.specs.Lines.{componentOf}
 use Rattle.rules.specs.Orders.{creation}
 use Rattle.rules.specs.Kinds.{movedBy}

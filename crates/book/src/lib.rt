@@ -4,15 +4,16 @@ ghost use Prim.Native.Nat.{_+_, _*_, _≤_, _<_, _^_};
 ghost use lib.ListN.{length};
 ghost use Rattle.lists.specs.Stretch.{stretchOf, onStretch};
 ghost use Rattle.lots.specs.Lots.{sellable, handable};
-ghost use Rattle.day_parts.specs.Parts.{dayOf};
-ghost use Rattle.rules.specs.Book.{cash, widthOf, width, account, headAt, putHead, lotsAt, putLots, onLine};
+ghost use Rattle.layout.specs.Places.{basketWidth};
+ghost use Rattle.layout.specs.Day.{dayOf};
+ghost use Rattle.layout.specs.Book.{cash, widthOf, width, account, headAt, putHead, lotsAt, putLots, onLine};
 ghost use Rattle.rules.specs.Trade.{sellSide, buySide, tradeMoves};
 ghost use Rattle.rules.specs.Orders.{creation};
 ghost use Rattle.rules.specs.Kinds.{stockLots, fundLots, unitLots, accountCash, fundCash, orderMoves};
 ghost use Rattle.book.specs.Moved.{movedOf, lineMoves, stockMoves, restOf, restMoves};
 ghost use Rattle.book.specs.Ready.{Tradable, LineReady, StockReady, FundReady, RestReady, OrderReady};
-use day_parts::DayHead;
-use fund::Component;
+use layout::DayHead;
+use layout::Component;
 use lots::Lots;
 use units::Money;
 
@@ -351,13 +352,13 @@ fn move_stock(kind: usize, d: DayHead, basket: &[u64], book: &mut [u64], a: usiz
     requires { ⌜ (0 < a) × (a * width (dayOf d (now basket)) + width (dayOf d (now basket)) ≤ length (now book)) ⌝ }
     requires { ⌜ StockReady (dayOf d (now basket)) (account (dayOf d (now basket)) (now book) a) m ⌝ }
     requires { ⌜ FundReady kind (dayOf d (now basket)) (account (dayOf d (now basket)) (now book) a) (account (dayOf d (now basket)) (now book) 0) m ⌝ }
-    requires { ⌜ length (now basket) ≡ 1500 ⌝ }
+    requires { ⌜ length (now basket) ≡ basketWidth ⌝ }
     ensures { λ _. ⌜ now (book .exit) ≡ stockMoves kind (dayOf d (now (basket .entry))) a m (d .count) (now (book .entry)) ⌝ }
 {
     let w = width_of(d.count);
     let mut i: usize = 0;
     while i < d.count {
-        let c = day_parts::component_of(basket, i);
+        let c = layout::component_of(basket, i);
         move_line(kind, c, book, w, a, m, i);
         i += 1;
     }
@@ -385,7 +386,7 @@ pub fn move_order(
     c: Money,
 )
     requires { ⌜ OrderReady kind (dayOf d (now basket)) (now book) a units m (c .0) ⌝ }
-    requires { ⌜ length (now basket) ≡ 1500 ⌝ }
+    requires { ⌜ length (now basket) ≡ basketWidth ⌝ }
     ensures { λ _. ⌜ now (book .exit) ≡ orderMoves kind (dayOf d (now (basket .entry))) a units m (c .0) (now (book .entry)) ⌝ }
 {
     let count = d.count;

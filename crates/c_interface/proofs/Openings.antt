@@ -9,11 +9,11 @@ use borrow.Author.Tests.{eqb-true, eq-eqb}
 use Rattle.lists.specs.Checks.{Reply, reply, isAccepted}
 use Rattle.lists.specs.Every.{every-none, every-more, every-at, false-of, same-test}
 use Rattle.lists.specs.Below.{table-length}
-use Rattle.fund.specs.declared.Fund.{Fund}
+use Rattle.layout.specs.declared.Fund.{Fund}
 use Rattle.fund.specs.Fund.{cashInRange}
-use Rattle.fund.specs.Components.{placesOf}
+use Rattle.layout.specs.Components.{placesOf}
 use Rattle.fund.proofs.Laws.{fund-sound}
-use Rattle.rules.specs.declared.Day.{Day}
+use Rattle.layout.specs.Day.{Day, dayAt, dayNumbers}
 use Rattle.rules.specs.declared.Opened.{Opened}
 use Rattle.rules.specs.Replies.{answerReply}
 use Rattle.rules.specs.Opening.{Opening, componentsOpened, openingReply, openedDay, openedBook, openedPrices}
@@ -22,8 +22,8 @@ use Rattle.balance.specs.Balanced.{opened}
 use Rattle.run.specs.Batch.{stateOf}
 use Rattle.opening.specs.Given.{given, Outcome}
 use Rattle.numbers.specs.declared.Numbers.{Numbers}
-use Rattle.numbers.specs.Numbers.{replyOf}
-use Rattle.flat.specs.Flat.{dayAt, fundAt, dayNumbers, Told}
+use Rattle.numbers.specs.Numbers.{replyOf, Told}
+use Rattle.layout.specs.Fund.{fundAt}
 use Rattle.flat.proofs.Trip.{day-flat}
 use Rattle.c_interface.specs.Opening.{Lent, widthsFit, flatReply, FlatOutcome}
 use Rattle.c_interface.proofs.Laws.{told-as, kept, sizes-refuse}

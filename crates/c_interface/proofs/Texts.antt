@@ -11,7 +11,7 @@ use Rattle.lists.specs.Checks.{Reply, reply, isAccepted}
 use Rattle.fund.specs.Fund.{cashInRange}
 use Rattle.fund.proofs.Laws.{fund-sound}
 use Rattle.numbers.specs.declared.Numbers.{Numbers}
-use Rattle.numbers.specs.Numbers.{replyOf}
+use Rattle.numbers.specs.Numbers.{replyOf, Told}
 use Rattle.list_rules.specs.declared.ListFields.{ListFields}
 use Rattle.list_rules.specs.declared.ListRead.{ListRead}
 use Rattle.list_rules.specs.declared.ListAnswer.{ListAnswer}
@@ -23,7 +23,7 @@ use Rattle.list_rules.proofs.Ranges.{fields-sound}
 use Rattle.list_trip.proofs.ReadTests.{reads}
 use Rattle.list_reading.specs.Outcome.{ReadOutcome}
 use Rattle.list_writing.specs.Outcome.{WriteOutcome}
-use Rattle.flat.specs.Flat.{fieldsAt, fieldsNumbers, Told}
+use Rattle.list_fields.specs.Run.{fieldsAt, fieldsNumbers}
 use Rattle.flat.proofs.Trip.{fields-flat}
 use Rattle.c_interface.specs.Text.{Taking, taking, ofWidth, takingReply, TextRead, TextWritten}
 use Rattle.c_interface.proofs.Laws.{told-as, kept, sizes-refuse}

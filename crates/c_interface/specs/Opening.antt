@@ -10,7 +10,10 @@ use Rattle.lists.specs.Every.{every}
 use Rattle.rules.specs.Replies.{ifAccepted}
 use Rattle.rules.specs.Opening.{Opening, openingReply, openedDay, openedBook, openedPrices}
 use Rattle.opening.specs.Given.{given}
-use Rattle.flat.specs.Flat.{fundWidth, fundAt, dayWidth, dayNumbers, Told}
+use Rattle.layout.specs.Places.{fundWidth, dayWidth}
+use Rattle.layout.specs.Fund.{fundAt}
+use Rattle.layout.specs.Day.{dayNumbers}
+use Rattle.numbers.specs.Numbers.{Told}
 
 -- what is lent besides opening's own runs: the fund as numbers, and the run that takes the day
 pub record Lent : Type 0 where

@@ -9,14 +9,16 @@ ghost use Rattle.fund.specs.Fund.{cashInRange};
 ghost use Rattle.rules.specs.Price.{priceReply, pricedPrices};
 ghost use Rattle.rules.specs.Trade.{tradeReply, tradedBook};
 ghost use Rattle.rules.specs.Value.{worthReply};
-ghost use Rattle.rules.specs.Records.{recordWidth, roomIn};
+ghost use Rattle.layout.specs.Places.{recordWidth};
+ghost use Rattle.layout.specs.Records.{roomIn};
 ghost use Rattle.rules.specs.Creation.{creationReply, createdBook, createdList};
 ghost use Rattle.rules.specs.Redemption.{redemptionReply, redeemedBook, redeemedList};
-ghost use Rattle.numbers.specs.Numbers.{replyOf};
+ghost use Rattle.numbers.specs.Numbers.{replyOf, Told};
 ghost use Rattle.run.specs.Batch.{stateOf, batchOf, runReply, ran, eventsOf, Demand3};
 ghost use Rattle.list_rules.specs.Replies.{listReply};
 ghost use Rattle.list_rules.specs.Writing.{listing};
-ghost use Rattle.flat.specs.Flat.{dayAt, dayNumbers, fieldsAt, fieldsNumbers, Told};
+ghost use Rattle.layout.specs.Day.{dayAt, dayNumbers};
+ghost use Rattle.list_fields.specs.Run.{fieldsAt, fieldsNumbers};
 ghost use Rattle.c_interface.specs.Opening.{lent, widthsFit, flatGiven, FlatOutcome};
 ghost use Rattle.c_interface.specs.Text.{taking, TextRead, TextWritten};
 use list_rules::ListAnswer;
@@ -38,10 +40,10 @@ fn tell(answer: Numbers, place: &mut u64, value: &mut u64) -> u64
 fn widths_fit(fund: usize, day: usize) -> bool
     ensures { λ r. ⌜ r ≡ widthsFit fund day ⌝ }
 {
-    if fund != flat::FUND_WIDTH {
+    if fund != layout::FUND_WIDTH {
         return false;
     }
-    day == flat::DAY_WIDTH
+    day == layout::DAY_WIDTH
 }
 
 // Stores a day where the number of opening's answer is 0.
@@ -74,7 +76,7 @@ pub extern "C" fn roffelaine_open(
     if !widths_fit(fund.len(), day.len()) {
         return tell(numbers::of_refusal(Refusal::Sizes), place, value);
     }
-    let f = flat::fund_of(fund, 0);
+    let f = layout::fund_of(fund, 0);
     let opened = day::open(accounts, count, f, components, holdings, book, prices);
     let answer = opened.answer;
     let told = numbers::of_answer(answer);
@@ -97,11 +99,11 @@ pub extern "C" fn roffelaine_price(
     ensures { λ r. ⌜ Told (priceReply (dayAt (now (day .entry))) (now (book .entry)) (now (prices .entry)) line price) r (now (place .exit)) (now (value .exit)) ⌝ }
     ensures prices { λ r. ⌜ now (prices .exit) ≡ pricedPrices (dayAt (now (day .entry))) (now (book .entry)) (now (prices .entry)) line price ⌝ }
 {
-    if day.len() != flat::DAY_WIDTH {
+    if day.len() != layout::DAY_WIDTH {
         return tell(numbers::of_refusal(Refusal::UnsoundDay), place, value);
     }
     let head = flat::head_of(day);
-    let basket = &day[flat::COMPONENTS_FROM..];
+    let basket = &day[layout::BASKET_FROM..];
     let answer = calls::price(false, head, basket, book, prices, line, price);
     tell(numbers::of_answer(answer), place, value)
 }
@@ -123,11 +125,11 @@ pub extern "C" fn roffelaine_trade(
     ensures { λ r. ⌜ Told (tradeReply (dayAt (now (day .entry))) (now (book .entry)) (now (prices .entry)) line quantity price seller buyer) r (now (place .exit)) (now (value .exit)) ⌝ }
     ensures book { λ r. ⌜ now (book .exit) ≡ tradedBook (dayAt (now (day .entry))) (now (book .entry)) (now (prices .entry)) line quantity price seller buyer ⌝ }
 {
-    if day.len() != flat::DAY_WIDTH {
+    if day.len() != layout::DAY_WIDTH {
         return tell(numbers::of_refusal(Refusal::UnsoundDay), place, value);
     }
     let head = flat::head_of(day);
-    let basket = &day[flat::COMPONENTS_FROM..];
+    let basket = &day[layout::BASKET_FROM..];
     let answer = calls::trade(
         false,
         head,
@@ -154,11 +156,11 @@ pub extern "C" fn roffelaine_reference_value(
 ) -> u64
     ensures { λ r. ⌜ Told (worthReply (dayAt (now (day .entry))) (now (book .entry)) (now (prices .entry))) r (now (place .exit)) (now (value .exit)) ⌝ }
 {
-    if day.len() != flat::DAY_WIDTH {
+    if day.len() != layout::DAY_WIDTH {
         return tell(numbers::of_refusal(Refusal::UnsoundDay), place, value);
     }
     let head = flat::head_of(day);
-    let basket = &day[flat::COMPONENTS_FROM..];
+    let basket = &day[layout::BASKET_FROM..];
     let answer = calls::reference_value(false, head, basket, book, prices);
     tell(numbers::of_value(answer), place, value)
 }
@@ -179,11 +181,11 @@ pub extern "C" fn roffelaine_create(
     ensures book { λ r. ⌜ now (book .exit) ≡ createdBook (dayAt (now (day .entry))) (now (book .entry)) (now (prices .entry)) account units (roomIn (now (list .entry))) ⌝ }
     ensures list { λ r. ⌜ now (list .exit) ≡ createdList (dayAt (now (day .entry))) (now (book .entry)) (now (prices .entry)) account units (now (list .entry)) ⌝ }
 {
-    if day.len() != flat::DAY_WIDTH {
+    if day.len() != layout::DAY_WIDTH {
         return tell(numbers::of_refusal(Refusal::UnsoundDay), place, value);
     }
     let head = flat::head_of(day);
-    let basket = &day[flat::COMPONENTS_FROM..];
+    let basket = &day[layout::BASKET_FROM..];
     let answer = calls::create(false, head, basket, book, prices, account, units, list);
     tell(numbers::of_order(answer), place, value)
 }
@@ -204,11 +206,11 @@ pub extern "C" fn roffelaine_redeem(
     ensures book { λ r. ⌜ now (book .exit) ≡ redeemedBook (dayAt (now (day .entry))) (now (book .entry)) (now (prices .entry)) account units (roomIn (now (list .entry))) ⌝ }
     ensures list { λ r. ⌜ now (list .exit) ≡ redeemedList (dayAt (now (day .entry))) (now (book .entry)) (now (prices .entry)) account units (now (list .entry)) ⌝ }
 {
-    if day.len() != flat::DAY_WIDTH {
+    if day.len() != layout::DAY_WIDTH {
         return tell(numbers::of_refusal(Refusal::UnsoundDay), place, value);
     }
     let head = flat::head_of(day);
-    let basket = &day[flat::COMPONENTS_FROM..];
+    let basket = &day[layout::BASKET_FROM..];
     let answer = calls::redeem(false, head, basket, book, prices, account, units, list);
     tell(numbers::of_order(answer), place, value)
 }
@@ -227,11 +229,11 @@ pub extern "C" fn roffelaine_creation_test(
 ) -> u64
     ensures { λ r. ⌜ Told (creationReply (dayAt (now (day .entry))) (now (book .entry)) (now (prices .entry)) account units (length / recordWidth)) r (now (place .exit)) (now (value .exit)) ⌝ }
 {
-    if day.len() != flat::DAY_WIDTH {
+    if day.len() != layout::DAY_WIDTH {
         return tell(numbers::of_refusal(Refusal::UnsoundDay), place, value);
     }
     let head = flat::head_of(day);
-    let basket = &day[flat::COMPONENTS_FROM..];
+    let basket = &day[layout::BASKET_FROM..];
     let answer = calls::creation_test(head, basket, book, prices, account, units, length);
     tell(numbers::of_order(answer), place, value)
 }
@@ -250,11 +252,11 @@ pub extern "C" fn roffelaine_redemption_test(
 ) -> u64
     ensures { λ r. ⌜ Told (redemptionReply (dayAt (now (day .entry))) (now (book .entry)) (now (prices .entry)) account units (length / recordWidth)) r (now (place .exit)) (now (value .exit)) ⌝ }
 {
-    if day.len() != flat::DAY_WIDTH {
+    if day.len() != layout::DAY_WIDTH {
         return tell(numbers::of_refusal(Refusal::UnsoundDay), place, value);
     }
     let head = flat::head_of(day);
-    let basket = &day[flat::COMPONENTS_FROM..];
+    let basket = &day[layout::BASKET_FROM..];
     let answer = calls::redemption_test(head, basket, book, prices, account, units, length);
     tell(numbers::of_order(answer), place, value)
 }

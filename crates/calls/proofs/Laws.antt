@@ -5,15 +5,15 @@ use mathlib.Core.List.{List}
 use Prim.Native.Nat.{ℕ}
 use lib.ListN.{set}
 use Rattle.lists.specs.Checks.{Check, Reply, reply, answered}
-use Rattle.rules.specs.declared.Day.{Day}
+use Rattle.layout.specs.Day.{Day}
 use Rattle.rules.specs.declared.Refusal.the-variants.{UnsoundDay}
-use Rattle.rules.specs.Book.{account}
+use Rattle.layout.specs.Book.{account}
 use Rattle.rules.specs.Replies.{ifAccepted}
 use Rattle.rules.specs.Sound.{isSound, onSoundDay}
 use Rattle.rules.specs.Price.{priceChecks, priceReply, pricedPrices}
 use Rattle.rules.specs.Trade.{tradeChecks, tradeReply, tradeMoves, tradedBook}
 use Rattle.rules.specs.Value.{referenceValue, valueChecks, worthReply}
-use Rattle.rules.specs.Records.{roomIn, withRecords}
+use Rattle.layout.specs.Records.{roomIn, withRecords}
 use Rattle.rules.specs.Creation.{creationRecords, creationChecks, creationReply, creationMoves, createdBook, createdList}
 use Rattle.rules.specs.Redemption.{redemptionRecords, redemptionChecks, redemptionReply, redemptionMoves, redeemedBook, redeemedList}
 use Rattle.rules.proofs.Replies.{on-sound, on-unsound, leaves-before}

@@ -4,16 +4,17 @@ ghost use mathlib.Core.Path.{_≡_};
 ghost use Prim.Native.Nat.{_/_};
 ghost use mathlib.Core.Bool.{true};
 ghost use lib.ListN.{length};
-ghost use Rattle.day_parts.specs.Parts.{dayOf};
+ghost use Rattle.layout.specs.Day.{dayOf};
 ghost use Rattle.rules.specs.Replies.{answerReply, orderReply, valueReply};
 ghost use Rattle.rules.specs.Price.{priceReply, pricedPrices};
 ghost use Rattle.rules.specs.Trade.{tradeReply, tradedBook};
 ghost use Rattle.rules.specs.Value.{worthReply};
-ghost use Rattle.rules.specs.Records.{recordWidth, roomIn};
+ghost use Rattle.layout.specs.Places.{recordWidth, basketWidth};
+ghost use Rattle.layout.specs.Records.{roomIn};
 ghost use Rattle.rules.specs.Creation.{creationReply, createdBook, createdList};
 ghost use Rattle.rules.specs.Redemption.{redemptionReply, redeemedBook, redeemedList};
 ghost use Rattle.rules.specs.Sound.{isSound};
-use day_parts::DayHead;
+use layout::DayHead;
 use rules::Answer;
 use rules::OrderAnswer;
 use rules::Refusal;
@@ -22,7 +23,7 @@ use rules::ValueAnswer;
 // Whether the day is sound: known, or tested.
 fn sound_day(known: bool, d: DayHead, basket: &[u64], book: &[u64], prices: &[u64]) -> bool
     requires { ⌜ (known ≡ true → isSound (dayOf d (now basket)) (now book) (now prices) ≡ true) ⌝ }
-    requires { ⌜ length (now basket) ≡ 1500 ⌝ }
+    requires { ⌜ length (now basket) ≡ basketWidth ⌝ }
     ensures { λ r. ⌜ r ≡ isSound (dayOf d (now (basket .entry))) (now (book .entry)) (now (prices .entry)) ⌝ }
 {
     if known {
@@ -42,7 +43,7 @@ pub fn price(
     price: u64,
 ) -> Answer
     requires { ⌜ (known ≡ true → isSound (dayOf d (now basket)) (now book) (now prices) ≡ true) ⌝ }
-    requires { ⌜ length (now basket) ≡ 1500 ⌝ }
+    requires { ⌜ length (now basket) ≡ basketWidth ⌝ }
     ensures { λ r. ⌜ answerReply r ≡ priceReply (dayOf d (now (basket .entry))) (now (book .entry)) (now (prices .entry)) line price ⌝ }
     ensures prices { λ r. ⌜ now (prices .exit) ≡ pricedPrices (dayOf d (now (basket .entry))) (now (book .entry)) (now (prices .entry)) line price ⌝ }
 {
@@ -66,7 +67,7 @@ pub fn trade(
     buyer: usize,
 ) -> Answer
     requires { ⌜ (known ≡ true → isSound (dayOf d (now basket)) (now book) (now prices) ≡ true) ⌝ }
-    requires { ⌜ length (now basket) ≡ 1500 ⌝ }
+    requires { ⌜ length (now basket) ≡ basketWidth ⌝ }
     ensures { λ r. ⌜ answerReply r ≡ tradeReply (dayOf d (now (basket .entry))) (now (book .entry)) (now (prices .entry)) line q price seller buyer ⌝ }
     ensures book { λ r. ⌜ now (book .exit) ≡ tradedBook (dayOf d (now (basket .entry))) (now (book .entry)) (now (prices .entry)) line q price seller buyer ⌝ }
 {
@@ -85,7 +86,7 @@ pub fn reference_value(
     prices: &[u64],
 ) -> ValueAnswer
     requires { ⌜ (known ≡ true → isSound (dayOf d (now basket)) (now book) (now prices) ≡ true) ⌝ }
-    requires { ⌜ length (now basket) ≡ 1500 ⌝ }
+    requires { ⌜ length (now basket) ≡ basketWidth ⌝ }
     ensures { λ r. ⌜ valueReply r ≡ worthReply (dayOf d (now (basket .entry))) (now (book .entry)) (now (prices .entry)) ⌝ }
 {
     if !sound_day(known, d, basket, book, prices) {
@@ -106,7 +107,7 @@ pub fn create(
     list: &mut [u64],
 ) -> OrderAnswer
     requires { ⌜ (known ≡ true → isSound (dayOf d (now basket)) (now book) (now prices) ≡ true) ⌝ }
-    requires { ⌜ length (now basket) ≡ 1500 ⌝ }
+    requires { ⌜ length (now basket) ≡ basketWidth ⌝ }
     ensures { λ r. ⌜ orderReply r ≡ creationReply (dayOf d (now (basket .entry))) (now (book .entry)) (now (prices .entry)) a units (roomIn (now (list .entry))) ⌝ }
     ensures book { λ r. ⌜ now (book .exit) ≡ createdBook (dayOf d (now (basket .entry))) (now (book .entry)) (now (prices .entry)) a units (roomIn (now (list .entry))) ⌝ }
     ensures list { λ r. ⌜ now (list .exit) ≡ createdList (dayOf d (now (basket .entry))) (now (book .entry)) (now (prices .entry)) a units (now (list .entry)) ⌝ }
@@ -129,7 +130,7 @@ pub fn redeem(
     list: &mut [u64],
 ) -> OrderAnswer
     requires { ⌜ (known ≡ true → isSound (dayOf d (now basket)) (now book) (now prices) ≡ true) ⌝ }
-    requires { ⌜ length (now basket) ≡ 1500 ⌝ }
+    requires { ⌜ length (now basket) ≡ basketWidth ⌝ }
     ensures { λ r. ⌜ orderReply r ≡ redemptionReply (dayOf d (now (basket .entry))) (now (book .entry)) (now (prices .entry)) a units (roomIn (now (list .entry))) ⌝ }
     ensures book { λ r. ⌜ now (book .exit) ≡ redeemedBook (dayOf d (now (basket .entry))) (now (book .entry)) (now (prices .entry)) a units (roomIn (now (list .entry))) ⌝ }
     ensures list { λ r. ⌜ now (list .exit) ≡ redeemedList (dayOf d (now (basket .entry))) (now (book .entry)) (now (prices .entry)) a units (now (list .entry)) ⌝ }
@@ -150,13 +151,13 @@ pub fn creation_test(
     units: u64,
     list_length: usize,
 ) -> OrderAnswer
-    requires { ⌜ length (now basket) ≡ 1500 ⌝ }
+    requires { ⌜ length (now basket) ≡ basketWidth ⌝ }
     ensures { λ r. ⌜ orderReply r ≡ creationReply (dayOf d (now (basket .entry))) (now (book .entry)) (now (prices .entry)) a units («list_length» / recordWidth) ⌝ }
 {
     if !sound::is_sound(d, basket, book, prices) {
         return OrderAnswer::Refused(Refusal::UnsoundDay);
     }
-    let room = list_length / rules::RECORD_WIDTH;
+    let room = list_length / layout::RECORD_WIDTH;
     let t = orders::creation_tested(d, basket, book, prices, a, units, room);
     t.answer
 }
@@ -171,13 +172,13 @@ pub fn redemption_test(
     units: u64,
     list_length: usize,
 ) -> OrderAnswer
-    requires { ⌜ length (now basket) ≡ 1500 ⌝ }
+    requires { ⌜ length (now basket) ≡ basketWidth ⌝ }
     ensures { λ r. ⌜ orderReply r ≡ redemptionReply (dayOf d (now (basket .entry))) (now (book .entry)) (now (prices .entry)) a units («list_length» / recordWidth) ⌝ }
 {
     if !sound::is_sound(d, basket, book, prices) {
         return OrderAnswer::Refused(Refusal::UnsoundDay);
     }
-    let room = list_length / rules::RECORD_WIDTH;
+    let room = list_length / layout::RECORD_WIDTH;
     let t = orders::redemption_tested(d, basket, book, prices, a, units, room);
     t.answer
 }

@@ -6,3 +6,4 @@ pub mod Write
 pub mod Trip
 pub mod Bytes
 pub mod Right
+pub mod Signed

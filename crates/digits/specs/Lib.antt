@@ -1,3 +1,4 @@
 pub mod Digits
 pub mod Written
 pub mod Right
+pub mod Signed

@@ -2,9 +2,11 @@
 ghost use mathlib.Core.Path.{_≡_};
 ghost use Prim.Native.Nat.{_+_, _*_, _≤_, _<_, _^_};
 ghost use mathlib.Core.List.{[], _∷_};
+ghost use lib.IntN.{natAbs};
 ghost use lib.ListN.{length, replicate};
 ghost use Rattle.digits.specs.Digits.{cap, fixed, tens, wholeText, plainText, signedText, numberText, from, capped, isWhole, isPlain, plainSize, isSigned, signedFigure, blanks, allBlank, isNumber, figureOf, sizeReading, reading, readOn, minusFigure, belowZero, aboveZero};
 ghost use Rattle.digits.specs.Written.{Written};
+ghost use Rattle.digits.specs.Signed.{signedOf, figureSigned};
 
 pub mod aligned;
 
@@ -378,4 +380,34 @@ pub fn put_number(dst: &mut [u8], at: usize, form: Form, z: Figure) -> usize
     let k = number_size(form, z) - signed_size(form, z);
     let p = put_blanks(dst, at, k);
     put_signed(dst, p, form, z)
+}
+
+// A figure as a signed number.
+pub fn signed_of(z: Figure) -> i64
+    requires { ⌜ z .size ≤ cap ⌝ }
+    ensures { λ r. ⌜ r ≡ signedOf z ⌝ }
+{
+    let size = z.size as i64;
+    if z.negative {
+        return 0 - size;
+    }
+    size
+}
+
+// A signed number as a figure.
+pub fn figure_of(e: i64) -> Figure
+    requires { ⌜ natAbs e ≤ cap ⌝ }
+    ensures { λ r. ⌜ r ≡ figureSigned e ⌝ }
+{
+    if e < 0 {
+        let size = (0 - e) as u64;
+        return Figure {
+            negative: true,
+            size,
+        };
+    }
+    Figure {
+        negative: false,
+        size: e as u64,
+    }
 }

@@ -9,17 +9,20 @@ use native.Mathlib.Numerals.{add-one}
 use native.Mathlib.Decide.{decLt}
 use native.Mathlib.Omega.{arith}
 use lib.Dec.{ltb, eqb}
-use lib.IntN.{ℤ, pos, negsuc}
+use lib.IntN.{ℤ, pos, negsuc, natAbs}
 use lib.Signed.{leZ, mag}
 use lib.ListN.{length, getD, List·getD-eq-default}
 use borrow.Author.Tests.{lt-ltb, le-ltb, le-leb, leb-true, leb-false, ltb-true, eqb-true, ne-eqb, not-false}
 use Rattle.lists.specs.Below.{all-at, first-all}
 use Rattle.lists.specs.Every.{every, every-none, every-more, every-at, false-of, inside-true, inside-facts}
 use Rattle.flags.specs.Table.{entry, rateUsed, amountUsed}
-use Rattle.fund.specs.declared.Fund.{Fund}
-use Rattle.fund.specs.declared.Component.{Component}
+use Rattle.digits.specs.Digits.{cap}
+use Rattle.layout.specs.Places.{limitCount}
+use Rattle.layout.specs.declared.Fund.{Fund}
+use Rattle.layout.specs.declared.Component.{Component}
 use Rattle.fund.specs.Fund.{ceiling, cashInRange, limitInRange, limitsInRange, fundInRange}
-use Rattle.fund.specs.Components.{blank, outsideGroup, zeroUnless, componentInRange, fits, faultAt, componentFault}
+use Rattle.layout.specs.Components.{blank}
+use Rattle.fund.specs.Components.{outsideGroup, zeroUnless, componentInRange, fits, faultAt, componentFault}
 
 -- Estimated cash.
 
@@ -39,6 +42,11 @@ pub cash-small : (e : ℤ) → cashInRange e ≡ true → mag e ≤ 9_999_999_99
 unfolding cashInRange
 cash-small (pos n) t = leb-true n 9_999_999_999 t
 cash-small (negsuc n) t = omega (arith, ltb-true n 999_999_999 t)
+
+-- so it is stored in a run as it is
+pub cash-size : (e : ℤ) → cashInRange e ≡ true → natAbs e ≤ cap
+cash-size (pos n) h = omega (arith, cash-small (pos n) h)
+cash-size (negsuc n) h = omega (arith, cash-small (negsuc n) h)
 
 -- The fund.
 
@@ -85,9 +93,9 @@ limit-facts size limit e =
     let at = every-at _ e in
     (leb-true _ _ (at 0), eqb-true _ _ (at 1))
 
-pub fund-limits : (f : Fund) → FundRanges f → (k : ℕ) → k < 8 → (getD (f .limits) k 0 ≤ ceiling) × (getD (f .limits) k 0 % f .«basket_size» ≡ 0)
+pub fund-limits : (f : Fund) → FundRanges f → (k : ℕ) → k < limitCount → (getD (f .limits) k 0 ≤ ceiling) × (getD (f .limits) k 0 % f .«basket_size» ≡ 0)
 unfolding limitsInRange
-fund-limits f r k l = limit-facts (f .«basket_size») (getD (f .limits) k 0) (all-at (λ i. limitInRange (f .«basket_size») (getD (f .limits) i 0)) 8 (r .limits) k l)
+fund-limits f r k l = limit-facts (f .«basket_size») (getD (f .limits) k 0) (all-at (λ i. limitInRange (f .«basket_size») (getD (f .limits) i 0)) limitCount (r .limits) k l)
 
 -- One component.
 

@@ -5,8 +5,9 @@ use mathlib.Core.List.{List}
 use Prim.Native.Nat.{ℕ, _+_, _<_}
 use lib.ListN.{getD}
 use Rattle.lists.specs.Below.{firstBelow, first-more, first-here}
-use Rattle.fund.specs.declared.Component.{Component}
-use Rattle.fund.specs.Components.{blank, fits, faultAt, componentFault}
+use Rattle.layout.specs.declared.Component.{Component}
+use Rattle.layout.specs.Components.{blank}
+use Rattle.fund.specs.Components.{fits, faultAt, componentFault}
 use Rattle.fund.proofs.Laws.{codeBefore, fault-fits}
 
 module _ (g : ℕ) (cs : List Component) (n i previous : ℕ) (none : firstBelow (faultAt g cs) i ≡ i) (last : previous ≡ codeBefore cs i) where

@@ -7,7 +7,8 @@ use lib.IntN.{ℤ, pos, negsuc}
 use lib.ListN.{getD}
 use Rattle.lists.specs.Below.{allBelow}
 use Rattle.lists.specs.Every.{every, inside}
-use Rattle.fund.specs.declared.Fund.{Fund}
+use Rattle.layout.specs.declared.Fund.{Fund}
+use Rattle.layout.specs.Places.{limitCount}
 
 -- the ceiling on limits and on fund-wide created and redeemed units
 abbrev pub ceiling : ℕ
@@ -24,7 +25,7 @@ limitInRange size limit = every (leb limit ceiling ∷ eqb (limit % size) 0 ∷ 
 
 -- the eight limits
 unfoldable pub limitsInRange : ℕ → List ℕ → Bool
-limitsInRange size limits = allBelow (λ k. limitInRange size (getD limits k 0)) 8
+limitsInRange size limits = allBelow (λ k. limitInRange size (getD limits k 0)) limitCount
 
 -- refusal 2 looks at all of these
 unfoldable pub fundInRange : Fund → Bool

@@ -1,32 +1,13 @@
 // The fund and its components, and the tests of refusals 2 and 3.
 ghost use mathlib.Core.Path.{_≡_};
-ghost use Prim.Native.Nat.{_+_, _*_, _≤_, _<_};
-ghost use mathlib.Core.List.{_++_};
-ghost use lib.ListN.{length, drop};
-ghost use lib.Seq.{sets};
+ghost use Prim.Native.Nat.{_*_, _≤_, _<_};
+ghost use lib.ListN.{length};
 ghost use Rattle.fund.specs.Fund.{cashInRange, limitInRange, limitsInRange, fundInRange};
-ghost use Rattle.fund.specs.Components.{blank, outsideGroup, zeroUnless, componentInRange, fits, componentFault, componentAt, componentNumbers, numbersOf, placesOf};
-use units::Money;
-use units::Rate;
-
-pub struct Fund {
-    pub first_code: u64,
-    pub basket_size: u64,
-    pub max_cash_ratio: Rate,
-    pub switch: u64,
-    // In hundredths of a yuan.
-    pub estimated_cash: i64,
-    // In the list text's order.
-    pub limits: [u64; 8],
-}
-
-pub struct Component {
-    pub code: u64,
-    pub quantity: u64,
-    pub flag: u64,
-    pub rate: Rate,
-    pub amount: Money,
-}
+ghost use Rattle.layout.specs.Places.{mostComponents, componentWidth};
+ghost use Rattle.layout.specs.Components.{componentAt, placesOf};
+ghost use Rattle.fund.specs.Components.{outsideGroup, zeroUnless, componentInRange, fits, componentFault};
+use layout::Component;
+use layout::Fund;
 
 // The most that a limit, and fund-wide created or redeemed units, may be.
 pub const CEILING: u64 = 999_999_999_999;
@@ -39,81 +20,6 @@ pub const CUMULATIVE_EACH: usize = 1;
 pub const NET: usize = 2;
 
 pub const NET_EACH: usize = 3;
-
-// How many components a day has room for.
-pub const MOST_COMPONENTS: usize = 300;
-
-// How many numbers a component takes in a run.
-pub const COMPONENT_WIDTH: usize = 5;
-
-// The component that stands where a day has none.
-pub fn blank_component() -> Component
-    ensures { λ r. ⌜ r ≡ blank ⌝ }
-{
-    Component {
-        code: 0,
-        quantity: 0,
-        flag: 0,
-        rate: Rate(0),
-        amount: Money(0),
-    }
-}
-
-// The i-th component of a run. With `put_component` it is the one place that knows a run's width and order.
-pub fn component_at(run: &[u64], i: usize) -> Component
-    requires { ⌜ 5 * i + 4 < length (now run) ⌝ }
-    ensures { λ r. ⌜ r ≡ componentAt (now (run .entry)) i ⌝ }
-{
-    let at = COMPONENT_WIDTH * i;
-    Component {
-        code: run[at],
-        quantity: run[at + 1],
-        flag: run[at + 2],
-        rate: Rate(run[at + 3]),
-        amount: Money(run[at + 4]),
-    }
-}
-
-// Stores a component as the i-th of a run.
-pub fn put_component(run: &mut [u64], i: usize, c: Component)
-    requires { ⌜ 5 * i + 4 < length (now run) ⌝ }
-    ensures { λ _. ⌜ now (run .exit) ≡ sets (now (run .entry)) (5 * i) (componentNumbers c) ⌝ }
-{
-    let at = COMPONENT_WIDTH * i;
-    run[at] = c.code;
-    run[at + 1] = c.quantity;
-    run[at + 2] = c.flag;
-    run[at + 3] = c.rate.0;
-    run[at + 4] = c.amount.0;
-}
-
-// A day's 300 component places: those of the run, then blank ones.
-pub fn components_of(run: &[u64], count: usize) -> [Component; 300]
-    requires { ⌜ count ≤ 300 ⌝ }
-    requires { ⌜ length (now run) ≡ 5 * count ⌝ }
-    ensures { λ r. ⌜ r ≡ placesOf (componentAt (now (run .entry))) count ⌝ }
-{
-    let blank = blank_component();
-    let mut components = [blank; 300];
-    let mut i = 0;
-    while i < count {
-        components[i] = component_at(run, i);
-        i += 1;
-    }
-    components
-}
-
-// Stores so many components at the front of a run.
-pub fn put_components(run: &mut [u64], components: [Component; 300], count: usize)
-    requires { ⌜ (count ≤ 300) × (5 * count ≤ length (now run)) ⌝ }
-    ensures { λ _. ⌜ now (run .exit) ≡ numbersOf components count ++ drop (5 * count) (now (run .entry)) ⌝ }
-{
-    let mut i = 0;
-    while i < count {
-        put_component(run, i, components[i]);
-        i += 1;
-    }
-}
 
 pub fn cash_in_range(e: i64) -> bool
     ensures { λ r. ⌜ r ≡ cashInRange e ⌝ }
@@ -131,12 +37,12 @@ fn limit_in_range(size: u64, limit: u64) -> bool
     limit % size == 0
 }
 
-fn limits_in_range(size: u64, limits: [u64; 8]) -> bool
+fn limits_in_range(size: u64, limits: [u64; layout::LIMITS]) -> bool
     requires { ⌜ 0 < size ⌝ }
     ensures { λ r. ⌜ r ≡ limitsInRange size limits ⌝ }
 {
     let mut i = 0;
-    while i < 8 {
+    while i < layout::LIMITS {
         if !limit_in_range(size, limits[i]) {
             return false;
         }
@@ -235,13 +141,13 @@ fn component_fits(first_code: u64, i: usize, previous: u64, c: Component) -> boo
 
 // Refusal 3's test: the first component at fault of a run's first `count`, and `count` where none is.
 pub fn run_fault(first_code: u64, run: &[u64], count: usize) -> usize
-    requires { ⌜ (count ≤ 300) × (5 * count ≤ length (now run)) ⌝ }
+    requires { ⌜ (count ≤ mostComponents) × (componentWidth * count ≤ length (now run)) ⌝ }
     ensures { λ r. ⌜ r ≡ componentFault «first_code» (placesOf (componentAt (now (run .entry))) count) count ⌝ }
 {
     let mut previous: u64 = 0;
     let mut i = 0;
     while i < count {
-        let c = component_at(run, i);
+        let c = layout::component_at(run, i);
         if !component_fits(first_code, i, previous, c) {
             return i;
         }

@@ -11,14 +11,13 @@ use lib.Seq.{length-take-le}
 use borrow.Author.Tests.{lt-ltb, le-ltb, eq-eqb, ne-eqb}
 use Rattle.lists.specs.Below.{allBelow, firstBelow, all-none, all-more, all-false}
 use Rattle.flags.specs.Table.{entry}
-use Rattle.fund.specs.declared.Component.{Component}
+use Rattle.layout.specs.declared.Component.{Component}
 use Rattle.digits.specs.declared.Size.{Size}
 use Rattle.digits.specs.declared.Size.the-variants.{Known, Ill}
 use Rattle.digits.specs.Digits.{allBlank, isPlain, plainSize, hasMinus, isSigned, signedFigure, trimmed, isNumber, figureOf, sizeReading}
 use Rattle.digits.proofs.Read.{size-ill, size-known}
 use Rattle.lines.specs.Lines.{nameByte, allBytes}
-use Rattle.list_rules.specs.Columns.{columnCount, rowWidth, columnTable, columnEntry, columnStart, columnWidth, columnForm, holdsName, isUsed, isRow, columnPart}
-use Rattle.list_rules.specs.Columns.{isColumn, columnValue, flagOf, columnFault, componentOf}
+use Rattle.list_rules.specs.Columns.{columnCount, rowWidth, columnTable, columnEntry, columnStart, columnWidth, columnForm, holdsName, isUsed, isRow, columnPart, isColumn, columnValue, flagOf, columnFault, componentOf}
 use Rattle.list_columns.specs.declared.Row.{Row}
 use Rattle.list_columns.specs.Read.{rightForm, numberSize, columnSize}
 use Rattle.list_columns.proofs.Entries.{entry-facts}

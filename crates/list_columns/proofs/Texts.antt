@@ -8,7 +8,7 @@ use native.Mathlib.Omega.{arith}
 use lib.ListN.{length, getD, replicate, length-replicate, length-append}
 use Rattle.lists.specs.Below.{joinBelow, tabulate, table-ext}
 use Rattle.flags.specs.Table.{entry, rateUsed, amountUsed}
-use Rattle.fund.specs.declared.Component.{Component}
+use Rattle.layout.specs.declared.Component.{Component}
 use Rattle.digits.specs.Digits.{plain, fixed, numberText}
 use Rattle.digits.specs.Right.{alignedForm}
 use Rattle.digits.specs.Written.{Written}

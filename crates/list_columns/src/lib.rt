@@ -11,7 +11,7 @@ ghost use Rattle.list_rules.specs.Columns.{columnEntry, columnStart, columnWidt
 ghost use Rattle.list_columns.specs.Read.{rightForm, numberSize, columnSize};
 ghost use Rattle.list_columns.specs.Fitting.{Fitting, Pointed, usedText};
 use digits::Size;
-use fund::Component;
+use layout::Component;
 use list_rules::ROW_WIDTH;
 use units::Money;
 use units::Rate;
@@ -206,7 +206,7 @@ fn read_amount(line: &[u8], flag: u64) -> Size
 fn faulty(k: usize) -> Row
     ensures { λ r. ⌜ r .fault ≡ k ⌝ }
 {
-    let component = fund::blank_component();
+    let component = layout::blank_component();
     Row {
         fault: k,
         component,

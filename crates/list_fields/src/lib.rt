@@ -7,9 +7,9 @@ ghost use Rattle.lists.specs.Below.{tabulate};
 ghost use Rattle.fund.specs.Fund.{cashInRange};
 ghost use Rattle.digits.specs.Digits.{cap, plain};
 ghost use Rattle.list_rules.specs.Dates.{isLeap, daysIn, isDate};
-ghost use Rattle.list_rules.specs.Fields.{signedOf, signedFigure, fieldsFrom, figureAt, fieldsInRange, blankFields};
+ghost use Rattle.list_rules.specs.Fields.{fieldsFrom, figureAt, fieldsInRange, blankFields};
 use digits::Figure;
-use fund::Fund;
+use layout::Fund;
 use list_rules::ListFields;
 use units::Rate;
 
@@ -65,36 +65,6 @@ pub fn is_date(d: u64) -> bool
     day <= days_in(year, month)
 }
 
-// A figure as a signed number.
-pub fn signed_of(z: Figure) -> i64
-    requires { ⌜ z .size ≤ cap ⌝ }
-    ensures { λ r. ⌜ r ≡ signedOf z ⌝ }
-{
-    let size = z.size as i64;
-    if z.negative {
-        return 0 - size;
-    }
-    size
-}
-
-// A signed number as a figure.
-pub fn figure_of(e: i64) -> Figure
-    requires { ⌜ cashInRange e ≡ true ⌝ }
-    ensures { λ r. ⌜ r ≡ signedFigure e ⌝ }
-{
-    if e < 0 {
-        let size = (0 - e) as u64;
-        return Figure {
-            negative: true,
-            size,
-        };
-    }
-    Figure {
-        negative: false,
-        size: e as u64,
-    }
-}
-
 // A number that is not below zero as a figure.
 fn plain_of(size: u64) -> Figure
     ensures { λ r. ⌜ r ≡ plain size ⌝ }
@@ -132,7 +102,7 @@ pub fn fields_of(figures: [Figure; 20]) -> ListFields
         basket_size: figures[1].size,
         max_cash_ratio: Rate(figures[2].size),
         switch: figures[4].size,
-        estimated_cash: signed_of(figures[6]),
+        estimated_cash: digits::signed_of(figures[6]),
         limits: limits_of(figures),
     };
     ListFields {
@@ -140,7 +110,7 @@ pub fn fields_of(figures: [Figure; 20]) -> ListFields
         publish: figures[3].size,
         trading_day: figures[7].size,
         pre_trading_day: figures[8].size,
-        cash_component: signed_of(figures[9]),
+        cash_component: digits::signed_of(figures[9]),
         nav_per_cu: figures[10].size,
         nav: figures[11].size,
         count: figures[5].size as usize,
@@ -186,10 +156,10 @@ pub fn figures_of(l: ListFields) -> [Figure; 20]
         plain_of(l.publish),
         plain_of(fund.switch),
         plain_of(l.count as u64),
-        figure_of(fund.estimated_cash),
+        digits::figure_of(fund.estimated_cash),
         plain_of(l.trading_day),
         plain_of(l.pre_trading_day),
-        figure_of(l.cash_component),
+        digits::figure_of(l.cash_component),
         plain_of(l.nav_per_cu),
         plain_of(l.nav),
         plain_of(limits[0]),

@@ -12,9 +12,11 @@ use Rattle.lists.specs.Below.{tabulate, table-at}
 use Rattle.lists.specs.Stretch.{stretch-join}
 use Rattle.lists.specs.Every.{inside, inside-facts}
 use Rattle.lists.specs.Checks.{reply, passes}
-use Rattle.fund.specs.declared.Component.{Component}
-use Rattle.fund.specs.Components.{componentAt, componentFault, componentWidth, componentNumbers, placesOf}
-use Rattle.fund.proofs.Stored.{numbers-length, component-is}
+use Rattle.layout.specs.declared.Component.{Component}
+use Rattle.layout.specs.Components.{componentAt, componentNumbers, placesOf}
+use Rattle.fund.specs.Components.{componentFault}
+use Rattle.layout.specs.Places.{componentWidth}
+use Rattle.layout.proofs.Components.{numbers-length, component-is}
 use Rattle.rules.specs.declared.Refusal.{Refusal}
 use Rattle.rules.specs.Replies.{refusalReply}
 use Rattle.digits.specs.declared.Figure.{Figure}

@@ -6,7 +6,7 @@ use mathlib.Core.List.{List}
 use lib.Dec.{leb, ltb}
 use lib.ListN.{length}
 use Rattle.lists.specs.Checks.{reply, answered, passes, passed-all, passes-all, answered-stop}
-use Rattle.fund.specs.Components.{componentWidth}
+use Rattle.layout.specs.Places.{componentWidth}
 use Rattle.lines.specs.Lines.{same, nextAt}
 use Rattle.list_rules.specs.Head.{headLines, fieldCount, endWord}
 use Rattle.list_rules.specs.Fields.{fieldsInRange}

@@ -9,7 +9,7 @@ use lib.ListN.{length, drop}
 use borrow.Author.Tests.{lt-ltb, le-ltb}
 use Rattle.lists.specs.Below.{first-le}
 use Rattle.lists.specs.Checks.{reply, isAccepted}
-use Rattle.fund.specs.Components.{componentWidth}
+use Rattle.layout.specs.Places.{componentWidth}
 use Rattle.rules.specs.declared.Refusal.{Refusal}
 use Rattle.rules.specs.Replies.{refusalReply}
 use Rattle.rules.proofs.Replies.{is-refused}

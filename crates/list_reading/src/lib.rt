@@ -119,7 +119,7 @@ fn read_components(
     requires { ⌜ Found (now text) count (now numbers) ⌝ }
     ensures { λ r. ⌜ ReadOutcome (now (text .entry)) (now (run .entry)) r (now (run .exit)) ⌝ }
 {
-    let n = fund::COMPONENT_WIDTH * count;
+    let n = layout::COMPONENT_WIDTH * count;
     let found = &numbers[..n];
     let fault = fund::run_fault(fields.fund.first_code, found, count);
     if fault < count {

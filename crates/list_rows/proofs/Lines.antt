@@ -10,7 +10,7 @@ use lib.ListN.{length, take, drop, length-drop}
 use lib.Seq.{length-take-le, take-take, drop-drop}
 use borrow.Author.Tests.{le-leb, lt-leb}
 use Rattle.lists.specs.Below.{firstBelow, first-end}
-use Rattle.fund.specs.declared.Component.{Component}
+use Rattle.layout.specs.declared.Component.{Component}
 use Rattle.lines.specs.Lines.{nameByte, allBytes}
 use Rattle.list_rules.specs.Head.{headLines}
 use Rattle.list_rules.specs.Columns.{columnCount, rowWidth, rowPitch, columnTable, columnEntry, columnStart, columnWidth, columnPart, nameOf, columnFault, componentOf}

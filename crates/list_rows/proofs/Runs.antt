@@ -9,9 +9,10 @@ use lib.Seq.{sets, length-take-le, set-at, take-at, take-suc, take-length, drop-
 use mathlib.Core.Bool.{true, false}
 use native.Mathlib.Numerals.{add-one}
 use Rattle.lists.specs.Below.{joinBelow}
-use Rattle.fund.specs.declared.Component.{Component}
-use Rattle.fund.specs.Components.{componentAt, componentNumbers, componentWidth}
-use Rattle.fund.proofs.Runs.{numbersBelow, numbers-long, Filled, filled-start, filled-again, filled-end}
+use Rattle.layout.specs.declared.Component.{Component}
+use Rattle.layout.specs.Components.{componentAt, componentNumbers}
+use Rattle.layout.specs.Places.{componentWidth}
+use Rattle.layout.proofs.Runs.{numbersBelow, numbers-long, Filled, filled-start, filled-again, filled-end}
 use Rattle.lines.specs.Lines.{lineText}
 use Rattle.list_rules.specs.Columns.{rowText}
 use Rattle.list_rules.specs.Reading.{rowCount, wrongRow, columnPlace, componentRead, componentsRun}

@@ -3,7 +3,7 @@ ghost use mathlib.Core.Path.{_≡_};
 ghost use mathlib.Core.List.{_++_};
 ghost use Prim.Native.Nat.{ℕ, _+_, _*_, _≤_, _<_};
 ghost use lib.ListN.{length, drop, take};
-ghost use Rattle.fund.specs.Components.{componentAt, componentNumbers};
+ghost use Rattle.layout.specs.Components.{componentAt, componentNumbers};
 ghost use lib.Seq.{sets};
 ghost use Rattle.digits.specs.Written.{Written};
 ghost use Rattle.list_rules.specs.Columns.{isRow};
@@ -11,7 +11,7 @@ ghost use Rattle.list_rules.specs.Reading.{startOf, lineStands, rowCount, wrong
 ghost use Rattle.list_rules.specs.Writing.{nameFault};
 ghost use Rattle.list_columns.specs.Fitting.{Fitting};
 ghost use Rattle.list_rows.specs.Rows.{rowFrom, rowBytes};
-use fund::Component;
+use layout::Component;
 use list_rules::NAME_WIDTH;
 use list_rules::ROW_PITCH;
 use list_rules::ROW_WIDTH;
@@ -62,8 +62,8 @@ fn keep_component(run: &mut [u64], j: usize, c: Component)
     requires { ⌜ length (now run) ≡ 1500 ⌝ }
     ensures { λ _. ⌜ (j < 300 → now (run .exit) ≡ sets (now (run .entry)) (5 * j) (componentNumbers c)) ⌝ }
 {
-    if j < fund::MOST_COMPONENTS {
-        fund::put_component(run, j, c);
+    if j < layout::MOST_COMPONENTS {
+        layout::put_component(run, j, c);
     }
 }
 
@@ -150,7 +150,7 @@ pub fn put_rows(dst: &mut [u8], at: usize, run: &[u64], names: &[u8], count: usi
         p = list_columns::put_row(
             dst,
             p,
-            fund::component_at(run, j),
+            layout::component_at(run, j),
             &names[m..m + NAME_WIDTH],
         );
         j += 1;

@@ -14,27 +14,9 @@ use Rattle.lists.specs.Every.{false-of}
 use Rattle.digits.specs.declared.Figure.{Figure}
 use Rattle.digits.specs.Digits.{plain}
 use Rattle.list_rules.specs.declared.ListFields.{ListFields}
-use Rattle.list_rules.specs.Fields.{minus, signedOf, signedFigure, fieldsFrom, figureAt}
-
--- Signed numbers.
-
--- the number of a number's figure
-pub signed-figure : (e : ℤ) → signedOf (signedFigure e) ≡ e
-unfolding signedOf signedFigure minus
-signed-figure (pos n) = refl
-signed-figure (negsuc n) = refl
-
--- a figure by its sign and its size
-figure-parts : (b : Bool) (n : ℕ) → (b ≡ true → 0 < n) → signedFigure (cond b (minus n) (pos n)) ≡ record { negative = b; size = n }
-unfolding signedFigure minus
-figure-parts false n h = refl
-figure-parts true zero h = absurd (not-suc-le-zero (h refl))
-figure-parts true (suc n) h = refl
-
--- a figure that is negative only above zero
-pub figure-signed : (z : Figure) → (z .negative ≡ true → 0 < z .size) → signedFigure (signedOf z) ≡ z
-unfolding signedOf
-figure-signed z h = figure-parts (z .negative) (z .size) h
+use Rattle.digits.specs.Signed.{signedOf, figureSigned}
+use Rattle.digits.proofs.Signed.{signed-figure, figure-signed}
+use Rattle.list_rules.specs.Fields.{fieldsFrom, figureAt}
 
 -- a figure that is not negative
 figure-plain : (z : Figure) (n : ℕ) → (z .negative ≡ true → ⊥) → n ≡ z .size → plain n ≡ z
@@ -72,7 +54,7 @@ fields-same f g h =
 
 -- what the k-th figure z is after its way through the fields: 6 and 9 keep their sign, and of 0 the fields hold one less
 abbrev returned : ℕ → Figure → Figure
-returned k z = cond (eqb k 6 || eqb k 9) (signedFigure (signedOf z)) (plain (cond (eqb k 0) (z .size - 1 + 1) (z .size)))
+returned k z = cond (eqb k 6 || eqb k 9) (figureSigned (signedOf z)) (plain (cond (eqb k 0) (z .size - 1 + 1) (z .size)))
 
 figures-returned : (f : ℕ → Figure) → tabulate (figureAt (fieldsFrom f)) 20 ≡ tabulate (λ k. returned k (f k)) 20
 unfolding tabulate figureAt fieldsFrom
@@ -85,7 +67,7 @@ module _ (k : ℕ) (z : Figure) (first : k ≡ 0 → 1 ≤ z .size) (sign : z .n
 
   -- the way changes nothing
   figure-returned : (b c : Bool) → eqb k 6 ≡ b → eqb k 9 ≡ c
-      → cond (b || c) (signedFigure (signedOf z)) (plain (cond (eqb k 0) (z .size - 1 + 1) (z .size))) ≡ z
+      → cond (b || c) (figureSigned (signedOf z)) (plain (cond (eqb k 0) (z .size - 1 + 1) (z .size))) ≡ z
   figure-returned true c p q = figure-signed z (λ h. sign h .1)
   figure-returned false true p q = figure-signed z (λ h. sign h .1)
   figure-returned false false p q =

@@ -6,7 +6,7 @@ use lib.Dec.{ltb, eqb}
 use lib.ListN.{length, getD, take, drop, replicate}
 use Rattle.lists.specs.Below.{allBelow, firstBelow, joinBelow}
 use Rattle.flags.specs.Table.{entry}
-use Rattle.fund.specs.declared.Component.{Component}
+use Rattle.layout.specs.declared.Component.{Component}
 use Rattle.digits.specs.declared.Form.{Form}
 use Rattle.digits.specs.Digits.{plain, isNumber, figureOf, numberText, allBlank}
 use Rattle.lines.specs.Lines.{nameByte, allBytes}

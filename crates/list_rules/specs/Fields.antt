@@ -10,21 +10,10 @@ use Rattle.lists.specs.Every.{every}
 use Rattle.fund.specs.Fund.{cashInRange, fundInRange}
 use Rattle.digits.specs.declared.Figure.{Figure}
 use Rattle.digits.specs.Digits.{plain}
-use Rattle.rules.specs.Opening.{blankFund}
+use Rattle.digits.specs.Signed.{signedOf, figureSigned}
+use Rattle.layout.specs.Fund.{blankFund}
 use Rattle.list_rules.specs.declared.ListFields.{ListFields}
 use Rattle.list_rules.specs.Dates.{isDate}
-
--- a figure as a signed number, and a signed number as a figure
-unfoldable pub minus : ℕ → ℤ
-minus zero = pos 0
-minus (suc n) = negsuc n
-
-unfoldable pub signedOf : Figure → ℤ
-signedOf z = cond (z .negative) (minus (z .size)) (pos (z .size))
-
-unfoldable pub signedFigure : ℤ → Figure
-signedFigure (pos n) = plain n
-signedFigure (negsuc n) = record { negative = true; size = suc n }
 
 -- the fields that the head's figures say, by the order of the names: Fundid1 is the code of creation, g + 1
 unfoldable pub fieldsFrom : (ℕ → Figure) → ListFields
@@ -58,10 +47,10 @@ figureAt l k =
     ∷ plain (l .publish)
     ∷ plain (l .fund .switch)
     ∷ plain (l .count)
-    ∷ signedFigure (l .fund .«estimated_cash»)
+    ∷ figureSigned (l .fund .«estimated_cash»)
     ∷ plain (l .«trading_day»)
     ∷ plain (l .«pre_trading_day»)
-    ∷ signedFigure (l .«cash_component»)
+    ∷ figureSigned (l .«cash_component»)
     ∷ plain (l .«nav_per_cu»)
     ∷ plain (l .nav)
     ∷ [])

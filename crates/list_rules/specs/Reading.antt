@@ -7,8 +7,10 @@ use lib.ListN.{length, take, drop}
 use Rattle.lists.specs.Below.{firstBelow, joinBelow}
 use Rattle.lists.specs.Every.{every, inside}
 use Rattle.lists.specs.Checks.{Check, check, Reply, answered, passes}
-use Rattle.fund.specs.declared.Component.{Component}
-use Rattle.fund.specs.Components.{componentFault, componentWidth, componentNumbers, placesOf}
+use Rattle.layout.specs.declared.Component.{Component}
+use Rattle.fund.specs.Components.{componentFault}
+use Rattle.layout.specs.Places.{componentWidth}
+use Rattle.layout.specs.Components.{componentNumbers, placesOf}
 use Rattle.rules.specs.Replies.{ifAccepted}
 use Rattle.digits.specs.declared.Figure.{Figure}
 use Rattle.digits.specs.Digits.{figureOf}

@@ -7,7 +7,9 @@ use lib.ListN.{length, take, drop}
 use Rattle.lists.specs.Below.{firstBelow, joinBelow}
 use Rattle.lists.specs.Every.{every, inside}
 use Rattle.lists.specs.Checks.{Check, check, Reply, answered}
-use Rattle.fund.specs.Components.{componentAt, componentFault, componentWidth, placesOf}
+use Rattle.layout.specs.Components.{componentAt, placesOf}
+use Rattle.fund.specs.Components.{componentFault}
+use Rattle.layout.specs.Places.{componentWidth}
 use Rattle.rules.specs.Replies.{ifAccepted}
 use Rattle.digits.specs.Written.{put}
 use Rattle.lines.specs.Lines.{lineText, nameByte, allBytes}

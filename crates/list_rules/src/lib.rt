@@ -1,5 +1,5 @@
 // What the list text promises: the types of a list and its answers. The definitions are in specs/.
-use fund::Fund;
+use layout::Fund;
 use rules::Refusal;
 
 // The fields of a list but its components, its names and the letters of its first line.

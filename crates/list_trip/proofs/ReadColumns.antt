@@ -12,15 +12,13 @@ use lib.Seq.{length-take-le, take-all, take-add, take-suc, getD-drop, drop-cons}
 use borrow.Author.Tests.{eqb-true, le-leb, not-false}
 use Rattle.lists.specs.Below.{sumBelow, allBelow, joinBelow, all-at, first-all, sum-grows}
 use Rattle.lists.specs.Every.{every-at, inside, inside-facts}
-use Rattle.fund.specs.declared.Component.{Component}
+use Rattle.layout.specs.declared.Component.{Component}
 use Rattle.fund.proofs.Laws.{ComponentRanges}
 use Rattle.digits.specs.declared.Form.{Form}
 use Rattle.digits.specs.declared.Figure.{Figure}
-use Rattle.digits.specs.Digits.{plain, cap, capped, from, blanks, isDigit, allDigits, isWhole, isPlain, plainSize, hasMinus, isSigned}
-use Rattle.digits.specs.Digits.{signedFigure, trimmed, isNumber, figureOf, numberText, allBlank}
+use Rattle.digits.specs.Digits.{plain, cap, capped, from, blanks, isDigit, allDigits, isWhole, isPlain, plainSize, hasMinus, isSigned, signedFigure, trimmed, isNumber, figureOf, numberText, allBlank}
 use Rattle.lines.specs.Lines.{nameByte, allBytes}
-use Rattle.list_rules.specs.Columns.{columnCount, rowWidth, columnTable, columnEntry, columnStart, columnWidth, columnForm, holdsName, isUsed}
-use Rattle.list_rules.specs.Columns.{isRow, columnPart, isColumn, columnValue, flagOf, columnFault, componentOf, nameOf, valueAt, columnText, rowText}
+use Rattle.list_rules.specs.Columns.{columnCount, rowWidth, columnTable, columnEntry, columnStart, columnWidth, columnForm, holdsName, isUsed, isRow, columnPart, isColumn, columnValue, flagOf, columnFault, componentOf, nameOf, valueAt, columnText, rowText}
 use Rattle.digits.proofs.Trip.{number-again, figure-sign, blank-is}
 use Rattle.list_trip.proofs.Below.{each-at, implied, join-same}
 use Rattle.list_trip.proofs.ReadRows.{row-facts}

@@ -16,8 +16,7 @@ use Rattle.digits.specs.declared.Figure.{Figure}
 use Rattle.digits.specs.Digits.{cap, isNumber, numberText}
 use Rattle.lines.specs.Lines.{letterByte, allBytes, isNamed}
 use Rattle.lines.proofs.Laws.{same-is, named-long, named-split}
-use Rattle.list_rules.specs.Head.{fieldCount, headLines, fieldName, fieldTable, fieldEntry, fieldForm, isField, openingWord}
-use Rattle.list_rules.specs.Head.{isLetters, lettersOf, isOpening, isHeadLine, headLine}
+use Rattle.list_rules.specs.Head.{fieldCount, headLines, fieldName, fieldTable, fieldEntry, fieldForm, isField, openingWord, isLetters, lettersOf, isOpening, isHeadLine, headLine}
 use Rattle.list_rules.specs.Fields.{figureAt}
 use Rattle.list_rules.specs.Reading.{startOf, lineOf, fieldOf, figureRead, fieldsRead, lettersRead}
 use Rattle.list_trip.specs.Trips.{renamedLine}

@@ -10,11 +10,12 @@ use lib.ListN.{length, take, drop}
 use borrow.Author.Tests.{lt-ltb, ltb-true}
 use Rattle.lists.specs.Below.{join-length, first-end}
 use Rattle.lists.specs.Stretch.{stretchOf, stretch-join}
-use Rattle.fund.specs.declared.Component.{Component}
-use Rattle.fund.specs.Components.{blank, componentAt, componentFault, componentNumbers, componentWidth, placesOf}
+use Rattle.layout.specs.declared.Component.{Component}
+use Rattle.layout.specs.Components.{blank, componentAt, componentNumbers, placesOf}
+use Rattle.fund.specs.Components.{componentFault}
+use Rattle.layout.specs.Places.{componentWidth}
 use Rattle.fund.proofs.Laws.{ComponentRanges, components-fine}
-use Rattle.fund.proofs.Places.{places-at}
-use Rattle.fund.proofs.Stored.{numbers-length, component-is}
+use Rattle.layout.proofs.Components.{places-at, numbers-length, component-is}
 use Rattle.lines.specs.Lines.{nameByte, allBytes}
 use Rattle.list_rules.specs.Columns.{isRow, nameOf, rowText}
 use Rattle.list_rules.specs.Reading.{rowStart, rowCount, rowOf, componentRead, fieldsRead, readFault, componentsRun, nameRead}

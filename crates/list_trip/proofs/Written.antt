@@ -12,12 +12,12 @@ use Rattle.lists.specs.Below.{joinBelow}
 use Rattle.lists.specs.Every.{inside-true}
 use Rattle.lists.specs.Checks.{check, reply, passes, passes-all, answered-passed, answered-next}
 use Rattle.lists.specs.Stretch.{join-ext}
-use Rattle.fund.specs.Components.{componentFault, componentAt, componentNumbers, placesOf}
+use Rattle.fund.specs.Components.{componentFault}
+use Rattle.layout.specs.Components.{componentAt, componentNumbers, placesOf}
 use Rattle.digits.specs.declared.Figure.{Figure}
 use Rattle.list_rules.specs.declared.ListFields.{ListFields}
 use Rattle.list_rules.specs.Fields.{figureAt, fieldsInRange}
-use Rattle.list_rules.specs.Reading.{rowCount, shapeChecks, fieldChecks, rowOf, componentRead}
-use Rattle.list_rules.specs.Reading.{figureRead, fieldsRead, isCounted, readFault, valueChecks, readChecks, readReply, componentsRun, nameRead}
+use Rattle.list_rules.specs.Reading.{rowCount, shapeChecks, fieldChecks, rowOf, componentRead, figureRead, fieldsRead, isCounted, readFault, valueChecks, readChecks, readReply, componentsRun, nameRead}
 use Rattle.list_rules.specs.Columns.{nameOf}
 use Rattle.list_rules.specs.Writing.{Listing, nameAt, textOf}
 use Rattle.list_trip.specs.Trips.{namesRead, listRead, WrittenReads}

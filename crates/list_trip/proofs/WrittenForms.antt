@@ -9,7 +9,7 @@ use lib.Dec.{ltb}
 use lib.ListN.{length, getD, length-append}
 use borrow.Author.Tests.{ne-eqb}
 use Rattle.flags.specs.Table.{entry}
-use Rattle.fund.specs.declared.Component.{Component}
+use Rattle.layout.specs.declared.Component.{Component}
 use Rattle.fund.proofs.Laws.{ComponentRanges, unused-zero}
 use Rattle.digits.specs.declared.Form.{Form}
 use Rattle.digits.specs.Digits.{plain, cap, wholeText, plainText, signedText}

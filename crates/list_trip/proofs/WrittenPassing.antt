@@ -11,9 +11,10 @@ use Rattle.lists.specs.Below.{first-le, first-all}
 use Rattle.lists.specs.Every.{every-at, inside-facts}
 use Rattle.lists.specs.Checks.{passes, passed-all}
 use Rattle.lists.specs.Stretch.{stretchOf, within, stretch-length}
-use Rattle.fund.specs.Components.{componentFault, componentAt, placesOf}
+use Rattle.fund.specs.Components.{componentFault}
+use Rattle.layout.specs.Components.{componentAt, placesOf}
 use Rattle.fund.proofs.Laws.{ComponentRanges, components-fine}
-use Rattle.fund.proofs.Places.{places-at}
+use Rattle.layout.proofs.Components.{places-at}
 use Rattle.lines.specs.Lines.{nameByte, allBytes}
 use Rattle.list_rules.specs.Head.{isLetters}
 use Rattle.list_rules.specs.Fields.{fieldsInRange}

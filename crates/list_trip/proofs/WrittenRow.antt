@@ -9,15 +9,13 @@ use lib.Dec.{ltb, eqb}
 use lib.ListN.{length, getD, replicate, length-replicate}
 use borrow.Author.Tests.{ltb-true, eq-eqb, eqb-true}
 use Rattle.lists.specs.Below.{allBelow, all-at, all-true, first-end}
-use Rattle.fund.specs.declared.Component.{Component}
+use Rattle.layout.specs.declared.Component.{Component}
 use Rattle.fund.proofs.Laws.{ComponentRanges}
 use Rattle.digits.specs.declared.Figure.{Figure}
 use Rattle.digits.specs.Digits.{plain, fixed, wholeText, plainText, signedText, numberText, isNumber, figureOf, allBlank}
 use Rattle.lines.specs.Lines.{nameByte, allBytes}
 use Rattle.lines.proofs.Laws.{noCR, noCR-append, names-noCR}
-use Rattle.list_rules.specs.Columns.{columnTable, columnEntry, columnStart, columnWidth, columnForm, holdsName, isUsed}
-use Rattle.list_rules.specs.Columns.{isRow, columnPart, isColumn, columnValue, flagOf, columnFault, componentOf, nameOf}
-use Rattle.list_rules.specs.Columns.{valueAt, columnText, rowText}
+use Rattle.list_rules.specs.Columns.{columnTable, columnEntry, columnStart, columnWidth, columnForm, holdsName, isUsed, isRow, columnPart, isColumn, columnValue, flagOf, columnFault, componentOf, nameOf, valueAt, columnText, rowText}
 use Rattle.digits.proofs.Trip.{number-read, figure-read, number-width, blank-all}
 use Rattle.list_trip.proofs.WrittenLines.{parts-noCR}
 use Rattle.list_trip.proofs.WrittenHead.{number-noCR}

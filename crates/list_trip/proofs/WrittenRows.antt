@@ -9,7 +9,7 @@ use lib.ListN.{length, take, drop, length-drop}
 use lib.Seq.{take-at, drop-drop}
 use lib.Dec.{ltb}
 use Rattle.lists.specs.Below.{first-here, first-end}
-use Rattle.fund.specs.Components.{componentAt}
+use Rattle.layout.specs.Components.{componentAt}
 use Rattle.lines.specs.Lines.{nextAt, lineText, same}
 use Rattle.lines.proofs.Laws.{noCR, same-refl, length-lineText}
 use Rattle.list_rules.specs.Head.{endWord}

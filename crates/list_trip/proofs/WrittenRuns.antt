@@ -11,8 +11,8 @@ use lib.ListN.{length, getD}
 use borrow.Author.Tests.{lt-ltb, le-ltb}
 use Rattle.lists.specs.Below.{tabulate, table-length, table-at, table-ext}
 use Rattle.lists.specs.Stretch.{stretchOf, within, stretch-length, stretch-at}
-use Rattle.fund.specs.declared.Component.{Component}
-use Rattle.fund.specs.Components.{blank, componentAt, componentNumbers, placesOf}
+use Rattle.layout.specs.declared.Component.{Component}
+use Rattle.layout.specs.Components.{blank, componentAt, componentNumbers, placesOf}
 
 -- the a-th stretch of five numbers of a run is its a-th component
 pub run-stretch : (run : List ℕ) (n a : ℕ) → length run ≡ 5 * n → a < n → stretchOf 5 run a ≡ componentNumbers (componentAt run a)

@@ -8,7 +8,7 @@ use native.Mathlib.Omega.{arith}
 use lib.ListN.{length, drop}
 use lib.Seq.{drop-append-seam}
 use Rattle.lists.specs.Below.{first-end}
-use Rattle.fund.specs.Components.{componentAt}
+use Rattle.layout.specs.Components.{componentAt}
 use Rattle.digits.specs.declared.Figure.{Figure}
 use Rattle.digits.specs.Digits.{isNumber, figureOf, numberText}
 use Rattle.lines.specs.Lines.{lineText}

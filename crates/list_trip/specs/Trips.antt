@@ -8,7 +8,7 @@ use lib.ListN.{length, drop}
 use Rattle.lists.specs.Below.{joinBelow}
 use Rattle.lists.specs.Every.{inside}
 use Rattle.lists.specs.Checks.{reply, isAccepted, passes}
-use Rattle.fund.specs.Components.{componentWidth}
+use Rattle.layout.specs.Places.{componentWidth}
 use Rattle.lines.specs.Lines.{lineText}
 use Rattle.list_rules.specs.Head.{headLines, fieldName}
 use Rattle.list_rules.specs.Reading.{startOf, lineOf, rowCount, fieldsRead, componentsRun, nameRead, lettersRead, readReply}

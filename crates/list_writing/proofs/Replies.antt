@@ -8,7 +8,8 @@ use lib.ListN.{length}
 use borrow.Author.Tests.{eqb-true, ltb-false}
 use Rattle.lists.specs.Every.{every-at, inside-facts}
 use Rattle.lists.specs.Checks.{reply, answered, passes, isAccepted, passed-all, passes-all, answered-next, accepted-passes}
-use Rattle.fund.specs.Components.{componentFault, componentAt, placesOf}
+use Rattle.fund.specs.Components.{componentFault}
+use Rattle.layout.specs.Components.{componentAt, placesOf}
 use Rattle.rules.specs.declared.Refusal.{Refusal}
 use Rattle.rules.proofs.Replies.{is-refused}
 use Rattle.digits.specs.Written.{put}

@@ -12,7 +12,7 @@ use borrow.Author.Tests.{le-ltb, ne-eqb}
 use Rattle.lists.specs.Below.{tabulate, table-at}
 use Rattle.lists.specs.Every.{inside-facts}
 use Rattle.lists.specs.Checks.{passes}
-use Rattle.fund.specs.Components.{componentAt}
+use Rattle.layout.specs.Components.{componentAt}
 use Rattle.digits.specs.declared.Figure.{Figure}
 use Rattle.digits.specs.Digits.{plain, numberText}
 use Rattle.digits.specs.Written.{Written, put}

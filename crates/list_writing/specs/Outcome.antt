@@ -6,7 +6,7 @@ use mathlib.Core.List.{List, [], _∷_}
 use lib.Dec.{eqb}
 use lib.ListN.{length}
 use Rattle.lists.specs.Every.{every, inside}
-use Rattle.fund.specs.Components.{componentWidth}
+use Rattle.layout.specs.Places.{componentWidth}
 use Rattle.list_rules.specs.declared.ListAnswer.{ListAnswer}
 use Rattle.list_rules.specs.Replies.{listReply}
 use Rattle.list_rules.specs.Writing.{Listing, nameWidth, writeReply, outputAfter}

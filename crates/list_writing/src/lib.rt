@@ -4,7 +4,8 @@ ghost use mathlib.Core.Bool.{true};
 ghost use Prim.Native.Nat.{_*_, _≤_, min};
 ghost use lib.ListN.{length};
 ghost use Rattle.lists.specs.Checks.{passes};
-ghost use Rattle.fund.specs.Components.{componentAt, componentFault, placesOf};
+ghost use Rattle.layout.specs.Components.{componentAt, placesOf};
+ghost use Rattle.fund.specs.Components.{componentFault};
 ghost use Rattle.digits.specs.Written.{put};
 ghost use Rattle.list_rules.specs.Replies.{listReply};
 ghost use Rattle.list_rules.specs.Writing.{listing, listChecks, nameFault, textOf, writeReply};
@@ -23,10 +24,10 @@ fn lengths_fit(count: usize, run: usize, names: usize) -> bool
     if count < 1 {
         return false;
     }
-    if fund::MOST_COMPONENTS < count {
+    if layout::MOST_COMPONENTS < count {
         return false;
     }
-    if run != fund::COMPONENT_WIDTH * count {
+    if run != layout::COMPONENT_WIDTH * count {
         return false;
     }
     names == list_rules::NAME_WIDTH * count

@@ -9,12 +9,12 @@ use lib.ListN.{length, getD}
 use borrow.Author.Tests.{lt-ltb, le-ltb}
 use Rattle.lists.specs.Checks.{reply, answered, answered-next, answered-stop, accepted-passes, refused-stops}
 use Rattle.units.specs.Units.{ratioBound}
-use Rattle.rules.specs.declared.Day.{Day}
+use Rattle.layout.specs.Day.{Day}
 use Rattle.rules.specs.declared.Refusal.{Refusal}
 use Rattle.rules.specs.Replies.{refusalReply}
 use Rattle.rules.proofs.Replies.{is-accepted, is-refused}
 use Rattle.scan.specs.declared.Scan.{Scan}
-use Rattle.rules.specs.Book.{headAt, lotsAt}
+use Rattle.layout.specs.Book.{headAt, lotsAt}
 use Rattle.rules.specs.Orders.{baskets}
 use Rattle.rules.specs.Creation.{creationDue, creationRecords, creationMeans}
 use Rattle.rules.specs.Redemption.{unitsAvailable, redemptionPaid, redemptionRecords, redemptionMeans}

@@ -6,12 +6,12 @@ use mathlib.Core.List.{List, [], _∷_, _++_}
 use lib.Dec.{ltb}
 use Rattle.lists.specs.Checks.{Check, check}
 use Rattle.units.specs.Units.{ratioBound}
-use Rattle.rules.specs.declared.Day.{Day}
+use Rattle.layout.specs.Day.{Day}
 use Rattle.scan.specs.declared.Scan.{Scan}
 use Rattle.scan.specs.Lines.{recordCount}
 use Rattle.scan.specs.Scans.{creationScan, redemptionScan}
 use Rattle.scan.proofs.Counts.{creation-count, redemption-count}
-use Rattle.rules.specs.Book.{cash, headAt}
+use Rattle.layout.specs.Book.{cash, headAt}
 use Rattle.rules.specs.Value.{referenceValue, hasValue}
 use Rattle.rules.specs.Orders.{baskets, otherCash, shanghaiCash}
 use Rattle.rules.specs.Creation.{creationCash, creationDue, ratioPassed, creationMeans}

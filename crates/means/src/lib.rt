@@ -3,8 +3,9 @@ ghost use mathlib.Core.Path.{_≡_};
 ghost use Prim.Native.Nat.{_+_, _≤_, _<_};
 ghost use lib.ListN.{length};
 ghost use Rattle.lists.specs.Checks.{answered};
-ghost use Rattle.day_parts.specs.Parts.{dayOf};
-ghost use Rattle.rules.specs.Book.{widthOf};
+ghost use Rattle.layout.specs.Places.{basketWidth};
+ghost use Rattle.layout.specs.Day.{dayOf};
+ghost use Rattle.layout.specs.Book.{widthOf};
 ghost use Rattle.rules.specs.Replies.{answerReply, orderReply};
 ghost use Rattle.rules.specs.Orders.{mostBaskets, baskets};
 ghost use Rattle.rules.specs.Creation.{creationRecords, creationMeans};
@@ -13,7 +14,7 @@ ghost use Rattle.value.specs.Worth.{Priceable};
 ghost use Rattle.scan.specs.Lines.{recordCount};
 ghost use Rattle.scan.specs.Ready.{CreationReady, RedemptionReady};
 ghost use Rattle.means.specs.Tests.{ratioTests, lastTests, creationTests, redemptionTests, CreationFound, RedemptionFound};
-use day_parts::DayHead;
+use layout::DayHead;
 use rules::Answer;
 use rules::OrderAnswer;
 use rules::Refusal;
@@ -39,7 +40,7 @@ fn ratio_answer(
 ) -> Answer
     requires { ⌜ Priceable (dayOf d (now basket)) (now prices) ⌝ }
     requires { ⌜ (m ≤ mostBaskets) × (d .fund .«max_cash_ratio» .0 ≤ 100_000) ⌝ }
-    requires { ⌜ length (now basket) ≡ 1500 ⌝ }
+    requires { ⌜ length (now basket) ≡ basketWidth ⌝ }
     ensures { λ r. ⌜ answerReply r ≡ answered (ratioTests (dayOf d (now (basket .entry))) (now (prices .entry)) m missing (worth .0)) 0 ⌝ }
 {
     if !missing {
@@ -97,7 +98,7 @@ fn creation_from(
 ) -> OrderAnswer
     requires { ⌜ Priceable (dayOf d (now basket)) (now prices) ⌝ }
     requires { ⌜ (m ≤ mostBaskets) × (d .fund .«max_cash_ratio» .0 ≤ 100_000) × (t .«stock_records» ≤ 300) × (t .other .0 + t .shanghai .0 ≤ 12_000_000_000_000_000_000) ⌝ }
-    requires { ⌜ length (now basket) ≡ 1500 ⌝ }
+    requires { ⌜ length (now basket) ≡ basketWidth ⌝ }
     ensures { λ r. ⌜ orderReply r ≡ answered (creationTests (dayOf d (now (basket .entry))) (now (prices .entry)) m n t held room) (recordCount t) ⌝ }
 {
     let short = t.short;
@@ -148,7 +149,7 @@ pub fn creation_means(
     requires { ⌜ CreationReady (dayOf d (now basket)) (now stretch) (now prices) m ⌝ }
     requires { ⌜ Priceable (dayOf d (now basket)) (now prices) ⌝ }
     requires { ⌜ (m ≡ baskets (dayOf d (now basket)) units) × (d .fund .«max_cash_ratio» .0 ≤ 100_000) ⌝ }
-    requires { ⌜ length (now basket) ≡ 1500 ⌝ }
+    requires { ⌜ length (now basket) ≡ basketWidth ⌝ }
     ensures { λ r. ⌜ orderReply (r .answer) ≡ answered (creationMeans (dayOf d (now (basket .entry))) (now (stretch .entry)) (now (prices .entry)) units room) (length (creationRecords (dayOf d (now (basket .entry))) (now (stretch .entry)) (now (prices .entry)) units)) ⌝ }
     ensures found { λ r. ⌜ CreationFound (dayOf d (now (basket .entry))) (now (stretch .entry)) (now (prices .entry)) units (r .other .0) (r .shanghai .0) ⌝ }
 {
@@ -176,7 +177,7 @@ pub fn redemption_means(
 ) -> Tested
     requires { ⌜ RedemptionReady (dayOf d (now basket)) (now fund) m ⌝ }
     requires { ⌜ (m ≡ baskets (dayOf d (now basket)) units) × (length (now stretch) ≡ widthOf (d .count)) × (unitsAvailable (dayOf d (now basket)) (now stretch) ≤ 2_000_000_000_000_000_000) ⌝ }
-    requires { ⌜ length (now basket) ≡ 1500 ⌝ }
+    requires { ⌜ length (now basket) ≡ basketWidth ⌝ }
     ensures { λ r. ⌜ orderReply (r .answer) ≡ answered (redemptionMeans (dayOf d (now (basket .entry))) (now (stretch .entry)) (now (fund .entry)) units room) (length (redemptionRecords (dayOf d (now (basket .entry))) units)) ⌝ }
     ensures found { λ r. ⌜ RedemptionFound (dayOf d (now (basket .entry))) units (r .other .0) (r .shanghai .0) ⌝ }
 {

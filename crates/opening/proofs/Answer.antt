@@ -10,15 +10,16 @@ use borrow.Author.Tests.{lt-ltb, le-ltb, eqb-true}
 use Rattle.lists.specs.Below.{joinBelow}
 use Rattle.lists.specs.Every.{every, every-at, inside}
 use Rattle.lists.specs.Checks.{Check, check, reply, answered, isAccepted}
-use Rattle.fund.specs.declared.Component.{Component}
+use Rattle.layout.specs.declared.Component.{Component}
 use Rattle.fund.specs.Fund.{fundInRange}
-use Rattle.fund.specs.Components.{componentFault, componentAt, placesOf}
-use Rattle.rules.specs.declared.Day.{Day}
+use Rattle.fund.specs.Components.{componentFault}
+use Rattle.layout.specs.Components.{componentAt, placesOf}
+use Rattle.layout.specs.Day.{Day, blankDay}
 use Rattle.rules.specs.declared.Refusal.{Refusal}
 use Rattle.rules.specs.declared.Answer.{Answer}
 use Rattle.rules.specs.declared.Answer.the-variants.{Done, Refused}
 use Rattle.rules.specs.Replies.{answerReply}
-use Rattle.rules.specs.Opening.{Opening, holdingsOf, componentsOpened, lengthsFit, openedTotal, openedCash, totalFault, dayChecks, openingReply, blankDay, openedDay, openedStretch, openedBook, openedPrices}
+use Rattle.rules.specs.Opening.{Opening, holdingsOf, componentsOpened, lengthsFit, openedTotal, openedCash, totalFault, dayChecks, openingReply, openedDay, openedStretch, openedBook, openedPrices}
 use Rattle.rules.proofs.Replies.{refused}
 use Rattle.rules.proofs.OpenedDay.{opened-opens, opened-day, opened-book, opened-prices}
 use Rattle.opening.specs.Given.{Outcome, sizesFit, overOpened, faultOpened}

@@ -8,7 +8,7 @@ use native.Mathlib.Omega.{arith}
 use lib.ListN.{length}
 use Rattle.lists.specs.Below.{joinBelow}
 use Rattle.lists.specs.Stretch.{stretchOf, putStretch, within, put-length, stretch-put-same, stretch-put-other, join-ext}
-use Rattle.rules.specs.Book.{widthOf}
+use Rattle.layout.specs.Book.{widthOf}
 use Rattle.rules.specs.Opening.{openedStretch}
 use Rattle.rules.proofs.OpenedDay.{opened-length}
 

@@ -6,7 +6,7 @@ use native.Mathlib.Omega.{arith}
 use lib.ListN.{length, getD, take, drop, length-set, length-append}
 use lib.Seq.{sets-eq, take-at, take-all, length-take-le}
 use Rattle.lists.specs.Below.{joinBelow, join-none, join-more}
-use Rattle.rules.specs.Book.{widthOf}
+use Rattle.layout.specs.Book.{widthOf}
 use Rattle.rules.specs.Opening.{cashOpened, heldOpened, openedStretch}
 use Rattle.opening.specs.Given.{putThree}
 

@@ -4,7 +4,7 @@ use mathlib.Core.Bool.{true, false}
 use Prim.Native.Nat.{ℕ, _+_, _*_}
 use borrow.Author.Tests.{eq-eqb, eqb-true}
 use Rattle.lists.specs.Every.{every-none, every-more, every-at, false-of, inside-true, inside-facts}
-use Rattle.rules.specs.Book.{widthOf}
+use Rattle.layout.specs.Book.{widthOf}
 use Rattle.opening.specs.Given.{Sized, sizesFit}
 
 pub record Sizes (accounts count components holdings book prices : ℕ) : Type 0 where

@@ -8,9 +8,9 @@ use lib.ListN.{getD, set}
 use Rattle.lists.specs.Below.{firstBelow}
 use Rattle.lists.specs.Every.{every, inside}
 use Rattle.lists.specs.Stretch.{stretchOf, over}
-use Rattle.fund.specs.declared.Fund.{Fund}
-use Rattle.fund.specs.Components.{componentWidth}
-use Rattle.rules.specs.Book.{widthOf}
+use Rattle.layout.specs.declared.Fund.{Fund}
+use Rattle.layout.specs.Places.{componentWidth}
+use Rattle.layout.specs.Book.{widthOf}
 use Rattle.rules.specs.declared.Opened.{Opened}
 use Rattle.rules.specs.Replies.{answerReply}
 use Rattle.rules.specs.Opening.{Opening, cashOpened, heldOpened, mostOfLine, overAt, openingReply, openedDay, openedBook, openedPrices}

@@ -4,11 +4,13 @@ ghost use Prim.Native.Nat.{_+_, _*_, _≤_, _<_, min};
 ghost use lib.ListN.{length, replicate};
 ghost use Rattle.lists.specs.Below.{joinBelow};
 ghost use Rattle.lists.specs.Stretch.{stretchOf, putStretch};
-ghost use Rattle.rules.specs.Book.{widthOf};
+ghost use Rattle.layout.specs.Book.{widthOf};
 ghost use Rattle.rules.specs.Replies.{answerReply};
-ghost use Rattle.rules.specs.Opening.{openingReply, blankFund, blankDay, openedStretch};
+ghost use Rattle.rules.specs.Opening.{openingReply, openedStretch};
+ghost use Rattle.layout.specs.Fund.{blankFund};
+ghost use Rattle.layout.specs.Day.{blankDay};
 ghost use Rattle.opening.specs.Given.{given, Outcome, Sized, sizesFit, cappedTotal, overOpened, faultOpened, putThree};
-use fund::Fund;
+use layout::Fund;
 use rules::Answer;
 use rules::Day;
 use rules::Opened;
@@ -103,10 +105,10 @@ fn sizes_fit(
     if count < 1 {
         return false;
     }
-    if fund::MOST_COMPONENTS < count {
+    if layout::MOST_COMPONENTS < count {
         return false;
     }
-    if components != fund::COMPONENT_WIDTH * count {
+    if components != layout::COMPONENT_WIDTH * count {
         return false;
     }
     if holdings != accounts * (count + 2) {
@@ -235,7 +237,7 @@ fn blank_fund() -> Fund
 pub fn blank_day() -> Day
     ensures { λ r. ⌜ r ≡ blankDay ⌝ }
 {
-    let blank = fund::blank_component();
+    let blank = layout::blank_component();
     let fund = blank_fund();
     let components = [blank; 300];
     Day {

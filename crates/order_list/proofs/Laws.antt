@@ -12,16 +12,17 @@ use Rattle.lists.specs.Stretch.{within}
 use Rattle.fund.proofs.Laws.{fund-sound}
 use Rattle.means.specs.declared.Tested.{Tested}
 use Rattle.means.specs.Tests.{CreationFound, RedemptionFound}
-use Rattle.rules.specs.declared.Day.{Day}
-use Rattle.rules.specs.declared.Record.{Record}
+use Rattle.layout.specs.Day.{Day}
+use Rattle.layout.specs.declared.Record.{Record}
 use Rattle.rules.specs.declared.Refusal.the-variants.{UnsoundDay}
 use Rattle.rules.specs.declared.OrderAnswer.{OrderAnswer}
 use Rattle.rules.specs.declared.OrderAnswer.the-variants.{Made, Refused}
-use Rattle.rules.specs.Book.{width, account}
+use Rattle.layout.specs.Book.{width, account}
 use Rattle.rules.specs.Replies.{orderReply, ifAccepted}
 use Rattle.rules.specs.Sound.{isSound, onSoundDay}
 use Rattle.rules.specs.Orders.{creation, redemption, baskets, mostBaskets, formChecks, permissionChecks}
-use Rattle.rules.specs.Records.{orderRecords, flatten}
+use Rattle.rules.specs.Records.{orderRecords}
+use Rattle.layout.specs.Records.{flatten}
 use Rattle.rules.specs.Creation.{creationDue, creationRecords, creationMeans, creationChecks, creationReply, creationMoves, createdBook}
 use Rattle.rules.specs.Redemption.{redemptionPaid, redemptionRecords, redemptionMeans, redemptionChecks, redemptionReply, redemptionMoves, redeemedBook}
 use Rattle.rules.specs.Kinds.{recordsBy, orderMoves, creation-moves, redemption-moves, creation-records, redemption-records}
@@ -29,7 +30,7 @@ use Rattle.rules.proofs.SoundDay.{SoundDay, sound-facts}
 use Rattle.rules.proofs.Accepted.{creation-facts, redemption-facts}
 use Rattle.rules.proofs.Replies.{is-accepted, is-refused, on-sound, on-unsound}
 use Rattle.book.proofs.Ready.{creation-ready as creation-ready-to-move, redemption-ready as redemption-ready-to-move}
-use Rattle.records.proofs.Laws.{flatten-length}
+use Rattle.layout.proofs.Records.{flatten-length}
 use Rattle.records.proofs.Sound.{sound-writable}
 use Rattle.scan.proofs.Ready.{creation-ready, redemption-ready, due-fits, paid-fits}
 use Rattle.orders.specs.Orders.{creationAnswer, redemptionAnswer}

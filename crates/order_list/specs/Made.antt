@@ -2,9 +2,9 @@
 use Prim.Native.Nat.{ℕ}
 use mathlib.Core.List.{List, _++_}
 use lib.ListN.{length, drop}
-use Rattle.rules.specs.declared.Day.{Day}
-use Rattle.rules.specs.declared.Record.{Record}
-use Rattle.rules.specs.Book.{account}
+use Rattle.layout.specs.Day.{Day}
+use Rattle.layout.specs.declared.Record.{Record}
+use Rattle.layout.specs.Book.{account}
 use Rattle.rules.specs.Replies.{ifAccepted}
 use Rattle.rules.specs.Creation.{creationRecords, creationReply}
 use Rattle.rules.specs.Redemption.{redemptionRecords, redemptionReply}

@@ -2,7 +2,7 @@
 // A refused order has a plan without records, which writes and moves nothing.
 ghost use mathlib.Core.Path.{_≡_};
 ghost use lib.ListN.{length};
-ghost use Rattle.rules.specs.Book.{account};
+ghost use Rattle.layout.specs.Book.{account};
 ghost use Rattle.rules.specs.Replies.{orderReply};
 ghost use Rattle.rules.specs.Creation.{creationReply, creationRecords, creationMoves, createdBook};
 ghost use Rattle.rules.specs.Redemption.{redemptionReply, redemptionRecords, redemptionMoves, redeemedBook};
@@ -12,7 +12,7 @@ use means::Tested;
 use record_list::Order;
 use rules::Day;
 use rules::OrderAnswer;
-use rules::Record;
+use layout::Record;
 use rules::Refusal;
 use units::Money;
 

@@ -9,14 +9,14 @@ use borrow.Author.Tests.{not-false}
 use Rattle.lists.specs.Checks.{Check, reply, answered, isAccepted, all-passed, answered-next, answered-stop, accepted-passes, refused-stops}
 use Rattle.lists.specs.Stretch.{within, stretch-length}
 use Rattle.fund.proofs.Laws.{FundRanges, fund-sound}
-use Rattle.rules.specs.declared.Day.{Day}
+use Rattle.layout.specs.Day.{Day}
 use Rattle.rules.specs.declared.Refusal.{Refusal}
-use Rattle.rules.specs.Book.{widthOf, account, headTotal}
+use Rattle.layout.specs.Book.{widthOf, account, headTotal}
 use Rattle.rules.specs.Replies.{refusalReply}
 use Rattle.rules.specs.Sound.{isSound}
 use Rattle.rules.specs.Orders.{creation, redemption, baskets, wholeBaskets, countOf, fundCount, withinLimits}
-use Rattle.rules.specs.declared.Record.{Record}
-use Rattle.rules.specs.Records.{roomIn, withRecords}
+use Rattle.layout.specs.declared.Record.{Record}
+use Rattle.layout.specs.Records.{roomIn, withRecords}
 use Rattle.rules.specs.Creation.{creationDue, creationRecords, creationMeans, creationChecks, creationReply, creationMoves}
 use Rattle.rules.specs.Redemption.{unitsAvailable, redemptionRecords, redemptionPaid, redemptionMeans, redemptionChecks, redemptionReply, redemptionMoves}
 use Rattle.rules.specs.Kinds.{recordsBy, orderMoves, creation-moves, redemption-moves, creation-records, redemption-records}

@@ -5,8 +5,8 @@ use mathlib.Core.Bool.{true}
 use mathlib.Core.List.{List}
 use lib.ListN.{length}
 use Rattle.lists.specs.Checks.{Reply, reply, answered}
-use Rattle.rules.specs.declared.Day.{Day}
-use Rattle.rules.specs.Book.{account}
+use Rattle.layout.specs.Day.{Day}
+use Rattle.layout.specs.Book.{account}
 use Rattle.rules.specs.Sound.{isSound}
 use Rattle.rules.specs.Creation.{creationRecords, creationChecks}
 use Rattle.rules.specs.Redemption.{redemptionRecords, redemptionChecks}

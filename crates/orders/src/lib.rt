@@ -3,23 +3,23 @@ ghost use mathlib.Core.Path.{_≡_};
 ghost use mathlib.Core.Bool.{true};
 ghost use Prim.Native.Nat.{_+_, _*_, _≤_, _<_};
 ghost use lib.ListN.{length};
-ghost use Rattle.lists.specs.Checks.{isAccepted};
+ghost use Rattle.lists.specs.Checks.{isAccepted, answered};
 ghost use Rattle.lists.specs.Stretch.{stretchOf};
-ghost use Rattle.day_parts.specs.Parts.{dayOf};
-ghost use Rattle.rules.specs.Book.{widthOf, account};
+ghost use Rattle.layout.specs.Places.{basketWidth};
+ghost use Rattle.layout.specs.Day.{dayOf};
+ghost use Rattle.layout.specs.Book.{widthOf, account};
 ghost use Rattle.rules.specs.Replies.{orderReply, ifAccepted};
 ghost use Rattle.rules.specs.Sound.{isSound};
 ghost use Rattle.rules.specs.Orders.{creation, redemption, baskets};
-ghost use Rattle.rules.specs.Records.{roomIn, withRecords};
+ghost use Rattle.layout.specs.Records.{roomIn, withRecords};
 ghost use Rattle.rules.specs.Creation.{creationRecords, creationMeans, creationMoves};
 ghost use Rattle.rules.specs.Redemption.{redemptionRecords, redemptionMeans, redemptionMoves};
 ghost use Rattle.rules.specs.Kinds.{recordsBy, orderMoves};
 ghost use Rattle.book.specs.Ready.{OrderReady};
 ghost use Rattle.records.specs.Ready.{Writable};
 ghost use Rattle.means.specs.Tests.{CreationFound, RedemptionFound};
-ghost use Rattle.lists.specs.Checks.{answered};
 ghost use Rattle.orders.specs.Orders.{creationAnswer, redemptionAnswer, Formed};
-use day_parts::DayHead;
+use layout::DayHead;
 use means::Tested;
 use rules::Answer;
 use rules::OrderAnswer;
@@ -31,7 +31,7 @@ fn part_of(book: &[u64], count: usize, a: usize) -> &[u64]
     requires { ⌜ (count ≤ 300) × (a * widthOf count + widthOf count ≤ length (now book)) ⌝ }
     ensures { λ r. ⌜ now r ≡ stretchOf (widthOf count) (now (book .entry)) a ⌝ }
 {
-    let w = book::width_of(count);
+    let w = layout::width_of(count);
     let start = a * w;
     let end = start + w;
     &book[start..end]
@@ -48,7 +48,7 @@ fn creation_stage(
     room: usize,
 ) -> Tested
     requires { ⌜ Formed (dayOf d (now basket)) (now book) (now prices) creation a units ⌝ }
-    requires { ⌜ length (now basket) ≡ 1500 ⌝ }
+    requires { ⌜ length (now basket) ≡ basketWidth ⌝ }
     ensures { λ r. ⌜ orderReply (r .answer) ≡ answered (creationMeans (dayOf d (now (basket .entry))) (account (dayOf d (now (basket .entry))) (now (book .entry)) a) (now (prices .entry)) units room) (length (creationRecords (dayOf d (now (basket .entry))) (account (dayOf d (now (basket .entry))) (now (book .entry)) a) (now (prices .entry)) units)) ⌝ }
     ensures found { λ r. ⌜ CreationFound (dayOf d (now (basket .entry))) (account (dayOf d (now (basket .entry))) (now (book .entry)) a) (now (prices .entry)) units (r .other .0) (r .shanghai .0) ⌝ }
 {
@@ -67,7 +67,7 @@ fn redemption_stage(
     room: usize,
 ) -> Tested
     requires { ⌜ Formed (dayOf d (now basket)) (now book) (now prices) redemption a units ⌝ }
-    requires { ⌜ length (now basket) ≡ 1500 ⌝ }
+    requires { ⌜ length (now basket) ≡ basketWidth ⌝ }
     ensures { λ r. ⌜ orderReply (r .answer) ≡ answered (redemptionMeans (dayOf d (now (basket .entry))) (account (dayOf d (now (basket .entry))) (now (book .entry)) a) (account (dayOf d (now (basket .entry))) (now (book .entry)) 0) units room) (length (redemptionRecords (dayOf d (now (basket .entry))) units)) ⌝ }
     ensures found { λ r. ⌜ RedemptionFound (dayOf d (now (basket .entry))) units (r .other .0) (r .shanghai .0) ⌝ }
 {
@@ -106,7 +106,7 @@ pub fn creation_tested(
     room: usize,
 ) -> Tested
     requires { ⌜ isSound (dayOf d (now basket)) (now book) (now prices) ≡ true ⌝ }
-    requires { ⌜ length (now basket) ≡ 1500 ⌝ }
+    requires { ⌜ length (now basket) ≡ basketWidth ⌝ }
     ensures { λ r. ⌜ orderReply (r .answer) ≡ creationAnswer (dayOf d (now (basket .entry))) (now (book .entry)) (now (prices .entry)) a units room ⌝ }
     ensures found { λ r. ⌜ (isAccepted (creationAnswer (dayOf d (now (basket .entry))) (now (book .entry)) (now (prices .entry)) a units room) ≡ true → CreationFound (dayOf d (now (basket .entry))) (account (dayOf d (now (basket .entry))) (now (book .entry)) a) (now (prices .entry)) units (r .other .0) (r .shanghai .0)) ⌝ }
 {
@@ -128,7 +128,7 @@ pub fn redemption_tested(
     room: usize,
 ) -> Tested
     requires { ⌜ isSound (dayOf d (now basket)) (now book) (now prices) ≡ true ⌝ }
-    requires { ⌜ length (now basket) ≡ 1500 ⌝ }
+    requires { ⌜ length (now basket) ≡ basketWidth ⌝ }
     ensures { λ r. ⌜ orderReply (r .answer) ≡ redemptionAnswer (dayOf d (now (basket .entry))) (now (book .entry)) a units room ⌝ }
     ensures found { λ r. ⌜ (isAccepted (redemptionAnswer (dayOf d (now (basket .entry))) (now (book .entry)) a units room) ≡ true → RedemptionFound (dayOf d (now (basket .entry))) units (r .other .0) (r .shanghai .0)) ⌝ }
 {
@@ -154,7 +154,7 @@ fn make_order(
     requires { ⌜ OrderReady kind (dayOf d (now basket)) (now book) a units (baskets (dayOf d (now basket)) units) (other .0 + shanghai .0) ⌝ }
     requires { ⌜ Writable kind (dayOf d (now basket)) (account (dayOf d (now basket)) (now book) a) units (baskets (dayOf d (now basket)) units) (other .0) (shanghai .0) (now list) ⌝ }
     requires { ⌜ 0 < d .fund .«basket_size» ⌝ }
-    requires { ⌜ length (now basket) ≡ 1500 ⌝ }
+    requires { ⌜ length (now basket) ≡ basketWidth ⌝ }
     ensures book { λ _. ⌜ now (book .exit) ≡ orderMoves kind (dayOf d (now (basket .entry))) a units (baskets (dayOf d (now (basket .entry))) units) (other .0 + shanghai .0) (now (book .entry)) ⌝ }
     ensures list { λ _. ⌜ now (list .exit) ≡ withRecords (recordsBy kind (dayOf d (now (basket .entry))) (account (dayOf d (now (basket .entry))) (now (book .entry)) a) units (baskets (dayOf d (now (basket .entry))) units) (other .0) (shanghai .0)) (now (list .entry)) ⌝ }
 {
@@ -173,7 +173,7 @@ pub fn create(
     list: &mut [u64],
 ) -> OrderAnswer
     requires { ⌜ isSound (dayOf d (now basket)) (now book) (now prices) ≡ true ⌝ }
-    requires { ⌜ length (now basket) ≡ 1500 ⌝ }
+    requires { ⌜ length (now basket) ≡ basketWidth ⌝ }
     ensures { λ r. ⌜ orderReply r ≡ creationAnswer (dayOf d (now (basket .entry))) (now (book .entry)) (now (prices .entry)) a units (roomIn (now (list .entry))) ⌝ }
     ensures book { λ r. ⌜ now (book .exit) ≡ ifAccepted (creationAnswer (dayOf d (now (basket .entry))) (now (book .entry)) (now (prices .entry)) a units (roomIn (now (list .entry)))) (creationMoves (dayOf d (now (basket .entry))) (now (prices .entry)) a units (now (book .entry))) (now (book .entry)) ⌝ }
     ensures list { λ r. ⌜ now (list .exit) ≡ ifAccepted (creationAnswer (dayOf d (now (basket .entry))) (now (book .entry)) (now (prices .entry)) a units (roomIn (now (list .entry)))) (withRecords (creationRecords (dayOf d (now (basket .entry))) (account (dayOf d (now (basket .entry))) (now (book .entry)) a) (now (prices .entry)) units) (now (list .entry))) (now (list .entry)) ⌝ }
@@ -185,7 +185,7 @@ pub fn create(
         prices,
         a,
         units,
-        list.len() / rules::RECORD_WIDTH,
+        list.len() / layout::RECORD_WIDTH,
     );
     let answer = t.answer;
     match answer {
@@ -218,7 +218,7 @@ pub fn redeem(
     list: &mut [u64],
 ) -> OrderAnswer
     requires { ⌜ isSound (dayOf d (now basket)) (now book) (now prices) ≡ true ⌝ }
-    requires { ⌜ length (now basket) ≡ 1500 ⌝ }
+    requires { ⌜ length (now basket) ≡ basketWidth ⌝ }
     ensures { λ r. ⌜ orderReply r ≡ redemptionAnswer (dayOf d (now (basket .entry))) (now (book .entry)) a units (roomIn (now (list .entry))) ⌝ }
     ensures book { λ r. ⌜ now (book .exit) ≡ ifAccepted (redemptionAnswer (dayOf d (now (basket .entry))) (now (book .entry)) a units (roomIn (now (list .entry)))) (redemptionMoves (dayOf d (now (basket .entry))) a units (now (book .entry))) (now (book .entry)) ⌝ }
     ensures list { λ r. ⌜ now (list .exit) ≡ ifAccepted (redemptionAnswer (dayOf d (now (basket .entry))) (now (book .entry)) a units (roomIn (now (list .entry)))) (withRecords (redemptionRecords (dayOf d (now (basket .entry))) units) (now (list .entry))) (now (list .entry)) ⌝ }
@@ -230,7 +230,7 @@ pub fn redeem(
         prices,
         a,
         units,
-        list.len() / rules::RECORD_WIDTH,
+        list.len() / layout::RECORD_WIDTH,
     );
     let answer = t.answer;
     match answer {

@@ -13,11 +13,11 @@ use Rattle.lists.specs.Below.{sumBelow, sum-none, sum-more, sum-grows, sum-part
 use Rattle.lists.specs.Checks.{reply, answered}
 use Rattle.lists.specs.Every.{every, every-at, inside, inside-facts}
 use Rattle.lists.specs.Stretch.{stretchOf, over, within, stretch-at}
-use Rattle.fund.specs.declared.Fund.{Fund}
+use Rattle.layout.specs.declared.Fund.{Fund}
 use Rattle.fund.specs.Fund.{ceiling, limitOf, cumulativeLimit, cumulativeLimitEach, netLimit, netLimitEach}
 use Rattle.fund.proofs.Laws.{fund-sound}
-use Rattle.rules.specs.declared.Day.{Day}
-use Rattle.rules.specs.Book.{widthOf, created, redeemed, headAt, headTotal}
+use Rattle.layout.specs.Day.{Day}
+use Rattle.layout.specs.Book.{widthOf, created, redeemed, headAt, headTotal}
 use Rattle.rules.specs.Trade.{isInvestor}
 use Rattle.rules.specs.Orders.{mostBaskets, withinLimit}
 use Rattle.rules.proofs.SoundDay.{SoundDay}

@@ -8,10 +8,10 @@ use lib.ListN.{length}
 use Rattle.lists.specs.Every.{every, inside}
 use Rattle.lists.specs.Checks.{Check, check}
 use Rattle.lists.specs.Stretch.{stretchOf, over}
-use Rattle.fund.specs.declared.Fund.{Fund}
+use Rattle.layout.specs.declared.Fund.{Fund}
 use Rattle.fund.specs.Fund.{ceiling, limitOf, cumulativeLimit, cumulativeLimitEach, netLimit, netLimitEach}
-use Rattle.rules.specs.declared.Day.{Day}
-use Rattle.rules.specs.Book.{widthOf, created, redeemed, headAt, headTotal}
+use Rattle.layout.specs.Day.{Day}
+use Rattle.layout.specs.Book.{widthOf, created, redeemed, headAt, headTotal}
 use Rattle.rules.specs.Trade.{isInvestor}
 use Rattle.rules.specs.Orders.{mostBaskets, baskets, wholeBaskets, formChecks, switchAllows, withinLimit, countOf, fundCount, withinLimits, permissionChecks}
 

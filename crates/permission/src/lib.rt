@@ -4,10 +4,10 @@ ghost use Prim.Native.Nat.{_+_, _-_, _*_, _≤_, _<_};
 ghost use lib.ListN.{length};
 ghost use Rattle.lists.specs.Checks.{answered};
 ghost use Rattle.fund.specs.Fund.{ceiling, limitOf};
-ghost use Rattle.rules.specs.Book.{widthOf};
+ghost use Rattle.layout.specs.Book.{widthOf};
 ghost use Rattle.rules.specs.Replies.{answerReply};
 ghost use Rattle.permission.specs.Form.{headOf, headSum, limitsHeld, orderForm, Countable};
-use fund::Fund;
+use layout::Fund;
 use rules::Answer;
 use rules::Refusal;
 
@@ -16,7 +16,7 @@ fn head_sum(accounts: usize, count: usize, book: &[u64], place: usize) -> u64
     requires { ⌜ (accounts ≤ 64) × (count ≤ 300) × (place < 3) × (length (now book) ≡ accounts * widthOf count) × (headSum accounts count (now book) place ≤ ceiling) ⌝ }
     ensures { λ r. ⌜ r ≡ headSum accounts count (now (book .entry)) place ⌝ }
 {
-    let w = book::width_of(count);
+    let w = layout::width_of(count);
     let mut total: u64 = 0;
     let mut a = 0;
     while a < accounts {
@@ -31,7 +31,7 @@ fn head_of(count: usize, book: &[u64], a: usize, place: usize) -> u64
     requires { ⌜ (count ≤ 300) × (place < 3) × (a * widthOf count + widthOf count ≤ length (now book)) ⌝ }
     ensures { λ r. ⌜ r ≡ headOf count (now (book .entry)) a place ⌝ }
 {
-    let w = book::width_of(count);
+    let w = layout::width_of(count);
     book[a * w + place]
 }
 

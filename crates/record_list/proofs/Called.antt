@@ -14,8 +14,8 @@ use denote.Ref.{RefT, now}
 use denote.Triple.Spec.{tripleOf}
 use denote.Triple.Statement.{Contract}
 use denote.Triple.Clauses.{ensured, lasts}
-use Rattle.rules.specs.declared.Record.{Record}
-use Rattle.rules.specs.declared.Day.{Day}
+use Rattle.layout.specs.declared.Record.{Record}
+use Rattle.layout.specs.Day.{Day}
 use Rattle.record_list.specs.declared.Order.{Order}
 use Rattle.record_list.specs.declared.Cursor.{Cursor}
 use Rattle.record_list.specs.declared.Next.{Next}

@@ -5,8 +5,8 @@ use Prim.Native.Nat.{ℕ, zero, suc, _-_, _≤_, _<_}
 use native.Mathlib.Omega.{arith}
 use lib.ListN.{length, getD, set, take, drop, length-set, length-drop}
 use lib.Seq.{drop-cons, take-suc, take-length, length-take-le, append-snoc, set-at}
-use Rattle.rules.specs.declared.Day.{Day}
-use Rattle.rules.specs.declared.Record.{Record}
+use Rattle.layout.specs.Day.{Day}
+use Rattle.layout.specs.declared.Record.{Record}
 use Rattle.record_list.specs.declared.Order.{Order}
 use Rattle.record_list.specs.declared.Cursor.{Cursor}
 use Rattle.record_list.specs.Cursor.{noRecord, recordsIn, start, restFrom, rest-start}

@@ -14,9 +14,9 @@ use Rattle.lists.specs.Below.{joinBelow}
 use Rattle.lists.specs.Stretch.{stretchOf}
 use Rattle.lots.specs.Lots.{handable}
 use Rattle.units.specs.Units.{splitSize}
-use Rattle.rules.specs.declared.Day.{Day}
-use Rattle.rules.specs.declared.Record.{Record}
-use Rattle.rules.specs.Book.{width, lotsAt}
+use Rattle.layout.specs.Day.{Day}
+use Rattle.layout.specs.declared.Record.{Record}
+use Rattle.layout.specs.Book.{width, lotsAt}
 use Rattle.rules.specs.Lines.{componentOf, codeOf}
 use Rattle.rules.specs.Records.{recordOf, cashParts, cashRecords, stockRecord, orderRecords}
 use Rattle.rules.specs.Kinds.{movedBy, stockSide, restSide, recordsBy}

@@ -5,9 +5,9 @@ use mathlib.Core.Bool.{cond}
 use mathlib.Core.List.{List, [], _++_}
 use lib.Dec.{eqb}
 use lib.ListN.{drop}
-use Rattle.rules.specs.declared.Day.{Day}
-use Rattle.rules.specs.declared.Record.{Record}
-use Rattle.rules.specs.Book.{account}
+use Rattle.layout.specs.Day.{Day}
+use Rattle.layout.specs.declared.Record.{Record}
+use Rattle.layout.specs.Book.{account}
 use Rattle.rules.specs.Records.{recordOf, stockRecord}
 use Rattle.rules.specs.Kinds.{movedBy, stockSide, restSide, recordsBy}
 use Rattle.records.specs.Written.{recordsAfterStock}

@@ -3,9 +3,9 @@ use Prim.Native.Nat.{ℕ, _+_, _*_, _≤_, _<_}
 use mathlib.Core.Path.{_≡_}
 use mathlib.Core.List.{List, [], _∷_}
 use lib.ListN.{length}
-use Rattle.rules.specs.declared.Day.{Day}
-use Rattle.rules.specs.declared.Record.{Record}
-use Rattle.rules.specs.Book.{width}
+use Rattle.layout.specs.Day.{Day}
+use Rattle.layout.specs.declared.Record.{Record}
+use Rattle.layout.specs.Book.{width}
 use Rattle.rules.specs.Records.{recordOf}
 use Rattle.rules.specs.Kinds.{stockSide}
 use Rattle.records.specs.Ready.{Movable}

@@ -3,7 +3,7 @@ use Prim.Native.Nat.{ℕ, _+_}
 use mathlib.Core.List.{List, _++_}
 use lib.ListN.{set, take, drop}
 use denote.Ref.{now, at-last}
-use Rattle.rules.specs.declared.Record.{Record}
+use Rattle.layout.specs.declared.Record.{Record}
 use Rattle.record_list.specs.declared.Writer.{Writer}
 
 -- the same borrow, with r at the writer's place, and the next place

@@ -5,7 +5,7 @@ ghost use Prim.Native.Nat.{_+_, _*_, _≤_, _<_, _^_};
 ghost use lib.ListN.{length, getD, drop};
 ghost use Rattle.lists.specs.Stretch.{stretchOf};
 ghost use Rattle.lots.specs.Lots.{handable};
-ghost use Rattle.rules.specs.Book.{lotsAt};
+ghost use Rattle.layout.specs.Book.{lotsAt};
 ghost use Rattle.rules.specs.Records.{cashParts, cashRecords};
 ghost use Rattle.book.specs.Moved.{movedOf};
 ghost use Rattle.records.specs.Written.{recordsAfterStock};
@@ -14,13 +14,13 @@ ghost use Rattle.record_list.specs.Ready.{Ready, Fillable, Found};
 ghost use Rattle.record_list.specs.Stored.{pushed, withFirst};
 use book::lots_of;
 use book::stock_moved;
-use book::width_of;
-use fund::Component;
+use layout::width_of;
+use layout::Component;
 use records::record_of;
 use records::rest_side;
 use records::stock_side;
 use rules::Day;
-use rules::Record;
+use layout::Record;
 use units::Money;
 
 // Codes of the fund's group, as steps from its first, which is the unit's.

@@ -13,13 +13,15 @@ use Rattle.lists.specs.Runs.{sets-append, sets-front, join-grows}
 use Rattle.units.specs.Units.{splitSize}
 use Rattle.units.proofs.Laws.{under}
 use Rattle.lots.specs.Lots.{handable}
-use Rattle.rules.specs.declared.Day.{Day}
-use Rattle.rules.specs.declared.Record.{Record}
-use Rattle.rules.specs.Book.{lotsAt}
+use Rattle.layout.specs.Day.{Day}
+use Rattle.layout.specs.declared.Record.{Record}
+use Rattle.layout.specs.Book.{lotsAt}
 use Rattle.rules.specs.Lines.{componentOf, codeOf}
-use Rattle.rules.specs.Records.{recordOf, cashParts, cashRecords, stockRecord, orderRecords, recordWidth, flatRecord, flatten, withRecords}
+use Rattle.rules.specs.Records.{recordOf, cashParts, cashRecords, stockRecord, orderRecords}
+use Rattle.layout.specs.Places.{recordWidth}
+use Rattle.layout.specs.Records.{recordNumbers, flatten, withRecords, recordAt}
 use Rattle.rules.specs.Kinds.{movedBy, stockSide, restSide, recordsBy}
-use Rattle.records.specs.Written.{recordAt, behind, written, Fits, Wrote, lineRecord, stockRecords, recordsAfterStock}
+use Rattle.records.specs.Written.{behind, written, Fits, Wrote, lineRecord, stockRecords, recordsAfterStock}
 use Rattle.records.specs.Ready.{Movable, Writable}
 
 -- The flat run of records.
@@ -27,7 +29,7 @@ use Rattle.records.specs.Ready.{Movable, Writable}
 pub flatten-append : (rs qs : List Record) → flatten (rs ++ qs) ≡ flatten rs ++ flatten qs
 unfolding flatten
 flatten-append [] qs = refl
-flatten-append (r ∷ rs) qs = ap (λ (t : List ℕ). flatRecord r ++ t) (flatten-append rs qs)
+flatten-append (r ∷ rs) qs = ap (λ (t : List ℕ). recordNumbers r ++ t) (flatten-append rs qs)
 
 pub flatten-length : (rs : List Record) → length (flatten rs) ≡ recordWidth * length rs
 unfolding flatten
@@ -35,7 +37,7 @@ flatten-length [] = refl
 flatten-length (r ∷ rs) = omega (arith, flatten-length rs)
 
 -- the record behind the first is the first of the rest
-record-behind : (r : Record) (xs : List ℕ) (k : ℕ) → recordAt (flatRecord r ++ xs) (suc k) ≡ recordAt xs k
+record-behind : (r : Record) (xs : List ℕ) (k : ℕ) → recordAt (recordNumbers r ++ xs) (suc k) ≡ recordAt xs k
 unfolding recordAt
 record-behind r xs k =
     let code : recordWidth * suc k ≡ suc (suc (suc (suc (suc (recordWidth * k))))) = omega arith in

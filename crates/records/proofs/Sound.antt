@@ -8,10 +8,11 @@ use Rattle.lists.specs.Below.{sum-part}
 use Rattle.lists.specs.Stretch.{over, within, stretch-length}
 use Rattle.lots.specs.Lots.{handable, lotsTotal}
 use Rattle.fund.proofs.Laws.{components-fine, fund-sound}
-use Rattle.rules.specs.declared.Day.{Day}
-use Rattle.rules.specs.Book.{width, account, lotsAt, lineTotal}
+use Rattle.layout.specs.Day.{Day}
+use Rattle.layout.specs.Book.{width, account, lotsAt, lineTotal}
 use Rattle.rules.specs.Orders.{mostBaskets}
-use Rattle.rules.specs.Records.{recordWidth, roomIn}
+use Rattle.layout.specs.Places.{recordWidth}
+use Rattle.layout.specs.Records.{roomIn}
 use Rattle.rules.specs.Kinds.{recordsBy}
 use Rattle.rules.proofs.SoundDay.{SoundDay}
 use Rattle.records.specs.Ready.{Writable}

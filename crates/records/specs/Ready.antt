@@ -4,11 +4,11 @@ use mathlib.Core.Path.{_≡_}
 use mathlib.Core.List.{List}
 use lib.ListN.{length}
 use Rattle.lots.specs.Lots.{handable}
-use Rattle.rules.specs.declared.Day.{Day}
-use Rattle.rules.specs.Book.{widthOf, lotsAt}
+use Rattle.layout.specs.Day.{Day}
+use Rattle.layout.specs.Book.{widthOf, lotsAt}
 use Rattle.rules.specs.Lines.{componentOf}
 use Rattle.rules.specs.Orders.{mostBaskets}
-use Rattle.rules.specs.Records.{recordWidth}
+use Rattle.layout.specs.Places.{recordWidth}
 use Rattle.rules.specs.Kinds.{recordsBy}
 
 -- the stock of an order of m baskets by an account with the stretch s

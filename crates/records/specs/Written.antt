@@ -7,10 +7,12 @@ use lib.Dec.{ltb}
 use lib.ListN.{length, getD}
 use lib.Seq.{sets}
 use Rattle.lists.specs.Below.{joinBelow}
-use Rattle.rules.specs.declared.Day.{Day}
-use Rattle.rules.specs.declared.Record.{Record}
+use Rattle.layout.specs.Day.{Day}
+use Rattle.layout.specs.declared.Record.{Record}
 use Rattle.rules.specs.Kinds.{movedBy, stockSide}
-use Rattle.rules.specs.Records.{recordOf, cashRecords, stockRecord, recordWidth, flatten}
+use Rattle.rules.specs.Records.{recordOf, cashRecords, stockRecord}
+use Rattle.layout.specs.Places.{recordWidth}
+use Rattle.layout.specs.Records.{flatten}
 
 -- the k-th record of a run
 unfoldable pub recordAt : List ℕ → ℕ → Record

@@ -5,8 +5,9 @@ ghost use Prim.Native.Nat.{_+_, _*_, _≤_, _<_, _^_};
 ghost use lib.ListN.{length};
 ghost use Rattle.rules.specs.Records.{recordOf, cashRecords};
 ghost use Rattle.rules.specs.Kinds.{stockSide, restSide};
-ghost use Rattle.records.specs.Written.{recordAt, Fits, Wrote, lineRecord, recordsAfterStock};
-use rules::Record;
+ghost use Rattle.layout.specs.Records.{recordAt};
+ghost use Rattle.records.specs.Written.{Fits, Wrote, lineRecord, recordsAfterStock};
+use layout::Record;
 use units::Money;
 
 // Codes of the fund's group, as steps from its first, which is the unit's.
@@ -21,7 +22,7 @@ pub fn record_at(list: &[u64], k: usize) -> Record
     requires { ⌜ 5 * k + 4 < length (now list) ⌝ }
     ensures { λ r. ⌜ r ≡ recordAt (now (list .entry)) k ⌝ }
 {
-    let at = rules::RECORD_WIDTH * k;
+    let at = layout::RECORD_WIDTH * k;
     Record {
         code: list[at],
         side: list[at + 1],
@@ -74,7 +75,7 @@ pub fn put_record(out: &mut [u64], at: usize, r: Record) -> usize
     out[at + 2] = r.quantity;
     out[at + 3] = r.price.0;
     out[at + 4] = r.amount.0;
-    at + rules::RECORD_WIDTH
+    at + layout::RECORD_WIDTH
 }
 
 // Cash: no record at 0, one below the split size, else two, the second with the remainder even if that is 0.

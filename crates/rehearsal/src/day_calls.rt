@@ -85,9 +85,9 @@ fn value(s: Session, book: &[u64], prices: &[u64]) -> Session {
 fn lent_length(room: u64) -> usize {
     let n = room as usize;
     if layout::MOST_RECORDS < n {
-        return rules::RECORD_WIDTH * layout::MOST_RECORDS;
+        return layout::RECORD_WIDTH * layout::MOST_RECORDS;
     }
-    rules::RECORD_WIDTH * n
+    layout::RECORD_WIDTH * n
 }
 
 fn create(

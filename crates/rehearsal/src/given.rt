@@ -54,7 +54,7 @@ pub fn hold(
     if s.count < line {
         return printing::not_understood(s);
     }
-    if fund::MOST_COMPONENTS < line {
+    if layout::MOST_COMPONENTS < line {
         return printing::not_understood(s);
     }
     let w = layout::holdings_width(s.count);

@@ -28,15 +28,15 @@ pub fn place(account: usize, width: usize, i: usize) -> usize {
 
 // How many numbers the components take.
 pub fn components_length(count: usize) -> usize {
-    if fund::MOST_COMPONENTS < count {
+    if layout::MOST_COMPONENTS < count {
         return 0;
     }
-    fund::COMPONENT_WIDTH * count
+    layout::COMPONENT_WIDTH * count
 }
 
 // How many numbers opening takes for each account: cash, and each line's holding.
 pub fn holdings_width(count: usize) -> usize {
-    if fund::MOST_COMPONENTS < count {
+    if layout::MOST_COMPONENTS < count {
         return 0;
     }
     count + 2
@@ -44,7 +44,7 @@ pub fn holdings_width(count: usize) -> usize {
 
 // How many numbers of the book an account has: cash, created, redeemed, and each line's three lots.
 pub fn book_width(count: usize) -> usize {
-    if fund::MOST_COMPONENTS < count {
+    if layout::MOST_COMPONENTS < count {
         return 0;
     }
     3 * (count + 2)
@@ -60,10 +60,10 @@ pub fn at(run: &[u64], i: usize) -> u64 {
 
 // The code of a component, by its line.
 fn component_code(components: &[u64], line: usize) -> u64 {
-    if fund::MOST_COMPONENTS < line {
+    if layout::MOST_COMPONENTS < line {
         return 0;
     }
-    at(components, fund::COMPONENT_WIDTH * line)
+    at(components, layout::COMPONENT_WIDTH * line)
 }
 
 // The code of a line; the fund's first code behind the components.

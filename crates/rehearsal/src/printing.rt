@@ -103,7 +103,7 @@ fn record(list: &[u64], i: usize) {
     if layout::MOST_RECORDS <= i {
         return;
     }
-    let from = runs::cut(rules::RECORD_WIDTH * i, list);
+    let from = runs::cut(layout::RECORD_WIDTH * i, list);
     let numbers = &list[from..];
     code(layout::at(numbers, 0));
     side(layout::at(numbers, 1));

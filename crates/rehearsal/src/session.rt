@@ -1,5 +1,5 @@
 // Where a rehearsal stands: its list, what opening is to take, the day, and what was counted.
-use fund::Fund;
+use layout::Fund;
 use items::input::Cursor;
 use rules::Day;
 

@@ -22,7 +22,7 @@ fn show_line(s: Session, components: &[u64], line: usize, lots: &[u64]) {
 }
 
 fn show_line_of(s: Session, components: &[u64], line: usize, stretch: &[u64]) {
-    if fund::MOST_COMPONENTS < line {
+    if layout::MOST_COMPONENTS < line {
         return;
     }
     let from = runs::cut(3 * (line + 1), stretch);

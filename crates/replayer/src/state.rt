@@ -1,7 +1,7 @@
 // The day, book and prices that calls are made on, and the items that give them: an opening, or a state written out.
 use crate::replies;
-use fund::Component;
-use fund::Fund;
+use layout::Component;
+use layout::Fund;
 use items::input::Cursor;
 use items::output;
 use items::runs;
@@ -86,16 +86,16 @@ fn fund_of(item: &[u64]) -> Fund {
 
 // The i-th component of a run, blank behind its end.
 fn component(run: &[u64], i: usize) -> Component {
-    if i < fund::MOST_COMPONENTS {
-        if fund::COMPONENT_WIDTH * i + 4 < run.len() {
-            return fund::component_at(run, i);
+    if i < layout::MOST_COMPONENTS {
+        if layout::COMPONENT_WIDTH * i + 4 < run.len() {
+            return layout::component_at(run, i);
         }
     }
-    fund::blank_component()
+    layout::blank_component()
 }
 
 fn components_of(run: &[u64]) -> [Component; 300] {
-    let blank = fund::blank_component();
+    let blank = layout::blank_component();
     let mut components = [blank; 300];
     let mut i = 0;
     while i < 300 {
@@ -115,7 +115,7 @@ pub fn start() -> Session {
         estimated_cash: 0,
         limits,
     };
-    let blank = fund::blank_component();
+    let blank = layout::blank_component();
     let components = [blank; 300];
     let day = Day {
         accounts: 0,

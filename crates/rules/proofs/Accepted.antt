@@ -12,8 +12,8 @@ use Rattle.lists.specs.Every.{every, every-at, inside, inside-facts}
 use Rattle.lists.specs.Checks.{isAccepted, all-passed, accepted-value}
 use Rattle.lots.specs.Lots.{sellable}
 use Rattle.fund.specs.Fund.{ceiling, limitOf, cumulativeLimit, cumulativeLimitEach, netLimit, netLimitEach}
-use Rattle.rules.specs.declared.Day.{Day}
-use Rattle.rules.specs.Book.{cash, headAt, lotsAt, account}
+use Rattle.layout.specs.Day.{Day}
+use Rattle.layout.specs.Book.{cash, headAt, lotsAt, account}
 use Rattle.rules.specs.Sound.{onSoundDay, mostPrice}
 use Rattle.rules.specs.Price.{priceChecks, priceReply}
 use Rattle.rules.specs.Trade.{isInvestor, tradeMeans, tradeChecks, tradeReply}

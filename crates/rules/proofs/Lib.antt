@@ -1,4 +1,3 @@
-pub mod Account
 pub mod Replies
 pub mod SoundDay
 pub mod OpenedDay

@@ -8,16 +8,21 @@ use native.Mathlib.Omega.{arith}
 use lib.ListN.{length, getD, replicate, length-replicate, getD-replicate}
 use Rattle.lists.specs.Below.{joinBelow, join-length, sum-same, sum-zero}
 use Rattle.lists.specs.Checks.{isAccepted, all-passed}
+use Rattle.lists.specs.Every.{every-at}
+use borrow.Author.Tests.{eqb-true}
 use Rattle.lists.specs.Stretch.{stretchOf, over, stretch-join, stretch-at}
 use Rattle.lots.specs.declared.Lots.{Lots}
 use Rattle.lots.specs.Lots.{lotsTotal}
 use Rattle.lots.proofs.Laws.{lots, lots-eq}
-use Rattle.fund.specs.Components.{blank, componentAt}
-use Rattle.fund.proofs.Places.{places-at}
-use Rattle.rules.specs.declared.Day.{Day}
-use Rattle.rules.specs.Book.{widthOf, cash, created, redeemed, headAt, lotsAt, width, account, headTotal, lineTotal}
+use Rattle.layout.specs.Places.{limitCount}
+use Rattle.layout.specs.Components.{blank, componentAt}
+use Rattle.layout.proofs.Components.{places-at}
+use Rattle.layout.specs.Day.{Day, dayAt}
+use Rattle.layout.proofs.Day.{day-back}
+use Rattle.fund.proofs.Laws.{fund-sound, cash-size}
+use Rattle.layout.specs.Book.{widthOf, cash, created, redeemed, headAt, lotsAt, width, account, headTotal, lineTotal}
 use Rattle.rules.specs.Lines.{componentOf, priceOf}
-use Rattle.rules.specs.Opening.{Opening, holdingsOf, cashOpened, heldOpened, openedTotal, openedCash, mostOfLine, dayChecks, componentsOpened, lengthsFit, openingReply, openedDay, openedStretch, openedBook, openedPrices}
+use Rattle.rules.specs.Opening.{Opening, holdingsOf, cashOpened, heldOpened, openedTotal, openedCash, mostOfLine, dayChecks, componentsOpened, lengthsFit, openingReply, openedDay, openedRun, openedStretch, openedBook, openedPrices}
 use Rattle.rules.proofs.SoundDay.{Opens, opens-facts, Kept}
 
 -- one account's stretch
@@ -64,7 +69,7 @@ module _ (n : ℕ) (h : List ℕ) where
 module _ (o : Opening) (accepted : isAccepted (openingReply o) ≡ true) where
   pub opened-day : openedDay o ≡ record { accounts = o .accounts; count = o .count; fund = o .fund; components = componentsOpened o }
   unfolding openedDay
-  opened-day = rw accepted
+  opened-day = refl
 
   pub opened-book : openedBook o ≡ joinBelow (λ a. openedStretch (o .count) (holdingsOf o a)) (o .accounts)
   unfolding openedBook
@@ -156,3 +161,12 @@ module _ (o : Opening) (accepted : isAccepted (openingReply o) ≡ true) where
     where
       p : Opens (o .accounts) (o .count) (lengthsFit o) (o .fund) (componentsOpened o) (openedTotal o) mostOfLine (heldOpened (o .count) (holdingsOf o 0)) (openedCash o)
       p = opened-opens
+
+  -- the run that an accepted opening leaves says the opened day
+  pub opened-run : length (o .fund .limits) ≡ limitCount → dayAt (openedRun o) ≡ openedDay o
+  unfolding openedRun openedDay componentsOpened lengthsFit
+  opened-run limits =
+      let p = opened-opens in
+      rw accepted
+      (day-back (o .accounts) (o .count) (o .fund) (o .components) (p .count-high) (eqb-true _ _ (every-at _ (p .lengths) 0)) limits
+      (cash-size (o .fund .«estimated_cash») (fund-sound (o .fund) (p .fund-fields) .cash)))

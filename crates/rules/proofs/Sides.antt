@@ -6,9 +6,9 @@ use Prim.Native.Nat.{ℕ, _+_, _-_, _*_, _≤_, _<_}
 use native.Mathlib.Omega.{arith}
 use lib.ListN.{length}
 use Rattle.lots.specs.declared.Lots.{Lots}
-use Rattle.rules.specs.Book.{cash, headAt, putHead, lotsAt, onLine, eachLine}
+use Rattle.layout.specs.Book.{cash, headAt, putHead, lotsAt, onLine, eachLine}
 use Rattle.rules.specs.Orders.{accountSide, fundSide}
-use Rattle.rules.proofs.Account.{put-head-length, head-put-same, head-put-other, lots-put-head, on-length, head-on, on-other, on-same, each-length, head-each, each-later, each-at}
+use Rattle.layout.proofs.Account.{put-head-length, head-put-same, head-put-other, lots-put-head, on-length, head-on, on-other, on-same, each-length, head-each, each-later, each-at}
 
 -- one line changed by f, and cash set to c: a side of a trade
 module _ (f : Lots → Lots) (line c : ℕ) (s : List ℕ) where

@@ -11,12 +11,12 @@ use borrow.Author.Tests.{le-leb, leb-true, lt-ltb, le-ltb, ltb-false, eq-eqb, ne
 use Rattle.lists.specs.Below.{allBelow, all-at, all-true, first-all, first-end, first-stops}
 use Rattle.lists.specs.Every.{every, every-at, every-more, every-none, inside, inside-facts, inside-true}
 use Rattle.lists.specs.Checks.{Passed, passes, passed-all, passes-all}
-use Rattle.fund.specs.declared.Fund.{Fund}
-use Rattle.fund.specs.declared.Component.{Component}
+use Rattle.layout.specs.declared.Fund.{Fund}
+use Rattle.layout.specs.declared.Component.{Component}
 use Rattle.fund.specs.Fund.{ceiling, fundInRange}
 use Rattle.fund.specs.Components.{faultAt, componentFault}
-use Rattle.rules.specs.declared.Day.{Day}
-use Rattle.rules.specs.Book.{cash, created, redeemed, headAt, lotsAt, width, account, headTotal, lineTotal}
+use Rattle.layout.specs.Day.{Day}
+use Rattle.layout.specs.Book.{cash, created, redeemed, headAt, lotsAt, width, account, headTotal, lineTotal}
 use Rattle.rules.specs.Lines.{priceOf}
 use Rattle.rules.specs.Opening.{overAt, totalFault, dayChecks, mostOfLine, mostCash}
 use Rattle.rules.specs.Sound.{mostUnits, mostPrice, lentFits, opens, fundStill, isSound, isKept}

@@ -11,10 +11,12 @@ use Rattle.lists.specs.Below.{sumBelow, sum-head, sum-none, sum-only, sum-same,
 use Rattle.lists.specs.Same.{whenSame, when-same, when-other}
 use Rattle.fund.specs.Components.{componentFault}
 use Rattle.fund.proofs.Laws.{components-fine, outside-codes, codes-differ}
-use Rattle.rules.specs.declared.Day.{Day}
-use Rattle.rules.specs.declared.Record.{Record}
+use Rattle.layout.specs.Day.{Day}
+use Rattle.layout.specs.declared.Record.{Record}
 use Rattle.rules.specs.Lines.{codeOf}
-use Rattle.rules.specs.Records.{recordOf, cashParts, cashRecords, stockRecord, orderRecords, recordWidth, flatRecord, flatten, withRecords}
+use Rattle.rules.specs.Records.{recordOf, cashParts, cashRecords, stockRecord, orderRecords}
+use Rattle.layout.specs.Places.{recordWidth}
+use Rattle.layout.specs.Records.{recordNumbers, flatten, withRecords}
 
 -- a number v of each record that has the code
 pub tally : (Record → ℕ) → ℕ → List Record → ℕ
@@ -107,12 +109,12 @@ module _ (d : Day) (sound : componentFault (d .fund .«first_code») (d .compone
   stock-once = rw (tally-order d (λ r. 1) sound l inside side rest units moved other shanghai) (cond-le (ltb 0 (moved l)) (omega arith) (omega arith))
 
 -- the same read off the lent run, where `read` reads a record's number v behind its first place
-module _ (v : Record → ℕ) (read : List ℕ → ℕ → ℕ) (here : (r : Record) (xs : List ℕ) → read (flatRecord r ++ xs) 0 ≡ v r)
-    (there : (r : Record) (xs : List ℕ) (p : ℕ) → read (flatRecord r ++ xs) (5 + p) ≡ read xs p) (code : ℕ) where
+module _ (v : Record → ℕ) (read : List ℕ → ℕ → ℕ) (here : (r : Record) (xs : List ℕ) → read (recordNumbers r ++ xs) 0 ≡ v r)
+    (there : (r : Record) (xs : List ℕ) (p : ℕ) → read (recordNumbers r ++ xs) (5 + p) ≡ read xs p) (code : ℕ) where
   abbrev readAt : List ℕ → ℕ → ℕ
   readAt xs k = whenSame (getD xs (recordWidth * k) 0) code (read xs (recordWidth * k))
 
-  next-record : (r : Record) (xs : List ℕ) (k : ℕ) → readAt (flatRecord r ++ xs) (suc k) ≡ readAt xs k
+  next-record : (r : Record) (xs : List ℕ) (k : ℕ) → readAt (recordNumbers r ++ xs) (suc k) ≡ readAt xs k
   next-record r xs k =
       let e : recordWidth * suc k ≡ 5 + recordWidth * k = omega arith in
       let f : 5 + recordWidth * k ≡ suc (suc (suc (suc (suc (recordWidth * k))))) = omega arith in
@@ -123,8 +125,8 @@ module _ (v : Record → ℕ) (read : List ℕ → ℕ → ℕ) (here : (r : Rec
   read-tally [] xs = sum-none _
   read-tally (r ∷ rs) xs =
       let ys = flatten rs ++ xs in
-      let head = sum-head (readAt (flatRecord r ++ ys)) (length rs) in
-      let tail = sum-same (λ k. readAt (flatRecord r ++ ys) (suc k)) (readAt ys) (length rs) (λ k _. next-record r ys k) in
+      let head = sum-head (readAt (recordNumbers r ++ ys)) (length rs) in
+      let tail = sum-same (λ k. readAt (recordNumbers r ++ ys) (suc k)) (readAt ys) (length rs) (λ k _. next-record r ys k) in
       omega (arith, head, tail, read-tally rs xs, ap (λ (n : ℕ). whenSame (r .code) code n) (here r ys))
 
   pub list-tally : (rs : List Record) (list : List ℕ) → sumBelow (readAt (withRecords rs list)) (length rs) ≡ tally v code rs

@@ -12,16 +12,19 @@ use Rattle.lists.specs.Checks.{Reply, answered, passes, isAccepted}
 use Rattle.lists.specs.Stretch.{stretchOf, over}
 use Rattle.units.specs.Units.{rounded, premium, discount, ratioBound}
 use Rattle.flags.specs.Table.{flagTable, entry}
-use Rattle.fund.specs.declared.Fund.{Fund}
+use Rattle.layout.specs.declared.Fund.{Fund}
 use Rattle.fund.specs.Fund.{cashInRange, limitInRange, limitsInRange, fundInRange, limitOf}
-use Rattle.fund.specs.Components.{outsideGroup, zeroUnless, componentInRange, fits, faultAt, componentFault, componentAt, placesOf}
-use Rattle.rules.specs.Book.{headAt, lotsAt, headTotal, lineTotal}
+use Rattle.fund.specs.Components.{outsideGroup, zeroUnless, componentInRange, fits, faultAt, componentFault}
+use Rattle.layout.specs.Places.{dayWidth}
+use Rattle.layout.specs.Components.{componentAt, placesOf}
+use Rattle.layout.specs.Book.{headAt, lotsAt, account, headTotal, lineTotal}
 use Rattle.rules.specs.Lines.{codeOf, quantity, column, creationRate, redemptionRate, creationAmount, redemptionAmount, priceOf}
 use Rattle.rules.specs.Opening.{Opening, cashOpened, heldOpened, openedTotal, openedCash, overAt, totalFault, dayChecks, componentsOpened, lengthsFit, openingReply, openedDay, openedStretch, openedBook}
 use Rattle.rules.specs.Sound.{lentFits, opens, fundStill, isSound}
 use Rattle.rules.specs.Trade.{isInvestor}
 use Rattle.rules.specs.Value.{worthAt, lacksPrice, cashAdded, cashTaken, worthBefore, referenceValue, hasValue, valueChecks, worthReply}
-use Rattle.rules.specs.Records.{sideB, cashParts, cashRecords, stockRecord, orderRecords, flatten, roomIn, withRecords}
+use Rattle.rules.specs.Records.{sideB, cashParts, cashRecords, stockRecord, orderRecords}
+use Rattle.layout.specs.Records.{flatten, roomIn, withRecords}
 use Rattle.rules.specs.Orders.{baskets, wholeBaskets, formChecks, switchAllows, withinLimit, countOf, fundCount, withinLimits, permissionChecks, need, shanghaiCash, otherCash}
 use Rattle.rules.specs.Creation.{available, handedIn, isShort, missing, missingWorth, isMissing, creationCash, creationDue, ratioPassed, creationRecords, firstShort, creationMeans, creationChecks, creationReply, createdList}
 use Rattle.rules.specs.Redemption.{delivered, redemptionCash, redemptionPaid, unitsAvailable, fundLacks, firstLacking, redemptionRecords, redemptionMeans, redemptionChecks, redemptionReply, redeemedList}
@@ -80,6 +83,7 @@ compared of600000 of600036 =
           ∷ [];
       book = replicate 42 0;
       prices = replicate 5 0;
+      day = replicate dayWidth 0;
     }
 
 -- yuan 12.000, none, 10.000, 40.000, none
@@ -99,6 +103,10 @@ createReply o = three (creationReply (openedDay o) (openedBook o) prices 1 baske
 abbrev createList : Opening → List ℕ
 createList o = createdList (openedDay o) (openedBook o) prices 1 basket lent
 
+-- what is missing of 600000, the third component
+abbrev missingOf : Opening → ℕ
+missingOf o = missing (openedDay o) (account (openedDay o) (openedBook o) 1) 1 2
+
 abbrev redeemReply : Opening → List ℕ
 redeemReply o = three (redemptionReply (openedDay o) (openedBook o) prices 1 basket (roomIn lent))
 
@@ -115,8 +123,8 @@ abbrev rows : List Row
 rows =
     -- (a) value 4257
     record { got = valueOf (compared 3_072 3_000); want = 0 ∷ 0 ∷ 4_257 ∷ [] }
-    -- (b) old 600000 of 3072 passes, with eight records
-    ∷ record { got = createReply (compared 3_072 3_000); want = 0 ∷ 0 ∷ 8 ∷ [] }
+    -- (b) old 600000 of 3072 passes, with eight records; 2128 are missing
+    ∷ record { got = missingOf (compared 3_072 3_000) ∷ createReply (compared 3_072 3_000); want = 2_128 ∷ 0 ∷ 0 ∷ 8 ∷ [] }
     -- (c) 3071 gives 15
     ∷ record { got = createReply (compared 3_071 3_000); want = 15 ∷ 0 ∷ 0 ∷ [] }
     -- (d) 600036 at 2999 gives 9, place 3

@@ -10,15 +10,16 @@ use Rattle.lists.specs.Checks.{Check, check, Reply, answered}
 use Rattle.lists.specs.Stretch.{onStretch}
 use Rattle.units.specs.Units.{premium, ratioBound}
 use Rattle.lots.specs.Lots.{handInOf, getOf, takeInOf, handable}
-use Rattle.rules.specs.declared.Day.{Day}
-use Rattle.rules.specs.declared.Record.{Record}
+use Rattle.layout.specs.Day.{Day}
+use Rattle.layout.specs.declared.Record.{Record}
 use Rattle.rules.specs.Replies.{ifAccepted}
-use Rattle.rules.specs.Book.{cash, headAt, lotsAt, width, account}
+use Rattle.layout.specs.Book.{cash, headAt, lotsAt, width, account}
 use Rattle.rules.specs.Lines.{movesStock, shortageInCash, creationRate, creationAmount, priceOf}
 use Rattle.rules.specs.Sound.{onSoundDay}
 use Rattle.rules.specs.Value.{referenceValue, hasValue}
 use Rattle.rules.specs.Orders.{creation, baskets, formChecks, permissionChecks, need, shanghaiCash, otherCash, accountSide, fundSide}
-use Rattle.rules.specs.Records.{sideB, sideS, orderRecords, roomIn, withRecords}
+use Rattle.rules.specs.Records.{sideB, sideS, orderRecords}
+use Rattle.layout.specs.Records.{roomIn, withRecords}
 
 -- what an account, with the stretch s, has of component i to hand in
 unfoldable pub available : List ℕ → ℕ → ℕ

@@ -7,9 +7,9 @@ use lib.Dec.{eqb}
 use Rattle.lists.specs.Stretch.{onStretch}
 use Rattle.lots.specs.declared.Lots.{Lots}
 use Rattle.lots.specs.Lots.{handInOf, getOf, takeInOf, payOutOf}
-use Rattle.rules.specs.declared.Day.{Day}
-use Rattle.rules.specs.declared.Record.{Record}
-use Rattle.rules.specs.Book.{cash, headAt, width, account}
+use Rattle.layout.specs.Day.{Day}
+use Rattle.layout.specs.declared.Record.{Record}
+use Rattle.layout.specs.Book.{cash, headAt, width, account}
 use Rattle.rules.specs.Orders.{creation, redemption, baskets, otherCash, shanghaiCash, accountSide, fundSide}
 use Rattle.rules.specs.Records.{sideB, sideS, orderRecords}
 use Rattle.rules.specs.Creation.{handedIn, creationCash, creationDue, creationRecords, creationMoves}

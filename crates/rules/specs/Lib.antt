@@ -1,5 +1,4 @@
 pub mod Replies
-pub mod Book
 pub mod Lines
 pub mod Opening
 pub mod Sound

@@ -4,9 +4,9 @@ use mathlib.Core.Bool.{Bool}
 use mathlib.Core.List.{List}
 use lib.ListN.{getD}
 use Rattle.flags.specs.Table
-use Rattle.fund.specs.declared.Component.{Component}
-use Rattle.fund.specs.Components.{blank}
-use Rattle.rules.specs.declared.Day.{Day}
+use Rattle.layout.specs.declared.Component.{Component}
+use Rattle.layout.specs.Components.{blank}
+use Rattle.layout.specs.Day.{Day}
 
 abbrev pub componentOf : Day → ℕ → Component
 componentOf d i = getD (d .components) i blank

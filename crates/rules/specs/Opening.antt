@@ -9,16 +9,18 @@ use Rattle.lists.specs.Below.{firstBelow, joinBelow}
 use Rattle.lists.specs.Every.{every, inside}
 use Rattle.lists.specs.Checks.{Check, check, Reply, answered}
 use Rattle.lists.specs.Stretch.{stretchOf, over}
-use Rattle.fund.specs.declared.Fund.{Fund}
-use Rattle.fund.specs.declared.Component.{Component}
+use Rattle.layout.specs.declared.Fund.{Fund}
+use Rattle.layout.specs.declared.Component.{Component}
 use Rattle.fund.specs.Fund.{fundInRange}
-use Rattle.fund.specs.Components.{blank, componentFault, componentWidth, componentAt, placesOf}
-use Rattle.rules.specs.declared.Day.{Day}
+use Rattle.layout.specs.Components.{blank, componentAt, placesOf}
+use Rattle.fund.specs.Components.{componentFault}
+use Rattle.layout.specs.Places.{componentWidth, dayWidth}
+use Rattle.layout.specs.Day.{Day, dayNumbers}
 use Rattle.rules.specs.Replies.{ifAccepted}
-use Rattle.rules.specs.Book.{widthOf}
+use Rattle.layout.specs.Book.{widthOf}
 
 -- what opening is given: A, N, the fund, and lent runs of components, of holdings (for each account its cash and
--- then N+1 holdings), and for the book and the prices
+-- then N+1 holdings), and for the book, the prices and the day
 pub record Opening : Type 0 where
   pub accounts : ℕ
   pub count : ℕ
@@ -27,6 +29,7 @@ pub record Opening : Type 0 where
   pub holdings : List ℕ
   pub book : List ℕ
   pub prices : List ℕ
+  pub day : List ℕ
 
 -- what account a opens with: its cash, and its holding of line l
 abbrev pub holdingsOf : Opening → ℕ → List ℕ
@@ -73,7 +76,7 @@ dayChecks accounts n fits fund components total mostUnits fundUnits cashTotal =
     ∷ check (ltb (totalFault n total mostUnits fundUnits cashTotal) (n + 2)) 4 (totalFault n total mostUnits fundUnits cashTotal)
     ∷ []
 
--- the day's 300 component places: those of the run, then blank ones
+-- the day's component places: those of the run, then blank ones
 unfoldable pub componentsOpened : Opening → List Component
 componentsOpened o = placesOf (componentAt (o .components)) (o .count)
 
@@ -85,6 +88,7 @@ lengthsFit o =
     ∷ eqb (length (o .holdings)) (o .accounts * (o .count + 2))
     ∷ eqb (length (o .book)) (o .accounts * widthOf (o .count))
     ∷ eqb (length (o .prices)) (o .count)
+    ∷ eqb (length (o .day)) dayWidth
     ∷ [])
 
 unfoldable pub openingReply : Opening → Reply
@@ -94,26 +98,12 @@ openingReply o =
     (openedTotal o) mostOfLine (heldOpened (o .count) (holdingsOf o 0)) (openedCash o))
     0
 
--- the day with no account and no component, which a refused opening hands back
-abbrev pub blankFund : Fund
-blankFund =
-    record {
-      «first_code» = 0;
-      «basket_size» = 0;
-      «max_cash_ratio» = record { 0 = 0 };
-      switch = 0;
-      «estimated_cash» = pos 0;
-      limits = replicate 8 0;
-    }
-
-abbrev pub blankDay : Day
-blankDay = record { accounts = 0; count = 0; fund = blankFund; components = replicate 300 blank }
-
+-- the day that is opened, and the run that says it
 unfoldable pub openedDay : Opening → Day
-openedDay o =
-    ifAccepted (openingReply o)
-    (record { accounts = o .accounts; count = o .count; fund = o .fund; components = componentsOpened o })
-    blankDay
+openedDay o = record { accounts = o .accounts; count = o .count; fund = o .fund; components = componentsOpened o }
+
+unfoldable pub openedRun : Opening → List ℕ
+openedRun o = ifAccepted (openingReply o) (dayNumbers (o .accounts) (o .count) (o .fund) (o .components)) (o .day)
 
 -- an account's stretch: holdings in old; bought, got and the counters are 0
 unfoldable pub openedStretch : ℕ → List ℕ → List ℕ

@@ -8,8 +8,8 @@ use Rattle.lists.specs.Every.{every, inside}
 use Rattle.lists.specs.Checks.{Check, check}
 use Rattle.lots.specs.declared.Lots.{Lots}
 use Rattle.fund.specs.Fund.{ceiling, limitOf, cumulativeLimit, cumulativeLimitEach, netLimit, netLimitEach}
-use Rattle.rules.specs.declared.Day.{Day}
-use Rattle.rules.specs.Book.{cash, headAt, putHead, onLine, eachLine, account, headTotal}
+use Rattle.layout.specs.Day.{Day}
+use Rattle.layout.specs.Book.{cash, headAt, putHead, onLine, eachLine, account, headTotal}
 use Rattle.rules.specs.Lines.{quantity, isShanghai}
 use Rattle.rules.specs.Trade.{isInvestor}
 

@@ -6,7 +6,7 @@ use lib.Dec.{leb}
 use lib.ListN.{set}
 use Rattle.lists.specs.Every.{inside}
 use Rattle.lists.specs.Checks.{Check, check, Reply, answered}
-use Rattle.rules.specs.declared.Day.{Day}
+use Rattle.layout.specs.Day.{Day}
 use Rattle.rules.specs.Replies.{ifAccepted}
 use Rattle.rules.specs.Sound.{onSoundDay, mostPrice}
 

@@ -6,8 +6,8 @@ use lib.Dec.{ltb, eqb}
 use lib.ListN.{length, drop}
 use Rattle.lists.specs.Below.{joinBelow}
 use Rattle.units.specs.Units.{splitSize}
-use Rattle.rules.specs.declared.Day.{Day}
-use Rattle.rules.specs.declared.Record.{Record}
+use Rattle.layout.specs.Day.{Day}
+use Rattle.layout.specs.declared.Record.{Record}
 use Rattle.rules.specs.Lines.{codeOf}
 
 -- sides B and S
@@ -46,22 +46,3 @@ orderRecords d stockSide restSide units moved other shanghai =
     ++ (cashRecords (d .fund .«first_code» + 5) restSide other
     ++ (cashRecords (d .fund .«first_code» + 2) restSide shanghai
     ++ (recordOf (d .fund .«first_code» + 1) restSide units 0 ∷ []))))
-
--- a record in the lent flat run: five numbers
-abbrev pub recordWidth : ℕ
-recordWidth = 5
-
-abbrev pub flatRecord : Record → List ℕ
-flatRecord r = r .code ∷ r .side ∷ r .quantity ∷ r .price .0 ∷ r .amount .0 ∷ []
-
-unfoldable pub flatten : List Record → List ℕ
-flatten [] = []
-flatten (r ∷ rs) = flatRecord r ++ flatten rs
-
--- how many records a lent run of numbers takes
-unfoldable pub roomIn : List ℕ → ℕ
-roomIn list = length list / recordWidth
-
--- the lent run with the records written: places past the last stay
-unfoldable pub withRecords : List Record → List ℕ → List ℕ
-withRecords rs list = flatten rs ++ drop (recordWidth * length rs) list

@@ -9,14 +9,15 @@ use Rattle.lists.specs.Checks.{Check, check, Reply, answered}
 use Rattle.lists.specs.Stretch.{onStretch}
 use Rattle.units.specs.Units.{discount}
 use Rattle.lots.specs.Lots.{handInOf, getOf, payOutOf, handable}
-use Rattle.rules.specs.declared.Day.{Day}
-use Rattle.rules.specs.declared.Record.{Record}
+use Rattle.layout.specs.Day.{Day}
+use Rattle.layout.specs.declared.Record.{Record}
 use Rattle.rules.specs.Replies.{ifAccepted}
-use Rattle.rules.specs.Book.{cash, headAt, lotsAt, width, account}
+use Rattle.layout.specs.Book.{cash, headAt, lotsAt, width, account}
 use Rattle.rules.specs.Lines.{movesStock, redemptionRate, redemptionAmount}
 use Rattle.rules.specs.Sound.{onSoundDay}
 use Rattle.rules.specs.Orders.{redemption, baskets, formChecks, permissionChecks, need, shanghaiCash, otherCash, accountSide, fundSide}
-use Rattle.rules.specs.Records.{sideB, sideS, orderRecords, roomIn, withRecords}
+use Rattle.rules.specs.Records.{sideB, sideS, orderRecords}
+use Rattle.layout.specs.Records.{roomIn, withRecords}
 
 -- flags 0 and 1 deliver stock in full
 unfoldable pub delivered : Day → ℕ → ℕ → ℕ

@@ -8,8 +8,8 @@ use Rattle.lists.specs.Below.{allBelow}
 use Rattle.lists.specs.Every.{every}
 use Rattle.lists.specs.Checks.{Check, check, passes}
 use Rattle.fund.specs.Fund.{ceiling}
-use Rattle.rules.specs.declared.Day.{Day}
-use Rattle.rules.specs.Book.{cash, created, redeemed, headAt, lotsAt, width, account, headTotal, lineTotal}
+use Rattle.layout.specs.Day.{Day}
+use Rattle.layout.specs.Book.{cash, created, redeemed, headAt, lotsAt, width, account, headTotal, lineTotal}
 use Rattle.rules.specs.Lines.{priceOf}
 use Rattle.rules.specs.Opening.{dayChecks}
 

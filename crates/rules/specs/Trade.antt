@@ -7,9 +7,9 @@ use Rattle.lists.specs.Every.{inside}
 use Rattle.lists.specs.Checks.{Check, check, Reply, answered}
 use Rattle.lists.specs.Stretch.{stretchOf, onStretch}
 use Rattle.lots.specs.Lots.{sellOf, buyOf, sellable}
-use Rattle.rules.specs.declared.Day.{Day}
+use Rattle.layout.specs.Day.{Day}
 use Rattle.rules.specs.Replies.{ifAccepted}
-use Rattle.rules.specs.Book.{cash, headAt, putHead, widthOf, lotsAt, onLine}
+use Rattle.layout.specs.Book.{cash, headAt, putHead, widthOf, lotsAt, onLine}
 use Rattle.rules.specs.Sound.{onSoundDay, mostPrice}
 
 -- one of the accounts other than the fund

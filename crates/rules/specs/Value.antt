@@ -8,7 +8,7 @@ use Rattle.lists.specs.Below.{sumBelow, anyBelow}
 use Rattle.lists.specs.Every.{every}
 use Rattle.lists.specs.Checks.{Check, check, Reply, answered}
 use Rattle.units.specs.Units.{rounded}
-use Rattle.rules.specs.declared.Day.{Day}
+use Rattle.layout.specs.Day.{Day}
 use Rattle.rules.specs.Lines.{quantity, isPriced, creationAmount, priceOf}
 use Rattle.rules.specs.Sound.{onSoundDay}
 

@@ -1,18 +1,5 @@
 // What the day book promises: the types of the day and its answers. The definitions are in specs/, their laws in proofs/.
-use fund::Component;
-use fund::Fund;
-use units::Money;
 use units::ReferenceValue;
-
-// One fund's day. The book and the prices are lent beside it.
-pub struct Day {
-    // The fund is account 0.
-    pub accounts: usize,
-    pub count: usize,
-    pub fund: Fund,
-    // Places past the count hold the blank component.
-    pub components: [Component; 300],
-}
 
 // Why a call is turned back, with a place where the paper gives one. specs/Replies.antt has the paper's numbers.
 pub enum Refusal {
@@ -56,12 +43,6 @@ pub enum ValueAnswer {
     Refused(Refusal),
 }
 
-// Opening's answer, with the day; the blank day where it is refused.
-pub struct Opened {
-    pub day: Day,
-    pub answer: Answer,
-}
-
 // The two kinds of order, as limits and counters are laid out.
 pub const CREATION: usize = 0;
 
@@ -77,15 +58,3 @@ pub const MOST_PRICE: u64 = 9_999_999;
 pub const SIDE_B: u64 = 1;
 
 pub const SIDE_S: u64 = 2;
-
-// How many numbers a record takes in a flat run.
-pub const RECORD_WIDTH: usize = 5;
-
-// A record of an order.
-pub struct Record {
-    pub code: u64,
-    pub side: u64,
-    pub quantity: u64,
-    pub price: Money,
-    pub amount: Money,
-}

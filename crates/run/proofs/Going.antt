@@ -9,7 +9,8 @@ use Rattle.lists.specs.Checks.{Reply}
 use Rattle.rules.specs.Sound.{isSound, isKept}
 use Rattle.rules.proofs.SoundDay.{kept-facts, sound-true}
 use Rattle.balance.proofs.Theorems.{KeptState, kept-step}
-use Rattle.run.specs.Rows.{Row, call, none, rowAt, Work, lentTo, rowReply, rowLeaves, putReply}
+use Rattle.run.specs.Rows.{Row, call, none, rowAt, Work, lentTo, rowReply, rowLeaves}
+use Rattle.layout.specs.Answers.{putReply}
 use Rattle.run.specs.Batch.{Batch, rowDone, runFrom}
 
 -- a row whose answer and work are the definitions' is done

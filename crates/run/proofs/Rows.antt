@@ -5,7 +5,7 @@ use Prim.Native.Nat.{ℕ, zero-le}
 use lib.ListN.{length}
 use borrow.Author.Tests.{le-leb, ne-eqb}
 use Rattle.lists.specs.Checks.{Reply, reply}
-use Rattle.rules.specs.declared.Day.{Day}
+use Rattle.layout.specs.Day.{Day}
 use Rattle.rules.specs.Price.{priceReply, pricedPrices}
 use Rattle.rules.specs.Trade.{tradeReply, tradedBook}
 use Rattle.rules.specs.Value.{worthReply}

@@ -7,11 +7,12 @@ use lib.Dec.{eqb}
 use lib.ListN.{length}
 use Rattle.lists.specs.Checks.{Reply, check, answered, isAccepted}
 use Rattle.lists.specs.Every.{every}
-use Rattle.rules.specs.declared.Day.{Day}
+use Rattle.layout.specs.Day.{Day}
 use Rattle.rules.specs.Opening.{Opening, openingReply}
 use Rattle.balance.specs.Calls.{State, Event, Happened}
 use Rattle.balance.specs.Balanced.{opened, Balanced}
-use Rattle.run.specs.Rows.{Row, call, none, rowAt, Work, lentTo, resultOf, rowReply, rowLeaves, putReply}
+use Rattle.run.specs.Rows.{Row, call, none, rowAt, Work, lentTo, resultOf, rowReply, rowLeaves}
+use Rattle.layout.specs.Answers.{putReply}
 
 -- what the driver is lent: the work and the answers
 pub record Batch : Type 0 where

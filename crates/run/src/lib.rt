@@ -4,14 +4,16 @@ ghost use mathlib.Core.Path.{_≡_};
 ghost use mathlib.Core.Bool.{true};
 ghost use Prim.Native.Nat.{_+_, _*_, _≤_};
 ghost use lib.ListN.{length};
-ghost use Rattle.day_parts.specs.Parts.{dayOf};
+ghost use Rattle.layout.specs.Places.{basketWidth};
+ghost use Rattle.layout.specs.Day.{dayOf};
 ghost use Rattle.rules.specs.Replies.{answerReply};
 ghost use Rattle.rules.specs.Sound.{isSound, isKept};
 ghost use Rattle.balance.specs.Calls.{create, redeem};
 ghost use Rattle.numbers.specs.Numbers.{replyOf};
-ghost use Rattle.run.specs.Rows.{call, rowOf, rowAt, partStart, partLength, resultOf, rowReply, rowLeaves, putReply};
+ghost use Rattle.run.specs.Rows.{call, rowOf, rowAt, partStart, partLength, resultOf, rowReply, rowLeaves};
+ghost use Rattle.layout.specs.Answers.{putReply};
 ghost use Rattle.run.specs.Batch.{stateOf, workOf, batchOf, rowDone, runFrom, rowsFit, runReply, ran, eventsOf, Demand3};
-use day_parts::DayHead;
+use layout::DayHead;
 use numbers::Numbers;
 use rules::Answer;
 use rules::Day;
@@ -63,7 +65,7 @@ fn create_row(
     room: u64,
 ) -> Numbers
     requires { ⌜ (known ≡ true → isSound (dayOf d (now basket)) (now book) (now prices) ≡ true) ⌝ }
-    requires { ⌜ length (now basket) ≡ 1500 ⌝ }
+    requires { ⌜ length (now basket) ≡ basketWidth ⌝ }
     ensures { λ r. ⌜ replyOf r ≡ resultOf (workOf (dayOf d (now (basket .entry))) (now (book .entry)) (now (prices .entry)) (now (records .entry))) (create a units) start room .reply ⌝ }
     ensures left { λ r. ⌜ workOf (dayOf d (now (basket .entry))) (now (book .exit)) (now (prices .entry)) (now (records .exit)) ≡ rowLeaves (workOf (dayOf d (now (basket .entry))) (now (book .entry)) (now (prices .entry)) (now (records .entry))) (call (create a units) start room) ⌝ }
 {
@@ -97,7 +99,7 @@ fn redeem_row(
     room: u64,
 ) -> Numbers
     requires { ⌜ (known ≡ true → isSound (dayOf d (now basket)) (now book) (now prices) ≡ true) ⌝ }
-    requires { ⌜ length (now basket) ≡ 1500 ⌝ }
+    requires { ⌜ length (now basket) ≡ basketWidth ⌝ }
     ensures { λ r. ⌜ replyOf r ≡ resultOf (workOf (dayOf d (now (basket .entry))) (now (book .entry)) (now (prices .entry)) (now (records .entry))) (redeem a units) start room .reply ⌝ }
     ensures left { λ r. ⌜ workOf (dayOf d (now (basket .entry))) (now (book .exit)) (now (prices .entry)) (now (records .exit)) ≡ rowLeaves (workOf (dayOf d (now (basket .entry))) (now (book .entry)) (now (prices .entry)) (now (records .entry))) (call (redeem a units) start room) ⌝ }
 {
@@ -133,7 +135,7 @@ fn row_call(
     x5: u64,
 ) -> Numbers
     requires { ⌜ (known ≡ true → isSound (dayOf d (now basket)) (now book) (now prices) ≡ true) ⌝ }
-    requires { ⌜ length (now basket) ≡ 1500 ⌝ }
+    requires { ⌜ length (now basket) ≡ basketWidth ⌝ }
     ensures { λ r. ⌜ replyOf r ≡ rowReply (workOf (dayOf d (now (basket .entry))) (now (book .entry)) (now (prices .entry)) (now (records .entry))) (rowOf kind x1 x2 x3 x4 x5) ⌝ }
     ensures left { λ r. ⌜ workOf (dayOf d (now (basket .entry))) (now (book .exit)) (now (prices .exit)) (now (records .exit)) ≡ rowLeaves (workOf (dayOf d (now (basket .entry))) (now (book .entry)) (now (prices .entry)) (now (records .entry))) (rowOf kind x1 x2 x3 x4 x5) ⌝ }
 {
@@ -192,7 +194,7 @@ fn do_row(
     requires { ⌜ (known ≡ true → isSound (dayOf d (now basket)) (now book) (now prices) ≡ true) ⌝ }
     requires { ⌜ 6 * i + 6 ≤ length (now rows) ⌝ }
     requires { ⌜ 3 * i + 3 ≤ length (now answers) ⌝ }
-    requires { ⌜ length (now basket) ≡ 1500 ⌝ }
+    requires { ⌜ length (now basket) ≡ basketWidth ⌝ }
     ensures { λ _. ⌜ batchOf (dayOf d (now (basket .entry))) (now (book .exit)) (now (prices .exit)) (now (records .exit)) (now (answers .exit)) ≡ rowDone (batchOf (dayOf d (now (basket .entry))) (now (book .entry)) (now (prices .entry)) (now (records .entry)) (now (answers .entry))) (rowAt (now (rows .entry)) i) i ⌝ }
 {
     let at = ROW * i;
@@ -228,7 +230,7 @@ fn do_rows(
     requires { ⌜ (known ≡ true → isKept (dayOf d (now basket)) (now book) (now prices) ≡ true) ⌝ }
     requires { ⌜ 6 * n ≤ length (now rows) ⌝ }
     requires { ⌜ 3 * n ≤ length (now answers) ⌝ }
-    requires { ⌜ length (now basket) ≡ 1500 ⌝ }
+    requires { ⌜ length (now basket) ≡ basketWidth ⌝ }
     ensures { λ _. ⌜ batchOf (dayOf d (now (basket .entry))) (now (book .exit)) (now (prices .exit)) (now (records .exit)) (now (answers .exit)) ≡ runFrom (now (rows .entry)) 0 n (batchOf (dayOf d (now (basket .entry))) (now (book .entry)) (now (prices .entry)) (now (records .entry)) (now (answers .entry))) ⌝ }
 {
     let mut i = 0;
@@ -261,7 +263,7 @@ fn run_rows(
     answers: &mut [u64],
 ) -> Answer
     requires { ⌜ (known ≡ true → isKept (dayOf d (now basket)) (now book) (now prices) ≡ true) ⌝ }
-    requires { ⌜ length (now basket) ≡ 1500 ⌝ }
+    requires { ⌜ length (now basket) ≡ basketWidth ⌝ }
     ensures { λ r. ⌜ answerReply r ≡ runReply (now (rows .entry)) (batchOf (dayOf d (now (basket .entry))) (now (book .entry)) (now (prices .entry)) (now (records .entry)) (now (answers .entry))) ⌝ }
     ensures left { λ r. ⌜ batchOf (dayOf d (now (basket .entry))) (now (book .exit)) (now (prices .exit)) (now (records .exit)) (now (answers .exit)) ≡ ran (now (rows .entry)) (batchOf (dayOf d (now (basket .entry))) (now (book .entry)) (now (prices .entry)) (now (records .entry)) (now (answers .entry))) ⌝ }
 {

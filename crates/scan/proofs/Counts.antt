@@ -8,7 +8,7 @@ use lib.Dec.{ltb, eqb, lit≤}
 use lib.ListN.{length, length-append, length-map}
 use Rattle.lists.specs.Below.{sumBelow, joinBelow, sum-le, cond-le}
 use Rattle.units.specs.Units.{splitSize}
-use Rattle.rules.specs.declared.Day.{Day}
+use Rattle.layout.specs.Day.{Day}
 use Rattle.rules.specs.Orders.{baskets}
 use Rattle.rules.specs.Records.{recordOf, cashParts, cashRecords, stockRecord, orderRecords}
 use Rattle.rules.specs.Creation.{handedIn, creationRecords}

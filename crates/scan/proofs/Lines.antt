@@ -8,10 +8,10 @@ use native.Mathlib.Omega.{arith}
 use lib.Dec.{ltb, lit≤}
 use lib.ListN.{getD}
 use Rattle.lists.specs.Below.{sumBelow, anyBelow, firstBelow, sum-none, sum-more, sum-le, any-none, any-more, first-none, cond-le}
-use Rattle.fund.specs.declared.Component.{Component}
-use Rattle.fund.specs.Components.{blank}
-use Rattle.rules.specs.declared.Day.{Day}
-use Rattle.rules.specs.Book.{lotsAt}
+use Rattle.layout.specs.declared.Component.{Component}
+use Rattle.layout.specs.Components.{blank}
+use Rattle.layout.specs.Day.{Day}
+use Rattle.layout.specs.Book.{lotsAt}
 use Rattle.rules.specs.Lines.{column, quantity, creationRate, redemptionRate, creationAmount, redemptionAmount, priceOf}
 use Rattle.rules.specs.Orders.{need, otherCash, shanghaiCash}
 use Rattle.rules.specs.Creation.{available, handedIn, isShort, firstShort, missing, missingWorth, isMissing, creationCash}

@@ -14,7 +14,7 @@ use Rattle.units.specs.Units.{rounded, premium, discount}
 use Rattle.units.proofs.Laws.{under, premium-le, discount-le}
 use Rattle.flags.specs.Table.{entry, stockMoves, shortageInCash, shanghai}
 use Rattle.flags.proofs.Laws.{or-false, moves-rules}
-use Rattle.fund.specs.declared.Component.{Component}
+use Rattle.layout.specs.declared.Component.{Component}
 use Rattle.rules.specs.Sound.{mostPrice}
 use Rattle.rules.specs.Orders.{mostBaskets}
 use Rattle.scan.specs.declared.Line.{Line}

@@ -9,8 +9,8 @@ use Rattle.lists.specs.Below.{sumBelow, sum-part, sum-le}
 use Rattle.lists.specs.Stretch.{stretchOf, over, within, stretch-length}
 use Rattle.lots.specs.Lots.{lotsTotal}
 use Rattle.fund.proofs.Laws.{components-fine}
-use Rattle.rules.specs.declared.Day.{Day}
-use Rattle.rules.specs.Book.{lotsAt, width, account, lineTotal}
+use Rattle.layout.specs.Day.{Day}
+use Rattle.layout.specs.Book.{lotsAt, width, account, lineTotal}
 use Rattle.rules.specs.Lines.{componentOf, priceOf, column, quantity, creationRate, redemptionRate, creationAmount, redemptionAmount}
 use Rattle.rules.specs.Orders.{mostBaskets, need, otherCash, shanghaiCash}
 use Rattle.rules.specs.Creation.{available, missing, missingWorth, creationCash, creationDue}

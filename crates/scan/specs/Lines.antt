@@ -8,7 +8,7 @@ use Rattle.lists.specs.Every.{every}
 use Rattle.units.specs.declared.Money.{Money}
 use Rattle.units.specs.Units.{splitSize, premium, discount}
 use Rattle.flags.specs.Table.{entry, stockMoves, shortageInCash, shanghai}
-use Rattle.fund.specs.declared.Component.{Component}
+use Rattle.layout.specs.declared.Component.{Component}
 use Rattle.scan.specs.declared.Line.{Line}
 use Rattle.scan.specs.declared.Scan.{Scan}
 

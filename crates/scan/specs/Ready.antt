@@ -3,9 +3,9 @@ use mathlib.Core.Path.{_≡_}
 use mathlib.Core.List.{List}
 use Prim.Native.Nat.{ℕ, _+_, _≤_, _<_}
 use lib.ListN.{length}
-use Rattle.fund.specs.declared.Component.{Component}
-use Rattle.rules.specs.declared.Day.{Day}
-use Rattle.rules.specs.Book.{width}
+use Rattle.layout.specs.declared.Component.{Component}
+use Rattle.layout.specs.Day.{Day}
+use Rattle.layout.specs.Book.{width}
 use Rattle.rules.specs.Lines.{componentOf, priceOf}
 use Rattle.rules.specs.Sound.{mostPrice}
 use Rattle.rules.specs.Orders.{mostBaskets}

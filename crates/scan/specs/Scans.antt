@@ -3,7 +3,7 @@ use mathlib.Core.Bool.{false}
 use mathlib.Core.List.{List}
 use Prim.Native.Nat.{ℕ}
 use Rattle.lists.specs.Below.{sumBelow}
-use Rattle.rules.specs.declared.Day.{Day}
+use Rattle.layout.specs.Day.{Day}
 use Rattle.rules.specs.Orders.{otherCash, shanghaiCash}
 use Rattle.rules.specs.Creation.{firstShort, isMissing, missingWorth, creationCash, handedIn}
 use Rattle.rules.specs.Redemption.{firstLacking, redemptionCash, delivered}

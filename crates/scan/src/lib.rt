@@ -8,16 +8,17 @@ ghost use lib.ListN.{length};
 ghost use Rattle.lists.specs.Every.{every};
 ghost use Rattle.units.specs.Units.{ratioBound};
 ghost use Rattle.flags.specs.Table.{entry, stockMoves};
-ghost use Rattle.day_parts.specs.Parts.{dayOf};
-ghost use Rattle.rules.specs.Book.{lotsAt};
+ghost use Rattle.layout.specs.Places.{basketWidth};
+ghost use Rattle.layout.specs.Day.{dayOf};
+ghost use Rattle.layout.specs.Book.{lotsAt};
 ghost use Rattle.rules.specs.Sound.{mostPrice};
 ghost use Rattle.rules.specs.Orders.{mostBaskets};
 ghost use Rattle.rules.specs.Creation.{available};
 ghost use Rattle.scan.specs.Lines.{creationLine, redemptionLine, nextShort, stockLine, withLine, noLines, cashCount, recordCount};
 ghost use Rattle.scan.specs.Scans.{creationScan, redemptionScan};
 ghost use Rattle.scan.specs.Ready.{Ranged, Room, CreationReady, RedemptionReady};
-use day_parts::DayHead;
-use fund::Component;
+use layout::DayHead;
+use layout::Component;
 use units::Money;
 use units::Rate;
 use units::ReferenceValue;
@@ -269,14 +270,14 @@ fn no_lines() -> Scan
 // A creation of m baskets by the account with this stretch.
 pub fn creation_scan(d: DayHead, basket: &[u64], stretch: &[u64], prices: &[u64], m: u64) -> Scan
     requires { ⌜ CreationReady (dayOf d (now basket)) (now stretch) (now prices) m ⌝ }
-    requires { ⌜ length (now basket) ≡ 1500 ⌝ }
+    requires { ⌜ length (now basket) ≡ basketWidth ⌝ }
     ensures { λ r. ⌜ r ≡ creationScan (dayOf d (now (basket .entry))) (now (stretch .entry)) (now (prices .entry)) m ⌝ }
 {
     let n = d.count;
     let mut t = no_lines();
     let mut i = 0;
     while i < n {
-        let c = day_parts::component_of(basket, i);
+        let c = layout::component_of(basket, i);
         t = creation_turn(t, i, c, handable_at(stretch, i), prices[i], m);
         i += 1;
     }
@@ -286,14 +287,14 @@ pub fn creation_scan(d: DayHead, basket: &[u64], stretch: &[u64], prices: &[u64]
 // A redemption of m baskets from the fund with this stretch.
 pub fn redemption_scan(d: DayHead, basket: &[u64], fund: &[u64], m: u64) -> Scan
     requires { ⌜ RedemptionReady (dayOf d (now basket)) (now fund) m ⌝ }
-    requires { ⌜ length (now basket) ≡ 1500 ⌝ }
+    requires { ⌜ length (now basket) ≡ basketWidth ⌝ }
     ensures { λ r. ⌜ r ≡ redemptionScan (dayOf d (now (basket .entry))) (now (fund .entry)) m ⌝ }
 {
     let n = d.count;
     let mut t = no_lines();
     let mut i = 0;
     while i < n {
-        let c = day_parts::component_of(basket, i);
+        let c = layout::component_of(basket, i);
         t = with_line(t, i, redemption_line(c, old_at(fund, i), m));
         i += 1;
     }

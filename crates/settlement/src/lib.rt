@@ -2,15 +2,16 @@
 ghost use mathlib.Core.Path.{_≡_};
 ghost use Prim.Native.Nat.{_+_, _*_, _≤_, _<_};
 ghost use lib.ListN.{length};
-ghost use Rattle.day_parts.specs.Parts.{dayOf};
-ghost use Rattle.rules.specs.Book.{width, account};
-ghost use Rattle.rules.specs.Records.{withRecords};
+ghost use Rattle.layout.specs.Places.{basketWidth};
+ghost use Rattle.layout.specs.Day.{dayOf};
+ghost use Rattle.layout.specs.Book.{width, account};
+ghost use Rattle.layout.specs.Records.{withRecords};
 ghost use Rattle.rules.specs.Kinds.{recordsBy, orderMoves};
 ghost use Rattle.book.specs.Moved.{stockMoves};
 ghost use Rattle.book.specs.Ready.{StockReady, FundReady, OrderReady};
 ghost use Rattle.records.specs.Written.{Fits, Wrote, stockRecords};
 ghost use Rattle.records.specs.Ready.{Writable};
-use day_parts::DayHead;
+use layout::DayHead;
 use units::Money;
 
 // Moves the stock of every component, and writes its records from the place `from` on. Gives the next free place.
@@ -28,16 +29,16 @@ fn settle_stock(
     requires { ⌜ StockReady (dayOf d (now basket)) (account (dayOf d (now basket)) (now book) a) m ⌝ }
     requires { ⌜ FundReady kind (dayOf d (now basket)) (account (dayOf d (now basket)) (now book) a) (account (dayOf d (now basket)) (now book) 0) m ⌝ }
     requires { ⌜ Fits (stockRecords kind (dayOf d (now basket)) (account (dayOf d (now basket)) (now book) a) m) from (now out) ⌝ }
-    requires { ⌜ length (now basket) ≡ 1500 ⌝ }
+    requires { ⌜ length (now basket) ≡ basketWidth ⌝ }
     ensures { λ next. ⌜ Wrote (stockRecords kind (dayOf d (now (basket .entry))) (account (dayOf d (now (basket .entry))) (now (book .entry)) a) m) from (now (out .entry)) (now (out .exit)) next ⌝ }
     ensures book { λ _. ⌜ now (book .exit) ≡ stockMoves kind (dayOf d (now (basket .entry))) a m (d .count) (now (book .entry)) ⌝ }
 {
-    let w = book::width_of(d.count);
+    let w = layout::width_of(d.count);
     let side = records::stock_side(kind);
     let mut at = from;
     let mut i: usize = 0;
     while i < d.count {
-        let c = day_parts::component_of(basket, i);
+        let c = layout::component_of(basket, i);
         let q = book::move_line(kind, c, book, w, a, m, i);
         at = records::put_line(out, at, c.code, side, q);
         i += 1;
@@ -60,7 +61,7 @@ pub fn settle(
 )
     requires { ⌜ OrderReady kind (dayOf d (now basket)) (now book) a units m (other .0 + shanghai .0) ⌝ }
     requires { ⌜ Writable kind (dayOf d (now basket)) (account (dayOf d (now basket)) (now book) a) units m (other .0) (shanghai .0) (now list) ⌝ }
-    requires { ⌜ length (now basket) ≡ 1500 ⌝ }
+    requires { ⌜ length (now basket) ≡ basketWidth ⌝ }
     ensures book { λ _. ⌜ now (book .exit) ≡ orderMoves kind (dayOf d (now (basket .entry))) a units m (other .0 + shanghai .0) (now (book .entry)) ⌝ }
     ensures list { λ _. ⌜ now (list .exit) ≡ withRecords (recordsBy kind (dayOf d (now (basket .entry))) (account (dayOf d (now (basket .entry))) (now (book .entry)) a) units m (other .0) (shanghai .0)) (now (list .entry)) ⌝ }
 {

@@ -13,10 +13,10 @@ const NO_CODE: u64 = 1_000_000;
 
 // The code of a component, by its line.
 fn code_of(components: &[u64], line: usize) -> u64 {
-    if fund::MOST_COMPONENTS <= line {
+    if layout::MOST_COMPONENTS <= line {
         return NO_CODE;
     }
-    let at = fund::COMPONENT_WIDTH * line;
+    let at = layout::COMPONENT_WIDTH * line;
     if components.len() <= at {
         return NO_CODE;
     }

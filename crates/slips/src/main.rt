@@ -58,10 +58,10 @@ fn play(l: ListFields, count: usize, run: &[u64]) {
     let mut held = [0u64; 604];
     let mut book = [0u64; 1812];
     let mut prices = [0u64; 300];
-    if fund::MOST_COMPONENTS < count {
+    if layout::MOST_COMPONENTS < count {
         return;
     }
-    let c = runs::cut(fund::COMPONENT_WIDTH * count, run);
+    let c = runs::cut(layout::COMPONENT_WIDTH * count, run);
     let h = runs::cut(ACCOUNTS * (count + 2), &held);
     let b = runs::cut(ACCOUNTS * (3 + 3 * (count + 1)), &book);
     let p = runs::cut(count, &prices);

@@ -51,7 +51,7 @@ fn record(list: &[u64], k: usize) {
     if MOST_RECORDS <= k {
         return;
     }
-    let at = rules::RECORD_WIDTH * k;
+    let at = layout::RECORD_WIDTH * k;
     code(number_at(list, at));
     side(number_at(list, at + 1));
     output::number(number_at(list, at + 2));

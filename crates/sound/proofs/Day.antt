@@ -13,11 +13,12 @@ use Rattle.lists.specs.Below.{firstBelow, sumBelow, sum-same, allBelow, all-at,
 use Rattle.lists.specs.Every.{false-of}
 use Rattle.lists.specs.Stretch.{stretch-at, over}
 use Rattle.fund.specs.Fund.{ceiling, fundInRange}
-use Rattle.fund.specs.declared.Component.{Component}
-use Rattle.fund.specs.Components.{blank, faultAt, componentFault, placesOf}
-use Rattle.fund.proofs.Places.{places-at}
-use Rattle.rules.specs.declared.Day.{Day}
-use Rattle.rules.specs.Book.{cash, created, redeemed, headAt, lotsAt, width, account, headTotal, lineTotal}
+use Rattle.layout.specs.declared.Component.{Component}
+use Rattle.layout.specs.Components.{blank, placesOf}
+use Rattle.fund.specs.Components.{faultAt, componentFault}
+use Rattle.layout.proofs.Components.{places-at}
+use Rattle.layout.specs.Day.{Day}
+use Rattle.layout.specs.Book.{cash, created, redeemed, headAt, lotsAt, width, account, headTotal, lineTotal}
 use Rattle.rules.specs.Sound.{isSound, isKept, mostUnits}
 use Rattle.rules.proofs.SoundDay.{SoundDay, sound-facts, Kept, kept-facts}
 use Rattle.sound.specs.Totals.{placeAt, total}

@@ -12,7 +12,7 @@ use Rattle.lists.specs.Below.{all-at, all-true, cond-le}
 use Rattle.lists.specs.Every.{every-at, every-more, every-none, false-of, inside-facts, inside-true}
 use Rattle.lists.specs.Stretch.{within}
 use Rattle.fund.specs.Fund.{ceiling}
-use Rattle.rules.specs.Book.{cash, created, redeemed, widthOf}
+use Rattle.layout.specs.Book.{cash, created, redeemed, widthOf}
 use Rattle.rules.specs.Opening.{mostOfLine, mostCash}
 use Rattle.rules.specs.Sound.{mostUnits}
 use Rattle.sound.specs.Totals.{top}

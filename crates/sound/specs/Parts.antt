@@ -7,7 +7,7 @@ use lib.ListN.{getD}
 use Rattle.lists.specs.Below.{allBelow}
 use Rattle.lists.specs.Every.{every, inside}
 use Rattle.fund.specs.Fund.{ceiling}
-use Rattle.rules.specs.Book.{cash, created, redeemed, widthOf}
+use Rattle.layout.specs.Book.{cash, created, redeemed, widthOf}
 use Rattle.rules.specs.Lines.{priceOf}
 use Rattle.rules.specs.Opening.{mostOfLine, mostCash}
 use Rattle.rules.specs.Sound.{mostUnits, mostPrice}

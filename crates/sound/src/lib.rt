@@ -4,12 +4,13 @@ ghost use mathlib.Core.Bool.{not, true};
 ghost use Prim.Native.Nat.{ℕ, _+_, _*_, _%_, _^_, _≤_, _<_};
 ghost use lib.ListN.{length, getD};
 ghost use Rattle.lists.specs.Below.{anyBelow, allBelow};
-ghost use Rattle.day_parts.specs.Parts.{dayOf};
-ghost use Rattle.rules.specs.Book.{widthOf};
+ghost use Rattle.layout.specs.Places.{basketWidth};
+ghost use Rattle.layout.specs.Day.{dayOf};
+ghost use Rattle.layout.specs.Book.{widthOf};
 ghost use Rattle.rules.specs.Sound.{isSound, isKept};
 ghost use Rattle.sound.specs.Totals.{widest, top, quickMost, numberAt, total, plusOne, eightAt, plusEight, reaches, Low};
 ghost use Rattle.sound.specs.Parts.{sizesFit, mostOf, lineFits, totalsFit, lineStill, stretchStill, priceFits, roomLeft};
-use day_parts::DayHead;
+use layout::DayHead;
 
 // The most that a line, the unit's line and cash may total.
 pub const MOST_OF_LINE: u64 = 1_000_000_000_000_000_000;
@@ -288,7 +289,7 @@ fn sizes_fit(accounts: usize, n: usize, book: usize, prices: usize) -> bool
 
 // Refusal 5's test.
 pub fn is_sound(d: DayHead, basket: &[u64], book: &[u64], prices: &[u64]) -> bool
-    requires { ⌜ length (now basket) ≡ 1500 ⌝ }
+    requires { ⌜ length (now basket) ≡ basketWidth ⌝ }
     ensures { λ r. ⌜ r ≡ isSound (dayOf d (now (basket .entry))) (now (book .entry)) (now (prices .entry)) ⌝ }
 {
     let accounts = d.accounts;
@@ -343,7 +344,7 @@ fn room_left(book: &[u64], accounts: usize, n: usize) -> bool
 
 // What every call keeps: sound, with that room.
 pub fn is_kept(d: DayHead, basket: &[u64], book: &[u64], prices: &[u64]) -> bool
-    requires { ⌜ length (now basket) ≡ 1500 ⌝ }
+    requires { ⌜ length (now basket) ≡ basketWidth ⌝ }
     ensures { λ r. ⌜ r ≡ isKept (dayOf d (now (basket .entry))) (now (book .entry)) (now (prices .entry)) ⌝ }
 {
     let accounts = d.accounts;

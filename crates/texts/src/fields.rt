@@ -4,7 +4,7 @@
 ghost use mathlib.Core.Path.{_≡_};
 ghost use mathlib.Core.Bool.{true};
 ghost use Rattle.fund.specs.Fund.{cashInRange};
-use fund::Fund;
+use layout::Fund;
 use items::runs;
 use list_rules::ListFields;
 use units::Rate;

@@ -6,7 +6,7 @@ use list_rules::NAME_WIDTH;
 fn put_name(text: &[u8], first: usize, j: usize, names: &mut [u8]) -> bool {
     let part = list_reading::name(text, j);
     let other = list_reading::name_from(text, first, j);
-    if fund::MOST_COMPONENTS < j {
+    if layout::MOST_COMPONENTS < j {
         return false;
     }
     let start = bytes::cut(NAME_WIDTH * j, names);

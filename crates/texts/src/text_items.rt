@@ -31,10 +31,10 @@ pub fn print_row(item: &[u64]) {
 
 // How many numbers so many components take.
 fn width_of(count: usize) -> usize {
-    if fund::MOST_COMPONENTS < count {
+    if layout::MOST_COMPONENTS < count {
         return 0;
     }
-    fund::COMPONENT_WIDTH * count
+    layout::COMPONENT_WIDTH * count
 }
 
 // What a refused reading leaves and hands back: `same`, or the first place that is not as it should be.
@@ -119,7 +119,7 @@ fn print_done(r: ListRead, count: usize, text: &[u8], run: &[u64], output: &mut 
     let mut joined = [0u8; 2400];
     let n = runs::cut(width_of(count), run);
     let m = bytes::cut(
-        list_rules::NAME_WIDTH * (n / fund::COMPONENT_WIDTH),
+        list_rules::NAME_WIDTH * (n / layout::COMPONENT_WIDTH),
         &joined,
     );
     print_rest(run, n);

@@ -15,8 +15,8 @@ use Rattle.lists.specs.Checks.{reply, answered, all-passed}
 use Rattle.lists.specs.Stretch.{stretchOf, over, within, stretch-at}
 use Rattle.lots.specs.declared.Lots.{Lots}
 use Rattle.lots.specs.Lots.{sellable, lotsTotal}
-use Rattle.rules.specs.declared.Day.{Day}
-use Rattle.rules.specs.Book.{cash, widthOf, headAt, lotsAt, headTotal, lineTotal}
+use Rattle.layout.specs.Day.{Day}
+use Rattle.layout.specs.Book.{cash, widthOf, headAt, lotsAt, headTotal, lineTotal}
 use Rattle.rules.specs.Sound.{mostPrice, mostUnits}
 use Rattle.rules.specs.Price.{priceChecks}
 use Rattle.rules.specs.Trade.{isInvestor, tradeChecks, tradeMeans}

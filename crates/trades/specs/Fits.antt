@@ -5,7 +5,7 @@ use mathlib.Core.List.{List}
 use lib.ListN.{length}
 use Rattle.lists.specs.Stretch.{stretchOf}
 use Rattle.lots.specs.Lots.{lotsTotal}
-use Rattle.rules.specs.Book.{cash, widthOf, headAt, lotsAt}
+use Rattle.layout.specs.Book.{cash, widthOf, headAt, lotsAt}
 use Rattle.rules.specs.Opening.{mostCash}
 use Rattle.rules.specs.Sound.{mostUnits}
 

@@ -10,7 +10,7 @@ use Rattle.lists.specs.Below.{anyBelow}
 use Rattle.lists.specs.Every.{every-at}
 use Rattle.lists.specs.Checks.{Reply, reply, answered, isAccepted}
 use Rattle.units.specs.declared.ReferenceValue.{ReferenceValue}
-use Rattle.rules.specs.declared.Day.{Day}
+use Rattle.layout.specs.Day.{Day}
 use Rattle.rules.specs.declared.Refusal.{Refusal}
 use Rattle.rules.specs.declared.ValueAnswer.the-variants.{Worth, Refused}
 use Rattle.rules.specs.Replies.{refusalReply, valueReply}

@@ -13,9 +13,9 @@ use Rattle.lists.specs.Checks.{reply, answered}
 use Rattle.units.specs.Units.{rounded}
 use Rattle.units.proofs.Laws.{under}
 use Rattle.flags.specs.Table.{entry, priced}
-use Rattle.fund.specs.declared.Component.{Component}
+use Rattle.layout.specs.declared.Component.{Component}
 use Rattle.fund.proofs.Laws.{fund-sound, components-fine}
-use Rattle.rules.specs.declared.Day.{Day}
+use Rattle.layout.specs.Day.{Day}
 use Rattle.rules.specs.Lines.{componentOf, column, quantity, creationAmount, priceOf}
 use Rattle.rules.specs.Value.{worthAt, lacksPrice, cashTaken, worthBefore, referenceValue, hasValue, valueChecks}
 use Rattle.rules.proofs.SoundDay.{SoundDay}

@@ -9,9 +9,9 @@ use Rattle.lists.specs.Every.{every}
 use Rattle.lists.specs.Checks.{Reply, reply}
 use Rattle.units.specs.Units.{rounded}
 use Rattle.flags.specs.Table.{entry, priced}
-use Rattle.fund.specs.declared.Component.{Component}
+use Rattle.layout.specs.declared.Component.{Component}
 use Rattle.fund.specs.Fund.{cashInRange}
-use Rattle.rules.specs.declared.Day.{Day}
+use Rattle.layout.specs.Day.{Day}
 use Rattle.rules.specs.Lines.{componentOf, priceOf}
 use Rattle.rules.specs.Sound.{mostPrice}
 

@@ -6,12 +6,13 @@ ghost use lib.ListN.{length};
 ghost use Rattle.lists.specs.Checks.{answered};
 ghost use Rattle.units.specs.Units.{rounded};
 ghost use Rattle.fund.specs.Fund.{cashInRange};
-ghost use Rattle.day_parts.specs.Parts.{dayOf};
+ghost use Rattle.layout.specs.Places.{basketWidth};
+ghost use Rattle.layout.specs.Day.{dayOf};
 ghost use Rattle.rules.specs.Value.{cashAdded, cashTaken, valueChecks, referenceValue};
 ghost use Rattle.rules.specs.Replies.{valueReply};
 ghost use Rattle.value.specs.Worth.{worth, lacks, valueFrom, Countable, Priceable};
-use day_parts::DayHead;
-use fund::Component;
+use layout::DayHead;
+use layout::Component;
 use rules::Refusal;
 use rules::ValueAnswer;
 use units::Money;
@@ -94,14 +95,14 @@ fn value_with(sum: Money, added: Money, taken: Money, size: u64) -> ValueAnswer
 // Refusal 14, or the value. It looks at the day and the prices only.
 pub fn reference_value(d: DayHead, basket: &[u64], prices: &[u64]) -> ValueAnswer
     requires { ⌜ Priceable (dayOf d (now basket)) (now prices) ⌝ }
-    requires { ⌜ length (now basket) ≡ 1500 ⌝ }
+    requires { ⌜ length (now basket) ≡ basketWidth ⌝ }
     ensures { λ r. ⌜ valueReply r ≡ answered (valueChecks (dayOf d (now (basket .entry))) (now (prices .entry))) (referenceValue (dayOf d (now (basket .entry))) (now (prices .entry))) ⌝ }
 {
     let n = d.count;
     let mut sum = Money(0);
     let mut i = 0;
     while i < n {
-        let c = day_parts::component_of(basket, i);
+        let c = layout::component_of(basket, i);
         let price = prices[i];
         if lacks_price(c, price) {
             return ValueAnswer::Refused(Refusal::NoReferenceValue);

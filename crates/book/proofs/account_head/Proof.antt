@@ -1,6 +1,6 @@
 -- `book::account_head` meets its contract: cash and counter are read before either is stored.
 use lib.ListN.{length-set}
-use Rattle.rules.specs.Book.{headAt, putHead}
+use Rattle.layout.specs.Book.{headAt, putHead}
 use borrow.Author.Needs.{needs}
 use native.Mathlib.Omega.{arith}
 use Rattle.book.proofs.account_head.Statement.{statement}

@@ -1,5 +1,5 @@
 -- `book::fund_head` meets its contract: the cash stored is made of the cash read.
-use Rattle.rules.specs.Book.{headAt, putHead}
+use Rattle.layout.specs.Book.{headAt, putHead}
 use borrow.Author.Needs.{needs}
 use Rattle.book.proofs.fund_head.Statement.{statement}
 use Rattle.book.proofs.fund_head.Tie as tie

@@ -2,7 +2,7 @@
 -- redemption what the fund has; where it is nothing, every lot stays.
 use mathlib.Core.Path.{_≡_, sym, ap, _∙_}
 use Rattle.lists.specs.Stretch.{stretchOf}
-use Rattle.rules.specs.Book.{lotsAt}
+use Rattle.layout.specs.Book.{lotsAt}
 use Rattle.book.specs.Moved.{movedOf}
 use Rattle.book.proofs.Stock.{moved-le, moved-there}
 use Rattle.book.proofs.Turns.{line-none, line-moved}

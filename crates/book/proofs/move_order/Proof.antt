@@ -1,5 +1,5 @@
 -- `book::move_order` meets its contract: stock leaves the unit's line, cash and counters as they were, and the two parts are the definition.
-use Rattle.day_parts.specs.Parts.{dayOf}
+use Rattle.layout.specs.Day.{dayOf}
 use Rattle.book.proofs.Whole.{rest-ready, order-is}
 use borrow.Author.Needs.{needs}
 use Rattle.book.proofs.move_order.Statement.{statement}

@@ -1,7 +1,7 @@
 -- `book::move_stock` meets its contract. The loop's invariant: the lines below `i` have moved.
 use mathlib.Core.Path.{_≡_}
 use Prim.Native.Nat.{_≤_, _-_}
-use Rattle.day_parts.specs.Parts.{dayOf}
+use Rattle.layout.specs.Day.{dayOf}
 use Rattle.book.specs.Moved.{stockMoves}
 use Rattle.book.proofs.Turns.{lines-none, lines-length, line-ready, lines-more}
 use borrow.Author.Needs.{needs}

@@ -1,5 +1,5 @@
 -- `book::sell_side` meets its contract: the lots and the cash are read before either is stored.
-use Rattle.rules.specs.Book.{headAt, putHead, onLine}
+use Rattle.layout.specs.Book.{headAt, putHead, onLine}
 use Rattle.rules.specs.Trade.{sellSide}
 use borrow.Author.Needs.{needs}
 use Rattle.book.proofs.sell_side.Statement.{statement}

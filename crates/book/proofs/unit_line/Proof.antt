@@ -1,5 +1,5 @@
 -- `book::unit_line` meets its contract: the lots read are what the contract speaks of, and those stored are made of them.
-use Rattle.rules.specs.Book.{onLine}
+use Rattle.layout.specs.Book.{onLine}
 use borrow.Author.Needs.{needs}
 use Rattle.book.proofs.unit_line.Statement.{statement}
 use Rattle.book.proofs.unit_line.Tie as tie

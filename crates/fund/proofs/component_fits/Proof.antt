@@ -5,7 +5,7 @@ use Prim.Native.Nat.{ℕ}
 use lib.Dec.{ltb}
 use borrow.Author.Tests.{not-true, not-false, eq-eqb, ne-eqb}
 use Rattle.lists.specs.Every.{every}
-use Rattle.fund.specs.declared.Component.{Component}
+use Rattle.layout.specs.declared.Component.{Component}
 use Rattle.fund.specs.Components.{componentInRange, fits}
 use Rattle.fund.proofs.component_fits.Statement.{statement}
 use Rattle.fund.proofs.component_fits.Tie as tie

@@ -9,23 +9,24 @@ use lib.ListN.{getD}
 use borrow.Author.Count.{below-more}
 use borrow.Author.Tests.{not-true, not-false}
 use Rattle.lists.specs.Below.{all-true, all-false}
+use Rattle.layout.specs.Places.{limitCount}
 use Rattle.fund.specs.Fund.{limitInRange, limitsInRange}
 use Rattle.fund.proofs.limits_in_range.Statement.{statement}
 use Rattle.fund.proofs.limits_in_range.Tie as tie
 
-fails : (size : ℕ) (limits : List ℕ) (i : ℕ) → i < 8 → limitInRange size (getD limits i 0) ≡ false → limitsInRange size limits ≡ false
+fails : (size : ℕ) (limits : List ℕ) (i : ℕ) → i < limitCount → limitInRange size (getD limits i 0) ≡ false → limitsInRange size limits ≡ false
 unfolding limitsInRange
-fails size limits i l e = all-false (λ k. limitInRange size (getD limits k 0)) 8 i l e
+fails size limits i l e = all-false (λ k. limitInRange size (getD limits k 0)) limitCount i l e
 
-passes : (size : ℕ) (limits : List ℕ) (i : ℕ) → 8 ≤ i → ((k : ℕ) → k < i → limitInRange size (getD limits k 0) ≡ true) → limitsInRange size limits ≡ true
+passes : (size : ℕ) (limits : List ℕ) (i : ℕ) → limitCount ≤ i → ((k : ℕ) → k < i → limitInRange size (getD limits k 0) ≡ true) → limitsInRange size limits ≡ true
 unfolding limitsInRange
-passes size limits i l all = all-true (λ k. limitInRange size (getD limits k 0)) 8 (λ k h. all k (omega arith))
+passes size limits i l all = all-true (λ k. limitInRange size (getD limits k 0)) limitCount (λ k h. all k (omega arith))
 
 abbrev Inv-loop : tie.InvT-loop
-Inv-loop size limits i₀ i = (i ≤ 8) × ((k : ℕ) → k < i → limitInRange size (getD limits k 0) ≡ true)
+Inv-loop size limits i₀ i = (i ≤ limitCount) × ((k : ℕ) → k < i → limitInRange size (getD limits k 0) ≡ true)
 
 abbrev μ-loop : tie.MeasureT-loop
-μ-loop size limits i₀ i = 8 - i
+μ-loop size limits i₀ i = limitCount - i
 
 loop-holds : tie.Need-loop-holds Inv-loop μ-loop
 loop-holds c = (omega arith, λ k l. absurd (not-suc-le-zero l))

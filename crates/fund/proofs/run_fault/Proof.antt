@@ -7,10 +7,12 @@ use Prim.Native.Nat.{ℕ, _≤_, _<_, _-_}
 use native.Mathlib.Omega.{arith}
 use lib.ListN.{getD}
 use Rattle.lists.specs.Below.{firstBelow, first-none}
-use Rattle.fund.specs.declared.Component.{Component}
-use Rattle.fund.specs.Components.{blank, fits, faultAt, componentFault, componentAt, placesOf}
+use Rattle.layout.specs.Places.{mostComponents}
+use Rattle.layout.specs.declared.Component.{Component}
+use Rattle.layout.specs.Components.{blank, componentAt, placesOf}
+use Rattle.fund.specs.Components.{fits, faultAt, componentFault}
 use Rattle.fund.proofs.Laws.{codeBefore, before-none, before-more}
-use Rattle.fund.proofs.Places.{places-at}
+use Rattle.layout.proofs.Components.{places-at}
 use Rattle.fund.proofs.Search.{stops, goes-on}
 use Rattle.fund.proofs.run_fault.Statement.{statement}
 use Rattle.fund.proofs.run_fault.Tie as tie
@@ -20,7 +22,7 @@ abbrev places : List ℕ → ℕ → List Component
 places run n = placesOf (componentAt run) n
 
 -- the component read is the one at its place, and so is the answer of its test
-module _ (run : List ℕ) (n i : ℕ) (low : i < n) (most : n ≤ 300) (c : Component) (e : c ≡ componentAt run i) where
+module _ (run : List ℕ) (n i : ℕ) (low : i < n) (most : n ≤ mostComponents) (c : Component) (e : c ≡ componentAt run i) where
   placed : c ≡ getD (places run n) i blank
   placed = e ∙ sym (places-at (componentAt run) n i low most)
 

@@ -5,7 +5,7 @@ use Prim.Native.Nat.{_≤_}
 use borrow.Author.Needs.{needs}
 use borrow.Author.Tests.{not-true, not-false}
 use denote.Ref.{now}
-use Rattle.day_parts.specs.Parts.{dayOf}
+use Rattle.layout.specs.Day.{dayOf}
 use Rattle.rules.specs.Replies.{valueReply}
 use Rattle.rules.specs.Value.{referenceValue, hasValue}
 use Rattle.value.proofs.Answers.{worth-facts, refused-facts}

@@ -3,7 +3,7 @@ use mathlib.Core.Path.{_∙_}
 use native.Mathlib.Omega.{arith}
 use borrow.Author.Needs.{needs}
 use denote.Ref.{now}
-use Rattle.rules.specs.Book.{lotsAt}
+use Rattle.layout.specs.Book.{lotsAt}
 use Rattle.rules.specs.Redemption.{unitsAvailable}
 use Rattle.means.proofs.Laws.{redemption-done, redemption-found, redemption-fits}
 use Rattle.means.proofs.redemption_means.Statement.{statement}

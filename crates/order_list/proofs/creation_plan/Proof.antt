@@ -5,8 +5,8 @@ use lib.ListN.{length}
 use borrow.Author.Tests.{not-true, not-false}
 use Rattle.day_parts.proofs.Laws.{basket-length, parts-make, unmapped}
 use Rattle.lists.specs.Checks.{isAccepted}
-use Rattle.rules.specs.declared.Day.{Day}
-use Rattle.rules.specs.Book.{account}
+use Rattle.layout.specs.Day.{Day}
+use Rattle.layout.specs.Book.{account}
 use Rattle.rules.specs.Orders.{baskets}
 use Rattle.means.specs.Tests.{CreationFound}
 use Rattle.orders.specs.Orders.{creationAnswer}

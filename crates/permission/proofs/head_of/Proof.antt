@@ -3,7 +3,7 @@ use mathlib.Core.Path.{_≡_, sym, ap}
 use Prim.Native.Nat.{ℕ, _*_}
 use native.Mathlib.Omega.{arith}
 use borrow.Author.Needs.{needs}
-use Rattle.rules.specs.Book.{widthOf}
+use Rattle.layout.specs.Book.{widthOf}
 use Rattle.permission.proofs.Laws.{head-is}
 use Rattle.permission.proofs.head_of.Statement.{statement}
 use Rattle.permission.proofs.head_of.Tie as tie

@@ -4,7 +4,7 @@ use Prim.Native.Nat.{_+_, _-_, _*_, _≤_}
 use native.Mathlib.Omega.{arith}
 use lib.ListN.{length, getD}
 use denote.Ref.{now}
-use Rattle.rules.specs.Book.{widthOf}
+use Rattle.layout.specs.Book.{widthOf}
 use Rattle.permission.specs.Form.{headSum}
 use Rattle.permission.proofs.Laws.{head-none, head-more, head-grows, slot}
 use Rattle.permission.proofs.head_sum.Statement.{statement}

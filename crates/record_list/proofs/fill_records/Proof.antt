@@ -40,7 +40,7 @@ use denote.Triple.Walked.{says, needs, Stays, stay-none, stay-none-slice, gave-s
 use denote.Exit.{yes}
 use denote.Signature.{plain}
 use denote.Signature.Struct.{makes}
-use Rattle.rules.specs.declared.Record.{Record}
+use Rattle.layout.specs.declared.Record.{Record}
 use Rattle.rules.proofs.Record as T
 use Rattle.rules.proofs.Record.Laws as T′
 use Rattle.record_list.proofs.fill_records.Key.{name as #record_list·fill-records}
@@ -53,7 +53,7 @@ use lib.WfN.{Nat·lt-wfRel}
 use native.Mathlib.Numerals.{add-one}
 use borrow.Author.Tests.{ltb-true, ltb-false}
 use denote.Memory.{pointee}
-use Rattle.rules.specs.declared.Day.{Day}
+use Rattle.layout.specs.Day.{Day}
 use Rattle.rules.proofs.Day as Dy
 use Rattle.rules.proofs.Day.Laws as Dy′
 use Rattle.record_list.specs.declared.Order.{Order}

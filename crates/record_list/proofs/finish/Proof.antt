@@ -33,7 +33,7 @@ use denote.Triple.Table.{entered}
 use denote.Triple.Walked.{says, Stays, walkOf, Walks, ends-at, walked, walk-meets}
 use denote.Signature.{namedLft}
 use Rattle.record_list.specs.declared.Writer.{Writer}
-use Rattle.rules.specs.declared.Record.{Record}
+use Rattle.layout.specs.declared.Record.{Record}
 use Rattle.record_list.proofs.Writer as T
 use Rattle.record_list.proofs.Writer.Laws as T′
 use Rattle.record_list.proofs.Held.{writer-stay, writer-goes}

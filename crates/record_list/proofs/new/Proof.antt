@@ -35,7 +35,7 @@ use denote.Triple.Table.{entered}
 use denote.Triple.Walked.{says, Stays, stay-dropped, walkOf, goes-spent-slice, Walks, ends-at, walked, walk-meets}
 use denote.Exit.{no}
 use Rattle.record_list.specs.declared.Writer.{Writer}
-use Rattle.rules.specs.declared.Record.{Record}
+use Rattle.layout.specs.declared.Record.{Record}
 use Rattle.rules.proofs.Record as R
 use Rattle.record_list.proofs.Writer as T
 use Rattle.record_list.proofs.Writer.Laws as T′

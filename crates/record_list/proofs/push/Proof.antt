@@ -41,7 +41,7 @@ use denote.Triple.Walked.{says, needs, Stays, stay-none, walkOf, goes-none, Walk
 use denote.Exit.{yes}
 use denote.Signature.{namedLft}
 use denote.Signature.Struct.{inStruct, makes}
-use Rattle.rules.specs.declared.Record.{Record}
+use Rattle.layout.specs.declared.Record.{Record}
 use Rattle.rules.proofs.Record as T
 use Rattle.rules.proofs.Record.Laws as T′
 use Rattle.record_list.proofs.push.Key.{name as #record_list·push}

@@ -1,7 +1,7 @@
 -- `run::do_rows` meets its contract. The loop's invariant: the rows to come, on what is there, give what all give from the start.
 use Prim.Native.Nat.{_-_}
 use native.Mathlib.Omega.{arith}
-use Rattle.day_parts.specs.Parts.{dayOf}
+use Rattle.layout.specs.Day.{dayOf}
 use Rattle.run.specs.Batch.{batchOf}
 use Rattle.run.proofs.Going.{Going, going-starts, going-sound, going-on, going-done}
 use borrow.Author.Needs.{needs}

@@ -1,7 +1,7 @@
 -- `run::put_reply` meets its contract: three numbers, stored one by one.
 use lib.ListN.{length-set}
 use native.Mathlib.Omega.{arith}
-use Rattle.run.specs.Rows.{putReply}
+use Rattle.layout.specs.Answers.{putReply}
 use borrow.Author.Needs.{needs}
 use Rattle.run.proofs.put_reply.Statement.{statement}
 use Rattle.run.proofs.put_reply.Tie as tie

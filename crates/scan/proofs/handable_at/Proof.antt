@@ -1,7 +1,7 @@
 -- `scan::handable_at` meets its contract: the bought and the old lot are read at the definition's places.
 use mathlib.Core.Path.{refl}
 use native.Mathlib.Omega.{arith}
-use Rattle.rules.specs.Book.{lotsAt}
+use Rattle.layout.specs.Book.{lotsAt}
 use Rattle.rules.specs.Creation.{available}
 use Rattle.scan.proofs.handable_at.Statement.{statement}
 use Rattle.scan.proofs.handable_at.Tie as tie

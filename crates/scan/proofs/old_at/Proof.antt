@@ -1,7 +1,7 @@
 -- `scan::old_at` meets its contract: the number is read at the definition's place.
 use mathlib.Core.Path.{refl}
 use native.Mathlib.Omega.{arith}
-use Rattle.rules.specs.Book.{lotsAt}
+use Rattle.layout.specs.Book.{lotsAt}
 use Rattle.scan.proofs.old_at.Statement.{statement}
 use Rattle.scan.proofs.old_at.Tie as tie
 

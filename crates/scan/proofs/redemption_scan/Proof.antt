@@ -3,8 +3,8 @@ use mathlib.Core.Path.{_≡_, _∙_}
 use Prim.Native.Nat.{ℕ, _-_, _≤_, _<_, zero-le}
 use native.Mathlib.Omega.{arith}
 use denote.Ref.{now}
-use Rattle.day_parts.specs.Parts.{dayOf}
-use Rattle.fund.specs.Components.{componentAt, placesOf}
+use Rattle.layout.specs.Day.{dayOf}
+use Rattle.layout.specs.Components.{componentAt, placesOf}
 use Rattle.scan.specs.declared.Line.{Line}
 use Rattle.scan.specs.Lines.{scanBelow}
 use Rattle.scan.proofs.OneLine.{Small, redemption-small}

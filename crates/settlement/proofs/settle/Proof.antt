@@ -1,7 +1,7 @@
 -- `settlement::settle` meets its contract: the unit, stock, and what is behind it are written one behind another, from the first place
 -- on, and together they are the order's records; what moves with the stock and beside it is all that the order moves.
 use mathlib.Core.Path.{_∙_}
-use Rattle.day_parts.specs.Parts.{dayOf}
+use Rattle.layout.specs.Day.{dayOf}
 use Rattle.book.proofs.Whole.{rest-ready, order-is}
 use Rattle.records.proofs.Laws.{wrote-then, wrote-length, fits-first, fits-next, order-fits, order-written}
 use borrow.Author.Needs.{needs}

@@ -2,8 +2,8 @@
 -- from `from` on, and `at` is the place behind them.
 use mathlib.Core.Path.{_≡_, sym, _∙_}
 use Prim.Native.Nat.{_≤_, _-_}
-use Rattle.day_parts.specs.Parts.{dayOf}
-use Rattle.rules.specs.Book.{account}
+use Rattle.layout.specs.Day.{dayOf}
+use Rattle.layout.specs.Book.{account}
 use Rattle.rules.specs.Kinds.{movedBy}
 use Rattle.book.specs.Moved.{stockMoves}
 use Rattle.book.proofs.Turns.{lines-none, lines-length, moved-here, line-ready, lines-more}

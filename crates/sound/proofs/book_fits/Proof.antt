@@ -9,7 +9,7 @@ use borrow.Author.Needs.{needs}
 use borrow.Author.Tests.{not-true, not-false}
 use Rattle.lists.specs.Below.{anyBelow}
 use Rattle.lists.specs.Every.{same-test}
-use Rattle.rules.specs.Book.{widthOf}
+use Rattle.layout.specs.Book.{widthOf}
 use Rattle.sound.specs.Totals.{numberAt, total, reaches, Low}
 use Rattle.sound.specs.Parts.{totalsFit}
 use Rattle.sound.proofs.Accounts.{Counted, counted-low, answered, some-reaches}

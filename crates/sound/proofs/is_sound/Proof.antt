@@ -12,8 +12,9 @@ use denote.Ref.{now}
 use borrow.Author.Tests.{not-true, not-false}
 use Rattle.lists.specs.Below.{first-le}
 use Rattle.lists.specs.Every.{same-test}
-use Rattle.fund.specs.declared.Component.{Component}
-use Rattle.fund.specs.Components.{faultAt, componentFault, componentAt, placesOf}
+use Rattle.layout.specs.declared.Component.{Component}
+use Rattle.fund.specs.Components.{faultAt, componentFault}
+use Rattle.layout.specs.Components.{componentAt, placesOf}
 use Rattle.rules.proofs.SoundDay.{sound-facts, sound-true}
 use Rattle.sound.proofs.Limits.{Sizes, sizes-true, sizes-facts, sizes-first, still-true, still-facts, fits-true, fits-facts}
 use Rattle.sound.proofs.Day.{fault-places, day-sizes, day-prices, day-still, day-fits, day-sound, unsound}

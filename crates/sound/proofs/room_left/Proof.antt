@@ -7,7 +7,7 @@ use native.Mathlib.Omega.{arith}
 use lib.ListN.{length}
 use borrow.Author.Needs.{needs}
 use Rattle.fund.specs.Fund.{ceiling}
-use Rattle.rules.specs.Book.{created, widthOf}
+use Rattle.layout.specs.Book.{created, widthOf}
 use Rattle.sound.specs.Totals.{top, total}
 use Rattle.sound.specs.Parts.{totalsFit, roomLeft}
 use Rattle.sound.proofs.Limits.{fits-facts, fits-low}

@@ -3,7 +3,7 @@ use mathlib.Core.Path.{_≡_, ap}
 use Prim.Native.Nat.{ℕ, _*_}
 use native.Mathlib.Omega.{arith}
 use borrow.Author.Needs.{needs}
-use Rattle.rules.specs.Book.{widthOf}
+use Rattle.layout.specs.Book.{widthOf}
 use Rattle.trades.proofs.Laws.{held-is, means-short, means-cash, means-done}
 use Rattle.trades.proofs.trade_means.Statement.{statement}
 use Rattle.trades.proofs.trade_means.Tie as tie

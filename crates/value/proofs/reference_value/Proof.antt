@@ -9,8 +9,7 @@ use denote.Ref.{now}
 use mir.Syntax.{w64}
 use mir.Val.{toZ, ofZ}
 use Rattle.lists.specs.Below.{sumBelow, anyBelow, sum-none, any-none}
-use Rattle.rules.specs.declared.Day.{Day}
-use Rattle.day_parts.specs.Parts.{dayOf}
+use Rattle.layout.specs.Day.{Day, dayOf}
 use Rattle.rules.specs.Lines.{priceOf}
 use Rattle.rules.specs.Value.{worthAt, lacksPrice, worthBefore, cashAdded}
 use Rattle.value.specs.Worth.{Countable}
