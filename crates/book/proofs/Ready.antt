@@ -13,7 +13,7 @@ use Rattle.lots.specs.Lots.{handable, lotsTotal}
 use Rattle.fund.specs.Fund.{ceiling}
 use Rattle.fund.proofs.Laws.{components-fine}
 use Rattle.layout.specs.Day.{Day}
-use Rattle.layout.specs.Book.{cash, headAt, lotsAt, width, account, headTotal, lineTotal}
+use Rattle.layout.specs.Book.{cash, headAt, lotsAt, width, account, headTotal, lineTotal, counter}
 use Rattle.rules.specs.Opening.{mostCash}
 use Rattle.rules.specs.Sound.{mostUnits}
 use Rattle.rules.specs.Orders.{creation, redemption, baskets, fundCount}
@@ -89,7 +89,7 @@ module _ {d : Day} {b ps : List ℕ} {kind a units : ℕ} (c : ℕ) (s : SoundDa
               units-fit = omega (arith, line-most s a (o .account-in) (d .count) (omega arith));
               pays = pays;
               cash-fits = omega (arith, head-most s a (o .account-in) cash, s .money);
-              count-fits = omega (arith, head-most s a (o .account-in) (1 + kind), o .below-ceiling);
+              count-fits = omega (arith, head-most s a (o .account-in) (counter kind), o .below-ceiling);
             };
         fund = record { room = λ i l. omega (arith, line-most s 0 zero-in i (omega arith)); delivers = delivers };
         fund-pays = fund-pays;

@@ -6,7 +6,7 @@ use native.Mathlib.Omega.{arith}
 use lib.ListN.{length}
 use Rattle.lists.specs.Stretch.{stretchOf, putStretch, onStretch, stretch-length, put-length, stretch-put-other}
 use Rattle.lots.specs.Lots.{sellOf}
-use Rattle.layout.specs.Book.{cash, headAt, lotsAt, widthOf}
+use Rattle.layout.specs.Book.{cash, headAt, lotsAt, widthOf, behindLine}
 use Rattle.rules.specs.Trade.{sellSide}
 use Rattle.rules.proofs.Sides.{side-length}
 use Rattle.book.specs.Ready.{Tradable}
@@ -18,7 +18,7 @@ sell-side-length line q m s = side-length (λ x. sellOf x q) line (headAt s cash
 -- the buyer's stretch is as it was when the seller's has changed
 pub buyer-ready : {n line q price seller buyer w : ℕ} {b mid : List ℕ} → Tradable n b line q price seller buyer → w ≡ widthOf n
     → mid ≡ onStretch w seller (sellSide line q (q * price)) b
-    → (buyer * w + w ≤ length mid) × ((3 * line + 5 < w) × ((lotsAt (stretchOf w mid buyer) line .bought + q < 2 ^ 64) × (q * price ≤ headAt (stretchOf w mid buyer) cash)))
+    → (buyer * w + w ≤ length mid) × ((behindLine line ≤ w) × ((lotsAt (stretchOf w mid buyer) line .bought + q < 2 ^ 64) × (q * price ≤ headAt (stretchOf w mid buyer) cash)))
 buyer-ready {n} {line} {q} {price} {seller} {buyer} {w} {b} {mid} p e sold =
     let s = stretchOf (widthOf n) b seller in
     let long : length (sellSide line q (q * price) (stretchOf (widthOf n) b seller)) ≡ widthOf n = sell-side-length line q (q * price) s ∙ stretch-length (widthOf n) b seller (p .seller-in) in

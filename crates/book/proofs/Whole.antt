@@ -7,8 +7,9 @@ use lib.ListN.{length}
 use Rattle.lists.specs.Stretch.{stretchOf, onStretch, stretch-length, put-length}
 use Rattle.lots.specs.declared.Lots.{Lots}
 use Rattle.lots.specs.Lots.{handable}
+use Rattle.layout.specs.Places.{linesFrom}
 use Rattle.layout.specs.Day.{Day}
-use Rattle.layout.specs.Book.{cash, widthOf, width, account, headAt, putHead, lotsAt, onLine, eachLine}
+use Rattle.layout.specs.Book.{cash, widthOf, width, account, headAt, putHead, lotsAt, onLine, eachLine, counter, behindLine}
 use Rattle.rules.specs.Orders.{creation, accountSide, fundSide}
 use Rattle.rules.specs.Kinds.{unitLots, accountCash, fundCash, orderMoves}
 use Rattle.layout.proofs.Account.{put-head-length, on-length, head-on, head-each, each-later}
@@ -20,18 +21,18 @@ use Rattle.book.proofs.Turns.{fund-long, own-long, lines-length, lines-
 
 -- the account's stretch u when its units have moved
 module _ (kind n units c : ℕ) (s u : List ℕ) (eu : u ≡ onLine (λ x. unitLots kind x units) n s) where
-  head-same : (k : ℕ) → k < 3 → headAt u k ≡ headAt s k
+  head-same : (k : ℕ) → k < linesFrom → headAt u k ≡ headAt s k
   head-same k h = rw eu (head-on (λ x. unitLots kind x units) n s k h)
 
-  pub head-ready : (kind < 2) × (3 * n + 5 < length s) → (kind ≡ creation → c ≤ headAt s cash) → headAt s cash + c < 2 ^ 64 → headAt s (1 + kind) + units < 2 ^ 64
-      → ((kind < 2) × (2 < length u)) × ((kind ≡ creation → c ≤ headAt u cash) × ((headAt u cash + c < 2 ^ 64) × (headAt u (1 + kind) + units < 2 ^ 64)))
+  pub head-ready : (kind < 2) × (behindLine n ≤ length s) → (kind ≡ creation → c ≤ headAt s cash) → headAt s cash + c < 2 ^ 64 → headAt s (counter kind) + units < 2 ^ 64
+      → ((kind < 2) × (2 < length u)) × ((kind ≡ creation → c ≤ headAt u cash) × ((headAt u cash + c < 2 ^ 64) × (headAt u (counter kind) + units < 2 ^ 64)))
   head-ready h pays fits counts =
       let long : length u ≡ length s = ap length eu ∙ on-length (λ x. unitLots kind x units) n s in
-      rw (head-same cash (omega arith), head-same (1 + kind) (omega (arith, h .0))) ((h .0, omega (arith, h .1)), (pays, (fits, counts)))
+      rw (head-same cash (omega arith), head-same (counter kind) (omega (arith, h .0))) ((h .0, omega (arith, h .1)), (pays, (fits, counts)))
 
-  pub rest-is : kind < 2 → putHead (1 + kind) (headAt u (1 + kind) + units) (putHead cash (accountCash kind (headAt u cash) c) u) ≡ restOf kind n units c s
+  pub rest-is : kind < 2 → putHead (counter kind) (headAt u (counter kind) + units) (putHead cash (accountCash kind (headAt u cash) c) u) ≡ restOf kind n units c s
   unfolding restOf
-  rest-is h = rw (head-same cash (omega arith), head-same (1 + kind) (omega arith), eu)
+  rest-is h = rw (head-same cash (omega arith), head-same (counter kind) (omega arith), eu)
 
 -- the book t when the fund's cash has moved, in a fund of n components
 module _ (kind n : ℕ) (b : List ℕ) (a units c w : ℕ) (t : List ℕ) (p : RestReady kind n b a units c) (ew : w ≡ widthOf n)
@@ -51,9 +52,9 @@ module _ (kind n : ℕ) (b : List ℕ) (a units c w : ℕ) (t : List ℕ) (p : R
   t-size : length t ≡ length b
   t-size = rw is (put-length (widthOf n) b 0 (paid (stretchOf (widthOf n) b 0)) (omega (arith, p .account-in)) paid-long)
 
-  pub account-rest-ready : (a * w + w ≤ length t) × (((kind < 2) × (3 * n + 5 < w)) × (((kind ≡ creation → ⊥) → units ≤ handable (lotsAt (stretchOf w t a) n))
+  pub account-rest-ready : (a * w + w ≤ length t) × (((kind < 2) × (behindLine n ≤ w)) × (((kind ≡ creation → ⊥) → units ≤ handable (lotsAt (stretchOf w t a) n))
       × ((lotsAt (stretchOf w t a) n .got + units < 2 ^ 64) × ((kind ≡ creation → c ≤ headAt (stretchOf w t a) cash)
-      × ((headAt (stretchOf w t a) cash + c < 2 ^ 64) × (headAt (stretchOf w t a) (1 + kind) + units < 2 ^ 64))))))
+      × ((headAt (stretchOf w t a) cash + c < 2 ^ 64) × (headAt (stretchOf w t a) (counter kind) + units < 2 ^ 64))))))
   account-rest-ready =
       rw (ew, account-same, t-size)
       (p .account-in, ((p .kind-in, omega arith), (p .handed, (p .units-fit, (p .pays, (p .cash-fits, p .count-fits))))))
@@ -91,7 +92,7 @@ module _ (kind : ℕ) (d : Day) (b : List ℕ) (a units m c : ℕ) (t : List ℕ
       let s = p .side in
       let unit : lotsAt own (d .count) ≡ lotsAt (account d b a) (d .count) = each-later g (d .count) (account d b a) (d .count) (omega arith) in
       let money : headAt own cash ≡ headAt (account d b a) cash = head-each g (d .count) (account d b a) cash (omega arith) in
-      let counter : headAt own (1 + kind) ≡ headAt (account d b a) (1 + kind) = head-each g (d .count) (account d b a) (1 + kind) (omega (arith, s .kind-in)) in
+      let counter : headAt own (counter kind) ≡ headAt (account d b a) (counter kind) = head-each g (d .count) (account d b a) (counter kind) (omega (arith, s .kind-in)) in
       let fund-money : headAt fund cash ≡ headAt (account d b 0) cash = head-each f (d .count) (account d b 0) cash (omega arith) in
       record {
         kind-in = s .kind-in;
@@ -114,7 +115,7 @@ module _ (kind : ℕ) (d : Day) (b : List ℕ) (a units m c : ℕ) (t : List ℕ
   account-side : restOf kind (d .count) units c own
       ≡ accountSide (d .count) kind units g (λ x. unitLots kind x units) (accountCash kind (headAt (account d b a) cash) c) (account d b a)
   unfolding restOf accountSide
-  account-side = rw (head-each g (d .count) (account d b a) cash (omega arith), head-each g (d .count) (account d b a) (1 + kind) (omega (arith, p .side .kind-in)))
+  account-side = rw (head-each g (d .count) (account d b a) cash (omega arith), head-each g (d .count) (account d b a) (counter kind) (omega (arith, p .side .kind-in)))
 
   pub order-is : (u : List ℕ) → u ≡ restMoves kind (d .count) a units c t → u ≡ orderMoves kind d a units m c b
   unfolding restMoves stockMoves orderMoves

@@ -9,7 +9,7 @@ use Rattle.lots.specs.Lots.{handable}
 use Rattle.flags.specs.Table
 use Rattle.layout.specs.declared.Component.{Component}
 use Rattle.layout.specs.Day.{Day}
-use Rattle.layout.specs.Book.{cash, widthOf, width, account, headAt, putHead, lotsAt, onLine, eachLine}
+use Rattle.layout.specs.Book.{cash, widthOf, width, account, headAt, putHead, lotsAt, onLine, eachLine, counter}
 use Rattle.rules.specs.Lines.{componentOf, quantity, column}
 use Rattle.rules.specs.Orders.{need}
 use Rattle.rules.specs.Creation.{available, handedIn}
@@ -37,7 +37,7 @@ fundBy kind d s m i x = fundLots kind x (movedBy kind d s m i)
 -- the account's stretch s when its units, cash c and counter have moved; n is the unit's line
 unfoldable pub restOf : ℕ → ℕ → ℕ → ℕ → List ℕ → List ℕ
 restOf kind n units c s =
-    putHead (1 + kind) (headAt s (1 + kind) + units) (putHead cash (accountCash kind (headAt s cash) c) (onLine (λ x. unitLots kind x units) n s))
+    putHead (counter kind) (headAt s (counter kind) + units) (putHead cash (accountCash kind (headAt s cash) c) (onLine (λ x. unitLots kind x units) n s))
 
 -- the book b in which the fund has the stretch f and account a has s
 abbrev pub withSides : ℕ → ℕ → List ℕ → List ℕ → List ℕ → List ℕ

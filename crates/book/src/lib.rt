@@ -4,9 +4,9 @@ ghost use Prim.Native.Nat.{_+_, _*_, _≤_, _<_, _^_};
 ghost use lib.ListN.{length};
 ghost use Rattle.lists.specs.Stretch.{stretchOf, onStretch};
 ghost use Rattle.lots.specs.Lots.{sellable, handable};
-ghost use Rattle.layout.specs.Places.{basketWidth};
+ghost use Rattle.layout.specs.Places.{basketWidth, linesFrom};
 ghost use Rattle.layout.specs.Day.{dayOf};
-ghost use Rattle.layout.specs.Book.{cash, widthOf, width, account, headAt, putHead, lotsAt, putLots, onLine};
+ghost use Rattle.layout.specs.Book.{behindLine, cash, counter, width, account, headAt, putHead, lotsAt, putLots, onLine};
 ghost use Rattle.rules.specs.Trade.{sellSide, buySide, tradeMoves};
 ghost use Rattle.rules.specs.Orders.{creation};
 ghost use Rattle.rules.specs.Kinds.{stockLots, fundLots, unitLots, accountCash, fundCash, orderMoves};
@@ -20,100 +20,59 @@ use units::Money;
 // The fund's account.
 const FUND: usize = 0;
 
-// The places at the head of a stretch: cash, and then a counter for each kind of order.
-const CASH: usize = 0;
-
-const COUNTERS: usize = 1;
-
-// How many numbers stand there, and how many lots a line has.
-const HEAD: usize = 3;
-
-const LOTS: usize = 3;
-
-// The width of an account's stretch in a fund of `count` components.
-pub fn width_of(count: usize) -> usize
-    requires { ⌜ count ≤ 300 ⌝ }
-    ensures { λ r. ⌜ r ≡ widthOf count ⌝ }
-{
-    HEAD + LOTS * (count + 1)
-}
-
-// The lots of a line, read off a stretch.
-pub fn lots_at(stretch: &[u64], line: usize) -> Lots
-    requires { ⌜ 3 * line + 5 < length (now stretch) ⌝ }
-    ensures { λ r. ⌜ r ≡ lotsAt (now (stretch .entry)) line ⌝ }
-{
-    let at = HEAD + LOTS * line;
-    Lots {
-        old: stretch[at],
-        bought: stretch[at + 1],
-        got: stretch[at + 2],
-    }
-}
-
-pub fn put_lots(stretch: &mut [u64], line: usize, x: Lots)
-    requires { ⌜ 3 * line + 5 < length (now stretch) ⌝ }
-    ensures { λ _. ⌜ now (stretch .exit) ≡ putLots (now (stretch .entry)) line x ⌝ }
-{
-    let at = HEAD + LOTS * line;
-    stretch[at] = x.old;
-    stretch[at + 1] = x.bought;
-    stretch[at + 2] = x.got;
-}
-
 // The lots of a line of account `a`, read off the whole book.
 pub fn lots_of(book: &[u64], w: usize, a: usize, line: usize) -> Lots
     requires { ⌜ a * w + w ≤ length (now book) ⌝ }
-    requires { ⌜ 3 * line + 5 < w ⌝ }
+    requires { ⌜ behindLine line ≤ w ⌝ }
     ensures { λ r. ⌜ r ≡ lotsAt (stretchOf w (now (book .entry)) a) line ⌝ }
 {
     let start = a * w;
     let end = start + w;
-    lots_at(&book[start..end], line)
+    layout::lots_at(&book[start..end], line)
 }
 
 // Stores them in the whole book.
 fn put_lots_of(book: &mut [u64], w: usize, a: usize, line: usize, x: Lots)
     requires { ⌜ a * w + w ≤ length (now book) ⌝ }
-    requires { ⌜ 3 * line + 5 < w ⌝ }
+    requires { ⌜ behindLine line ≤ w ⌝ }
     ensures { λ _. ⌜ now (book .exit) ≡ onStretch w a (λ s. putLots s line x) (now (book .entry)) ⌝ }
 {
     let start = a * w;
     let end = start + w;
-    put_lots(&mut book[start..end], line, x);
+    layout::put_lots(&mut book[start..end], line, x);
 }
 
 // What a trade makes of the seller's stretch.
 fn sell_side(stretch: &mut [u64], line: usize, q: u64, amount: Money)
-    requires { ⌜ 3 * line + 5 < length (now stretch) ⌝ }
+    requires { ⌜ behindLine line ≤ length (now stretch) ⌝ }
     requires { ⌜ q ≤ sellable (lotsAt (now stretch) line) ⌝ }
     requires { ⌜ headAt (now stretch) cash + amount .0 < 2 ^ 64 ⌝ }
     ensures { λ _. ⌜ now (stretch .exit) ≡ sellSide line q (amount .0) (now (stretch .entry)) ⌝ }
 {
-    let held = stretch[CASH];
-    let x = lots_at(stretch, line);
+    let held = stretch[layout::CASH];
+    let x = layout::lots_at(stretch, line);
     let left = x.sell(q);
-    put_lots(stretch, line, left);
-    stretch[CASH] = held + amount.0;
+    layout::put_lots(stretch, line, left);
+    stretch[layout::CASH] = held + amount.0;
 }
 
 // What a trade makes of the buyer's stretch.
 fn buy_side(stretch: &mut [u64], line: usize, q: u64, amount: Money)
-    requires { ⌜ 3 * line + 5 < length (now stretch) ⌝ }
+    requires { ⌜ behindLine line ≤ length (now stretch) ⌝ }
     requires { ⌜ lotsAt (now stretch) line .bought + q < 2 ^ 64 ⌝ }
     requires { ⌜ amount .0 ≤ headAt (now stretch) cash ⌝ }
     ensures { λ _. ⌜ now (stretch .exit) ≡ buySide line q (amount .0) (now (stretch .entry)) ⌝ }
 {
-    let held = stretch[CASH];
-    let x = lots_at(stretch, line);
+    let held = stretch[layout::CASH];
+    let x = layout::lots_at(stretch, line);
     let more = x.buy(q);
-    put_lots(stretch, line, more);
-    stretch[CASH] = held - amount.0;
+    layout::put_lots(stretch, line, more);
+    stretch[layout::CASH] = held - amount.0;
 }
 
 fn sell_from(book: &mut [u64], w: usize, seller: usize, line: usize, q: u64, amount: Money)
     requires { ⌜ seller * w + w ≤ length (now book) ⌝ }
-    requires { ⌜ 3 * line + 5 < w ⌝ }
+    requires { ⌜ behindLine line ≤ w ⌝ }
     requires { ⌜ q ≤ sellable (lotsAt (stretchOf w (now book) seller) line) ⌝ }
     requires { ⌜ headAt (stretchOf w (now book) seller) cash + amount .0 < 2 ^ 64 ⌝ }
     ensures { λ _. ⌜ now (book .exit) ≡ onStretch w seller (sellSide line q (amount .0)) (now (book .entry)) ⌝ }
@@ -125,7 +84,7 @@ fn sell_from(book: &mut [u64], w: usize, seller: usize, line: usize, q: u64, amo
 
 fn buy_into(book: &mut [u64], w: usize, buyer: usize, line: usize, q: u64, amount: Money)
     requires { ⌜ buyer * w + w ≤ length (now book) ⌝ }
-    requires { ⌜ 3 * line + 5 < w ⌝ }
+    requires { ⌜ behindLine line ≤ w ⌝ }
     requires { ⌜ lotsAt (stretchOf w (now book) buyer) line .bought + q < 2 ^ 64 ⌝ }
     requires { ⌜ amount .0 ≤ headAt (stretchOf w (now book) buyer) cash ⌝ }
     ensures { λ _. ⌜ now (book .exit) ≡ onStretch w buyer (buySide line q (amount .0)) (now (book .entry)) ⌝ }
@@ -148,7 +107,7 @@ pub fn move_trade(
     requires { ⌜ Tradable count (now book) line q (price .0) seller buyer ⌝ }
     ensures { λ _. ⌜ now (book .exit) ≡ tradeMoves count line q (price .0) seller buyer (now (book .entry)) ⌝ }
 {
-    let w = width_of(count);
+    let w = layout::width_of(count);
     let amount = Money(q * price.0);
     sell_from(book, w, seller, line, q, amount);
     buy_into(book, w, buyer, line, q, amount);
@@ -238,9 +197,9 @@ fn fund_head(kind: usize, stretch: &mut [u64], c: Money)
     requires { ⌜ headAt (now stretch) cash + c .0 < 2 ^ 64 ⌝ }
     ensures { λ _. ⌜ now (stretch .exit) ≡ putHead cash (fundCash kind (headAt (now (stretch .entry)) cash) (c .0)) (now (stretch .entry)) ⌝ }
 {
-    let held = stretch[CASH];
+    let held = stretch[layout::CASH];
     let left = fund_cash(kind, held, c);
-    stretch[CASH] = left;
+    stretch[layout::CASH] = left;
 }
 
 fn fund_head_of(kind: usize, book: &mut [u64], w: usize, fund: usize, c: Money)
@@ -257,40 +216,40 @@ fn fund_head_of(kind: usize, book: &mut [u64], w: usize, fund: usize, c: Money)
 
 // The account's units.
 fn unit_line(kind: usize, stretch: &mut [u64], line: usize, units: u64)
-    requires { ⌜ 3 * line + 5 < length (now stretch) ⌝ }
+    requires { ⌜ behindLine line ≤ length (now stretch) ⌝ }
     requires { ⌜ ((kind ≡ creation → ⊥) → units ≤ handable (lotsAt (now stretch) line)) ⌝ }
     requires { ⌜ lotsAt (now stretch) line .got + units < 2 ^ 64 ⌝ }
     ensures { λ _. ⌜ now (stretch .exit) ≡ onLine (λ x. unitLots kind x units) line (now (stretch .entry)) ⌝ }
 {
-    let x = lots_at(stretch, line);
+    let x = layout::lots_at(stretch, line);
     let y = unit_lots(kind, x, units);
-    put_lots(stretch, line, y);
+    layout::put_lots(stretch, line, y);
 }
 
 // Its cash, and the counter of the order's kind.
 fn account_head(kind: usize, stretch: &mut [u64], units: u64, c: Money)
-    requires { ⌜ (kind < 2) × (2 < length (now stretch)) ⌝ }
+    requires { ⌜ (kind < 2) × (linesFrom ≤ length (now stretch)) ⌝ }
     requires { ⌜ (kind ≡ creation → c .0 ≤ headAt (now stretch) cash) ⌝ }
     requires { ⌜ headAt (now stretch) cash + c .0 < 2 ^ 64 ⌝ }
-    requires { ⌜ headAt (now stretch) (1 + kind) + units < 2 ^ 64 ⌝ }
-    ensures { λ _. ⌜ now (stretch .exit) ≡ putHead (1 + kind) (headAt (now (stretch .entry)) (1 + kind) + units) (putHead cash (accountCash kind (headAt (now (stretch .entry)) cash) (c .0)) (now (stretch .entry))) ⌝ }
+    requires { ⌜ headAt (now stretch) (counter kind) + units < 2 ^ 64 ⌝ }
+    ensures { λ _. ⌜ now (stretch .exit) ≡ putHead (counter kind) (headAt (now (stretch .entry)) (counter kind) + units) (putHead cash (accountCash kind (headAt (now (stretch .entry)) cash) (c .0)) (now (stretch .entry))) ⌝ }
 {
-    let held = stretch[CASH];
+    let held = stretch[layout::CASH];
     let left = account_cash(kind, held, c);
-    let at = COUNTERS + kind;
+    let at = layout::COUNTERS + kind;
     let count = stretch[at] + units;
-    stretch[CASH] = left;
+    stretch[layout::CASH] = left;
     stretch[at] = count;
 }
 
 // The account's part of an order beside its stock: units, cash and counter. `line` is the unit's.
 fn account_rest(kind: usize, stretch: &mut [u64], line: usize, units: u64, c: Money)
-    requires { ⌜ (kind < 2) × (3 * line + 5 < length (now stretch)) ⌝ }
+    requires { ⌜ (kind < 2) × (behindLine line ≤ length (now stretch)) ⌝ }
     requires { ⌜ ((kind ≡ creation → ⊥) → units ≤ handable (lotsAt (now stretch) line)) ⌝ }
     requires { ⌜ lotsAt (now stretch) line .got + units < 2 ^ 64 ⌝ }
     requires { ⌜ (kind ≡ creation → c .0 ≤ headAt (now stretch) cash) ⌝ }
     requires { ⌜ headAt (now stretch) cash + c .0 < 2 ^ 64 ⌝ }
-    requires { ⌜ headAt (now stretch) (1 + kind) + units < 2 ^ 64 ⌝ }
+    requires { ⌜ headAt (now stretch) (counter kind) + units < 2 ^ 64 ⌝ }
     ensures { λ _. ⌜ now (stretch .exit) ≡ restOf kind line units (c .0) (now (stretch .entry)) ⌝ }
 {
     unit_line(kind, stretch, line, units);
@@ -307,12 +266,12 @@ fn account_rest_of(
     c: Money,
 )
     requires { ⌜ a * w + w ≤ length (now book) ⌝ }
-    requires { ⌜ (kind < 2) × (3 * line + 5 < w) ⌝ }
+    requires { ⌜ (kind < 2) × (behindLine line ≤ w) ⌝ }
     requires { ⌜ ((kind ≡ creation → ⊥) → units ≤ handable (lotsAt (stretchOf w (now book) a) line)) ⌝ }
     requires { ⌜ lotsAt (stretchOf w (now book) a) line .got + units < 2 ^ 64 ⌝ }
     requires { ⌜ (kind ≡ creation → c .0 ≤ headAt (stretchOf w (now book) a) cash) ⌝ }
     requires { ⌜ headAt (stretchOf w (now book) a) cash + c .0 < 2 ^ 64 ⌝ }
-    requires { ⌜ headAt (stretchOf w (now book) a) (1 + kind) + units < 2 ^ 64 ⌝ }
+    requires { ⌜ headAt (stretchOf w (now book) a) (counter kind) + units < 2 ^ 64 ⌝ }
     ensures { λ _. ⌜ now (book .exit) ≡ onStretch w a (restOf kind line units (c .0)) (now (book .entry)) ⌝ }
 {
     let start = a * w;
@@ -355,7 +314,7 @@ fn move_stock(kind: usize, d: DayHead, basket: &[u64], book: &mut [u64], a: usiz
     requires { ⌜ length (now basket) ≡ basketWidth ⌝ }
     ensures { λ _. ⌜ now (book .exit) ≡ stockMoves kind (dayOf d (now (basket .entry))) a m (d .count) (now (book .entry)) ⌝ }
 {
-    let w = width_of(d.count);
+    let w = layout::width_of(d.count);
     let mut i: usize = 0;
     while i < d.count {
         let c = layout::component_of(basket, i);
@@ -369,7 +328,7 @@ pub fn move_rest(kind: usize, count: usize, book: &mut [u64], a: usize, units: u
     requires { ⌜ RestReady kind count (now book) a units (c .0) ⌝ }
     ensures { λ _. ⌜ now (book .exit) ≡ restMoves kind count a units (c .0) (now (book .entry)) ⌝ }
 {
-    let w = width_of(count);
+    let w = layout::width_of(count);
     fund_head_of(kind, book, w, FUND, c);
     account_rest_of(kind, book, w, a, count, units, c);
 }

@@ -10,7 +10,8 @@ use lib.ListN.{length, getD, set, length-set}
 use lib.Seq.{getD-set-other, getD-set-same}
 use Rattle.lots.specs.declared.Lots.{Lots}
 use Rattle.lots.proofs.Laws.{lots-eq}
-use Rattle.layout.specs.Book.{headAt, putHead, lotsAt, putLots, onLine, eachLine}
+use Rattle.layout.specs.Places.{linesFrom}
+use Rattle.layout.specs.Book.{headAt, putHead, lotsAt, putLots, onLine, eachLine, lineFrom, behindLine}
 
 -- three stores from place i on
 module _ (s : List ℕ) (i a b c : ℕ) where
@@ -52,13 +53,13 @@ module _ (k v : ℕ) (s : List ℕ) where
   unfolding putHead headAt
   head-put-other j n = getD-set-other s k j v 0 n
 
-  pub lots-put-head : k < 3 → (l : ℕ) → lotsAt (putHead k v s) l ≡ lotsAt s l
+  pub lots-put-head : k < linesFrom → (l : ℕ) → lotsAt (putHead k v s) l ≡ lotsAt s l
   unfolding putHead lotsAt
   lots-put-head h l =
       lots-eq
-      (getD-set-other s k (3 + 3 * l) v 0 (omega arith))
-      (getD-set-other s k (3 + 3 * l + 1) v 0 (omega arith))
-      (getD-set-other s k (3 + 3 * l + 2) v 0 (omega arith))
+      (getD-set-other s k (lineFrom l) v 0 (omega arith))
+      (getD-set-other s k (lineFrom l + 1) v 0 (omega arith))
+      (getD-set-other s k (lineFrom l + 2) v 0 (omega arith))
 
 -- one line changed
 module _ (f : Lots → Lots) (i : ℕ) (s : List ℕ) where
@@ -66,30 +67,30 @@ module _ (f : Lots → Lots) (i : ℕ) (s : List ℕ) where
   unfolding onLine putLots
   on-length = simp length-set
 
-  pub head-on : (k : ℕ) → k < 3 → headAt (onLine f i s) k ≡ headAt s k
+  pub head-on : (k : ℕ) → k < linesFrom → headAt (onLine f i s) k ≡ headAt s k
   unfolding onLine putLots headAt
   head-on k h =
       let y = f (lotsAt s i) in
-      three-other s (3 + 3 * i) (y .old) (y .bought) (y .got) k (omega arith) (omega arith) (omega arith)
+      three-other s (lineFrom i) (y .old) (y .bought) (y .got) k (omega arith) (omega arith) (omega arith)
 
   pub on-other : (j : ℕ) → j ≢ i → lotsAt (onLine f i s) j ≡ lotsAt s j
   unfolding onLine lotsAt putLots
   on-other j n =
       let y = f (lotsAt s i) in
-      let o = three-other s (3 + 3 * i) (y .old) (y .bought) (y .got) in
+      let o = three-other s (lineFrom i) (y .old) (y .bought) (y .got) in
       lots-eq
-      (o (3 + 3 * j) (omega arith) (omega arith) (omega arith))
-      (o (3 + 3 * j + 1) (omega arith) (omega arith) (omega arith))
-      (o (3 + 3 * j + 2) (omega arith) (omega arith) (omega arith))
+      (o (lineFrom j) (omega arith) (omega arith) (omega arith))
+      (o (lineFrom j + 1) (omega arith) (omega arith) (omega arith))
+      (o (lineFrom j + 2) (omega arith) (omega arith) (omega arith))
 
-  pub on-same : 3 * i + 5 < length s → lotsAt (onLine f i s) i ≡ f (lotsAt s i)
+  pub on-same : behindLine i ≤ length s → lotsAt (onLine f i s) i ≡ f (lotsAt s i)
   unfolding onLine lotsAt putLots
   on-same h =
       let y = f (lotsAt s i) in
       lots-eq
-      (three-old s (3 + 3 * i) (y .old) (y .bought) (y .got) (omega arith))
-      (three-bought s (3 + 3 * i) (y .old) (y .bought) (y .got) (omega arith))
-      (three-got s (3 + 3 * i) (y .old) (y .bought) (y .got) (omega arith))
+      (three-old s (lineFrom i) (y .old) (y .bought) (y .got) (omega arith))
+      (three-bought s (lineFrom i) (y .old) (y .bought) (y .got) (omega arith))
+      (three-got s (lineFrom i) (y .old) (y .bought) (y .got) (omega arith))
 
 -- each line below i changed
 module _ (f : ℕ → Lots → Lots) where
@@ -98,7 +99,7 @@ module _ (f : ℕ → Lots → Lots) where
   each-length zero s = refl
   each-length (suc i) s = on-length (f i) i (eachLine f i s) ∙ each-length i s
 
-  pub head-each : (i : ℕ) (s : List ℕ) (k : ℕ) → k < 3 → headAt (eachLine f i s) k ≡ headAt s k
+  pub head-each : (i : ℕ) (s : List ℕ) (k : ℕ) → k < linesFrom → headAt (eachLine f i s) k ≡ headAt s k
   unfolding eachLine
   head-each zero s k h = refl
   head-each (suc i) s k h = head-on (f i) i (eachLine f i s) k h ∙ head-each i s k h
@@ -110,7 +111,7 @@ module _ (f : ℕ → Lots → Lots) where
   each-later (suc i) s j h = on-other (f i) i (eachLine f i s) j (omega arith) ∙ each-later i s j (omega arith)
 
   -- a line that was reached
-  pub each-at : (i : ℕ) (s : List ℕ) (j : ℕ) → 3 + 3 * i ≤ length s → j < i → lotsAt (eachLine f i s) j ≡ f j (lotsAt s j)
+  pub each-at : (i : ℕ) (s : List ℕ) (j : ℕ) → lineFrom i ≤ length s → j < i → lotsAt (eachLine f i s) j ≡ f j (lotsAt s j)
   unfolding eachLine
   each-at zero s j h l = absurd (not-suc-le-zero l)
   each-at (suc i) s j h l =

@@ -20,7 +20,7 @@ use Rattle.layout.proofs.Components.{places-at}
 use Rattle.layout.specs.Day.{Day, dayAt}
 use Rattle.layout.proofs.Day.{day-back}
 use Rattle.fund.proofs.Laws.{fund-sound, cash-size}
-use Rattle.layout.specs.Book.{widthOf, cash, created, redeemed, headAt, lotsAt, width, account, headTotal, lineTotal}
+use Rattle.layout.specs.Book.{widthOf, cash, created, redeemed, headAt, lotsAt, width, account, headTotal, lineTotal, lineFrom}
 use Rattle.rules.specs.Lines.{componentOf, priceOf}
 use Rattle.rules.specs.Opening.{Opening, holdingsOf, cashOpened, heldOpened, openedTotal, openedCash, mostOfLine, dayChecks, componentsOpened, lengthsFit, openingReply, openedDay, openedRun, openedStretch, openedBook, openedPrices}
 use Rattle.rules.proofs.SoundDay.{Opens, opens-facts, Kept}
@@ -52,17 +52,17 @@ module _ (n : ℕ) (h : List ℕ) where
       sym (stretch-at 3 lines l i hi)
       ∙ ap (λ (s : List ℕ). getD s i 0) (stretch-join (λ l. heldOpened l h ∷ 0 ∷ 0 ∷ []) (n + 1) 3 l (λ k. refl) hl)
 
-  past-head : (l i : ℕ) → getD (openedStretch n h) (3 + 3 * l + i) 0 ≡ getD lines (l * 3 + i) 0
+  past-head : (l i : ℕ) → getD (openedStretch n h) (lineFrom l + i) 0 ≡ getD lines (l * 3 + i) 0
   unfolding openedStretch
   past-head l i =
-      let e : 3 + 3 * l + i ≡ suc (suc (suc (l * 3 + i))) = omega arith in
+      let e : lineFrom l + i ≡ suc (suc (suc (l * 3 + i))) = omega arith in
       rw e
 
   pub opened-lots : (l : ℕ) → l < n + 1 → lotsAt (openedStretch n h) l ≡ lots (heldOpened l h) 0 0
   unfolding lotsAt
   opened-lots l hl =
       lots-eq
-      (rw (← add-zero (3 + 3 * l)) (past-head l 0 ∙ at-line l 0 hl (omega arith)))
+      (rw (← add-zero (lineFrom l)) (past-head l 0 ∙ at-line l 0 hl (omega arith)))
       (past-head l 1 ∙ at-line l 1 hl (omega arith))
       (past-head l 2 ∙ at-line l 2 hl (omega arith))
 

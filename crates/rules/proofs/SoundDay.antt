@@ -11,6 +11,7 @@ use borrow.Author.Tests.{le-leb, leb-true, lt-ltb, le-ltb, ltb-false, eq-eqb, ne
 use Rattle.lists.specs.Below.{allBelow, all-at, all-true, first-all, first-end, first-stops}
 use Rattle.lists.specs.Every.{every, every-at, every-more, every-none, inside, inside-facts, inside-true}
 use Rattle.lists.specs.Checks.{Passed, passes, passed-all, passes-all}
+use Rattle.layout.specs.Places.{mostComponents, linesFrom}
 use Rattle.layout.specs.declared.Fund.{Fund}
 use Rattle.layout.specs.declared.Component.{Component}
 use Rattle.fund.specs.Fund.{ceiling, fundInRange}
@@ -26,7 +27,7 @@ pub record Opens (accounts n : ℕ) (fits : Bool) (fund : Fund) (cs : List Compo
   pub accounts-low : 2 ≤ accounts
   pub accounts-high : accounts ≤ 64
   pub count-low : 1 ≤ n
-  pub count-high : n ≤ 300
+  pub count-high : n ≤ mostComponents
   pub lengths : fits ≡ true
   pub fund-fields : fundInRange fund ≡ true
   pub components : componentFault (fund .«first_code») cs n ≡ n
@@ -145,7 +146,7 @@ pub record SoundDay (d : Day) (b ps : List ℕ) : Type 0 where
   pub accounts-low : 2 ≤ d .accounts
   pub accounts-high : d .accounts ≤ 64
   pub count-low : 1 ≤ d .count
-  pub count-high : d .count ≤ 300
+  pub count-high : d .count ≤ mostComponents
   pub book-size : length b ≡ d .accounts * width d
   pub prices-size : length ps ≡ d .count
   pub fund-fields : fundInRange (d .fund) ≡ true
@@ -282,7 +283,7 @@ pub sound-moved : {d : Day} {b b′ ps : List ℕ} → SoundDay d b ps
     → headTotal d b′ cash ≡ headTotal d b cash
     → headTotal d b′ created ≤ ceiling
     → headTotal d b′ redeemed ≤ ceiling
-    → ((k : ℕ) → 0 < k → k < 3 → headAt (account d b′ 0) k ≡ headAt (account d b 0) k)
+    → ((k : ℕ) → 0 < k → k < linesFrom → headAt (account d b′ 0) k ≡ headAt (account d b 0) k)
     → lotsAt (account d b′ 0) (d .count) .old ≡ lotsAt (account d b 0) (d .count) .old
     → ((l : ℕ) → l < d .count + 1 → lotsAt (account d b′ 0) l .bought ≡ lotsAt (account d b 0) l .bought)
     → ((l : ℕ) → l < d .count + 1 → lotsAt (account d b′ 0) l .got ≡ lotsAt (account d b 0) l .got)

@@ -9,7 +9,7 @@ use Rattle.lists.specs.Checks.{Check, check}
 use Rattle.lots.specs.declared.Lots.{Lots}
 use Rattle.fund.specs.Fund.{ceiling, limitOf, cumulativeLimit, cumulativeLimitEach, netLimit, netLimitEach}
 use Rattle.layout.specs.Day.{Day}
-use Rattle.layout.specs.Book.{cash, headAt, putHead, onLine, eachLine, account, headTotal}
+use Rattle.layout.specs.Book.{cash, headAt, putHead, onLine, eachLine, account, headTotal, counter}
 use Rattle.rules.specs.Lines.{quantity, isShanghai}
 use Rattle.rules.specs.Trade.{isInvestor}
 
@@ -49,10 +49,10 @@ withinLimit limit units = eqb limit 0 || leb units limit
 
 -- units created (or redeemed) by an account, and fund-wide
 unfoldable pub countOf : Day → List ℕ → ℕ → ℕ → ℕ
-countOf d b side a = headAt (account d b a) (1 + side)
+countOf d b side a = headAt (account d b a) (counter side)
 
 unfoldable pub fundCount : Day → List ℕ → ℕ → ℕ
-fundCount d b side = headTotal d b (1 + side)
+fundCount d b side = headTotal d b (counter side)
 
 -- cumulative and net, for the fund and for the account, after this order; a negative net passes no limit.
 -- The ceiling holds with no limit set.
@@ -87,7 +87,7 @@ otherCash d cashOf = sumBelow (λ i. cond (isShanghai d i) 0 (cashOf i)) (d .cou
 -- the account's stretch after an order: each component's lots by f, the unit's by g, cash c, and its count raised
 unfoldable pub accountSide : ℕ → ℕ → ℕ → (ℕ → Lots → Lots) → (Lots → Lots) → ℕ → List ℕ → List ℕ
 accountSide n side units f g c s =
-    putHead (1 + side) (headAt s (1 + side) + units) (putHead cash c (onLine g n (eachLine f n s)))
+    putHead (counter side) (headAt s (counter side) + units) (putHead cash c (onLine g n (eachLine f n s)))
 
 -- the fund's stretch: each component's lots by f, and cash c
 unfoldable pub fundSide : ℕ → (ℕ → Lots → Lots) → ℕ → List ℕ → List ℕ

@@ -5,6 +5,7 @@ ghost use lib.ListN.{length, set};
 ghost use Rattle.lists.specs.Checks.{answered};
 ghost use Rattle.lists.specs.Stretch.{stretchOf};
 ghost use Rattle.lots.specs.Lots.{sellable};
+ghost use Rattle.layout.specs.Places.{mostComponents};
 ghost use Rattle.layout.specs.Book.{cash, widthOf, lotsAt};
 ghost use Rattle.rules.specs.Replies.{answerReply, ifAccepted};
 ghost use Rattle.rules.specs.Price.{priceChecks};
@@ -55,7 +56,7 @@ fn trade_means(
     seller: usize,
     buyer: usize,
 ) -> Answer
-    requires { ⌜ (count ≤ 300) × (line ≤ count) × (seller * widthOf count + widthOf count ≤ length (now book)) × (buyer * widthOf count + widthOf count ≤ length (now book)) × (sellable (lotsAt (stretchOf (widthOf count) (now book) seller) line) ≤ 2_000_000_000_000_000_000) ⌝ }
+    requires { ⌜ (count ≤ mostComponents) × (line ≤ count) × (seller * widthOf count + widthOf count ≤ length (now book)) × (buyer * widthOf count + widthOf count ≤ length (now book)) × (sellable (lotsAt (stretchOf (widthOf count) (now book) seller) line) ≤ 2_000_000_000_000_000_000) ⌝ }
     ensures { λ r. ⌜ answerReply r ≡ answered (tradeMeans count (now (book .entry)) line q (amount .0) seller buyer) 0 ⌝ }
 {
     let w = layout::width_of(count);

@@ -9,6 +9,7 @@ use Rattle.lists.specs.Every.{every}
 use Rattle.lists.specs.Checks.{Reply, reply}
 use Rattle.units.specs.Units.{rounded}
 use Rattle.flags.specs.Table.{entry, priced}
+use Rattle.layout.specs.Places.{mostComponents}
 use Rattle.layout.specs.declared.Component.{Component}
 use Rattle.fund.specs.Fund.{cashInRange}
 use Rattle.layout.specs.Day.{Day}
@@ -38,7 +39,7 @@ pub record Countable (c : Component) (price : ℕ) : Type 0 where
 
 -- a day and prices with all that the reference value looks at in its range
 pub record Priceable (d : Day) (ps : List ℕ) : Type 0 where
-  pub count : d .count ≤ 300
+  pub count : d .count ≤ mostComponents
   pub prices-size : length ps ≡ d .count
   pub size-low : 1 ≤ d .fund .«basket_size»
   pub size-high : d .fund .«basket_size» ≤ 99_999_999
