@@ -23,7 +23,7 @@ use Rattle.list_rules.proofs.Ranges.{fields-sound}
 use Rattle.list_trip.proofs.ReadTests.{reads}
 use Rattle.list_reading.specs.Outcome.{ReadOutcome}
 use Rattle.list_writing.specs.Outcome.{WriteOutcome}
-use Rattle.list_fields.specs.Run.{fieldsAt, fieldsNumbers}
+use Rattle.list_layout.specs.Run.{fieldsAt, fieldsNumbers}
 use Rattle.flat.proofs.Trip.{fields-flat}
 use Rattle.c_interface.specs.Text.{Taking, taking, ofWidth, takingReply, TextRead, TextWritten}
 use Rattle.c_interface.proofs.Laws.{told-as, kept, sizes-refuse}

@@ -10,7 +10,7 @@ use Rattle.lists.specs.Checks.{Reply, reply}
 use Rattle.rules.specs.Replies.{ifAccepted}
 use Rattle.list_rules.specs.Reading.{readReply, fieldsHanded, firstHanded, runAfter}
 use Rattle.list_rules.specs.Writing.{Listing, writeReply, outputAfter}
-use Rattle.list_fields.specs.Run.{fieldsWidth, fieldsNumbers}
+use Rattle.list_layout.specs.Run.{fieldsWidth, fieldsNumbers}
 use Rattle.numbers.specs.Numbers.{Told}
 
 -- what reading is lent besides the text: the component run, the run that takes the fields, and the number that takes the place of

@@ -18,7 +18,7 @@ ghost use Rattle.run.specs.Batch.{stateOf, batchOf, runReply, ran, eventsOf, De
 ghost use Rattle.list_rules.specs.Replies.{listReply};
 ghost use Rattle.list_rules.specs.Writing.{listing};
 ghost use Rattle.layout.specs.Day.{dayAt, dayNumbers};
-ghost use Rattle.list_fields.specs.Run.{fieldsAt, fieldsNumbers};
+ghost use Rattle.list_layout.specs.Run.{fieldsAt, fieldsNumbers};
 ghost use Rattle.c_interface.specs.Opening.{lent, widthsFit, flatGiven, FlatOutcome};
 ghost use Rattle.c_interface.specs.Text.{taking, TextRead, TextWritten};
 use list_rules::ListAnswer;
