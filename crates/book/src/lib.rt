@@ -20,6 +20,15 @@ use units::Money;
 // The fund's account.
 const FUND: usize = 0;
 
+// A number of the head of account `a`, its cash or a counter, read off the whole book.
+pub fn head_of(book: &[u64], w: usize, a: usize, place: usize) -> u64
+    requires { ⌜ a * w + w ≤ length (now book) ⌝ }
+    requires { ⌜ place < w ⌝ }
+    ensures { λ r. ⌜ r ≡ headAt (stretchOf w (now (book .entry)) a) place ⌝ }
+{
+    book[a * w + place]
+}
+
 // The lots of a line of account `a`, read off the whole book.
 pub fn lots_of(book: &[u64], w: usize, a: usize, line: usize) -> Lots
     requires { ⌜ a * w + w ≤ length (now book) ⌝ }

@@ -15,7 +15,8 @@ use Rattle.digits.specs.declared.Figure.{Figure}
 use Rattle.digits.specs.Digits.{plain, cap}
 use Rattle.list_rules.specs.declared.ListFields.{ListFields}
 use Rattle.list_rules.specs.Dates.{isDate}
-use Rattle.list_rules.specs.Fields.{signedFigure, figureAt, fieldsInRange}
+use Rattle.digits.specs.Signed.{figureSigned}
+use Rattle.list_rules.specs.Fields.{figureAt, fieldsInRange}
 use Rattle.list_trip.proofs.Below.{each-at}
 
 -- a date has at most eight digits
@@ -26,8 +27,8 @@ date-small d e =
     omega (arith, years, div-add-mod d 10_000, mod-lt d {m = 10_000} (omega arith))
 
 -- signed cash in its range has at most ten digits
-pub signed-small : (z : ℤ) → cashInRange z ≡ true → signedFigure z .size ≤ 9_999_999_999
-unfolding cashInRange signedFigure
+pub signed-small : (z : ℤ) → cashInRange z ≡ true → figureSigned z .size ≤ 9_999_999_999
+unfolding cashInRange figureSigned
 signed-small (pos n) e = leb-true n 9_999_999_999 e
 signed-small (negsuc n) e = omega (arith, ltb-true n 999_999_999 e)
 
@@ -40,10 +41,10 @@ headFigures l =
     ∷ plain (l .publish)
     ∷ plain (l .fund .switch)
     ∷ plain (l .count)
-    ∷ signedFigure (l .fund .«estimated_cash»)
+    ∷ figureSigned (l .fund .«estimated_cash»)
     ∷ plain (l .«trading_day»)
     ∷ plain (l .«pre_trading_day»)
-    ∷ signedFigure (l .«cash_component»)
+    ∷ figureSigned (l .«cash_component»)
     ∷ plain (l .«nav_per_cu»)
     ∷ plain (l .nav)
     ∷ []

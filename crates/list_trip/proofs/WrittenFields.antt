@@ -18,7 +18,8 @@ use Rattle.digits.specs.Digits.{plain, cap}
 use Rattle.list_rules.specs.declared.ListFields.{ListFields}
 use Rattle.list_rules.specs.Dates.{isDate}
 use Rattle.list_rules.specs.Head.{fieldTable, fieldEntry, fieldForm, isKind}
-use Rattle.list_rules.specs.Fields.{signedFigure, figureAt, fieldsInRange}
+use Rattle.digits.specs.Signed.{figureSigned}
+use Rattle.list_rules.specs.Fields.{figureAt, fieldsInRange}
 use Rattle.digits.proofs.Trip.{Fits}
 use Rattle.list_trip.proofs.WrittenForms.{plain-fits}
 use Rattle.list_trip.proofs.WrittenTables.{both, paired-at, paired-same}
@@ -42,8 +43,8 @@ fixed-says digits kind n h l e =
     record { fits = plain-fits _ n h (λ z. rw (div-one n) l) (λ z. absurd (z refl)); kind = e }
 
 -- a signed amount in its range
-cash-says : (e : ℤ) → cashInRange e ≡ true → Says (0 ∷ 2 ∷ 1 ∷ 0 ∷ []) (signedFigure e)
-unfolding cashInRange signedFigure isKind
+cash-says : (e : ℤ) → cashInRange e ≡ true → Says (0 ∷ 2 ∷ 1 ∷ 0 ∷ []) (figureSigned e)
+unfolding cashInRange figureSigned isKind
 cash-says (pos n) t =
     record {
       fits = plain-fits _ n (omega (arith, leb-true n 9_999_999_999 t)) (λ z. absurd (z refl)) (λ z. absurd (z refl));

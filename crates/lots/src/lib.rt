@@ -10,6 +10,22 @@ pub struct Lots {
 }
 
 impl Lots {
+    // What may be sold: what was bought today may not.
+    pub fn sellable(self) -> u64
+        requires { ⌜ sellable self < 2 ^ 64 ⌝ }
+        ensures { λ r. ⌜ r ≡ sellable self ⌝ }
+    {
+        self.got + self.old
+    }
+
+    // What may be handed in: what was got today may not.
+    pub fn handable(self) -> u64
+        requires { ⌜ handable self < 2 ^ 64 ⌝ }
+        ensures { λ r. ⌜ r ≡ handable self ⌝ }
+    {
+        self.bought + self.old
+    }
+
     // A sale takes the got lot first, then old.
     pub fn sell(self, q: u64) -> Lots
         requires { ⌜ q ≤ sellable self ⌝ }

@@ -61,10 +61,10 @@ fn trade_means(
 {
     let w = layout::width_of(count);
     let held = book::lots_of(book, w, seller, line);
-    if held.got + held.old < q {
+    if held.sellable() < q {
         return Answer::Refused(Refusal::ShortOfStock(0));
     }
-    if book[buyer * w] < amount.0 {
+    if book::head_of(book, w, buyer, layout::CASH) < amount.0 {
         return Answer::Refused(Refusal::ShortOfCash);
     }
     Answer::Done

@@ -5,9 +5,9 @@ use mir.Syntax.{w64}
 use mir.Val.{toZ, ofZ}
 use borrow.Author.Needs.{needs}
 use Rattle.lists.specs.Below.{tabulate}
-use Rattle.fund.specs.Fund.{cashInRange}
-use Rattle.fund.proofs.Laws.{FundRanges, fund-sound}
-use Rattle.list_rules.specs.Fields.{signedFigure, figureAt}
+use Rattle.digits.specs.Signed.{figureSigned}
+use Rattle.fund.proofs.Laws.{FundRanges, fund-sound, cash-size}
+use Rattle.list_rules.specs.Fields.{figureAt}
 use Rattle.list_rules.proofs.Ranges.{FieldRanges, fields-sound}
 use Rattle.list_fields.proofs.Laws.{_▹_}
 use Rattle.list_fields.proofs.figures_of.Statement.{statement}
@@ -38,10 +38,10 @@ cash-back : (c : tie.After-struct-told2)
 cash-back c = search needs
 
 figure-of-requires : tie.Need-figure-of-requires
-figure-of-requires c κs = ap cashInRange (estimated-back c) ∙ fund-ranges (start c) .cash
+figure-of-requires c κs = rw (estimated-back c) (cash-size _ (fund-ranges (start c) .cash))
 
 figure-of-requires-2 : tie.Need-figure-of-requires-2
-figure-of-requires-2 c κs = ap cashInRange (cash-back c) ∙ ranges (start-2 c) .cash
+figure-of-requires-2 c κs = rw (cash-back c) (cash-size _ (ranges (start-2 c) .cash))
 
 returns : tie.Need-returns
 unfolding tabulate figureAt
@@ -56,10 +56,10 @@ returns c =
     ▹ count .before .before .plain-of4 .ensures
     ▹ count .before .plain-of5 .ensures
     ▹ count .plain-of6 .ensures
-    ▹ estimated .figure-of .ensures ∙ ap signedFigure (estimated-back (estimated .before))
+    ▹ estimated .figure-of .ensures ∙ ap figureSigned (estimated-back (estimated .before))
     ▹ cash .before .before .before .plain-of7 .ensures
     ▹ cash .before .before .plain-of8 .ensures
-    ▹ cash .figure-of2 .ensures ∙ ap signedFigure (cash-back (cash .before))
+    ▹ cash .figure-of2 .ensures ∙ ap figureSigned (cash-back (cash .before))
     ▹ nav .before .plain-of9 .ensures
     ▹ nav .plain-of10 .ensures
     ▹ c .before .before .before .before .before .before .before .plain-of11 .ensures
