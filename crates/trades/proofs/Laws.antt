@@ -81,34 +81,31 @@ module _ (k n : ℕ) (b : List ℕ) (line q p seller buyer : ℕ) where
             unfolding answered tradeChecks
             trade-rest e = simp (le-ltb n line l, r, t, s, u, ne-eqb seller buyer e)
 
--- the means as the code reads them: w is the width, and x the seller's lots
-module _ (n : ℕ) (b : List ℕ) (line q m seller buyer w : ℕ) (x : Lots) (ew : w ≡ widthOf n) (ex : x ≡ lotsAt (stretchOf w b seller) line) where
-  pub held-is : sellable (lotsAt (stretchOf (widthOf n) b seller) line) ≡ x .got + x .old
-  held-is = ap sellable (ap (λ (v : ℕ). lotsAt (stretchOf v b seller) line) (sym ew) ∙ sym ex)
+-- the means as the code reads them: w is the width, x the seller's lots, and held what may be sold of them
+module _ (n : ℕ) (b : List ℕ) (line q m seller buyer w : ℕ) (x : Lots) (held : ℕ)
+    (ew : w ≡ widthOf n) (ex : x ≡ lotsAt (stretchOf w b seller) line) (eh : held ≡ sellable x) where
+  held-is : sellable (lotsAt (stretchOf (widthOf n) b seller) line) ≡ held
+  held-is = ap sellable (ap (λ (v : ℕ). lotsAt (stretchOf v b seller) line) (sym ew) ∙ sym ex) ∙ sym eh
 
-  cash-is : headAt (stretchOf (widthOf n) b buyer) cash ≡ getD b (buyer * w) 0
-  unfolding headAt
-  cash-is = rw (ew, stretch-at (widthOf n) b buyer 0 (omega arith), add-zero)
-
-  pub means-short : x .got + x .old < q → reply 9 0 0 ≡ answered (tradeMeans n b line q m seller buyer) 0
+  pub means-short : held < q → reply 9 0 0 ≡ answered (tradeMeans n b line q m seller buyer) 0
   unfolding answered tradeMeans
   means-short h = simp (lt-ltb (sellable (lotsAt (stretchOf (widthOf n) b seller) line)) q (omega (arith, held-is)))
 
-  pub means-cash : q ≤ x .got + x .old → getD b (buyer * w) 0 < m → reply 10 0 0 ≡ answered (tradeMeans n b line q m seller buyer) 0
-  unfolding answered tradeMeans
-  means-cash h g =
-      simp (
-        le-ltb (sellable (lotsAt (stretchOf (widthOf n) b seller) line)) q (omega (arith, held-is)),
-        lt-ltb (headAt (stretchOf (widthOf n) b buyer) cash) m (omega (arith, cash-is)),
-      )
+  -- and own the buyer's cash
+  module _ (own : ℕ) (eo : own ≡ headAt (stretchOf w b buyer) cash) (h : q ≤ held) where
+    cash-is : headAt (stretchOf (widthOf n) b buyer) cash ≡ own
+    cash-is = ap (λ (v : ℕ). headAt (stretchOf v b buyer) cash) (sym ew) ∙ sym eo
 
-  pub means-done : q ≤ x .got + x .old → m ≤ getD b (buyer * w) 0 → reply 0 0 0 ≡ answered (tradeMeans n b line q m seller buyer) 0
-  unfolding answered tradeMeans
-  means-done h g =
-      simp (
-        le-ltb (sellable (lotsAt (stretchOf (widthOf n) b seller) line)) q (omega (arith, held-is)),
-        le-ltb (headAt (stretchOf (widthOf n) b buyer) cash) m (omega (arith, cash-is)),
-      )
+    stocked : ltb (sellable (lotsAt (stretchOf (widthOf n) b seller) line)) q ≡ false
+    stocked = le-ltb (sellable (lotsAt (stretchOf (widthOf n) b seller) line)) q (omega (arith, held-is))
+
+    pub means-cash : own < m → reply 10 0 0 ≡ answered (tradeMeans n b line q m seller buyer) 0
+    unfolding answered tradeMeans
+    means-cash g = simp (stocked, lt-ltb (headAt (stretchOf (widthOf n) b buyer) cash) m (omega (arith, cash-is)))
+
+    pub means-done : m ≤ own → reply 0 0 0 ≡ answered (tradeMeans n b line q m seller buyer) 0
+    unfolding answered tradeMeans
+    means-done g = simp (stocked, le-ltb (headAt (stretchOf (widthOf n) b buyer) cash) m (omega (arith, cash-is)))
 
 -- an account of the fits
 pub in-book : {k n : ℕ} {b : List ℕ} → BookFits k n b → (a : ℕ) → a < k → a * widthOf n + widthOf n ≤ length b
