@@ -1,31 +1,27 @@
 -- A creation: stock and cash go to the fund, units are new, and what was handed in is what the records say.
-use mathlib.Core.Path.{_≡_, refl, sym, ap, subst, _∙_}
+use mathlib.Core.Path.{_≡_, refl, ap, _∙_}
 use mathlib.Core.Bool.{Bool, true, false, cond}
 use mathlib.Core.List.{List}
 use Prim.Native.Nat.{ℕ, _+_, _-_, _≤_, _<_, min}
-use native.Mathlib.Decide.{ℕ-discrete, decLt}
 use native.Mathlib.Omega.{arith}
 use lib.Dec.{ltb}
 use lib.ListN.{length}
 use borrow.Author.Tests.{lt-ltb, le-ltb}
-use Rattle.lists.specs.Checks.{Reply, isAccepted}
 use Rattle.lists.specs.Same.{whenSame, when-same, when-other}
-use Rattle.lots.specs.declared.Lots.{Lots}
 use Rattle.lots.specs.Lots.{handInOf, getOf, takeInOf, handable}
-use Rattle.fund.specs.Fund.{ceiling, limitOf, cumulativeLimit}
 use Rattle.layout.specs.Day.{Day}
-use Rattle.layout.specs.Book.{cash, created, redeemed, headAt, lotsAt, account, headTotal, lineTotal}
+use Rattle.layout.specs.Book.{cash, headAt, lotsAt, account}
 use Rattle.rules.specs.Lines.{codeOf, movesStock}
-use Rattle.rules.specs.Orders.{creation, redemption, baskets, need, fundCount, shanghaiCash, otherCash}
+use Rattle.rules.specs.Orders.{creation, baskets, need, fundCount, shanghaiCash, otherCash}
 use Rattle.rules.specs.Records.{sideB, sideS}
 use Rattle.layout.specs.Records.{roomIn, withRecords}
-use Rattle.rules.specs.Creation.{available, handedIn, creationCash, creationDue, creationRecords, creationReply, creationMoves, createdBook, createdList}
-use Rattle.rules.proofs.SoundDay.{Kept, sound-moved}
+use Rattle.rules.specs.Creation.{available, handedIn, creationCash, creationDue, creationRecords, creationMoves, createdBook, createdList}
+use Rattle.rules.proofs.SoundDay.{Kept}
 use Rattle.rules.proofs.Accepted.{Creates, creation-facts, creation-value}
 use Rattle.balance.specs.Calls.{State, Lent, create, step}
-use Rattle.balance.specs.Counts.{stockQuantity, soldBy, boughtBy, gotBy, handedBy, createdBy, redeemedBy, unitsCreated, unitsRedeemed}
-use Rattle.balance.proofs.Relation.{Tally, Keeps, keeps-same, tallyIf, callTally, StepKeeps, Drawn, drawn-same, drawn-get, drawn-hand, drawn-eq}
-use Rattle.balance.proofs.OrderMove.{OrderMoved, order-moved}
+use Rattle.balance.specs.Counts.{stockQuantity, callSold, callBought, callGot, callHandedIn, callCreated, callRedeemed, callCreatedByAll, callRedeemedByAll}
+use Rattle.balance.proofs.Relation.{Keeps, callTally, AcceptedKeeps, drawn-get, drawn-hand, drawn-eq}
+use Rattle.balance.proofs.OrderMove.{Move, Settles, own-rises, other-stays, order-keeps}
 use Rattle.balance.proofs.StockCount.{quantity-is}
 
 -- what is handed in is there
@@ -37,164 +33,78 @@ handed-there d s m i = go (movesStock d i)
     go true = omega arith
     go false = omega arith
 
-module _ (d : Day) (b ps : List ℕ) (a units room : ℕ) (t : Creates d b ps a units room) where
+module _ (d : Day) (b ps : List ℕ) (a units room : ℕ) (t : Creates d b ps a units room) (list : List ℕ) where
   abbrev m : ℕ
   m = baskets d units
 
-  abbrev due : ℕ
-  due = creationDue d (account d b a) ps m
+  abbrev hands : ℕ → ℕ
+  hands l = handedIn d (account d b a) m l
 
-  abbrev f : ℕ → Lots → Lots
-  f i x = handInOf x (handedIn d (account d b a) m i)
-
-  abbrev g : Lots → Lots
-  g x = getOf x units
-
-  abbrev h : ℕ → Lots → Lots
-  h i x = takeInOf x (handedIn d (account d b a) m i)
-
-  abbrev paid : List ℕ → ℕ
-  paid s = headAt s cash - due
-
-  abbrev taken : List ℕ → ℕ
-  taken s = headAt s cash + due
-
-  abbrev after : List ℕ
-  after = creationMoves d ps a units b
-
-  facts : OrderMoved d b after creation a units f g paid h taken
-  unfolding creationMoves
-  facts = order-moved d b ps creation a units f g paid h taken (t .sound) (t .order) (omega arith)
-
-  money : headTotal d after cash ≡ headTotal d b cash
-  money = facts .money (omega (arith, t .money))
-
-  stock : (l : ℕ) → l < d .count → lineTotal d after l ≡ lineTotal d b l
-  stock l i = facts .line l i (omega (arith, handed-there d (account d b a) m l))
-
-  units-more : lineTotal d after (d .count) ≡ lineTotal d b (d .count) + units
-  units-more = omega (arith, facts .units-total)
-
-  created-more : headTotal d after created ≡ headTotal d b created + units
-  unfolding fundCount
-  created-more = facts .fund-count-more
-
-  redeemed-same : headTotal d after redeemed ≡ headTotal d b redeemed
-  unfolding fundCount
-  redeemed-same = facts .fund-count-same redemption (omega arith) (λ q. omega arith)
-
-  limit-held : 0 < limitOf (d .fund) cumulativeLimit creation → fundCount d after creation ≤ limitOf (d .fund) cumulativeLimit creation
-  limit-held p = omega (arith, facts .fund-count-more, t .order .limit p)
-
-  below : headTotal d b created + units ≤ ceiling
-  unfolding fundCount
-  below = t .order .below-ceiling
-
-  kept : Kept d b ps → Kept d after ps
-  kept k =
-      let s = k .sound in
+  abbrev move : Move
+  move =
       record {
-        sound =
-            sound-moved s (facts .size) stock (omega (arith, units-more, k .room, below)) money
-            (omega (arith, created-more, below))
-            (omega (arith, redeemed-same, s .redeemed-most))
-            (facts .fund-heads)
-            (ap (λ (x : Lots). x .old) (facts .fund-units))
-            (facts .fund-keeps (λ x. x .bought) (λ i x. refl))
-            (facts .fund-keeps (λ x. x .got) (λ i x. refl));
-        room = omega (arith, k .room, units-more, created-more, below);
+        component = λ l x. handInOf x (hands l);
+        unit = λ x. getOf x units;
+        cash-after = λ s. headAt s cash - creationDue d (account d b a) ps m;
+        fund-component = λ l x. takeInOf x (hands l);
+        fund-cash-after = λ s. headAt s cash + creationDue d (account d b a) ps m;
       }
 
   -- what the account handed in, as its records have it
-  module _ (list : List ℕ) where
-    abbrev made : List ℕ
-    made = withRecords (creationRecords d (account d b a) ps units) list
+  abbrev made : List ℕ
+  made = withRecords (creationRecords d (account d b a) ps units) list
 
-    abbrev n : ℕ
-    n = length (creationRecords d (account d b a) ps units)
+  abbrev n : ℕ
+  n = length (creationRecords d (account d b a) ps units)
 
-    recorded : (l : ℕ) → l < d .count → stockQuantity (codeOf d l) made n ≡ handedIn d (account d b a) m l
-    unfolding creationRecords
-    recorded l i = quantity-is d b ps (t .sound) l i sideS sideB units (handedIn d (account d b a) m) (otherCash d (creationCash d (account d b a) ps m)) (shanghaiCash d (creationCash d (account d b a) ps m)) list
+  abbrev got : ℕ → ℕ
+  got l = whenSame (d .count) l units
 
-    abbrev Goal : ℕ → ℕ → Type 0
-    Goal i l =
-        Drawn (lotsAt (account d b i) l) (lotsAt (account d after i) l) 0 0
-        (whenSame a i (whenSame (d .count) l units)) (whenSame a i (cond (ltb l (d .count)) (stockQuantity (codeOf d l) made n) 0))
+  abbrev handed : ℕ → ℕ
+  handed l = cond (ltb l (d .count)) (stockQuantity (codeOf d l) made n) 0
 
-    at-account : (l : ℕ) → l ≤ d .count → Dec (l < d .count) → Goal a l
-    at-account l i (yes j) =
-        drawn-eq (facts .account-lots l j) refl refl
-        (when-same a a _ refl ∙ when-other (d .count) l units (λ q. omega arith))
-        (when-same a a _ refl ∙ ap (λ (z : Bool). cond z (stockQuantity (codeOf d l) made n) 0) (lt-ltb l (d .count) j) ∙ recorded l j)
-        (drawn-hand (lotsAt (account d b a) l) (handedIn d (account d b a) m l) (handed-there d (account d b a) m l))
-    at-account l i (no j) =
-        let q : d .count ≡ l = omega arith in
-        subst (λ (k : ℕ). Goal a k) q
-        (drawn-eq (facts .account-units) refl refl
-        (when-same a a _ refl ∙ when-same (d .count) (d .count) units refl)
-        (when-same a a _ refl ∙ ap (λ (z : Bool). cond z (stockQuantity (codeOf d (d .count)) made n) 0) (le-ltb (d .count) (d .count) (omega arith)))
-        (drawn-get (lotsAt (account d b a) (d .count)) units))
+  recorded : (l : ℕ) → l < d .count → handed l ≡ hands l
+  unfolding creationRecords
+  recorded l i =
+      ap (λ (z : Bool). cond z (stockQuantity (codeOf d l) made n) 0) (lt-ltb l (d .count) i)
+      ∙ quantity-is d b ps (t .sound) l i sideS sideB units hands (otherCash d (creationCash d (account d b a) ps m)) (shanghaiCash d (creationCash d (account d b a) ps m)) list
 
-    lots : (i l : ℕ) → 0 < i → l ≤ d .count → Dec (a ≡ i) → Goal i l
-    lots i l pos j (yes q) = subst (λ (k : ℕ). Goal k l) q (at-account l j (decLt l (d .count)))
-    lots i l pos j (no r) =
-        drawn-eq (ap (λ (s : List ℕ). lotsAt s l) (facts .others i (λ q. r (sym q)) (λ q. omega arith))) refl refl
-        (when-other a i _ r) (when-other a i _ r)
-        (drawn-same (lotsAt (account d b i) l))
+  none-got : (l : ℕ) → l < d .count → got l ≡ 0
+  none-got l i = when-other (d .count) l units (λ q. omega arith)
 
-    pub create-keeps : Kept d b ps → Keeps d b ps after ps (callTally d (create a units) (record { records = made }) n)
-    unfolding soldBy boughtBy gotBy handedBy createdBy redeemedBy unitsCreated unitsRedeemed
-    create-keeps k =
-        record {
-          kept = kept k;
-          money = money;
-          stock = stock;
-          units = omega (arith, units-more);
-          lots = λ i l pos j r. lots i l pos r (ℕ-discrete a i);
-          fund-sold = λ l. refl;
-          fund-handed = λ l. when-other a 0 _ (λ q. omega (arith, t .order .account-low));
-          created = λ i j. facts .count-more i;
-          redeemed = λ i j. omega (arith, facts .count-same redemption (omega arith) (λ q. omega arith) i);
-          all-created = facts .fund-count-more;
-          all-redeemed = omega (arith, facts .fund-count-same redemption (omega arith) (λ q. omega arith));
-          limits = facts .limits;
-        }
+  settles : Settles (d .count) (account d b a) (account d b 0) move units 0 got handed
+  settles =
+      record {
+        money = omega (arith, t .money);
+        lines = λ l i. drawn-eq refl refl refl (none-got l i) (recorded l i) (drawn-hand (lotsAt (account d b a) l) (hands l) (handed-there d (account d b a) m l));
+        units = drawn-eq refl refl refl got-units none-handed (drawn-get (lotsAt (account d b a) (d .count)) units);
+        got-units = got-units;
+        handed-units = none-handed;
+        fund-lines = λ l i. omega (arith, none-got l i, recorded l i);
+        fund-bought = λ l x. refl;
+        fund-got = λ l x. refl;
+      }
+    where
+      got-units : got (d .count) ≡ units
+      got-units = when-same (d .count) (d .count) units refl
 
--- an accepted creation does not end above the creation limit
-pub create-within : (s : State) (a units : ℕ) (lent : Lent) → isAccepted (step s (create a units) lent .reply) ≡ true
-    → 0 < limitOf (s .day .fund) cumulativeLimit creation → fundCount (s .day) (step s (create a units) lent .after .book) creation ≤ limitOf (s .day .fund) cumulativeLimit creation
-unfolding step createdBook
-create-within s a units lent e p =
-    omega (
-      arith,
-      ap (λ (z : Bool). fundCount (s .day) (cond z (creationMoves (s .day) (s .prices) a units (s .book)) (s .book)) creation) e,
-      limit-held _ _ _ _ _ _ (creation-facts _ _ _ _ _ _ e) p,
-    )
+      none-handed : handed (d .count) ≡ 0
+      none-handed = ap (λ (z : Bool). cond z (stockQuantity (codeOf d (d .count)) made n) 0) (le-ltb (d .count) (d .count) (omega arith))
 
--- and adds its units
-pub create-units : (s : State) (a units : ℕ) (lent : Lent) → isAccepted (step s (create a units) lent .reply) ≡ true
-    → lineTotal (s .day) (step s (create a units) lent .after .book) (s .day .count) ≡ lineTotal (s .day) (s .book) (s .day .count) + units
-unfolding step createdBook
-create-units s a units lent e =
-    omega (
-      arith,
-      ap (λ (z : Bool). lineTotal (s .day) (cond z (creationMoves (s .day) (s .prices) a units (s .book)) (s .book)) (s .day .count)) e,
-      units-more _ _ _ _ _ _ (creation-facts _ _ _ _ _ _ e),
-    )
+  moves-keep : Kept d b ps
+      → Keeps (record { day = d; book = b; prices = ps }) (record { day = d; book = creationMoves d ps a units b; prices = ps }) (callTally d (create a units) (record { records = made }) n)
+  unfolding creationMoves fundCount callSold callBought callGot callHandedIn callCreated callRedeemed callCreatedByAll callRedeemedByAll
+  moves-keep k =
+      let low : creation < 2 = omega arith in
+      order-keeps d b ps creation a units move (t .sound) (t .order) low settles
+      (own-rises d b ps creation a units move (t .sound) (t .order) low)
+      (other-stays d b ps creation a units move (t .sound) (t .order) low)
+      (t .order .below-ceiling)
+      (omega (arith, t .sound .redeemed-most))
+      k
 
-pub create-step : (s : State) (a units : ℕ) (lent : Lent) → Kept (s .day) (s .book) (s .prices) → StepKeeps s (create a units) (step s (create a units) lent)
+pub create-keeps : (s : State) (a units : ℕ) (lent : Lent) → AcceptedKeeps s (create a units) lent
 unfolding step createdBook createdList
-create-step s a units lent k = go (isAccepted answer) refl
-  where
-    answer : Reply
-    answer = creationReply (s .day) (s .book) (s .prices) a units (roomIn (lent .records))
-
-    go : (z : Bool) → isAccepted answer ≡ z
-        → Keeps (s .day) (s .book) (s .prices) (cond z (creationMoves (s .day) (s .prices) a units (s .book)) (s .book)) (s .prices)
-        (tallyIf z (callTally (s .day) (create a units) (record { records = cond z (withRecords (creationRecords (s .day) (account (s .day) (s .book) a) (s .prices) units) (lent .records)) (lent .records) }) (answer .value)))
-    go true e =
-        subst (λ (v : ℕ). Keeps (s .day) (s .book) (s .prices) (creationMoves (s .day) (s .prices) a units (s .book)) (s .prices) (callTally (s .day) (create a units) (record { records = withRecords (creationRecords (s .day) (account (s .day) (s .book) a) (s .prices) units) (lent .records) }) v))
-        (sym (creation-value (s .day) (s .book) (s .prices) a units (roomIn (lent .records)) e))
-        (create-keeps (s .day) (s .book) (s .prices) a units (roomIn (lent .records)) (creation-facts _ _ _ _ _ _ e) (lent .records) k)
-    go false e = keeps-same k
+create-keeps s a units lent k e =
+    rw (e, creation-value (s .day) (s .book) (s .prices) a units (roomIn (lent .records)) e)
+    (moves-keep (s .day) (s .book) (s .prices) a units (roomIn (lent .records)) (creation-facts _ _ _ _ _ _ e) (lent .records) k)

@@ -1,3 +1,4 @@
+pub mod Joined
 pub mod Relation
 pub mod PriceStep
 pub mod ValueStep
@@ -6,5 +7,7 @@ pub mod OrderMove
 pub mod StockCount
 pub mod CreateStep
 pub mod RedeemStep
+pub mod Steps
+pub mod Limits
 pub mod Whole
 pub mod Theorems

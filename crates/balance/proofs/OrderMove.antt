@@ -1,5 +1,4 @@
--- The move of an order of either kind: the account's side and the fund's, and what they leave of totals, counters,
--- limits and the fund.
+-- An order of either kind: its account's side and the fund's, and that they keep what a list of events keeps.
 use mathlib.Core.Path.{_≡_, refl, sym, ap, subst, _∙_}
 use mathlib.Core.List.{List}
 use Prim.Native.Nat.{ℕ, _+_, _-_, _*_, _≤_, _<_}
@@ -10,46 +9,64 @@ use Rattle.lists.specs.Same.{whenSame, when-same, when-other}
 use Rattle.lists.specs.Stretch.{over, onStretch, within, stretch-length, Changed, changed-both, changed-over}
 use Rattle.lots.specs.declared.Lots.{Lots}
 use Rattle.lots.specs.Lots.{lotsTotal}
-use Rattle.fund.specs.Fund.{limitOf, cumulativeLimit, cumulativeLimitEach, netLimit, netLimitEach}
+use Rattle.fund.specs.Fund.{ceiling}
+use Rattle.layout.specs.Places.{linesFrom}
 use Rattle.layout.specs.Day.{Day}
-use Rattle.layout.specs.Book.{cash, headAt, lotsAt, width, account, headTotal, lineTotal}
-use Rattle.rules.specs.Orders.{countOf, fundCount, accountSide, fundSide}
-use Rattle.rules.proofs.SoundDay.{SoundDay}
+use Rattle.layout.specs.Book.{cash, headAt, lotsAt, width, account, headTotal, lineTotal, behindLine, counter}
+use Rattle.rules.specs.Orders.{creation, redemption, countOf, fundCount, accountSide, fundSide}
+use Rattle.rules.proofs.SoundDay.{SoundDay, Kept, sound-moved}
 use Rattle.rules.proofs.Sides.{account-length, account-cash, account-count, account-head, account-line, account-unit, fund-length, fund-cash, fund-head, fund-line, fund-unit}
 use Rattle.rules.proofs.Accepted.{Orders}
-use Rattle.balance.proofs.Relation.{Limits}
+use Rattle.balance.specs.Calls.{State}
+use Rattle.balance.proofs.Relation.{lotsIn, fundCountIn, Tally, Drawn, drawn-same, drawn-eq, stays-same, Rises, Keeps}
 
--- what an order of a kind by account a for so many units leaves in the book b′, where f and g are what it makes of the
--- account's components and units, h of the fund's components, and c and e of the account's and the fund's cash
-pub record OrderMoved (d : Day) (b b′ : List ℕ) (kind a units : ℕ) (f : ℕ → Lots → Lots) (g : Lots → Lots) (c : List ℕ → ℕ) (h : ℕ → Lots → Lots) (e : List ℕ → ℕ) : Type 0 where
-  pub size : length b′ ≡ length b
-  pub others : (i : ℕ) → (i ≡ a → ⊥) → (i ≡ 0 → ⊥) → account d b′ i ≡ account d b i
-  pub account-lots : (l : ℕ) → l < d .count → lotsAt (account d b′ a) l ≡ f l (lotsAt (account d b a) l)
-  pub account-units : lotsAt (account d b′ a) (d .count) ≡ g (lotsAt (account d b a) (d .count))
-  pub fund-units : lotsAt (account d b′ 0) (d .count) ≡ lotsAt (account d b 0) (d .count)
-  pub fund-heads : (k : ℕ) → 0 < k → k < 3 → headAt (account d b′ 0) k ≡ headAt (account d b 0) k
-  pub fund-keeps : (v : Lots → ℕ) → ((i : ℕ) (x : Lots) → v (h i x) ≡ v x) → (l : ℕ) → l < d .count + 1 → v (lotsAt (account d b′ 0) l) ≡ v (lotsAt (account d b 0) l)
-  pub money : c (account d b a) + e (account d b 0) ≡ headAt (account d b a) cash + headAt (account d b 0) cash → headTotal d b′ cash ≡ headTotal d b cash
-  pub line : (l : ℕ) → l < d .count
-      → lotsTotal (f l (lotsAt (account d b a) l)) + lotsTotal (h l (lotsAt (account d b 0) l)) ≡ lotsTotal (lotsAt (account d b a) l) + lotsTotal (lotsAt (account d b 0) l)
-      → lineTotal d b′ l ≡ lineTotal d b l
-  pub units-total : lineTotal d b′ (d .count) + lotsTotal (lotsAt (account d b a) (d .count)) ≡ lineTotal d b (d .count) + lotsTotal (g (lotsAt (account d b a) (d .count)))
-  pub fund-count-more : fundCount d b′ kind ≡ fundCount d b kind + units
-  pub fund-count-same : (j : ℕ) → j < 2 → (j ≡ kind → ⊥) → fundCount d b′ j ≡ fundCount d b j
-  pub count-more : (i : ℕ) → countOf d b′ kind i ≡ countOf d b kind i + whenSame a i units
-  pub count-same : (j : ℕ) → j < 2 → (j ≡ kind → ⊥) → (i : ℕ) → countOf d b′ j i ≡ countOf d b j i
-  pub limits : Limits d b → Limits d b′
+-- what an order makes of its account's components, units and cash, and of the fund's components and cash
+pub record Move : Type 0 where
+  pub component : ℕ → Lots → Lots
+  pub unit : Lots → Lots
+  pub cash-after : List ℕ → ℕ
+  pub fund-component : ℕ → Lots → Lots
+  pub fund-cash-after : List ℕ → ℕ
 
-module _ (d : Day) (b ps : List ℕ) (kind a units : ℕ) (f : ℕ → Lots → Lots) (g : Lots → Lots) (c : List ℕ → ℕ) (h : ℕ → Lots → Lots) (e : List ℕ → ℕ)
-    (sound : SoundDay d b ps) (order : Orders d b kind a units) (either : kind < 2) where
-  abbrev investor : List ℕ → List ℕ
-  investor s = accountSide (d .count) kind units f g (c s) s
+-- what a move does to the stretches s of its account and f of the fund, with n components: cash and stock only change hands, so
+-- many units are made or go, and the account gets and hands in so much of each line
+pub record Settles (n : ℕ) (s f : List ℕ) (m : Move) (made gone : ℕ) (got handed : ℕ → ℕ) : Type 0 where
+  pub money : m .cash-after s + m .fund-cash-after f ≡ headAt s cash + headAt f cash
+  pub lines : (l : ℕ) → l < n → Drawn (lotsAt s l) (m .component l (lotsAt s l)) 0 0 (got l) (handed l)
+  pub units : Drawn (lotsAt s n) (m .unit (lotsAt s n)) 0 0 (got n) (handed n)
+  pub got-units : got n ≡ made
+  pub handed-units : handed n ≡ gone
+  pub fund-lines : (l : ℕ) → l < n → lotsTotal (m .fund-component l (lotsAt f l)) + got l ≡ lotsTotal (lotsAt f l) + handed l
+  pub fund-bought : (l : ℕ) (x : Lots) → m .fund-component l x .bought ≡ x .bought
+  pub fund-got : (l : ℕ) (x : Lots) → m .fund-component l x .got ≡ x .got
 
-  abbrev fund : List ℕ → List ℕ
-  fund s = fundSide (d .count) h (e s) s
+module _ (d : Day) (b ps : List ℕ) (kind a units : ℕ) (m : Move) (sound : SoundDay d b ps) (order : Orders d b kind a units) (either : kind < 2) where
+  abbrev investor : List ℕ
+  investor = account d b a
 
-  abbrev pub moved : List ℕ
-  moved = onStretch (width d) a investor (onStretch (width d) 0 fund b)
+  abbrev fund : List ℕ
+  fund = account d b 0
+
+  abbrev investor-side : List ℕ → List ℕ
+  investor-side s = accountSide (d .count) kind units (m .component) (m .unit) (m .cash-after s) s
+
+  abbrev fund-side : List ℕ → List ℕ
+  fund-side s = fundSide (d .count) (m .fund-component) (m .fund-cash-after s) s
+
+  abbrev investor-after : List ℕ
+  investor-after = investor-side investor
+
+  abbrev fund-after : List ℕ
+  fund-after = fund-side fund
+
+  abbrev moved : List ℕ
+  moved = onStretch (width d) a investor-side (onStretch (width d) 0 fund-side b)
+
+  abbrev before : State
+  before = record { day = d; book = b; prices = ps }
+
+  abbrev after : State
+  after = record { day = d; book = moved; prices = ps }
 
   inside : (i : ℕ) → i < d .accounts → i * width d + width d ≤ length b
   inside i l = rw (sound .book-size) (within (width d) i (d .accounts) l)
@@ -57,223 +74,179 @@ module _ (d : Day) (b ps : List ℕ) (kind a units : ℕ) (f : ℕ → Lots → 
   first-in : 0 < d .accounts
   first-in = omega (arith, sound .accounts-low)
 
-  wide : (i : ℕ) → i < d .accounts → 3 * d .count + 5 < length (account d b i)
-  wide i l = omega (arith, stretch-length (width d) b i (inside i l))
+  wide : behindLine (d .count) ≤ length investor
+  wide = omega (arith, stretch-length (width d) b a (inside a (order .account-in)))
+
+  fund-wide : behindLine (d .count) ≤ length fund
+  fund-wide = omega (arith, stretch-length (width d) b 0 (inside 0 first-in))
 
   not-fund : a ≡ 0 → ⊥
   not-fund q = omega (arith, order .account-low)
 
-  changed : Changed (width d) b moved 0 a (fund (account d b 0)) (investor (account d b a))
+  changed : Changed (width d) b moved 0 a fund-after investor-after
   changed =
-      changed-both (width d) b 0 a fund investor not-fund (inside 0 first-in) (inside a (order .account-in))
-      (λ s. fund-length (d .count) h (e s) s)
-      (λ s. account-length (d .count) kind units f g (c s) s)
+      changed-both (width d) b 0 a fund-side investor-side not-fund (inside 0 first-in) (inside a (order .account-in))
+      (λ s. fund-length (d .count) (m .fund-component) (m .fund-cash-after s) s)
+      (λ s. account-length (d .count) kind units (m .component) (m .unit) (m .cash-after s) s)
 
-  sums : (v : List ℕ → ℕ) → over (width d) (d .accounts) v moved + (v (account d b 0) + v (account d b a))
-      ≡ over (width d) (d .accounts) v b + (v (fund (account d b 0)) + v (investor (account d b a)))
+  sums : (v : List ℕ → ℕ) → over (width d) (d .accounts) v moved + (v fund + v investor) ≡ over (width d) (d .accounts) v b + (v fund-after + v investor-after)
   sums v = changed-over (d .accounts) v changed first-in (order .account-in) not-fund
 
-  -- the account's stretch after, and the fund's
-  account-lots : (l : ℕ) → l < d .count → lotsAt (account d moved a) l ≡ f l (lotsAt (account d b a) l)
-  account-lots l i =
-      let s = account d b a in
-      ap (λ (x : List ℕ). lotsAt x l) (changed .second) ∙ account-line (d .count) kind units f g (c s) s either (wide a (order .account-in)) l i
+  -- the account's lots after, and the fund's
+  line-after : (l : ℕ) → l < d .count → lotsAt investor-after l ≡ m .component l (lotsAt investor l)
+  line-after l i = account-line (d .count) kind units (m .component) (m .unit) (m .cash-after investor) investor either wide l i
 
-  account-units : lotsAt (account d moved a) (d .count) ≡ g (lotsAt (account d b a) (d .count))
-  account-units =
-      let s = account d b a in
-      ap (λ (x : List ℕ). lotsAt x (d .count)) (changed .second) ∙ account-unit (d .count) kind units f g (c s) s either (wide a (order .account-in))
+  unit-after : lotsAt investor-after (d .count) ≡ m .unit (lotsAt investor (d .count))
+  unit-after = account-unit (d .count) kind units (m .component) (m .unit) (m .cash-after investor) investor either wide
 
-  fund-lots : (l : ℕ) → l < d .count → lotsAt (account d moved 0) l ≡ h l (lotsAt (account d b 0) l)
-  fund-lots l i =
-      let s = account d b 0 in
-      let w = wide 0 first-in in
-      ap (λ (x : List ℕ). lotsAt x l) (changed .first) ∙ fund-line (d .count) h (e s) s (omega arith) l i
+  fund-line-after : (l : ℕ) → l < d .count → lotsAt fund-after l ≡ m .fund-component l (lotsAt fund l)
+  fund-line-after l i = fund-line (d .count) (m .fund-component) (m .fund-cash-after fund) fund (omega (arith, fund-wide)) l i
 
-  fund-units : lotsAt (account d moved 0) (d .count) ≡ lotsAt (account d b 0) (d .count)
-  fund-units = ap (λ (x : List ℕ). lotsAt x (d .count)) (changed .first) ∙ fund-unit (d .count) h (e (account d b 0)) (account d b 0)
+  fund-unit-after : lotsAt fund-after (d .count) ≡ lotsAt fund (d .count)
+  fund-unit-after = fund-unit (d .count) (m .fund-component) (m .fund-cash-after fund) fund
 
-  fund-heads : (k : ℕ) → 0 < k → k < 3 → headAt (account d moved 0) k ≡ headAt (account d b 0) k
-  fund-heads k p q = ap (λ (x : List ℕ). headAt x k) (changed .first) ∙ fund-head (d .count) h (e (account d b 0)) (account d b 0) k p q
+  fund-heads : (k : ℕ) → 0 < k → k < linesFrom → headAt (account d moved 0) k ≡ headAt fund k
+  fund-heads k p q = ap (λ (x : List ℕ). headAt x k) (changed .first) ∙ fund-head (d .count) (m .fund-component) (m .fund-cash-after fund) fund k p q
 
-  -- what h leaves of a lot, the fund keeps on every line
-  fund-keeps : (v : Lots → ℕ) → ((i : ℕ) (x : Lots) → v (h i x) ≡ v x) → (l : ℕ) → l < d .count + 1 → v (lotsAt (account d moved 0) l) ≡ v (lotsAt (account d b 0) l)
-  fund-keeps v same l i = case (decLt l (d .count))
-    where
-      case : Dec (l < d .count) → v (lotsAt (account d moved 0) l) ≡ v (lotsAt (account d b 0) l)
-      case (yes p) = ap v (fund-lots l p) ∙ same l (lotsAt (account d b 0) l)
-      case (no p) =
-          let q : d .count ≡ l = omega arith in
-          subst (λ (j : ℕ). v (lotsAt (account d moved 0) j) ≡ v (lotsAt (account d b 0) j)) q (ap v fund-units)
+  -- counters: the order's own kind rises for its account and fund-wide, the other kind stays
+  own-count : headAt investor-after (counter kind) ≡ headAt investor (counter kind) + units
+  own-count = account-count (d .count) kind units (m .component) (m .unit) (m .cash-after investor) investor either wide
 
-  -- totals
-  money-kept : c (account d b a) + e (account d b 0) ≡ headAt (account d b a) cash + headAt (account d b 0) cash → headTotal d moved cash ≡ headTotal d b cash
-  unfolding headTotal
-  money-kept q =
-      let w = wide 0 first-in in
-      omega (
-        arith,
-        sums (λ x. headAt x cash),
-        account-cash (d .count) kind units f g (c (account d b a)) (account d b a) (wide a (order .account-in)),
-        fund-cash (d .count) h (e (account d b 0)) (account d b 0) (omega arith),
-      )
-
-  line-kept : (l : ℕ) → l < d .count
-      → lotsTotal (f l (lotsAt (account d b a) l)) + lotsTotal (h l (lotsAt (account d b 0) l)) ≡ lotsTotal (lotsAt (account d b a) l) + lotsTotal (lotsAt (account d b 0) l)
-      → lineTotal d moved l ≡ lineTotal d b l
-  unfolding lineTotal
-  line-kept l i q =
-      let w = wide 0 first-in in
-      omega (
-        arith,
-        sums (λ s. lotsTotal (lotsAt s l)),
-        ap lotsTotal (account-line (d .count) kind units f g (c (account d b a)) (account d b a) either (wide a (order .account-in)) l i),
-        ap lotsTotal (fund-line (d .count) h (e (account d b 0)) (account d b 0) (omega arith) l i),
-      )
-
-  units-moved : lineTotal d moved (d .count) + lotsTotal (lotsAt (account d b a) (d .count)) ≡ lineTotal d b (d .count) + lotsTotal (g (lotsAt (account d b a) (d .count)))
-  unfolding lineTotal
-  units-moved =
-      omega (
-        arith,
-        sums (λ s. lotsTotal (lotsAt s (d .count))),
-        ap lotsTotal (account-unit (d .count) kind units f g (c (account d b a)) (account d b a) either (wide a (order .account-in))),
-        ap lotsTotal (fund-unit (d .count) h (e (account d b 0)) (account d b 0)),
-      )
-
-  -- counters: the order's own kind is raised for its account and fund-wide, the other kind stays
-  fund-count-more : fundCount d moved kind ≡ fundCount d b kind + units
-  unfolding fundCount headTotal
-  fund-count-more =
-      omega (
-        arith,
-        sums (λ x. headAt x (1 + kind)),
-        account-count (d .count) kind units f g (c (account d b a)) (account d b a) either (wide a (order .account-in)),
-        fund-head (d .count) h (e (account d b 0)) (account d b 0) (1 + kind) (omega arith) (omega arith),
-      )
-
-  fund-count-same : (j : ℕ) → j < 2 → (j ≡ kind → ⊥) → fundCount d moved j ≡ fundCount d b j
-  unfolding fundCount headTotal
-  fund-count-same j i n =
-      omega (
-        arith,
-        sums (λ x. headAt x (1 + j)),
-        account-head (d .count) kind units f g (c (account d b a)) (account d b a) (1 + j) (omega arith) (omega arith) (λ q. n (omega arith)),
-        fund-head (d .count) h (e (account d b 0)) (account d b 0) (1 + j) (omega arith) (omega arith),
-      )
-
-  own-count : countOf d moved kind a ≡ countOf d b kind a + units
-  unfolding countOf
-  own-count =
-      ap (λ (x : List ℕ). headAt x (1 + kind)) (changed .second)
-      ∙ account-count (d .count) kind units f g (c (account d b a)) (account d b a) either (wide a (order .account-in))
+  other-count : headAt investor-after (counter (1 - kind)) ≡ headAt investor (counter (1 - kind))
+  other-count = account-head (d .count) kind units (m .component) (m .unit) (m .cash-after investor) investor (counter (1 - kind)) (omega arith) (omega arith) (λ q. omega arith)
 
   other-account : (j i : ℕ) → j < 2 → (i ≡ a → ⊥) → Dec (i ≡ 0) → countOf d moved j i ≡ countOf d b j i
   unfolding countOf
-  other-account j i l n (yes q) = subst (λ (k : ℕ). headAt (account d moved k) (1 + j) ≡ headAt (account d b k) (1 + j)) (sym q) (fund-heads (1 + j) (omega arith) (omega arith))
-  other-account j i l n (no m) = ap (λ (x : List ℕ). headAt x (1 + j)) (changed .others i m n)
+  other-account j i l n (yes q) = subst (λ (k : ℕ). headAt (account d moved k) (counter j) ≡ headAt (account d b k) (counter j)) (sym q) (fund-heads (counter j) (omega arith) (omega arith))
+  other-account j i l n (no p) = ap (λ (x : List ℕ). headAt x (counter j)) (changed .others i p n)
 
-  -- the count of the order's kind, of every account
-  count-more : (i : ℕ) → countOf d moved kind i ≡ countOf d b kind i + whenSame a i units
-  count-more i = case (ℕ-discrete a i)
+  rises : (j all : ℕ) (more : ℕ → ℕ) → j < 2 → headAt investor-after (counter j) ≡ headAt investor (counter j) + all → more a ≡ all → ((i : ℕ) → (a ≡ i → ⊥) → more i ≡ 0)
+      → Rises before after j more all
+  unfolding countOf fundCount headTotal
+  rises j all more l e own none =
+      record {
+        counts = λ i h. case i (ℕ-discrete a i);
+        fund-count = omega (arith, sums (λ x. headAt x (counter j)), fund-head (d .count) (m .fund-component) (m .fund-cash-after fund) fund (counter j) (omega arith) (omega arith));
+      }
     where
-      case : Dec (a ≡ i) → countOf d moved kind i ≡ countOf d b kind i + whenSame a i units
-      case (yes q) = subst (λ (k : ℕ). countOf d moved kind k ≡ countOf d b kind k + whenSame a k units) q (omega (arith, own-count, when-same a a units refl))
-      case (no n) = omega (arith, other-account kind i either (λ q. n (sym q)) (ℕ-discrete i 0), when-other a i units n)
+      case : (i : ℕ) → Dec (a ≡ i) → countOf d moved j i ≡ countOf d b j i + more i
+      case i (yes q) = subst (λ (k : ℕ). countOf d moved j k ≡ countOf d b j k + more k) q (omega (arith, ap (λ (x : List ℕ). headAt x (counter j)) (changed .second)))
+      case i (no n) = omega (arith, other-account j i l (λ q. n (sym q)) (ℕ-discrete i 0), none i n)
 
-  own-other : (j : ℕ) → j < 2 → (j ≡ kind → ⊥) → countOf d moved j a ≡ countOf d b j a
-  unfolding countOf
-  own-other j l n =
-      ap (λ (x : List ℕ). headAt x (1 + j)) (changed .second)
-      ∙ account-head (d .count) kind units f g (c (account d b a)) (account d b a) (1 + j) (omega arith) (omega arith) (λ q. n (omega arith))
+  pub own-rises : Rises before after kind (λ i. whenSame a i units) units
+  own-rises = rises kind units (λ i. whenSame a i units) either own-count (when-same a a units refl) (λ i n. when-other a i units n)
 
-  count-same : (j : ℕ) → j < 2 → (j ≡ kind → ⊥) → (i : ℕ) → countOf d moved j i ≡ countOf d b j i
-  count-same j l n i = case (ℕ-discrete a i)
-    where
-      case : Dec (a ≡ i) → countOf d moved j i ≡ countOf d b j i
-      case (yes q) = subst (λ (k : ℕ). countOf d moved j k ≡ countOf d b j k) q (own-other j l n)
-      case (no m) = other-account j i l (λ q. m (sym q)) (ℕ-discrete i 0)
+  pub other-stays : Rises before after (1 - kind) (λ i. 0) 0
+  other-stays = rises (1 - kind) 0 (λ i. 0) (omega arith) (omega (arith, other-count)) refl (λ i n. refl)
 
-  -- no limit is passed: those of the order's kind were tested, and those of the other kind have not come nearer
-  module _ (l : Limits d b) where
-    other : 1 - kind ≡ kind → ⊥
-    other q = omega arith
-
-    all-own : 0 < limitOf (d .fund) cumulativeLimit kind → fundCount d moved kind ≤ limitOf (d .fund) cumulativeLimit kind
-    all-own p = omega (arith, fund-count-more, order .limit p)
-
-    each-own : (i : ℕ) → i < d .accounts → 0 < limitOf (d .fund) cumulativeLimitEach kind → Dec (i ≡ a) → countOf d moved kind i ≤ limitOf (d .fund) cumulativeLimitEach kind
-    each-own i h p (yes q) = omega (arith, own-count, order .limit-each p, ap (λ (k : ℕ). countOf d moved kind k) q)
-    each-own i h p (no n) = omega (arith, other-account kind i either n (ℕ-discrete i 0), l .each kind either i h p)
-
-    net-own : 0 < limitOf (d .fund) netLimit kind → fundCount d moved kind - fundCount d moved (1 - kind) ≤ limitOf (d .fund) netLimit kind
-    net-own p = omega (arith, fund-count-more, fund-count-same (1 - kind) (omega arith) other, order .net-limit p)
-
-    net-each-own : (i : ℕ) → i < d .accounts → 0 < limitOf (d .fund) netLimitEach kind → Dec (i ≡ a) → countOf d moved kind i - countOf d moved (1 - kind) i ≤ limitOf (d .fund) netLimitEach kind
-    net-each-own i h p (yes q) =
+  -- what it keeps where the move settles so, with the counters' rise and the ceiling
+  module _ {made gone : ℕ} {got handed each-made each-gone : ℕ → ℕ} (x : Settles (d .count) investor fund m made gone got handed)
+      (created : Rises before after creation each-made made) (redeemed : Rises before after redemption each-gone gone)
+      (below : fundCountIn before creation + made ≤ ceiling) (redeemed-below : fundCountIn before redemption + gone ≤ ceiling) where
+    money-kept : headTotal d moved cash ≡ headTotal d b cash
+    unfolding headTotal
+    money-kept =
         omega (
           arith,
-          own-count,
-          own-other (1 - kind) (omega arith) other,
-          order .net-limit-each p,
-          ap (λ (k : ℕ). countOf d moved kind k) q,
-          ap (λ (k : ℕ). countOf d moved (1 - kind) k) q,
+          sums (λ s. headAt s cash),
+          x .money,
+          account-cash (d .count) kind units (m .component) (m .unit) (m .cash-after investor) investor wide,
+          fund-cash (d .count) (m .fund-component) (m .fund-cash-after fund) fund (omega (arith, fund-wide)),
         )
-    net-each-own i h p (no n) =
-        omega (arith, other-account kind i either n (ℕ-discrete i 0), count-same (1 - kind) (omega arith) other i, l .net-each kind either i h p)
 
-    all-of : (j : ℕ) → j < 2 → Dec (kind ≡ j) → 0 < limitOf (d .fund) cumulativeLimit j → fundCount d moved j ≤ limitOf (d .fund) cumulativeLimit j
-    all-of j h (yes q) = subst (λ (k : ℕ). 0 < limitOf (d .fund) cumulativeLimit k → fundCount d moved k ≤ limitOf (d .fund) cumulativeLimit k) q all-own
-    all-of j h (no n) = λ p. omega (arith, fund-count-same j h (λ q. n (sym q)), l .all j h p)
-
-    each-of : (j : ℕ) → j < 2 → Dec (kind ≡ j) → (i : ℕ) → i < d .accounts → 0 < limitOf (d .fund) cumulativeLimitEach j → countOf d moved j i ≤ limitOf (d .fund) cumulativeLimitEach j
-    each-of j h (yes q) i m = subst (λ (k : ℕ). 0 < limitOf (d .fund) cumulativeLimitEach k → countOf d moved k i ≤ limitOf (d .fund) cumulativeLimitEach k) q (λ p. each-own i m p (ℕ-discrete i a))
-    each-of j h (no n) i m = λ p. omega (arith, count-same j h (λ q. n (sym q)) i, l .each j h i m p)
-
-    net-of : (j : ℕ) → j < 2 → Dec (kind ≡ j) → 0 < limitOf (d .fund) netLimit j → fundCount d moved j - fundCount d moved (1 - j) ≤ limitOf (d .fund) netLimit j
-    net-of j h (yes q) = subst (λ (k : ℕ). 0 < limitOf (d .fund) netLimit k → fundCount d moved k - fundCount d moved (1 - k) ≤ limitOf (d .fund) netLimit k) q net-own
-    net-of j h (no n) = λ p.
-        let q : 1 - j ≡ kind = omega arith in
-        omega (arith, fund-count-same j h (λ q. n (sym q)), fund-count-more, l .net j h p, ap (fundCount d moved) q, ap (fundCount d b) q)
-
-    net-each-of : (j : ℕ) → j < 2 → Dec (kind ≡ j) → (i : ℕ) → i < d .accounts → 0 < limitOf (d .fund) netLimitEach j → countOf d moved j i - countOf d moved (1 - j) i ≤ limitOf (d .fund) netLimitEach j
-    net-each-of j h (yes q) i m = subst (λ (k : ℕ). 0 < limitOf (d .fund) netLimitEach k → countOf d moved k i - countOf d moved (1 - k) i ≤ limitOf (d .fund) netLimitEach k) q (λ p. net-each-own i m p (ℕ-discrete i a))
-    net-each-of j h (no n) i m = λ p.
-        let q : 1 - j ≡ kind = omega arith in
+    stock-kept : (l : ℕ) → l < d .count → lineTotal d moved l ≡ lineTotal d b l
+    unfolding lineTotal
+    stock-kept l i =
         omega (
           arith,
-          count-same j h (λ q. n (sym q)) i,
-          count-more i,
-          l .net-each j h i m p,
-          ap (λ (k : ℕ). countOf d moved k i) q,
-          ap (λ (k : ℕ). countOf d b k i) q,
+          sums (λ s. lotsTotal (lotsAt s l)),
+          ap lotsTotal (line-after l i),
+          ap lotsTotal (fund-line-after l i),
+          x .lines l i,
+          x .fund-lines l i,
         )
 
-  limits-kept : Limits d b → Limits d moved
-  limits-kept l =
-      record {
-        all = λ j h. all-of l j h (ℕ-discrete kind j);
-        each = λ j h. each-of l j h (ℕ-discrete kind j);
-        net = λ j h. net-of l j h (ℕ-discrete kind j);
-        net-each = λ j h. net-each-of l j h (ℕ-discrete kind j);
-      }
+    units-kept : lineTotal d moved (d .count) + gone ≡ lineTotal d b (d .count) + made
+    unfolding lineTotal
+    units-kept =
+        omega (
+          arith,
+          sums (λ s. lotsTotal (lotsAt s (d .count))),
+          ap lotsTotal unit-after,
+          ap lotsTotal fund-unit-after,
+          x .units,
+          x .got-units,
+          x .handed-units,
+        )
 
-  pub order-moved : OrderMoved d b moved kind a units f g c h e
-  order-moved =
-      record {
-        size = changed .size;
-        others = λ i n m. changed .others i m n;
-        account-lots = account-lots;
-        account-units = account-units;
-        fund-units = fund-units;
-        fund-heads = fund-heads;
-        fund-keeps = fund-keeps;
-        money = money-kept;
-        line = line-kept;
-        units-total = units-moved;
-        fund-count-more = fund-count-more;
-        fund-count-same = fund-count-same;
-        count-more = count-more;
-        count-same = count-same;
-        limits = limits-kept;
-      }
+    -- what the fund's move leaves of a lot, the fund keeps on every line
+    fund-keeps : (v : Lots → ℕ) → ((l : ℕ) (y : Lots) → v (m .fund-component l y) ≡ v y) → (l : ℕ) → l < d .count + 1 → v (lotsAt (account d moved 0) l) ≡ v (lotsAt fund l)
+    fund-keeps v same l i = ap (λ (s : List ℕ). v (lotsAt s l)) (changed .first) ∙ case (decLt l (d .count))
+      where
+        case : Dec (l < d .count) → v (lotsAt fund-after l) ≡ v (lotsAt fund l)
+        case (yes p) = ap v (fund-line-after l p) ∙ same l (lotsAt fund l)
+        case (no p) =
+            let q : d .count ≡ l = omega arith in
+            subst (λ (j : ℕ). v (lotsAt fund-after j) ≡ v (lotsAt fund j)) q (ap v fund-unit-after)
+
+    kept : Kept d b ps → Kept d moved ps
+    unfolding fundCount
+    kept k =
+        record {
+          sound =
+              sound-moved sound (changed .size) stock-kept (omega (arith, units-kept, k .room, below)) money-kept
+              (omega (arith, created .fund-count, below))
+              (omega (arith, redeemed .fund-count, redeemed-below))
+              fund-heads
+              (ap (λ (s : List ℕ). lotsAt s (d .count) .old) (changed .first) ∙ ap (λ (y : Lots). y .old) fund-unit-after)
+              (fund-keeps (λ y. y .bought) (x .fund-bought))
+              (fund-keeps (λ y. y .got) (x .fund-got));
+          room = omega (arith, k .room, units-kept, created .fund-count, below);
+        }
+
+    -- each account's lots
+    abbrev Goal : ℕ → ℕ → Type 0
+    Goal i l = Drawn (lotsIn before i l) (lotsIn after i l) 0 0 (whenSame a i (got l)) (whenSame a i (handed l))
+
+    at-account : (l : ℕ) → l ≤ d .count → Dec (l < d .count) → Goal a l
+    at-account l i (yes j) =
+        drawn-eq (ap (λ (s : List ℕ). lotsAt s l) (changed .second) ∙ line-after l j) refl refl (when-same a a _ refl) (when-same a a _ refl) (x .lines l j)
+    at-account l i (no j) =
+        let q : d .count ≡ l = omega arith in
+        subst (λ (k : ℕ). Goal a k) q
+        (drawn-eq (ap (λ (s : List ℕ). lotsAt s (d .count)) (changed .second) ∙ unit-after) refl refl (when-same a a _ refl) (when-same a a _ refl) (x .units))
+
+    lots : (i l : ℕ) → 0 < i → l ≤ d .count → Dec (a ≡ i) → Goal i l
+    lots i l pos j (yes q) = subst (λ (k : ℕ). Goal k l) q (at-account l j (decLt l (d .count)))
+    lots i l pos j (no r) =
+        drawn-eq (ap (λ (s : List ℕ). lotsAt s l) (changed .others i (λ q. omega arith) (λ q. r (sym q)))) refl refl
+        (when-other a i _ r) (when-other a i _ r)
+        (drawn-same (lotsIn before i l))
+
+    abbrev tally : Tally
+    tally =
+        record {
+          sold = λ i l. 0;
+          bought = λ i l. 0;
+          got = λ i l. whenSame a i (got l);
+          handed = λ i l. whenSame a i (handed l);
+          created = each-made;
+          redeemed = each-gone;
+          all-created = made;
+          all-redeemed = gone;
+        }
+
+    pub order-keeps : Kept d b ps → Keeps before after tally
+    order-keeps k =
+        record {
+          kept = kept k;
+          stays = stays-same;
+          money = money-kept;
+          stock = stock-kept;
+          units = units-kept;
+          lots = λ i l pos j r. lots i l pos r (ℕ-discrete a i);
+          fund-sold = λ l. refl;
+          fund-handed = λ l. when-other a 0 _ not-fund;
+          created = created;
+          redeemed = redeemed;
+        }

@@ -1,22 +1,20 @@
 -- A price call: the book stays, and the prices stay in their range.
-use mathlib.Core.Path.{_≡_, refl, subst⁻¹, _∙_}
-use mathlib.Core.Bool.{Bool, true, false, cond}
+use mathlib.Core.Path.{_≡_, subst⁻¹, _∙_}
 use mathlib.Core.List.{List}
 use Prim.Native.Nat.{ℕ, _≤_, _<_}
 use native.Mathlib.Decide.{ℕ-discrete}
 use native.Mathlib.Omega.{arith}
 use lib.ListN.{length, set, length-set}
 use lib.Seq.{getD-set-same, getD-set-other}
-use Rattle.lists.specs.Checks.{isAccepted}
 use Rattle.layout.specs.Day.{Day}
 use Rattle.rules.specs.Lines.{priceOf}
 use Rattle.rules.specs.Sound.{mostPrice}
-use Rattle.rules.specs.Price.{priceReply, pricedPrices}
+use Rattle.rules.specs.Price.{pricedPrices}
 use Rattle.rules.proofs.SoundDay.{Kept}
 use Rattle.rules.proofs.Accepted.{Prices, price-facts}
 use Rattle.balance.specs.Calls.{State, Lent, price, step}
-use Rattle.balance.specs.Counts.{soldBy, boughtBy, gotBy, handedBy, createdBy, redeemedBy, unitsCreated, unitsRedeemed}
-use Rattle.balance.proofs.Relation.{Keeps, keeps-same, tallyIf, none, StepKeeps}
+use Rattle.balance.specs.Counts.{callSold, callBought, callGot, callHandedIn, callCreated, callRedeemed, callCreatedByAll, callRedeemedByAll}
+use Rattle.balance.proofs.Relation.{keeps-same, AcceptedKeeps}
 
 module _ (d : Day) (b ps : List ℕ) (line p : ℕ) (h : Prices d b ps line p) where
   price-in : (i : ℕ) → i < d .count → Dec (i ≡ line) → priceOf (set ps line p) i ≤ mostPrice
@@ -27,7 +25,7 @@ module _ (d : Day) (b ps : List ℕ) (line p : ℕ) (h : Prices d b ps line p) w
       subst⁻¹ (λ (k : ℕ). priceOf (set ps line p) k ≤ mostPrice) e (omega (arith, getD-set-same ps line p 0 inside, h .price-high))
   price-in i l (no n) = omega (arith, getD-set-other ps line i p 0 n, h .sound .prices i l)
 
-  pub priced-kept : Kept d b ps → Kept d b (set ps line p)
+  priced-kept : Kept d b ps → Kept d b (set ps line p)
   priced-kept k =
       let s = k .sound in
       record {
@@ -56,11 +54,6 @@ module _ (d : Day) (b ps : List ℕ) (line p : ℕ) (h : Prices d b ps line p) w
         room = k .room;
       }
 
-pub price-step : (s : State) (line p : ℕ) (lent : Lent) → Kept (s .day) (s .book) (s .prices) → StepKeeps s (price line p) (step s (price line p) lent)
-unfolding step pricedPrices soldBy boughtBy gotBy handedBy createdBy redeemedBy unitsCreated unitsRedeemed
-price-step s line p lent k = go (isAccepted (priceReply (s .day) (s .book) (s .prices) line p)) refl
-  where
-    go : (z : Bool) → isAccepted (priceReply (s .day) (s .book) (s .prices) line p) ≡ z
-        → Keeps (s .day) (s .book) (s .prices) (s .book) (cond z (set (s .prices) line p) (s .prices)) (tallyIf z none)
-    go true e = keeps-same (priced-kept (s .day) (s .book) (s .prices) line p (price-facts _ _ _ _ _ e) k)
-    go false e = keeps-same k
+pub price-keeps : (s : State) (line p : ℕ) (lent : Lent) → AcceptedKeeps s (price line p) lent
+unfolding step pricedPrices callSold callBought callGot callHandedIn callCreated callRedeemed callCreatedByAll callRedeemedByAll
+price-keeps s line p lent k e = rw e (keeps-same (priced-kept (s .day) (s .book) (s .prices) line p (price-facts _ _ _ _ _ e) k))

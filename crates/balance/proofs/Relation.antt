@@ -1,20 +1,38 @@
--- What a list of events keeps of a book, from any book with the kept property on. The list's theorem is this relation,
--- shown for each kind of call and put together.
+-- What a list of events keeps from one state to another, from any state with the kept property on. The list's theorem is
+-- this relation, shown for each kind of call and put together.
 use mathlib.Core.Path.{_≡_, refl, ap, _∙_}
-use mathlib.Core.Bool.{Bool, cond}
+use mathlib.Core.Bool.{Bool, true, cond}
 use mathlib.Core.List.{List}
-use Prim.Native.Nat.{ℕ, _+_, _-_, _≤_, _<_}
+use Prim.Native.Nat.{ℕ, _+_, _≤_, _<_}
 use native.Mathlib.Omega.{arith}
 use Rattle.lots.specs.declared.Lots.{Lots}
 use Rattle.lots.specs.Lots.{sellOf, buyOf, getOf, handInOf, sellable, handable}
-use Rattle.fund.specs.Fund.{limitOf, cumulativeLimit, cumulativeLimitEach, netLimit, netLimitEach}
 use Rattle.layout.specs.Day.{Day}
 use Rattle.layout.specs.Book.{cash, account, lotsAt, headTotal, lineTotal}
 use Rattle.rules.specs.Orders.{creation, redemption, countOf, fundCount}
 use Rattle.rules.proofs.SoundDay.{Kept}
 use Rattle.lists.specs.Checks.{isAccepted}
-use Rattle.balance.specs.Calls.{State, Lent, Call, Result}
-use Rattle.balance.specs.Counts.{soldBy, boughtBy, gotBy, handedBy, createdBy, redeemedBy, unitsCreated, unitsRedeemed}
+use Rattle.balance.specs.Calls.{State, Lent, Call, Result, step}
+use Rattle.balance.specs.Counts.{callSold, callBought, callGot, callHandedIn, callCreated, callRedeemed, callCreatedByAll, callRedeemedByAll}
+
+-- what a state holds, by its own day
+abbrev pub KeptState : State → Type 0
+KeptState s = Kept (s .day) (s .book) (s .prices)
+
+abbrev pub cashIn : State → ℕ
+cashIn s = headTotal (s .day) (s .book) cash
+
+abbrev pub lineIn : State → ℕ → ℕ
+lineIn s l = lineTotal (s .day) (s .book) l
+
+abbrev pub lotsIn : State → ℕ → ℕ → Lots
+lotsIn s a l = lotsAt (account (s .day) (s .book) a) l
+
+abbrev pub countIn : State → ℕ → ℕ → ℕ
+countIn s kind a = countOf (s .day) (s .book) kind a
+
+abbrev pub fundCountIn : State → ℕ → ℕ
+fundCountIn s kind = fundCount (s .day) (s .book) kind
 
 -- counts of a list of events: quantities by account and line, units by account, and units of all accounts
 pub record Tally : Type 0 where
@@ -99,109 +117,108 @@ drawn-eq {x} {y} {y′} e p q r u d =
 pub drawn-then : {x y z : Lots} {s t g h s′ t′ g′ h′ : ℕ} → Drawn x y s t g h → Drawn y z s′ t′ g′ h′ → Drawn x z (s + s′) (t + t′) (g + g′) (h + h′)
 drawn-then d e = omega arith
 
--- no limit is passed by the counters of the book; kind 0 is creation, 1 redemption
-pub record Limits (d : Day) (b : List ℕ) : Type 0 where
-  pub all : (kind : ℕ) → kind < 2 → 0 < limitOf (d .fund) cumulativeLimit kind → fundCount d b kind ≤ limitOf (d .fund) cumulativeLimit kind
-  pub each : (kind : ℕ) → kind < 2 → (a : ℕ) → a < d .accounts → 0 < limitOf (d .fund) cumulativeLimitEach kind → countOf d b kind a ≤ limitOf (d .fund) cumulativeLimitEach kind
-  pub net : (kind : ℕ) → kind < 2 → 0 < limitOf (d .fund) netLimit kind → fundCount d b kind - fundCount d b (1 - kind) ≤ limitOf (d .fund) netLimit kind
-  pub net-each : (kind : ℕ) → kind < 2 → (a : ℕ) → a < d .accounts → 0 < limitOf (d .fund) netLimitEach kind → countOf d b kind a - countOf d b (1 - kind) a ≤ limitOf (d .fund) netLimitEach kind
+-- the day's fields that stay
+pub record Stays (d d′ : Day) : Type 0 where
+  pub accounts : d′ .accounts ≡ d .accounts
+  pub count : d′ .count ≡ d .count
+  pub fund : d′ .fund ≡ d .fund
+  pub components : d′ .components ≡ d .components
 
--- the counters are the same
-pub limits-same : {d : Day} {b b′ : List ℕ} → ((kind : ℕ) → kind < 2 → fundCount d b′ kind ≡ fundCount d b kind)
-    → ((kind : ℕ) → kind < 2 → (a : ℕ) → a < d .accounts → countOf d b′ kind a ≡ countOf d b kind a) → Limits d b → Limits d b′
-limits-same f c l =
+pub stays-same : {d : Day} → Stays d d
+stays-same = record { accounts = refl; count = refl; fund = refl; components = refl }
+
+pub stays-then : {d d′ d″ : Day} → Stays d d′ → Stays d′ d″ → Stays d d″
+stays-then k j =
     record {
-      all = λ k h p. omega (arith, f k h, l .all k h p);
-      each = λ k h a i p. omega (arith, c k h a i, l .each k h a i p);
-      net = λ k h p. omega (arith, f k h, f (1 - k) (omega arith), l .net k h p);
-      net-each = λ k h a i p. omega (arith, c k h a i, c (1 - k) (omega arith) a i, l .net-each k h a i p);
+      accounts = j .accounts ∙ k .accounts;
+      count = j .count ∙ k .count;
+      fund = j .fund ∙ k .fund;
+      components = j .components ∙ k .components;
     }
 
--- a book on which nothing has been done yet: counters, bought and got are 0
-pub record Fresh (d : Day) (b : List ℕ) : Type 0 where
-  pub bought : (a l : ℕ) → a < d .accounts → l ≤ d .count → lotsAt (account d b a) l .bought ≡ 0
-  pub got : (a l : ℕ) → a < d .accounts → l ≤ d .count → lotsAt (account d b a) l .got ≡ 0
-  pub counts : (kind : ℕ) → kind < 2 → (a : ℕ) → a < d .accounts → countOf d b kind a ≡ 0
-  pub fund-counts : (kind : ℕ) → kind < 2 → fundCount d b kind ≡ 0
+-- the counters of a kind of order rose by so many units, each account's and the fund's
+pub record Rises (s t : State) (kind : ℕ) (each : ℕ → ℕ) (all : ℕ) : Type 0 where
+  pub counts : (a : ℕ) → a < s .day .accounts → countIn t kind a ≡ countIn s kind a + each a
+  pub fund-count : fundCountIn t kind ≡ fundCountIn s kind + all
 
-pub fresh-limits : {d : Day} {b : List ℕ} → Fresh d b → Limits d b
-fresh-limits f =
-    record {
-      all = λ k h p. omega (arith, f .fund-counts k h);
-      each = λ k h a i p. omega (arith, f .counts k h a i);
-      net = λ k h p. omega (arith, f .fund-counts k h);
-      net-each = λ k h a i p. omega (arith, f .counts k h a i);
-    }
-
--- from the book b with prices ps to b′ with ps′, by events that tally to n
-pub record Keeps (d : Day) (b ps b′ ps′ : List ℕ) (n : Tally) : Type 0 where
-  pub kept : Kept d b′ ps′
-  pub money : headTotal d b′ cash ≡ headTotal d b cash
-  pub stock : (l : ℕ) → l < d .count → lineTotal d b′ l ≡ lineTotal d b l
-  pub units : lineTotal d b′ (d .count) + n .all-redeemed ≡ lineTotal d b (d .count) + n .all-created
-  pub lots : (a l : ℕ) → 0 < a → a < d .accounts → l ≤ d .count
-      → Drawn (lotsAt (account d b a) l) (lotsAt (account d b′ a) l) (n .sold a l) (n .bought a l) (n .got a l) (n .handed a l)
+-- from the state s to the state t, by events that tally to n
+pub record Keeps (s t : State) (n : Tally) : Type 0 where
+  pub kept : KeptState t
+  pub stays : Stays (s .day) (t .day)
+  pub money : cashIn t ≡ cashIn s
+  pub stock : (l : ℕ) → l < s .day .count → lineIn t l ≡ lineIn s l
+  pub units : lineIn t (t .day .count) + n .all-redeemed ≡ lineIn s (s .day .count) + n .all-created
+  pub lots : (a l : ℕ) → 0 < a → a < s .day .accounts → l ≤ s .day .count → Drawn (lotsIn s a l) (lotsIn t a l) (n .sold a l) (n .bought a l) (n .got a l) (n .handed a l)
   pub fund-sold : (l : ℕ) → n .sold 0 l ≡ 0
   pub fund-handed : (l : ℕ) → n .handed 0 l ≡ 0
-  pub created : (a : ℕ) → a < d .accounts → countOf d b′ creation a ≡ countOf d b creation a + n .created a
-  pub redeemed : (a : ℕ) → a < d .accounts → countOf d b′ redemption a ≡ countOf d b redemption a + n .redeemed a
-  pub all-created : fundCount d b′ creation ≡ fundCount d b creation + n .all-created
-  pub all-redeemed : fundCount d b′ redemption ≡ fundCount d b redemption + n .all-redeemed
-  pub limits : Limits d b → Limits d b′
+  pub created : Rises s t creation (n .created) (n .all-created)
+  pub redeemed : Rises s t redemption (n .redeemed) (n .all-redeemed)
 
--- the book is the same
-pub keeps-same : {d : Day} {b ps ps′ : List ℕ} → Kept d b ps′ → Keeps d b ps b ps′ none
-keeps-same {d} {b} k =
+-- the day and the book are the same
+pub keeps-same : {s : State} {ps : List ℕ} → Kept (s .day) (s .book) ps → Keeps s (record { day = s .day; book = s .book; prices = ps }) none
+keeps-same {s} k =
     record {
       kept = k;
+      stays = stays-same;
       money = refl;
       stock = λ l h. refl;
       units = refl;
-      lots = λ a l p h i. drawn-same (lotsAt (account d b a) l);
+      lots = λ a l p h i. drawn-same (lotsIn s a l);
       fund-sold = λ l. refl;
       fund-handed = λ l. refl;
-      created = λ a h. omega arith;
-      redeemed = λ a h. omega arith;
-      all-created = omega arith;
-      all-redeemed = omega arith;
-      limits = λ l. l;
+      created = record { counts = λ a h. omega arith; fund-count = omega arith };
+      redeemed = record { counts = λ a h. omega arith; fund-count = omega arith };
     }
 
 -- one after another
-pub keeps-then : {d : Day} {b ps b′ ps′ b″ ps″ : List ℕ} {n m : Tally} → Keeps d b ps b′ ps′ n → Keeps d b′ ps′ b″ ps″ m → Keeps d b ps b″ ps″ (plus n m)
-keeps-then k j =
-    record {
-      kept = j .kept;
-      money = j .money ∙ k .money;
-      stock = λ l h. j .stock l h ∙ k .stock l h;
-      units = omega (arith, k .units, j .units);
-      lots = λ a l p h i. drawn-then (k .lots a l p h i) (j .lots a l p h i);
-      fund-sold = λ l. omega (arith, k .fund-sold l, j .fund-sold l);
-      fund-handed = λ l. omega (arith, k .fund-handed l, j .fund-handed l);
-      created = λ a h. omega (arith, k .created a h, j .created a h);
-      redeemed = λ a h. omega (arith, k .redeemed a h, j .redeemed a h);
-      all-created = omega (arith, k .all-created, j .all-created);
-      all-redeemed = omega (arith, k .all-redeemed, j .all-redeemed);
-      limits = λ l. j .limits (k .limits l);
-    }
+module _ {s t u : State} {n m : Tally} (k : Keeps s t n) (j : Keeps t u m) where
+  accounts-stay : t .day .accounts ≡ s .day .accounts
+  accounts-stay = k .stays .accounts
+
+  count-stays : t .day .count ≡ s .day .count
+  count-stays = k .stays .count
+
+  rises-then : {kind all all′ : ℕ} {each each′ : ℕ → ℕ} → Rises s t kind each all → Rises t u kind each′ all′ → Rises s u kind (λ a. each a + each′ a) (all + all′)
+  rises-then r q =
+      record {
+        counts = λ a h. omega (arith, r .counts a h, q .counts a (omega (arith, accounts-stay)));
+        fund-count = omega (arith, r .fund-count, q .fund-count);
+      }
+
+  pub keeps-then : Keeps s u (plus n m)
+  keeps-then =
+      record {
+        kept = j .kept;
+        stays = stays-then (k .stays) (j .stays);
+        money = j .money ∙ k .money;
+        stock = λ l h. j .stock l (omega (arith, count-stays)) ∙ k .stock l h;
+        units = omega (arith, k .units, j .units);
+        lots = λ a l p h i. drawn-then (k .lots a l p h i) (j .lots a l p (omega (arith, accounts-stay)) (omega (arith, count-stays)));
+        fund-sold = λ l. omega (arith, k .fund-sold l, j .fund-sold l);
+        fund-handed = λ l. omega (arith, k .fund-handed l, j .fund-handed l);
+        created = rises-then (k .created) (j .created);
+        redeemed = rises-then (k .redeemed) (j .redeemed);
+      }
 
 -- the counts of one accepted call: its day, the lists that it made, and its value
 abbrev pub callTally : Day → Call → Lent → ℕ → Tally
 callTally d c made n =
     record {
-      sold = λ a l. soldBy a l c;
-      bought = λ a l. boughtBy a l c;
-      got = λ a l. gotBy a l d c;
-      handed = λ a l. handedBy a l d c made n;
-      created = λ a. createdBy a c;
-      redeemed = λ a. redeemedBy a c;
-      all-created = unitsCreated c;
-      all-redeemed = unitsRedeemed c;
+      sold = λ a l. callSold a l c;
+      bought = λ a l. callBought a l c;
+      got = λ a l. callGot a l d c;
+      handed = λ a l. callHandedIn a l d c made n;
+      created = λ a. callCreated a c;
+      redeemed = λ a. callRedeemed a c;
+      all-created = callCreatedByAll c;
+      all-redeemed = callRedeemedByAll c;
     }
 
 abbrev pub resultTally : Day → Call → Result → Tally
 resultTally d c r = tallyIf (isAccepted (r .reply)) (callTally d c (r .lent) (r .reply .value))
 
--- what is to be shown of each kind of call
-abbrev pub StepKeeps : State → Call → Result → Type 0
-StepKeeps s c r = Keeps (s .day) (s .book) (s .prices) (r .after .book) (r .after .prices) (resultTally (s .day) c r)
+-- what is to be shown of each kind of call: of one that is accepted
+abbrev pub AcceptedKeeps : State → Call → Lent → Type 0
+AcceptedKeeps s c lent =
+    let r = step s c lent in
+    KeptState s → isAccepted (r .reply) ≡ true → Keeps s (r .after) (callTally (s .day) c (r .lent) (r .reply .value))

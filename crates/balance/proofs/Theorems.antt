@@ -1,37 +1,30 @@
--- The theorems beside demand 3: the kept property holds from an accepted opening on, 5 never comes, and a refused call
--- changes nothing.
-use mathlib.Core.Path.{_≡_, refl, sym, ap, subst, _∙_}
-use mathlib.Core.Bool.{true, false, not}
+-- The theorems beside demand 3: the kept property holds from an accepted opening on, 5 never comes, and (of `Steps`) every call
+-- keeps the property and a refused one changes nothing.
+use mathlib.Core.Path.{_≡_, sym, ap, _∙_}
+use mathlib.Core.Bool.{true}
 use mathlib.Core.List.{List, [], _∷_}
 use Prim.Native.Nat.{ℕ}
 use lib.Dec.{T}
-use Rattle.lists.specs.Checks.{Check, Reply, isAccepted, answered, avoids, never-answered}
+use Rattle.lists.specs.Checks.{Check, isAccepted, answered, avoids, never-answered}
 use Rattle.layout.specs.Day.{Day}
 use Rattle.rules.specs.Sound.{isSound, onSoundDay}
 use Rattle.rules.specs.Opening.{Opening, openingReply}
-use Rattle.rules.specs.Price.{priceChecks, priceReply, pricedPrices}
-use Rattle.rules.specs.Trade.{tradeMeans, tradeChecks, tradeReply, tradedBook}
+use Rattle.rules.specs.Price.{priceChecks, priceReply}
+use Rattle.rules.specs.Trade.{tradeMeans, tradeChecks, tradeReply}
 use Rattle.rules.specs.Value.{valueChecks, worthReply}
 use Rattle.rules.specs.Orders.{formChecks, permissionChecks}
-use Rattle.rules.specs.Creation.{creationMeans, creationChecks, creationReply, createdBook, createdList}
-use Rattle.rules.specs.Redemption.{redemptionMeans, redemptionChecks, redemptionReply, redeemedBook, redeemedList}
-use Rattle.rules.proofs.SoundDay.{Kept, sound-true}
+use Rattle.rules.specs.Creation.{creationMeans, creationChecks, creationReply}
+use Rattle.rules.specs.Redemption.{redemptionMeans, redemptionChecks, redemptionReply}
+use Rattle.rules.proofs.SoundDay.{sound-true}
 use Rattle.rules.proofs.OpenedDay.{opened-kept}
 use Rattle.balance.specs.Calls.{State, Lent, Call, Result, Event, price, trade, create, redeem, value, step, Happened}
 use Rattle.balance.specs.Balanced.{opened}
-use Rattle.balance.proofs.Whole.{step-keeps, day-stays}
+pub use Rattle.balance.proofs.Relation.{KeptState}
+pub use Rattle.balance.proofs.Steps.{kept-step, refusal-changes-nothing}
 
-abbrev pub KeptState : State → Type 0
-KeptState s = Kept (s .day) (s .book) (s .prices)
-
--- an accepted opening leaves it
+-- an accepted opening leaves the kept property
 pub kept-opened : (o : Opening) → isAccepted (openingReply o) ≡ true → KeptState (opened o)
 kept-opened o accepted = opened-kept o accepted
-
--- every call keeps it, accepted or refused
-pub kept-step : (s : State) (c : Call) (lent : Lent) → KeptState s → KeptState (step s c lent .after)
-kept-step s c lent k =
-    subst (λ (d : Day). Kept d (step s c lent .after .book) (step s c lent .after .prices)) (sym (day-stays s c lent)) (step-keeps s c lent k .kept)
 
 -- on a sound day no call answers 5
 sound-answer : (d : Day) (b ps : List ℕ) (cs : List Check) (v : ℕ) → isSound d b ps ≡ true → T (avoids 5 cs) → answered (onSoundDay d b ps cs) v .number ≡ 5 → ⊥
@@ -39,7 +32,8 @@ unfolding answered
 sound-answer d b ps cs v e t q = never-answered 5 cs v tt t (rw e at q)
 
 pub never-five : (s : State) (c : Call) (lent : Lent) → KeptState s → step s c lent .reply .number ≡ 5 → ⊥
-unfolding step priceReply priceChecks tradeReply tradeChecks tradeMeans worthReply valueChecks creationReply creationChecks redemptionReply redemptionChecks formChecks permissionChecks creationMeans redemptionMeans
+unfolding step priceReply priceChecks tradeReply tradeChecks tradeMeans worthReply valueChecks
+    creationReply creationChecks redemptionReply redemptionChecks formChecks permissionChecks creationMeans redemptionMeans
 never-five s (price line p) lent k q = sound-answer _ _ _ (priceChecks (s .day .count) line p) _ (sound-true _ _ _ (k .sound)) tt q
 never-five s (trade line n p seller buyer) lent k q = sound-answer _ _ _ (tradeChecks (s .day .accounts) (s .day .count) (s .book) line n p seller buyer) _ (sound-true _ _ _ (k .sound)) tt q
 never-five s (create a units) lent k q = sound-answer _ _ _ (creationChecks (s .day) (s .book) (s .prices) a units _) _ (sound-true _ _ _ (k .sound)) tt q
@@ -56,17 +50,8 @@ unfolding Happened NoneFive
 none-five s [] t k h = tt
 none-five s (e ∷ es) t k h = (
   (λ q. never-five s (e .call) (e .lent) k (ap (λ (r : Result). r .reply .number) (sym (h .0)) ∙ q)),
-  none-five (e .result .after) es t (subst (λ (r : Result). KeptState (r .after)) (sym (h .0)) (kept-step s (e .call) (e .lent) k)) (h .1),
+  none-five (e .result .after) es t (rw (h .0) (kept-step s (e .call) (e .lent) k)) (h .1),
 )
 
 pub five-never-comes : (o : Opening) (es : List Event) (t : State) → isAccepted (openingReply o) ≡ true → Happened (opened o) es t → NoneFive es
 five-never-comes o es t accepted h = none-five (opened o) es t (kept-opened o accepted) h
-
--- a refused call changes nothing, of the state and of what is lent
-pub refusal-changes-nothing : (s : State) (c : Call) (lent : Lent) → isAccepted (step s c lent .reply) ≡ false → (step s c lent .after ≡ s) × (step s c lent .lent ≡ lent)
-unfolding step pricedPrices tradedBook createdBook createdList redeemedBook redeemedList
-refusal-changes-nothing s (price line p) lent e = rw e (refl, refl)
-refusal-changes-nothing s (trade line n p seller buyer) lent e = rw e (refl, refl)
-refusal-changes-nothing s (create a units) lent e = rw e (refl, refl)
-refusal-changes-nothing s (redeem a units) lent e = rw e (refl, refl)
-refusal-changes-nothing s value lent e = (refl, refl)

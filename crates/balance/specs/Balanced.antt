@@ -4,13 +4,12 @@ use mathlib.Core.Path.{_≡_}
 use mathlib.Core.List.{List}
 use Rattle.fund.specs.Fund.{limitOf, cumulativeLimit, cumulativeLimitEach, netLimit, netLimitEach}
 use Rattle.layout.specs.Components.{componentAt}
-use Rattle.layout.specs.Day.{Day}
 use Rattle.layout.specs.Book.{cash, headTotal, lineTotal}
 use Rattle.rules.specs.Lines.{componentOf}
 use Rattle.rules.specs.Opening.{Opening, holdingsOf, heldOpened, openedTotal, openedCash, openedDay, openedBook, openedPrices}
 use Rattle.rules.specs.Orders.{creation, redemption}
 use Rattle.balance.specs.Calls.{State, Event, Happened}
-use Rattle.balance.specs.Counts.{sold, bought, got, handedIn, created, redeemed, createdByAll, redeemedByAll}
+use Rattle.balance.specs.Counts.{soldBy, boughtBy, gotBy, handedInBy, createdBy, redeemedBy, createdByAll, redeemedByAll}
 
 -- the state that opening leaves
 abbrev pub opened : Opening → State
@@ -34,14 +33,14 @@ pub record Balanced (o : Opening) (es : List Event) (t : State) : Type 0 where
   pub money : headTotal (t .day) (t .book) cash ≡ openedCash o
   pub units : lineTotal (t .day) (t .book) (o .count) + redeemedByAll (opened o) es ≡ openedTotal o (o .count) + createdByAll (opened o) es
   -- bought shares are not sold and got shares are not handed in on the same day
-  pub sales : (a l : ℕ) → a < o .accounts → l ≤ o .count → sold a l (opened o) es ≤ heldOpened l (holdingsOf o a) + got a l (opened o) es
-  pub handing-in : (a l : ℕ) → a < o .accounts → l ≤ o .count → handedIn a l (opened o) es ≤ heldOpened l (holdingsOf o a) + bought a l (opened o) es
+  pub sales : (a l : ℕ) → a < o .accounts → l ≤ o .count → soldBy a l (opened o) es ≤ heldOpened l (holdingsOf o a) + gotBy a l (opened o) es
+  pub handing-in : (a l : ℕ) → a < o .accounts → l ≤ o .count → handedInBy a l (opened o) es ≤ heldOpened l (holdingsOf o a) + boughtBy a l (opened o) es
   -- no limit is passed: cumulative and per account, then net and net per account
   pub creation-limit : Within (limitOf (o .fund) cumulativeLimit creation) (createdByAll (opened o) es)
   pub redemption-limit : Within (limitOf (o .fund) cumulativeLimit redemption) (redeemedByAll (opened o) es)
-  pub creation-limit-each : (a : ℕ) → a < o .accounts → Within (limitOf (o .fund) cumulativeLimitEach creation) (created a (opened o) es)
-  pub redemption-limit-each : (a : ℕ) → a < o .accounts → Within (limitOf (o .fund) cumulativeLimitEach redemption) (redeemed a (opened o) es)
+  pub creation-limit-each : (a : ℕ) → a < o .accounts → Within (limitOf (o .fund) cumulativeLimitEach creation) (createdBy a (opened o) es)
+  pub redemption-limit-each : (a : ℕ) → a < o .accounts → Within (limitOf (o .fund) cumulativeLimitEach redemption) (redeemedBy a (opened o) es)
   pub net-creation-limit : Within (limitOf (o .fund) netLimit creation) (createdByAll (opened o) es - redeemedByAll (opened o) es)
   pub net-redemption-limit : Within (limitOf (o .fund) netLimit redemption) (redeemedByAll (opened o) es - createdByAll (opened o) es)
-  pub net-creation-limit-each : (a : ℕ) → a < o .accounts → Within (limitOf (o .fund) netLimitEach creation) (created a (opened o) es - redeemed a (opened o) es)
-  pub net-redemption-limit-each : (a : ℕ) → a < o .accounts → Within (limitOf (o .fund) netLimitEach redemption) (redeemed a (opened o) es - created a (opened o) es)
+  pub net-creation-limit-each : (a : ℕ) → a < o .accounts → Within (limitOf (o .fund) netLimitEach creation) (createdBy a (opened o) es - redeemedBy a (opened o) es)
+  pub net-redemption-limit-each : (a : ℕ) → a < o .accounts → Within (limitOf (o .fund) netLimitEach redemption) (redeemedBy a (opened o) es - createdBy a (opened o) es)

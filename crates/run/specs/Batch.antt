@@ -2,10 +2,10 @@
 use Prim.Native.Nat.{ℕ, zero, suc, _*_, _/_}
 use mathlib.Core.Path.{_≡_}
 use mathlib.Core.Bool.{Bool, true, cond, not}
-use mathlib.Core.List.{List, [], _∷_}
+use mathlib.Core.List.{List, [], _∷_, _++_}
 use lib.Dec.{eqb}
 use lib.ListN.{length}
-use Rattle.lists.specs.Checks.{Reply, check, answered, isAccepted}
+use Rattle.lists.specs.Checks.{Reply, reply, check, answered, isAccepted}
 use Rattle.lists.specs.Every.{every}
 use Rattle.layout.specs.Day.{Day}
 use Rattle.rules.specs.Opening.{Opening, openingReply}
@@ -67,8 +67,29 @@ ran rows b = cond (fits rows b) (runFrom rows 0 (rowsIn rows) b) b
 unfoldable pub eventsOf : List ℕ → Batch → List Event
 eventsOf rows b = cond (fits rows b) (eventsFrom rows 0 (rowsIn rows) b) []
 
--- Demand 3 of a run: its events lead from the state at its start to the one at its end, and they balance from every accepted
--- opening that left the state at its start
-pub record Demand3 (s : State) (es : List Event) (t : State) : Type 0 where
-  pub happened : Happened s es t
-  pub balanced : (o : Opening) → isAccepted (openingReply o) ≡ true → opened o ≡ s → Balanced o es t
+-- a row's answer, where the events are those of the row and of the rest: the first one's reply, and 1 where it names no call
+unfoldable pub replyFrom : Row → List Event → Reply
+replyFrom (call c start len) [] = reply 1 0 0
+replyFrom (call c start len) (e ∷ es) = e .result .reply
+replyFrom none es = reply 1 0 0
+
+-- the events of the rest
+unfoldable pub eventsPast : Row → List Event → List Event
+eventsPast (call c start len) [] = []
+eventsPast (call c start len) (e ∷ es) = es
+eventsPast none es = es
+
+-- the answers after n rows from the i-th on: each has its event's reply in its place
+unfoldable pub answersFrom : List ℕ → ℕ → ℕ → List Event → List ℕ → List ℕ
+answersFrom rows i zero es answers = answers
+answersFrom rows i (suc n) es answers =
+    answersFrom rows (suc i) n (eventsPast (rowAt rows i) es) (putReply answers i (replyFrom (rowAt rows i) es))
+
+unfoldable pub answersOf : List ℕ → List Event → Batch → List ℕ
+answersOf rows es b = cond (fits rows b) (answersFrom rows 0 (rowsIn rows) es (b .answers)) (b .answers)
+
+-- Demand 3 of a run: its events lead from the state at its start to the one at its end; and for every accepted opening and
+-- every list of events that led from it to the state at the start, all events together balance
+pub record Demand3 (s : State) (fs : List Event) (t : State) : Type 0 where
+  pub happened : Happened s fs t
+  pub balanced : (o : Opening) → isAccepted (openingReply o) ≡ true → (es : List Event) → Happened (opened o) es s → Balanced o (es ++ fs) t
