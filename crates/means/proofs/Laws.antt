@@ -1,30 +1,62 @@
 -- The answers of the third stage, test by test.
-use mathlib.Core.Path.{_≡_, sym, ap, _∙_}
+use mathlib.Core.Path.{_≡_, refl, sym, ap, _∙_}
 use mathlib.Core.Bool.{Bool, true, false}
 use mathlib.Core.List.{List, _++_}
-use Prim.Native.Nat.{ℕ, _+_, _*_, _≤_, _<_}
+use Prim.Native.Nat.{ℕ, _≤_, _<_}
 use native.Mathlib.Omega.{arith}
-use lib.Dec.{ltb}
-use lib.ListN.{length, getD}
-use borrow.Author.Tests.{lt-ltb, le-ltb}
-use Rattle.lists.specs.Checks.{reply, answered, answered-next, answered-stop, accepted-passes, refused-stops}
+use lib.Dec.{T, ltb}
+use lib.ListN.{length}
+use borrow.Author.Tests.{lt-ltb, le-ltb, eq-eqb, ne-eqb}
+use Rattle.lists.specs.Checks.{Check, reply, answered, numbered}
 use Rattle.units.specs.Units.{ratioBound}
+use Rattle.layout.specs.Places.{mostComponents}
 use Rattle.layout.specs.Day.{Day}
+use Rattle.rules.specs.declared.Ask.{Ask}
 use Rattle.rules.specs.declared.Refusal.{Refusal}
+use Rattle.layout.specs.Book.{cash, headAt}
 use Rattle.rules.specs.Replies.{refusalReply}
-use Rattle.rules.proofs.Replies.{is-accepted, is-refused}
-use Rattle.scan.specs.declared.Scan.{Scan}
-use Rattle.layout.specs.Book.{headAt, lotsAt}
-use Rattle.rules.specs.Orders.{baskets}
-use Rattle.rules.specs.Creation.{creationDue, creationRecords, creationMeans}
-use Rattle.rules.specs.Redemption.{unitsAvailable, redemptionPaid, redemptionRecords, redemptionMeans}
-use Rattle.scan.specs.Lines.{recordCount}
-use Rattle.scan.specs.Scans.{creationScan, redemptionScan}
-use Rattle.scan.specs.Ready.{CreationReady, RedemptionReady}
-use Rattle.scan.proofs.Ready.{due-fits, paid-fits}
-use Rattle.scan.proofs.Counts.{creation-count, redemption-count, creation-records-le, redemption-records-le}
+use Rattle.rules.specs.Orders.{creation, baskets}
+use Rattle.rules.specs.Creation.{available, creationDue, ratioPassed, creationMeans}
+use Rattle.rules.specs.Redemption.{unitsAvailable, redemptionPaid, redemptionMeans}
 use Rattle.rules.specs.Value.{referenceValue, hasValue}
-use Rattle.means.specs.Tests.{ratioTests, lastTests, creationTests, redemptionTests, creation-tests, redemption-tests, CreationFound, RedemptionFound}
+use Rattle.rules.specs.Kinds.{byKind, total, cashBy, askedCash, askedRecords, askedMeans}
+use Rattle.rules.proofs.Replies.{stage-passed, stage-stopped}
+use Rattle.rules.proofs.Asked.{either-kind, by-ask}
+use Rattle.scan.specs.declared.Scan.{Scan}
+use Rattle.scan.specs.Lines.{recordCount}
+use Rattle.scan.specs.Scans.{orderScan}
+use Rattle.scan.specs.Ready.{Scannable}
+use Rattle.scan.proofs.Ready.{cash-fits}
+use Rattle.scan.proofs.Counts.{scan-count, scan-records-le}
+use Rattle.means.specs.Tests.{stockTests, ratioTests, cashNumber, cashPlace, lastTests, moneyTests, orderTests, meansAnswer}
+
+-- 9 and 17, by the kind
+module _ (kind n held units short : ℕ) where
+  stock-numbered : T (numbered (stockTests kind n held units short))
+  unfolding stockTests
+  stock-numbered = either-kind (λ (cs : List Check). T (numbered cs)) _ _ tt tt kind
+
+  module _ (e : kind ≡ creation) where
+    pub hands-short : short < n → reply 9 short 0 ≡ answered (stockTests kind n held units short) 0
+    unfolding answered stockTests
+    hands-short h = simp (eq-eqb kind creation e, lt-ltb short n h)
+
+    pub hands-all : n ≤ short → reply 0 0 0 ≡ answered (stockTests kind n held units short) 0
+    unfolding answered stockTests
+    hands-all h = simp (eq-eqb kind creation e, le-ltb short n h)
+
+  module _ (e : kind ≡ creation → ⊥) where
+    pub units-short : held < units → reply 9 0 0 ≡ answered (stockTests kind n held units short) 0
+    unfolding answered stockTests
+    units-short h = simp (ne-eqb kind creation e, lt-ltb held units h)
+
+    pub fund-short : units ≤ held → short < n → reply 17 short 0 ≡ answered (stockTests kind n held units short) 0
+    unfolding answered stockTests
+    fund-short h g = simp (ne-eqb kind creation e, le-ltb held units h, lt-ltb short n g)
+
+    pub fund-delivers : units ≤ held → n ≤ short → reply 0 0 0 ≡ answered (stockTests kind n held units short) 0
+    unfolding answered stockTests
+    fund-delivers h g = simp (ne-eqb kind creation e, le-ltb held units h, le-ltb short n g)
 
 -- 14 and 15, from whether anything is missing
 module _ (d : Day) (ps : List ℕ) (m : ℕ) (missing : Bool) (worth : ℕ) where
@@ -63,81 +95,54 @@ module _ (number place held due room count : ℕ) where
   unfolding answered lastTests
   last-made h g = simp (le-ltb held due h, le-ltb room count g)
 
--- the third stage of a creation, from a scan
-module _ (d : Day) (ps : List ℕ) (m n : ℕ) (t : Scan) (held room : ℕ) where
-  pub creation-short : t .short < n → reply 9 (t .short) 0 ≡ answered (creationTests d ps m n t held room) (recordCount t)
-  unfolding answered creationTests
-  creation-short h = simp (lt-ltb (t .short) n h)
+-- the stages, from a scan
+module _ (d : Day) (ps : List ℕ) (kind m : ℕ) (t : Scan) (held room : ℕ) where
+  pub ratio-passes : reply 0 0 0 ≡ answered (ratioTests d ps m (t .missing) (t .«missing_worth» .0)) 0
+      → answered (lastTests (cashNumber kind) (cashPlace kind (d .count)) held (total (t .cash)) room (recordCount t)) (recordCount t) ≡ answered (moneyTests d ps kind m t held room) (recordCount t)
+  unfolding moneyTests ratioTests
+  ratio-passes e = stage-passed (ratioTests d ps m (t .missing) (t .«missing_worth» .0)) _ _ tt e
 
-  module _ (stocked : n ≤ t .short) where
-    past-stock : (v : ℕ) → answered (creationTests d ps m n t held room) v ≡ answered (ratioTests d ps m (t .missing) (t .«missing_worth» .0) ++ lastTests 10 0 held (t .other .0 + t .shanghai .0) room (recordCount t)) v
-    unfolding answered creationTests
-    past-stock v = simp (le-ltb (t .short) n stocked)
+  pub ratio-stops : (why : Refusal) → refusalReply why ≡ answered (ratioTests d ps m (t .missing) (t .«missing_worth» .0)) 0
+      → refusalReply why ≡ answered (moneyTests d ps kind m t held room) (recordCount t)
+  unfolding moneyTests
+  ratio-stops why e = stage-stopped (ratioTests d ps m (t .missing) (t .«missing_worth» .0)) _ _ why e
 
-    pub creation-rest : reply 0 0 0 ≡ answered (ratioTests d ps m (t .missing) (t .«missing_worth» .0)) 0
-        → answered (lastTests 10 0 held (t .other .0 + t .shanghai .0) room (recordCount t)) (recordCount t) ≡ answered (creationTests d ps m n t held room) (recordCount t)
-    unfolding ratioTests
-    creation-rest e =
-        let cs = ratioTests d ps m (t .missing) (t .«missing_worth» .0) in
-        sym (past-stock (recordCount t) ∙ answered-next cs _ (recordCount t) (accepted-passes cs 0 tt (is-accepted 0 _ e)))
+  module _ (there units : ℕ) where
+    pub stock-passes : reply 0 0 0 ≡ answered (stockTests kind (d .count) there units (t .short)) 0
+        → answered (moneyTests d ps kind m t held room) (recordCount t) ≡ answered (orderTests d ps kind m t there units held room) (recordCount t)
+    unfolding orderTests
+    stock-passes e = stage-passed (stockTests kind (d .count) there units (t .short)) _ _ (stock-numbered kind (d .count) there units (t .short)) e
 
-    pub creation-stop : (why : Refusal) → refusalReply why ≡ answered (ratioTests d ps m (t .missing) (t .«missing_worth» .0)) 0
-        → refusalReply why ≡ answered (creationTests d ps m n t held room) (recordCount t)
-    creation-stop why e =
-        let cs = ratioTests d ps m (t .missing) (t .«missing_worth» .0) in
-        e ∙ sym (past-stock (recordCount t) ∙ answered-stop cs _ (recordCount t) 0 (refused-stops cs 0 (is-refused why _ e)))
+    pub stock-stops : (why : Refusal) → refusalReply why ≡ answered (stockTests kind (d .count) there units (t .short)) 0
+        → refusalReply why ≡ answered (orderTests d ps kind m t there units held room) (recordCount t)
+    unfolding orderTests
+    stock-stops why e = stage-stopped (stockTests kind (d .count) there units (t .short)) _ _ why e
 
--- and of a redemption
-module _ (n : ℕ) (t : Scan) (available units held room : ℕ) where
-  pub redemption-units : available < units → reply 9 0 0 ≡ answered (redemptionTests n t available units held room) (recordCount t)
-  unfolding answered redemptionTests
-  redemption-units h = simp (lt-ltb available units h)
+-- the tests of an ask, with a count of records, are the rules' third stage
+module _ (d : Day) (s f ps : List ℕ) (room : ℕ) where
+  abbrev tests : Ask → List Check
+  tests ask =
+      let t = orderScan (ask .kind) d s f ps (baskets d (ask .units)) in
+      stockTests (ask .kind) (d .count) (available s (d .count)) (ask .units) (t .short)
+      ++ (ratioTests d ps (baskets d (ask .units)) (t .missing) (t .«missing_worth» .0)
+      ++ lastTests (cashNumber (ask .kind)) (cashPlace (ask .kind) (d .count)) (headAt (byKind (ask .kind) s f) cash) (total (t .cash)) room (length (askedRecords d s ps ask)))
 
-  pub redemption-short : units ≤ available → t .short < n → reply 17 (t .short) 0 ≡ answered (redemptionTests n t available units held room) (recordCount t)
-  unfolding answered redemptionTests
-  redemption-short h g = simp (le-ltb available units h, lt-ltb (t .short) n g)
+  tests-are : (v : ℕ) (ask : Ask) → ask .kind < 2 → answered (tests ask) v ≡ answered (askedMeans d s f ps ask room) v
+  unfolding answered stockTests ratioTests lastTests cashNumber cashPlace orderScan cashBy available unitsAvailable askedRecords askedMeans
+      creationMeans ratioPassed creationDue redemptionMeans redemptionPaid
+  tests-are v = by-ask (λ ask. answered (tests ask) v ≡ answered (askedMeans d s f ps ask room) v) (λ a units. refl) (λ a units. refl)
 
-  pub redemption-rest : units ≤ available → n ≤ t .short
-      → answered (lastTests 17 n held (t .other .0 + t .shanghai .0) room (recordCount t)) (recordCount t) ≡ answered (redemptionTests n t available units held room) (recordCount t)
-  unfolding answered redemptionTests
-  redemption-rest h g = simp (le-ltb available units h, le-ltb (t .short) n g)
+  -- and so from a scan t, for m that is the order's count of baskets
+  module _ (ask : Ask) (m : ℕ) (t : Scan) (scanned : t ≡ orderScan (ask .kind) d s f ps m) (whole : m ≡ baskets d (ask .units)) (r : Scannable (ask .kind) d s f ps m) where
+    pub means-done : answered (orderTests d ps (ask .kind) m t (available s (d .count)) (ask .units) (headAt (byKind (ask .kind) s f) cash) room) (recordCount t) ≡ meansAnswer d s f ps ask room
+    unfolding orderTests moneyTests meansAnswer
+    means-done = rw (scanned, whole, scan-count d s f ps ask (r .kind-in)) (tests-are _ ask (r .kind-in))
 
--- a scan t of the day, for m that is the order's count of baskets, gives the rules' third stage
-module _ (d : Day) (s ps : List ℕ) (units room m : ℕ) (t : Scan) (scanned : t ≡ creationScan d s ps m) (whole : m ≡ baskets d units) where
-  creation-same : t ≡ creationScan d s ps (baskets d units)
-  creation-same = scanned ∙ ap (creationScan d s ps) whole
+    pub means-cash : t .cash ≡ askedCash d s ps ask
+    unfolding orderScan askedCash
+    means-cash = rw (scanned, whole)
 
-  pub creation-done : answered (creationTests d ps m (d .count) t (getD s 0 0) room) (recordCount t) ≡ answered (creationMeans d s ps units room) (length (creationRecords d s ps units))
-  unfolding headAt
-  creation-done = rw (creation-same, whole, creation-tests d s ps units room, creation-count d s ps units)
-
-  pub creation-found : CreationFound d s ps units (t .other .0) (t .shanghai .0)
-  unfolding creationScan
-  creation-found = record { other-is = ap (λ (x : Scan). x .other .0) creation-same; shanghai-is = ap (λ (x : Scan). x .shanghai .0) creation-same }
-
-  -- and its sums fit
-  pub creation-fits : CreationReady d s ps m → (t .«stock_records» ≤ 300) × (t .other .0 + t .shanghai .0 ≤ 12_000_000_000_000_000_000)
-  unfolding creationScan creationDue
-  creation-fits r = (
-    omega (arith, ap (λ (x : Scan). x .«stock_records») scanned, creation-records-le d s ps m (r .count)),
-    omega (arith, ap (λ (x : Scan). x .other .0) scanned, ap (λ (x : Scan). x .shanghai .0) scanned, due-fits d s ps m r),
-  )
-
-module _ (d : Day) (s f : List ℕ) (units room m : ℕ) (t : Scan) (scanned : t ≡ redemptionScan d f m) (whole : m ≡ baskets d units) where
-  redemption-same : t ≡ redemptionScan d f (baskets d units)
-  redemption-same = scanned ∙ ap (redemptionScan d f) whole
-
-  pub redemption-done : answered (redemptionTests (d .count) t (getD s (3 + 3 * d .count + 1) 0 + getD s (3 + 3 * d .count) 0) units (getD f 0 0) room) (recordCount t) ≡ answered (redemptionMeans d s f units room) (length (redemptionRecords d units))
-  unfolding headAt unitsAvailable lotsAt
-  redemption-done = rw (redemption-same, redemption-tests d s f units room, redemption-count d f units)
-
-  pub redemption-found : RedemptionFound d units (t .other .0) (t .shanghai .0)
-  unfolding redemptionScan
-  redemption-found = record { other-is = ap (λ (x : Scan). x .other .0) redemption-same; shanghai-is = ap (λ (x : Scan). x .shanghai .0) redemption-same }
-
-  pub redemption-fits : RedemptionReady d f m → (t .«stock_records» ≤ 300) × (t .other .0 + t .shanghai .0 ≤ 12_000_000_000_000_000_000)
-  unfolding redemptionScan redemptionPaid
-  redemption-fits r = (
-    omega (arith, ap (λ (x : Scan). x .«stock_records») scanned, redemption-records-le d f m (r .count)),
-    omega (arith, ap (λ (x : Scan). x .other .0) scanned, ap (λ (x : Scan). x .shanghai .0) scanned, paid-fits d f m r),
-  )
+    -- and its sums fit
+    pub means-fit : (t .«stock_records» ≤ mostComponents) × (total (t .cash) ≤ 12_000_000_000_000_000_000)
+    unfolding orderScan
+    means-fit = rw scanned (scan-records-le (ask .kind) d s f ps m (r .count), cash-fits (ask .kind) d s f ps m r)

@@ -29,15 +29,15 @@ pub fn is_investor(accounts: usize, a: usize) -> bool
     a <= accounts - 1
 }
 
-// Whether so many units are a whole count of baskets from 1 to the most.
-pub fn whole_baskets(size: u64, units: u64) -> bool
-    requires { ⌜ 0 < size ⌝ }
+// Whether so many units are a whole count of baskets from 1 to the most; `m` is the count with what is left over dropped.
+pub fn whole_baskets(size: u64, units: u64, m: u64) -> bool
+    requires { ⌜ (0 < size) × (m ≡ units / size) ⌝ }
     ensures { λ r. ⌜ r ≡ every (eqb (units % size) 0 ∷ inside 1 mostBaskets (units / size) ∷ []) ⌝ }
 {
-    if units % size != 0 {
+    if m * size != units {
         return false;
     }
-    is_inside(1, rules::MOST_BASKETS, units / size)
+    is_inside(1, rules::MOST_BASKETS, m)
 }
 
 // Whether the switch allows a kind of order: 1 both, 2 creation only, 3 redemption only.

@@ -2,61 +2,25 @@
 use mathlib.Core.Path.{_≡_, refl, sym, ap, _∙_}
 use mathlib.Core.List.{List, [], _∷_, _++_}
 use Prim.Native.Nat.{ℕ, zero, suc, _+_, _*_, _/_, _%_, _^_, _≤_, _<_}
-use native.Mathlib.Nat.{not-suc-le-zero, le-of-suc-le-suc}
-use native.Mathlib.Numerals.{add-one}
 use native.Mathlib.Omega.{arith}
-use lib.ListN.{length, getD, set, drop, length-append}
-use lib.Seq.{length-sets}
+use lib.ListN.{length, drop, length-append}
+use lib.Seq.{sets, length-sets}
 use borrow.Author.Tests.{lt-ltb, le-ltb, eq-eqb, ne-eqb}
 use Rattle.lists.specs.Below.{joinBelow, join-none, join-more}
 use Rattle.lists.specs.Runs.{sets-append, sets-front, join-grows}
 use Rattle.units.specs.Units.{splitSize}
-use Rattle.units.proofs.Laws.{under}
-use Rattle.lots.specs.Lots.{handable}
 use Rattle.layout.specs.Day.{Day}
+use Rattle.rules.specs.declared.Ask.{Ask}
+use Rattle.rules.specs.declared.CashByMarket.{CashByMarket}
 use Rattle.layout.specs.declared.Record.{Record}
-use Rattle.layout.specs.Book.{lotsAt}
 use Rattle.rules.specs.Lines.{componentOf, codeOf}
 use Rattle.rules.specs.Records.{recordOf, cashParts, cashRecords, stockRecord, orderRecords}
 use Rattle.layout.specs.Places.{recordWidth}
-use Rattle.layout.specs.Records.{recordNumbers, flatten, withRecords, recordAt}
+use Rattle.layout.specs.Records.{recordNumbers, flatten, withRecords}
+use Rattle.layout.proofs.Records.{flatten-append, flatten-length}
 use Rattle.rules.specs.Kinds.{movedBy, stockSide, restSide, recordsBy}
 use Rattle.records.specs.Written.{behind, written, Fits, Wrote, lineRecord, stockRecords, recordsAfterStock}
-use Rattle.records.specs.Ready.{Movable, Writable}
-
--- The flat run of records.
-
-pub flatten-append : (rs qs : List Record) → flatten (rs ++ qs) ≡ flatten rs ++ flatten qs
-unfolding flatten
-flatten-append [] qs = refl
-flatten-append (r ∷ rs) qs = ap (λ (t : List ℕ). recordNumbers r ++ t) (flatten-append rs qs)
-
-pub flatten-length : (rs : List Record) → length (flatten rs) ≡ recordWidth * length rs
-unfolding flatten
-flatten-length [] = refl
-flatten-length (r ∷ rs) = omega (arith, flatten-length rs)
-
--- the record behind the first is the first of the rest
-record-behind : (r : Record) (xs : List ℕ) (k : ℕ) → recordAt (recordNumbers r ++ xs) (suc k) ≡ recordAt xs k
-unfolding recordAt
-record-behind r xs k =
-    let code : recordWidth * suc k ≡ suc (suc (suc (suc (suc (recordWidth * k))))) = omega arith in
-    let side : recordWidth * suc k + 1 ≡ suc (suc (suc (suc (suc (recordWidth * k + 1))))) = omega arith in
-    let quantity : recordWidth * suc k + 2 ≡ suc (suc (suc (suc (suc (recordWidth * k + 2))))) = omega arith in
-    let price : recordWidth * suc k + 3 ≡ suc (suc (suc (suc (suc (recordWidth * k + 3))))) = omega arith in
-    let amount : recordWidth * suc k + 4 ≡ suc (suc (suc (suc (suc (recordWidth * k + 4))))) = omega arith in
-    rw (amount, price, quantity, side, code)
-
-record-in : (rs : List Record) (xs : List ℕ) (k : ℕ) (r : Record) → k < length rs → recordAt (flatten rs ++ xs) k ≡ getD rs k r
-unfolding flatten recordAt
-record-in [] xs k r h = absurd (not-suc-le-zero h)
-record-in (q ∷ rs) xs zero r h = refl
-record-in (q ∷ rs) xs (suc k) r h = record-behind q (flatten rs ++ xs) k ∙ record-in rs xs k r (le-of-suc-le-suc h)
-
--- what was written is read
-pub record-read : (rs : List Record) (list : List ℕ) (k : ℕ) (r : Record) → k < length rs → recordAt (withRecords rs list) k ≡ getD rs k r
-unfolding withRecords
-record-read rs list k r h = record-in rs (drop (recordWidth * length rs) list) k r h
+use Rattle.records.specs.Ready.{Writable}
 
 -- Records written.
 
@@ -77,15 +41,10 @@ written-first rs list h =
     sets-front (flatten rs) list (omega (arith, flatten-length rs))
     ∙ ap (λ (k : ℕ). flatten rs ++ drop k list) (flatten-length rs)
 
--- five stores write one record
-pub one-written : (list : List ℕ) (p : ℕ) (r : Record)
-    → Wrote (r ∷ []) p list (set (set (set (set (set list p (r .code)) (p + 1) (r .side)) (p + 2) (r .quantity)) (p + 3) (r .price .0)) (p + 4) (r .amount .0)) (p + 5)
+-- one record
+pub one-written : (list : List ℕ) (p : ℕ) (r : Record) (new : List ℕ) → new ≡ sets list p (recordNumbers r) → Wrote (r ∷ []) p list new (p + recordWidth)
 unfolding written flatten
-one-written list p r =
-    let two : p + 2 ≡ suc (suc p) = omega arith in
-    let three : p + 3 ≡ suc (suc (suc p)) = omega arith in
-    let four : p + 4 ≡ suc (suc (suc (suc p))) = omega arith in
-    record { list = rw (add-one p, two, three, four); place = omega arith }
+one-written list p r new e = record { list = e; place = omega arith }
 
 pub wrote-none : (p : ℕ) (list : List ℕ) → Wrote [] p list list p
 unfolding written flatten
@@ -179,20 +138,17 @@ module _ (kind : ℕ) (d : Day) (s : List ℕ) (m : ℕ) where
       let more = simp length-append at (ap length (stock-more i)) in
       record { room = omega (arith, f .room, w .place, wrote-length w) }
 
-  -- no product or sum of a line passes 64 bits
-  pub line-fits : Movable kind d s m → (i : ℕ) → i < d .count → (m * componentOf d i .quantity < 2 ^ 62) × (handable (lotsAt s i) < 2 ^ 62)
-  line-fits r i l =
-      let q : m * componentOf d i .quantity ≤ 20 * 99_999_999 = under 20 99_999_999 (r .baskets-high) (r .quantities i l) in
-      (omega arith, omega (arith, r .held i l))
-
 -- An order's records: the unit, stock, and what is behind it.
 
-module _ {kind : ℕ} {d : Day} {s : List ℕ} {units m other shanghai side : ℕ} {unit : Record} {list : List ℕ}
-    (rest : side ≡ restSide kind) (made : unit ≡ recordOf (d .fund .«first_code») side units 0) (w : Writable kind d s units m other shanghai list) where
-  abbrev parts : List Record
-  parts = (unit ∷ []) ++ (stockRecords kind d s m ++ recordsAfterStock (d .fund .«first_code») side units other shanghai)
+module _ {d : Day} {s : List ℕ} {ask : Ask} {m side : ℕ} {c : CashByMarket} {unit : Record} {list : List ℕ}
+    (rest : side ≡ restSide (ask .kind)) (made : unit ≡ recordOf (d .fund .«first_code») side (ask .units) 0) (w : Writable d s ask m c list) where
+  abbrev all : List Record
+  all = recordsBy (ask .kind) d s (ask .units) m c
 
-  parts-are : parts ≡ recordsBy kind d s units m other shanghai
+  abbrev parts : List Record
+  parts = (unit ∷ []) ++ (stockRecords (ask .kind) d s m ++ recordsAfterStock (d .fund .«first_code») side (ask .units) c)
+
+  parts-are : parts ≡ all
   unfolding recordsBy orderRecords stockRecords recordsAfterStock
   parts-are = rw (made, rest)
 
@@ -200,7 +156,5 @@ module _ {kind : ℕ} {d : Day} {s : List ℕ} {units m other shanghai side : �
   order-fits = fits-as (sym parts-are) (record { room = omega (arith, w .room) })
 
   -- all of them written from the first place on
-  pub order-written : {new : List ℕ} {end : ℕ} → Wrote parts 0 list new end
-      → new ≡ withRecords (recordsBy kind d s units m other shanghai) list
-  order-written {new} {end} u =
-      wrote-as parts-are u .list ∙ written-first (recordsBy kind d s units m other shanghai) list (omega (arith, w .room))
+  pub order-written : {new : List ℕ} {end : ℕ} → Wrote parts 0 list new end → new ≡ withRecords all list
+  order-written u = wrote-as parts-are u .list ∙ written-first all list (omega (arith, w .room))

@@ -1,4 +1,4 @@
--- Records in a flat run of numbers: read off it, and written to it from a place on.
+-- Records written to a flat run of numbers from a place on.
 use Prim.Native.Nat.{ℕ, _+_, _*_, _≤_}
 use mathlib.Core.Path.{_≡_}
 use mathlib.Core.Bool.{cond}
@@ -8,22 +8,12 @@ use lib.ListN.{length, getD}
 use lib.Seq.{sets}
 use Rattle.lists.specs.Below.{joinBelow}
 use Rattle.layout.specs.Day.{Day}
+use Rattle.rules.specs.declared.CashByMarket.{CashByMarket}
 use Rattle.layout.specs.declared.Record.{Record}
 use Rattle.rules.specs.Kinds.{movedBy, stockSide}
-use Rattle.rules.specs.Records.{recordOf, cashRecords, stockRecord}
+use Rattle.rules.specs.Records.{recordOf, cashRecords, stockRecord, secondUnit, shanghaiStep, otherStep}
 use Rattle.layout.specs.Places.{recordWidth}
 use Rattle.layout.specs.Records.{flatten}
-
--- the k-th record of a run
-unfoldable pub recordAt : List ℕ → ℕ → Record
-recordAt list k =
-    record {
-      code = getD list (recordWidth * k) 0;
-      side = getD list (recordWidth * k + 1) 0;
-      quantity = getD list (recordWidth * k + 2) 0;
-      price = record { 0 = getD list (recordWidth * k + 3) 0 };
-      amount = record { 0 = getD list (recordWidth * k + 4) 0 };
-    }
 
 -- the first place behind the records rs, which stand from the place p on
 abbrev pub behind : List Record → ℕ → ℕ
@@ -51,6 +41,6 @@ unfoldable pub stockRecords : ℕ → Day → List ℕ → ℕ → List Record
 stockRecords kind d s m = joinBelow (stockRecord d (stockSide kind) (movedBy kind d s m)) (d .count)
 
 -- its records behind those of stock: other cash, Shanghai cash and the second unit, in a fund with the first code g
-unfoldable pub recordsAfterStock : ℕ → ℕ → ℕ → ℕ → ℕ → List Record
-recordsAfterStock g side units other shanghai =
-    cashRecords (g + 5) side other ++ (cashRecords (g + 2) side shanghai ++ (recordOf (g + 1) side units 0 ∷ []))
+unfoldable pub recordsAfterStock : ℕ → ℕ → ℕ → CashByMarket → List Record
+recordsAfterStock g side units c =
+    cashRecords (g + otherStep) side (c .other .0) ++ (cashRecords (g + shanghaiStep) side (c .shanghai .0) ++ (recordOf (g + secondUnit) side units 0 ∷ []))

@@ -1,36 +1,14 @@
-// The records of an order, written to a lent run of numbers, five to a record, and read off it.
+// The records of an order, written to a lent run of numbers.
 ghost use mathlib.Core.Path.{_≡_};
 ghost use mathlib.Core.List.{[], _∷_};
 ghost use Prim.Native.Nat.{_+_, _*_, _≤_, _<_, _^_};
 ghost use lib.ListN.{length};
 ghost use Rattle.rules.specs.Records.{recordOf, cashRecords};
 ghost use Rattle.rules.specs.Kinds.{stockSide, restSide};
-ghost use Rattle.layout.specs.Records.{recordAt};
 ghost use Rattle.records.specs.Written.{Fits, Wrote, lineRecord, recordsAfterStock};
+use rules::CashByMarket;
 use layout::Record;
 use units::Money;
-
-// Codes of the fund's group, as steps from its first, which is the unit's.
-const SECOND_UNIT: u64 = 1;
-
-const SHANGHAI_CASH: u64 = 2;
-
-const OTHER_CASH: u64 = 5;
-
-// The k-th record of a run.
-pub fn record_at(list: &[u64], k: usize) -> Record
-    requires { ⌜ 5 * k + 4 < length (now list) ⌝ }
-    ensures { λ r. ⌜ r ≡ recordAt (now (list .entry)) k ⌝ }
-{
-    let at = layout::RECORD_WIDTH * k;
-    Record {
-        code: list[at],
-        side: list[at + 1],
-        quantity: list[at + 2],
-        price: Money(list[at + 3]),
-        amount: Money(list[at + 4]),
-    }
-}
 
 // A record whose amount is its quantity times its price.
 pub fn record_of(code: u64, side: u64, quantity: u64, price: Money) -> Record
@@ -70,11 +48,7 @@ pub fn put_record(out: &mut [u64], at: usize, r: Record) -> usize
     requires { ⌜ Fits (r ∷ []) at (now out) ⌝ }
     ensures { λ next. ⌜ Wrote (r ∷ []) at (now (out .entry)) (now (out .exit)) next ⌝ }
 {
-    out[at] = r.code;
-    out[at + 1] = r.side;
-    out[at + 2] = r.quantity;
-    out[at + 3] = r.price.0;
-    out[at + 4] = r.amount.0;
+    layout::put_record(out, at, r);
     at + layout::RECORD_WIDTH
 }
 
@@ -116,15 +90,20 @@ pub fn put_after_stock(
     first_code: u64,
     side: u64,
     units: u64,
-    other: Money,
-    shanghai: Money,
+    cash: CashByMarket,
 ) -> usize
     requires { ⌜ «first_code» ≤ 999_994 ⌝ }
-    requires { ⌜ Fits (recordsAfterStock «first_code» side units (other .0) (shanghai .0)) at (now out) ⌝ }
-    ensures { λ next. ⌜ Wrote (recordsAfterStock «first_code» side units (other .0) (shanghai .0)) at (now (out .entry)) (now (out .exit)) next ⌝ }
+    requires { ⌜ Fits (recordsAfterStock «first_code» side units cash) at (now out) ⌝ }
+    ensures { λ next. ⌜ Wrote (recordsAfterStock «first_code» side units cash) at (now (out .entry)) (now (out .exit)) next ⌝ }
 {
-    let shanghai_at = put_cash(out, at, first_code + OTHER_CASH, side, other);
-    let unit_at = put_cash(out, shanghai_at, first_code + SHANGHAI_CASH, side, shanghai);
-    let unit = record_of(first_code + SECOND_UNIT, side, units, Money(0));
+    let shanghai_at = put_cash(out, at, first_code + rules::OTHER_CASH, side, cash.other);
+    let unit_at = put_cash(
+        out,
+        shanghai_at,
+        first_code + rules::SHANGHAI_CASH,
+        side,
+        cash.shanghai,
+    );
+    let unit = record_of(first_code + rules::SECOND_UNIT, side, units, Money(0));
     put_record(out, unit_at, unit)
 }

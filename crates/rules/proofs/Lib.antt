@@ -4,3 +4,4 @@ pub mod OpenedDay
 pub mod Sides
 pub mod Accepted
 pub mod Stock
+pub mod Asked

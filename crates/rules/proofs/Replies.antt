@@ -1,9 +1,10 @@
 -- Answers and replies: Done is accepted and every refusal is not, so what a call leaves follows from its answer.
 use mathlib.Core.Path.{_≡_, refl, sym, ap, _∙_}
 use mathlib.Core.Bool.{true, false, not}
-use mathlib.Core.List.{List}
+use mathlib.Core.List.{List, _++_}
 use Prim.Native.Nat.{ℕ}
-use Rattle.lists.specs.Checks.{Check, Reply, reply, isAccepted, answered}
+use lib.Dec.{T}
+use Rattle.lists.specs.Checks.{Check, Reply, reply, isAccepted, answered, numbered, answered-next, answered-stop, accepted-passes, refused-stops}
 use Rattle.layout.specs.Day.{Day}
 use Rattle.rules.specs.declared.Refusal.{Refusal}
 use Rattle.rules.specs.declared.Refusal.the-variants.{Sizes, FundField, Component, Total, UnsoundDay, NoSuchLine, QuantityOrPrice, Account, ShortOfStock, ShortOfCash, NotWholeBaskets, Switch, Limit, NoReferenceValue, CashRatio, ListTooShort, FundShort, TextLine, TextField, RecordCount}
@@ -51,6 +52,14 @@ module _ {A : Type 0} (after before : A) where
 
   pub leaves-before : (why : Refusal) (r : Reply) → refusalReply why ≡ r → before ≡ ifAccepted r after before
   leaves-before why r e = rw (is-refused why r e)
+
+-- two stages of tests: where the first passes the answer is the second's, and where it fails its own
+module _ (cs ds : List Check) (v : ℕ) where
+  pub stage-passed : T (numbered cs) → reply 0 0 0 ≡ answered cs 0 → answered ds v ≡ answered (cs ++ ds) v
+  stage-passed n e = sym (answered-next cs ds v (accepted-passes cs 0 n (is-accepted 0 _ e)))
+
+  pub stage-stopped : (why : Refusal) → refusalReply why ≡ answered cs 0 → refusalReply why ≡ answered (cs ++ ds) v
+  stage-stopped why e = e ∙ sym (answered-stop cs ds v 0 (refused-stops cs 0 (is-refused why _ e)))
 
 -- refusal 5, and the call's own tests where the day is sound
 module _ (d : Day) (b ps : List ℕ) (cs : List Check) (v : ℕ) where

@@ -1,22 +1,45 @@
--- Creation and redemption by one text, for the code that serves both kinds of order.
+-- Creation and redemption by one text, for the code that serves both kinds of order: what an ask comes to, from the definitions of
+-- its kind.
 use Prim.Native.Nat.{ℕ, _+_, _-_}
-use mathlib.Core.Path.{_≡_, refl}
 use mathlib.Core.Bool.{Bool, cond}
 use mathlib.Core.List.{List}
 use lib.Dec.{eqb}
+use lib.ListN.{length}
+use Rattle.lists.specs.Checks.{Check, Reply, answered}
 use Rattle.lists.specs.Stretch.{onStretch}
 use Rattle.lots.specs.declared.Lots.{Lots}
 use Rattle.lots.specs.Lots.{handInOf, getOf, takeInOf, payOutOf}
 use Rattle.layout.specs.Day.{Day}
+use Rattle.rules.specs.declared.Ask.{Ask}
+use Rattle.rules.specs.declared.CashByMarket.{CashByMarket}
 use Rattle.layout.specs.declared.Record.{Record}
+use Rattle.rules.specs.Replies.{ifAccepted}
 use Rattle.layout.specs.Book.{cash, headAt, width, account}
+use Rattle.rules.specs.Sound.{onSoundDay}
 use Rattle.rules.specs.Orders.{creation, redemption, baskets, otherCash, shanghaiCash, accountSide, fundSide}
 use Rattle.rules.specs.Records.{sideB, sideS, orderRecords}
-use Rattle.rules.specs.Creation.{handedIn, creationCash, creationDue, creationRecords, creationMoves}
-use Rattle.rules.specs.Redemption.{delivered, redemptionCash, redemptionPaid, redemptionRecords, redemptionMoves}
+use Rattle.layout.specs.Records.{roomIn, withRecords}
+use Rattle.rules.specs.Creation.{handedIn, creationCash, creationRecords, creationMeans, creationChecks, creationMoves}
+use Rattle.rules.specs.Redemption.{delivered, redemptionCash, redemptionRecords, redemptionMeans, redemptionChecks, redemptionMoves}
 
 abbrev pub byKind : {A : Type 0} → ℕ → A → A → A
 byKind kind x y = cond (eqb kind creation) x y
+
+abbrev pub creationOf : ℕ → ℕ → Ask
+creationOf a units = record { kind = creation; account = a; units = units }
+
+abbrev pub redemptionOf : ℕ → ℕ → Ask
+redemptionOf a units = record { kind = redemption; account = a; units = units }
+
+-- Cash by market: of all components, where component i has f i; all of it; and none.
+abbrev pub byMarket : Day → (ℕ → ℕ) → CashByMarket
+byMarket d f = record { shanghai = record { 0 = shanghaiCash d f }; other = record { 0 = otherCash d f } }
+
+abbrev pub total : CashByMarket → ℕ
+total c = c .other .0 + c .shanghai .0
+
+abbrev pub noCash : CashByMarket
+noCash = record { shanghai = record { 0 = 0 }; other = record { 0 = 0 } }
 
 -- the stock of component i that an order of m baskets moves, for an account with the stretch s
 unfoldable pub movedBy : ℕ → Day → List ℕ → ℕ → ℕ → ℕ
@@ -47,16 +70,6 @@ orderMoves kind d a units m c b =
     (λ f. fundSide (d .count) (λ i x. fundLots kind x (movedBy kind d (account d b a) m i)) (fundCash kind (headAt f cash) c) f)
     b)
 
-pub creation-moves : (d : Day) (ps : List ℕ) (a units : ℕ) (b : List ℕ)
-    → orderMoves creation d a units (baskets d units) (creationDue d (account d b a) ps (baskets d units)) b ≡ creationMoves d ps a units b
-unfolding orderMoves creationMoves movedBy stockLots fundLots unitLots accountCash fundCash
-creation-moves d ps a units b = refl
-
-pub redemption-moves : (d : Day) (a units : ℕ) (b : List ℕ)
-    → orderMoves redemption d a units (baskets d units) (redemptionPaid d (baskets d units)) b ≡ redemptionMoves d a units b
-unfolding orderMoves redemptionMoves movedBy stockLots fundLots unitLots accountCash fundCash
-redemption-moves d a units b = refl
-
 -- the records: stock is S on creation and B on redemption, and the rest the other side
 abbrev pub stockSide : ℕ → ℕ
 stockSide kind = byKind kind sideS sideB
@@ -64,15 +77,41 @@ stockSide kind = byKind kind sideS sideB
 abbrev pub restSide : ℕ → ℕ
 restSide kind = byKind kind sideB sideS
 
-unfoldable pub recordsBy : ℕ → Day → List ℕ → ℕ → ℕ → ℕ → ℕ → List Record
-recordsBy kind d s units m other shanghai = orderRecords d (stockSide kind) (restSide kind) units (movedBy kind d s m) other shanghai
+unfoldable pub recordsBy : ℕ → Day → List ℕ → ℕ → ℕ → CashByMarket → List Record
+recordsBy kind d s units m c = orderRecords d (stockSide kind) (restSide kind) units (movedBy kind d s m) (c .other .0) (c .shanghai .0)
 
-pub creation-records : (d : Day) (s ps : List ℕ) (units : ℕ)
-    → recordsBy creation d s units (baskets d units) (otherCash d (creationCash d s ps (baskets d units))) (shanghaiCash d (creationCash d s ps (baskets d units))) ≡ creationRecords d s ps units
-unfolding recordsBy creationRecords movedBy
-creation-records d s ps units = refl
+-- What an ask comes to, for an account with the stretch s and a fund with the stretch f: the cash, the records, and the third stage.
+unfoldable pub cashBy : ℕ → Day → List ℕ → List ℕ → ℕ → CashByMarket
+cashBy kind d s ps m = byMarket d (byKind kind (creationCash d s ps m) (redemptionCash d m))
 
-pub redemption-records : (d : Day) (s : List ℕ) (units : ℕ)
-    → recordsBy redemption d s units (baskets d units) (otherCash d (redemptionCash d (baskets d units))) (shanghaiCash d (redemptionCash d (baskets d units))) ≡ redemptionRecords d units
-unfolding recordsBy redemptionRecords movedBy
-redemption-records d s units = refl
+unfoldable pub askedCash : Day → List ℕ → List ℕ → Ask → CashByMarket
+askedCash d s ps k = cashBy (k .kind) d s ps (baskets d (k .units))
+
+unfoldable pub askedRecords : Day → List ℕ → List ℕ → Ask → List Record
+askedRecords d s ps k = byKind (k .kind) (creationRecords d s ps (k .units)) (redemptionRecords d (k .units))
+
+unfoldable pub askedMeans : Day → List ℕ → List ℕ → List ℕ → Ask → ℕ → List Check
+askedMeans d s f ps k room = byKind (k .kind) (creationMeans d s ps (k .units) room) (redemptionMeans d s f (k .units) room)
+
+-- With the book b: all tests after 5, the reply, and what moves.
+unfoldable pub askedChecks : Day → List ℕ → List ℕ → Ask → ℕ → List Check
+askedChecks d b ps k room =
+    byKind (k .kind) (creationChecks d b ps (k .account) (k .units) room) (redemptionChecks d b (k .account) (k .units) room)
+
+-- how many records the order makes
+abbrev pub askedCount : Day → List ℕ → List ℕ → Ask → ℕ
+askedCount d b ps k = length (askedRecords d (account d b (k .account)) ps k)
+
+unfoldable pub askedReply : Day → List ℕ → List ℕ → Ask → ℕ → Reply
+askedReply d b ps k room = answered (onSoundDay d b ps (askedChecks d b ps k room)) (askedCount d b ps k)
+
+unfoldable pub askedMoves : Day → List ℕ → Ask → List ℕ → List ℕ
+askedMoves d ps k b = byKind (k .kind) (creationMoves d ps (k .account) (k .units) b) (redemptionMoves d (k .account) (k .units) b)
+
+-- the book and the list that it leaves
+unfoldable pub askedBook : Day → List ℕ → List ℕ → Ask → ℕ → List ℕ
+askedBook d b ps k room = ifAccepted (askedReply d b ps k room) (askedMoves d ps k b) b
+
+unfoldable pub askedList : Day → List ℕ → List ℕ → Ask → List ℕ → List ℕ
+askedList d b ps k list =
+    ifAccepted (askedReply d b ps k (roomIn list)) (withRecords (askedRecords d (account d b (k .account)) ps k) list) list

@@ -37,12 +37,22 @@ cashRecords code side c = map (λ part. recordOf code side (part .0) (part .1)) 
 unfoldable pub stockRecord : Day → ℕ → (ℕ → ℕ) → ℕ → List Record
 stockRecord d side moved i = cond (ltb 0 (moved i)) (recordOf (codeOf d i) side (moved i) 0 ∷ []) []
 
+-- the codes of a fund's group, as steps from its first, g, which is the unit's
+abbrev pub secondUnit : ℕ
+secondUnit = 1
+
+abbrev pub shanghaiStep : ℕ
+shanghaiStep = 2
+
+abbrev pub otherStep : ℕ
+otherStep = 5
+
 -- in order: unit (g); each component with stock moved; other cash (g+5); Shanghai cash (g+2); unit (g+1).
 -- Stock is on one side and the rest on the other.
 unfoldable pub orderRecords : Day → ℕ → ℕ → ℕ → (ℕ → ℕ) → ℕ → ℕ → List Record
 orderRecords d stockSide restSide units moved other shanghai =
     recordOf (d .fund .«first_code») restSide units 0
     ∷ (joinBelow (stockRecord d stockSide moved) (d .count)
-    ++ (cashRecords (d .fund .«first_code» + 5) restSide other
-    ++ (cashRecords (d .fund .«first_code» + 2) restSide shanghai
-    ++ (recordOf (d .fund .«first_code» + 1) restSide units 0 ∷ []))))
+    ++ (cashRecords (d .fund .«first_code» + otherStep) restSide other
+    ++ (cashRecords (d .fund .«first_code» + shanghaiStep) restSide shanghai
+    ++ (recordOf (d .fund .«first_code» + secondUnit) restSide units 0 ∷ []))))

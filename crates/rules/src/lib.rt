@@ -1,4 +1,8 @@
 // What the day book promises: the types of the day and its answers. The definitions are in specs/, their laws in proofs/.
+ghost use mathlib.Core.Path.{_≡_};
+ghost use Prim.Native.Nat.{_<_, _^_};
+ghost use Rattle.rules.specs.Kinds.{total};
+use units::Money;
 use units::ReferenceValue;
 
 // Why a call is turned back, with a place where the paper gives one. specs/Replies.antt has the paper's numbers.
@@ -47,6 +51,36 @@ pub enum ValueAnswer {
 pub const CREATION: usize = 0;
 
 pub const REDEMPTION: usize = 1;
+
+// What an order asks: its kind, the account, and how many units.
+pub struct Ask {
+    pub kind: usize,
+    pub account: usize,
+    pub units: u64,
+}
+
+// The cash of an order, by market.
+pub struct CashByMarket {
+    pub shanghai: Money,
+    pub other: Money,
+}
+
+impl CashByMarket {
+    // All of it.
+    pub fn total(self) -> Money
+        requires { ⌜ total self < 2 ^ 64 ⌝ }
+        ensures { λ r. ⌜ r .0 ≡ total self ⌝ }
+    {
+        Money(self.other.0 + self.shanghai.0)
+    }
+}
+
+// The codes of a fund's group, as steps from its first, which is the unit's.
+pub const SECOND_UNIT: u64 = 1;
+
+pub const SHANGHAI_CASH: u64 = 2;
+
+pub const OTHER_CASH: u64 = 5;
 
 // The most baskets of one order.
 pub const MOST_BASKETS: u64 = 20;

@@ -1,20 +1,22 @@
 -- How many records an order makes.
-use mathlib.Core.Path.{_≡_, refl, sym, _∙_}
+use mathlib.Core.Path.{_≡_, refl, sym, ap, _∙_}
 use mathlib.Core.Bool.{Bool, true, false, cond}
 use mathlib.Core.List.{List, [], _∷_}
-use Prim.Native.Nat.{ℕ, zero, suc, _+_, _≤_}
+use Prim.Native.Nat.{ℕ, zero, suc, _+_, _≤_, _<_}
 use native.Mathlib.Omega.{arith}
 use lib.Dec.{ltb, eqb, lit≤}
 use lib.ListN.{length, length-append, length-map}
 use Rattle.lists.specs.Below.{sumBelow, joinBelow, sum-le, cond-le}
 use Rattle.units.specs.Units.{splitSize}
+use Rattle.layout.specs.Places.{mostComponents}
 use Rattle.layout.specs.Day.{Day}
+use Rattle.rules.specs.declared.Ask.{Ask}
 use Rattle.rules.specs.Orders.{baskets}
-use Rattle.rules.specs.Records.{recordOf, cashParts, cashRecords, stockRecord, orderRecords}
-use Rattle.rules.specs.Creation.{handedIn, creationRecords}
-use Rattle.rules.specs.Redemption.{delivered, redemptionRecords}
+use Rattle.rules.specs.Records.{recordOf, cashParts, cashRecords, stockRecord, orderRecords, shanghaiStep, otherStep}
+use Rattle.rules.specs.Kinds.{movedBy, recordsBy, askedCash, askedRecords}
+use Rattle.rules.proofs.Asked.{asked-records}
 use Rattle.scan.specs.Lines.{stockCount, cashCount, recordCount}
-use Rattle.scan.specs.Scans.{creationScan, redemptionScan}
+use Rattle.scan.specs.Scans.{orderScan}
 
 module _ {A : Type 0} where
   by-cases : (a b : Bool) (x y z : A) → length (cond a [] (cond b (x ∷ []) (y ∷ z ∷ []))) ≡ cond a 0 (cond b 1 2)
@@ -45,16 +47,12 @@ pub order-count : (d : Day) (ss rs units : ℕ) (moved : ℕ → ℕ) (other sha
 unfolding orderRecords
 order-count d ss rs units moved other shanghai =
     simp length-append
-    (omega (arith, join-count (stockRecord d ss moved) (λ i. stockCount (moved i)) (d .count) (stock-records d ss moved), cash-records (d .fund .«first_code» + 5) rs other, cash-records (d .fund .«first_code» + 2) rs shanghai))
+    (omega (arith, join-count (stockRecord d ss moved) (λ i. stockCount (moved i)) (d .count) (stock-records d ss moved), cash-records (d .fund .«first_code» + otherStep) rs other, cash-records (d .fund .«first_code» + shanghaiStep) rs shanghai))
 
 -- so the scan counts them
-pub creation-count : (d : Day) (s ps : List ℕ) (units : ℕ) → recordCount (creationScan d s ps (baskets d units)) ≡ length (creationRecords d s ps units)
-unfolding recordCount creationScan creationRecords
-creation-count d s ps units = sym (order-count d _ _ _ _ _ _)
-
-pub redemption-count : (d : Day) (f : List ℕ) (units : ℕ) → recordCount (redemptionScan d f (baskets d units)) ≡ length (redemptionRecords d units)
-unfolding recordCount redemptionScan redemptionRecords
-redemption-count d f units = sym (order-count d _ _ _ _ _ _)
+pub scan-count : (d : Day) (s f ps : List ℕ) (k : Ask) → k .kind < 2 → recordCount (orderScan (k .kind) d s f ps (baskets d (k .units))) ≡ length (askedRecords d s ps k)
+unfolding recordCount orderScan recordsBy askedCash
+scan-count d s f ps k h = sym (order-count d _ _ (k .units) (movedBy (k .kind) d s (baskets d (k .units))) _ _) ∙ ap length (asked-records d s ps k h)
 
 -- at most two for an amount of cash, and one for a component
 pub cash-count-le : (c : ℕ) → cashCount c ≤ 2
@@ -65,14 +63,7 @@ pub stock-count-le : (moved : ℕ) → stockCount moved ≤ 1
 stock-count-le moved = cond-le (ltb 0 moved) (lit≤ tt) (lit≤ tt)
 
 -- no more stock records than components
-stock-le : (moved : ℕ → ℕ) (n : ℕ) → n ≤ 300 → sumBelow (λ i. stockCount (moved i)) n ≤ 300
-stock-le moved n h =
-    omega (arith, sum-le (λ i. stockCount (moved i)) n 1 (λ k q. stock-count-le (moved k)))
-
-pub creation-records-le : (d : Day) (s ps : List ℕ) (m : ℕ) → d .count ≤ 300 → creationScan d s ps m .«stock_records» ≤ 300
-unfolding creationScan
-creation-records-le d s ps m h = stock-le (handedIn d s m) (d .count) h
-
-pub redemption-records-le : (d : Day) (f : List ℕ) (m : ℕ) → d .count ≤ 300 → redemptionScan d f m .«stock_records» ≤ 300
-unfolding redemptionScan
-redemption-records-le d f m h = stock-le (delivered d m) (d .count) h
+pub scan-records-le : (kind : ℕ) (d : Day) (s f ps : List ℕ) (m : ℕ) → d .count ≤ mostComponents → orderScan kind d s f ps m .«stock_records» ≤ mostComponents
+unfolding orderScan
+scan-records-le kind d s f ps m h =
+    omega (arith, sum-le (λ i. stockCount (movedBy kind d s m i)) (d .count) 1 (λ k q. stock-count-le (movedBy kind d s m k)))

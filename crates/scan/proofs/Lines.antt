@@ -8,18 +8,20 @@ use native.Mathlib.Omega.{arith}
 use lib.Dec.{ltb, lit≤}
 use lib.ListN.{getD}
 use Rattle.lists.specs.Below.{sumBelow, anyBelow, firstBelow, sum-none, sum-more, sum-le, any-none, any-more, first-none, cond-le}
+use Rattle.layout.specs.Places.{mostComponents}
 use Rattle.layout.specs.declared.Component.{Component}
 use Rattle.layout.specs.Components.{blank}
 use Rattle.layout.specs.Day.{Day}
-use Rattle.layout.specs.Book.{lotsAt}
 use Rattle.rules.specs.Lines.{column, quantity, creationRate, redemptionRate, creationAmount, redemptionAmount, priceOf}
 use Rattle.rules.specs.Orders.{need, otherCash, shanghaiCash}
-use Rattle.rules.specs.Creation.{available, handedIn, isShort, firstShort, missing, missingWorth, isMissing, creationCash}
+use Rattle.rules.specs.Creation.{handedIn, isShort, firstShort, missing, missingWorth, isMissing, creationCash}
 use Rattle.rules.specs.Redemption.{delivered, redemptionCash, fundLacks, firstLacking}
+use Rattle.rules.specs.Kinds.{movedBy, cashBy}
+use Rattle.rules.proofs.Asked.{by-kind}
 use Rattle.scan.specs.declared.Line.{Line}
 use Rattle.scan.specs.declared.Scan.{Scan}
-use Rattle.scan.specs.Lines.{missingOf, worthOf, creationLine, redemptionLine, otherOf, shanghaiOf, stockCount, scanBelow, nextShort, withLine, noLines}
-use Rattle.scan.specs.Scans.{creationScan, redemptionScan}
+use Rattle.scan.specs.Lines.{missingOf, worthOf, creationLine, redemptionLine, orderLine, heldOf, otherOf, shanghaiOf, stockCount, scanBelow, nextShort, withCash, withLine, noLines}
+use Rattle.scan.specs.Scans.{orderScan}
 use Rattle.scan.specs.Ready.{Room}
 use Rattle.scan.proofs.OneLine.{Small}
 
@@ -35,14 +37,14 @@ module _ (f : ℕ → Line) where
       rw (first-none (λ i. f i .short), any-none (λ i. ltb 0 (f i .missing)), sum-none (λ i. f i .worth .0), sum-none (λ i. otherOf (f i)), sum-none (λ i. shanghaiOf (f i)), sum-none (λ i. stockCount (f i .moved)))
 
   next : (i : ℕ) → withLine (scanBelow f i) i (f i) ≡ scanBelow f (i + 1)
-  unfolding scanBelow withLine
+  unfolding scanBelow withLine withCash
   next i =
       rw (first-next (λ k. f k .short) i, any-more (λ k. ltb 0 (f k .missing)) i, sum-more (λ k. f k .worth .0) i, sum-more (λ k. otherOf (f k)) i, sum-more (λ k. shanghaiOf (f k)) i, sum-more (λ k. stockCount (f k .moved)) i)
 
   pub scan-more : (i : ℕ) (t : Scan) (x : Line) → t ≡ scanBelow f i → x ≡ f i → withLine t i x ≡ scanBelow f (i + 1)
   scan-more i t x e g = rw (e, g) (next i)
 
-  room : (n i : ℕ) → n ≤ 300 → ((k : ℕ) → k < n → Small (f k)) → i < n → Room (scanBelow f i) i (f i)
+  room : (n i : ℕ) → n ≤ mostComponents → ((k : ℕ) → k < n → Small (f k)) → i < n → Room (scanBelow f i) i (f i)
   unfolding scanBelow
   room n i h all l =
       let here = all i l in
@@ -58,20 +60,12 @@ module _ (f : ℕ → Line) where
         records = omega arith;
       }
 
-  pub scan-room : (n i : ℕ) (t : Scan) (x : Line) → n ≤ 300 → ((k : ℕ) → k < n → Small (f k)) → i < n → t ≡ scanBelow f i → x ≡ f i → Room t i x
+  pub scan-room : (n i : ℕ) (t : Scan) (x : Line) → n ≤ mostComponents → ((k : ℕ) → k < n → Small (f k)) → i < n → t ≡ scanBelow f i → x ≡ f i → Room t i x
   scan-room n i t x h all l e g = rw (e, g) (room n i h all l)
 
 -- the lines of a day's components
-unfoldable pub creationLines : List Component → List ℕ → List ℕ → ℕ → ℕ → Line
-creationLines cs s ps m i = creationLine (getD cs i blank) (available s i) (priceOf ps i) m
-
-unfoldable pub redemptionLines : List Component → List ℕ → ℕ → ℕ → Line
-redemptionLines cs f m i = redemptionLine (getD cs i blank) (lotsAt f i .old) m
-
--- all of them make the scan
-pub creation-is : (d : Day) (s ps : List ℕ) (m : ℕ) → scanBelow (creationLines (d .components) s ps m) (d .count) ≡ creationScan d s ps m
-unfolding scanBelow creationLines creationScan creationLine missingOf worthOf firstShort isShort isMissing missing missingWorth otherCash shanghaiCash creationCash handedIn need column quantity creationRate creationAmount
-creation-is d s ps m = refl
+unfoldable pub orderLines : ℕ → List Component → List ℕ → List ℕ → List ℕ → ℕ → ℕ → Line
+orderLines kind cs s f ps m i = orderLine kind (getD cs i blank) (heldOf kind s f i) (priceOf ps i) m
 
 none-missing : (n : ℕ) → anyBelow (λ _. ltb 0 0) n ≡ false
 unfolding anyBelow
@@ -83,6 +77,12 @@ unfolding sumBelow
 no-worth zero = refl
 no-worth (suc n) = omega (arith, no-worth n)
 
-pub redemption-is : (d : Day) (f : List ℕ) (m : ℕ) → scanBelow (redemptionLines (d .components) f m) (d .count) ≡ redemptionScan d f m
-unfolding scanBelow redemptionLines redemptionScan redemptionLine firstLacking fundLacks otherCash shanghaiCash redemptionCash delivered need column quantity redemptionRate redemptionAmount
-redemption-is d f m = rw (none-missing (d .count), no-worth (d .count))
+-- all of them make the scan
+pub scan-is : (d : Day) (s f ps : List ℕ) (m kind : ℕ) → kind < 2 → scanBelow (orderLines kind (d .components) s f ps m) (d .count) ≡ orderScan kind d s f ps m
+unfolding scanBelow orderLines orderLine heldOf orderScan cashBy movedBy need column quantity otherCash shanghaiCash
+    creationLine missingOf worthOf firstShort isShort isMissing missing missingWorth creationCash handedIn creationRate creationAmount
+    redemptionLine firstLacking fundLacks redemptionCash delivered redemptionRate redemptionAmount
+scan-is d s f ps m =
+    by-kind (λ kind. scanBelow (orderLines kind (d .components) s f ps m) (d .count) ≡ orderScan kind d s f ps m)
+    refl
+    (rw (none-missing (d .count), no-worth (d .count)))

@@ -15,11 +15,13 @@ use Rattle.units.proofs.Laws.{under, premium-le, discount-le}
 use Rattle.flags.specs.Table.{entry, stockMoves, shortageInCash, shanghai}
 use Rattle.flags.proofs.Laws.{or-false, moves-rules}
 use Rattle.layout.specs.declared.Component.{Component}
+use Rattle.rules.specs.declared.CashByMarket.{CashByMarket}
 use Rattle.rules.specs.Sound.{mostPrice}
 use Rattle.rules.specs.Orders.{mostBaskets}
+use Rattle.rules.proofs.Asked.{either-kind}
 use Rattle.scan.specs.declared.Line.{Line}
 use Rattle.scan.specs.declared.Scan.{Scan}
-use Rattle.scan.specs.Lines.{money, missingOf, worthOf, creationLine, redemptionLine, stockCount, nextShort, stockLine, withLine}
+use Rattle.scan.specs.Lines.{money, missingOf, worthOf, creationLine, redemptionLine, orderLine, stockCount, nextShort, stockLine, withCash, withLine}
 use Rattle.scan.specs.Ready.{Ranged}
 
 -- Bounds.
@@ -69,6 +71,10 @@ module _ (c : Component) (m : ℕ) (r : Ranged c) (few : m ≤ mostBaskets) wher
         cash = cond-le (entry (c .flag) stockMoves) zero-le (omega (arith, amount-le, discount-le (m * c .amount .0) (c .rate .0)));
       }
 
+  pub order-small : (kind have price : ℕ) → price ≤ mostPrice → Small (orderLine kind c have price m)
+  unfolding orderLine
+  order-small kind have price p = either-kind Small _ _ (creation-small have price p) (redemption-small have) kind
+
 -- Parts.
 
 -- an amount chosen by a test is the number chosen by it
@@ -82,6 +88,12 @@ line short missing worth cash shanghai moved =
 
 line-eq : {a a′ e e′ : Bool} {b b′ c c′ d d′ f f′ : ℕ} → a ≡ a′ → b ≡ b′ → c ≡ c′ → d ≡ d′ → e ≡ e′ → f ≡ f′ → line a b c d e f ≡ line a′ b′ c′ d′ e′ f′
 line-eq p q r s t u = cc
+
+abbrev cashOf : ℕ → ℕ → CashByMarket
+cashOf shanghai other = record { shanghai = money shanghai; other = money other }
+
+cash-eq : {a a′ b b′ : ℕ} → a ≡ a′ → b ≡ b′ → cashOf a b ≡ cashOf a′ b′
+cash-eq p q = cc
 
 -- a creation's line from its parts
 pub creation-parts : (c : Component) (have price m : ℕ) (moves in-cash inside short : Bool) (missing moved : ℕ) (base cash : Money)
@@ -131,41 +143,47 @@ none-missing c have m h =
     let none : m * c .quantity - have ≡ 0 = omega arith in
     rw none (cond-same (entry (c .flag) shortageInCash) 0)
 
-abbrev scan : ℕ → Bool → ℕ → ℕ → ℕ → ℕ → Scan
-scan short missing worth other shanghai records =
-    record { short = short; missing = missing; «missing_worth» = money worth; other = money other; shanghai = money shanghai; «stock_records» = records }
+-- cash with one line more, from its parts
+pub cash-parts : (c : CashByMarket) (x : Line) (here shanghai there other : Money)
+    → here ≡ cond (x .shanghai) (x .cash) (money 0)
+    → shanghai .0 ≡ c .shanghai .0 + here .0
+    → there ≡ cond (x .shanghai) (money 0) (x .cash)
+    → other .0 ≡ c .other .0 + there .0
+    → cashOf (shanghai .0) (other .0) ≡ withCash c x
+unfolding withCash
+cash-parts c x here shanghai there other eh ei et eo =
+    cash-eq
+    (ei ∙ ap (λ (y : ℕ). c .shanghai .0 + y) (ap (λ (y : Money). y .0) eh ∙ chosen-number (x .shanghai) _ _))
+    (eo ∙ ap (λ (y : ℕ). c .other .0 + y) (ap (λ (y : Money). y .0) et ∙ chosen-number (x .shanghai) _ _))
 
-scan-eq : {b b′ : Bool} {a a′ c c′ d d′ e e′ f f′ : ℕ} → a ≡ a′ → b ≡ b′ → c ≡ c′ → d ≡ d′ → e ≡ e′ → f ≡ f′ → scan a b c d e f ≡ scan a′ b′ c′ d′ e′ f′
-scan-eq p q r s t u = cc
+abbrev scan : ℕ → Bool → ℕ → CashByMarket → ℕ → Scan
+scan short missing worth cash records =
+    record { short = short; missing = missing; «missing_worth» = money worth; cash = cash; «stock_records» = records }
+
+scan-eq : {b b′ : Bool} {a a′ c c′ f f′ : ℕ} {d d′ : CashByMarket} → a ≡ a′ → b ≡ b′ → c ≡ c′ → d ≡ d′ → f ≡ f′ → scan a b c d f ≡ scan a′ b′ c′ d′ f′
+scan-eq p q r s u = cc
 
 -- a scan with one line more, from its parts
-pub scan-parts : (t : Scan) (i : ℕ) (x : Line) (short records : ℕ) (missing : Bool) (worth other there shanghai here : Money)
+pub scan-parts : (t : Scan) (i : ℕ) (x : Line) (short records : ℕ) (missing : Bool) (worth : Money) (cash : CashByMarket)
     → short ≡ nextShort (t .short) i (x .short)
     → missing ≡ (t .missing || ltb 0 (x .missing))
     → worth .0 ≡ t .«missing_worth» .0 + x .worth .0
-    → there ≡ cond (x .shanghai) (money 0) (x .cash)
-    → other .0 ≡ t .other .0 + there .0
-    → here ≡ cond (x .shanghai) (x .cash) (money 0)
-    → shanghai .0 ≡ t .shanghai .0 + here .0
+    → cash ≡ withCash (t .cash) x
     → records ≡ stockCount (x .moved)
-    → scan short missing (worth .0) (other .0) (shanghai .0) (t .«stock_records» + records) ≡ withLine t i x
+    → scan short missing (worth .0) cash (t .«stock_records» + records) ≡ withLine t i x
 unfolding withLine
-scan-parts t i x short records missing worth other there shanghai here es em ew et eo eh ei er =
-    scan-eq es em ew
-    (eo ∙ ap (λ (y : ℕ). t .other .0 + y) (ap (λ (y : Money). y .0) et ∙ chosen-number (x .shanghai) _ _))
-    (ei ∙ ap (λ (y : ℕ). t .shanghai .0 + y) (ap (λ (y : Money). y .0) eh ∙ chosen-number (x .shanghai) _ _))
-    (ap (λ (y : ℕ). t .«stock_records» + y) er)
+scan-parts t i x short records missing worth cash es em ew ec er = scan-eq es em ew ec (ap (λ (y : ℕ). t .«stock_records» + y) er)
 
 -- with a component whose stock is there in full
 pub stock-parts : (t : Scan) (i need short records : ℕ)
     → short ≡ nextShort (t .short) i false
     → records ≡ stockCount need
-    → scan short (t .missing) (t .«missing_worth» .0) (t .other .0) (t .shanghai .0) (t .«stock_records» + records) ≡ withLine t i (stockLine need)
-unfolding withLine stockLine
+    → scan short (t .missing) (t .«missing_worth» .0) (t .cash) (t .«stock_records» + records) ≡ withLine t i (stockLine need)
+unfolding withLine withCash stockLine
 stock-parts t i need short records es er =
-    scan-eq es (sym (or-false (t .missing))) (sym (add-zero _)) (sym (add-zero _)) (sym (add-zero _)) (ap (λ (y : ℕ). t .«stock_records» + y) er)
+    scan-eq es (sym (or-false (t .missing))) (sym (add-zero _)) (cash-eq (sym (add-zero _)) (sym (add-zero _))) (ap (λ (y : ℕ). t .«stock_records» + y) er)
 
--- which is the line of such a component in a creation
+-- which is the line of such a component in an order
 covered-short : (b : Bool) → every (true ∷ not b ∷ false ∷ []) ≡ false
 unfolding every
 covered-short true = refl
@@ -175,17 +193,30 @@ premium-zero : (r : ℕ) → premium 0 r ≡ 0
 unfolding premium rounded
 premium-zero r = rw zero-mul
 
-pub covered-line : (c : Component) (have price m : ℕ) → every (leb (m * c .quantity) have ∷ entry (c .flag) stockMoves ∷ []) ≡ true
-    → creationLine c have price m ≡ stockLine (m * c .quantity)
-unfolding creationLine stockLine worthOf
-covered-line c have price m e =
-    let at = every-at (leb (m * c .quantity) have ∷ entry (c .flag) stockMoves ∷ []) e in
-    let enough : m * c .quantity ≤ have = leb-true _ _ (at 0) in
-    let missing = none-missing c have m enough in
-    line-eq
-    (rw (at 1, le-ltb have (m * c .quantity) enough) (covered-short (entry (c .flag) shortageInCash)))
-    missing
-    (rw missing (zero-mul price))
-    (rw (at 1, missing, zero-mul price) (premium-zero (c .rate .0)))
-    (moves-rules (c .flag) (at 1) .0)
-    (rw (at 1) (omega arith))
+module _ (c : Component) (have price m : ℕ) (covered : every (leb (m * c .quantity) have ∷ entry (c .flag) stockMoves ∷ []) ≡ true) where
+  enough : m * c .quantity ≤ have
+  enough = leb-true _ _ (every-at (leb (m * c .quantity) have ∷ entry (c .flag) stockMoves ∷ []) covered 0)
+
+  moves : entry (c .flag) stockMoves ≡ true
+  moves = every-at (leb (m * c .quantity) have ∷ entry (c .flag) stockMoves ∷ []) covered 1
+
+  covered-creation : creationLine c have price m ≡ stockLine (m * c .quantity)
+  unfolding creationLine stockLine worthOf
+  covered-creation =
+      let missing = none-missing c have m enough in
+      line-eq
+      (rw (moves, le-ltb have (m * c .quantity) enough) (covered-short (entry (c .flag) shortageInCash)))
+      missing
+      (rw missing (zero-mul price))
+      (rw (moves, missing, zero-mul price) (premium-zero (c .rate .0)))
+      (moves-rules (c .flag) moves .0)
+      (rw moves (omega (arith, enough)))
+
+  covered-redemption : redemptionLine c have m ≡ stockLine (m * c .quantity)
+  unfolding redemptionLine stockLine
+  covered-redemption =
+      line-eq (rw moves (le-ltb have (m * c .quantity) enough)) refl refl (rw moves) (moves-rules (c .flag) moves .0) (rw moves)
+
+  pub covered-line : (kind : ℕ) → orderLine kind c have price m ≡ stockLine (m * c .quantity)
+  unfolding orderLine
+  covered-line kind = either-kind (λ x. x ≡ stockLine (m * c .quantity)) _ _ covered-creation covered-redemption kind

@@ -1,4 +1,4 @@
--- On a sound day both scans are ready, for each account, and the cash that they find fits.
+-- On a sound day the basket can be scanned for each account, and the cash that the scan finds fits.
 use mathlib.Core.Path.{_≡_}
 use mathlib.Core.Bool.{Bool, true, false, cond}
 use mathlib.Core.List.{List}
@@ -9,15 +9,18 @@ use Rattle.lists.specs.Below.{sumBelow, sum-part, sum-le}
 use Rattle.lists.specs.Stretch.{stretchOf, over, within, stretch-length}
 use Rattle.lots.specs.Lots.{lotsTotal}
 use Rattle.fund.proofs.Laws.{components-fine}
+use Rattle.layout.specs.Places.{mostComponents}
 use Rattle.layout.specs.Day.{Day}
 use Rattle.layout.specs.Book.{lotsAt, width, account, lineTotal}
 use Rattle.rules.specs.Lines.{componentOf, priceOf, column, quantity, creationRate, redemptionRate, creationAmount, redemptionAmount}
 use Rattle.rules.specs.Orders.{mostBaskets, need, otherCash, shanghaiCash}
-use Rattle.rules.specs.Creation.{available, missing, missingWorth, creationCash, creationDue}
-use Rattle.rules.specs.Redemption.{redemptionCash, redemptionPaid}
+use Rattle.rules.specs.Creation.{available, missing, missingWorth, creationCash}
+use Rattle.rules.specs.Redemption.{redemptionCash}
+use Rattle.rules.specs.Kinds.{total, cashBy}
 use Rattle.rules.proofs.SoundDay.{SoundDay}
+use Rattle.rules.proofs.Asked.{either-kind}
 use Rattle.scan.specs.Lines.{creationLine, redemptionLine, missingOf, worthOf}
-use Rattle.scan.specs.Ready.{Ranged, CreationReady, RedemptionReady}
+use Rattle.scan.specs.Ready.{Ranged, Scannable}
 use Rattle.scan.proofs.OneLine.{creation-small, redemption-small}
 
 module _ (d : Day) (b ps : List ℕ) (s : SoundDay d b ps) (m : ℕ) (few : m ≤ mostBaskets) where
@@ -35,25 +38,18 @@ module _ (d : Day) (b ps : List ℕ) (s : SoundDay d b ps) (m : ℕ) (few : m �
   lots-fit a h k l =
       omega (arith, sum-part (λ i. lotsTotal (lotsAt (stretchOf (width d) b i) k)) (d .accounts) a h, s .lines k l)
 
-  pub creation-ready : (a : ℕ) → a < d .accounts → CreationReady d (account d b a) ps m
-  creation-ready a h =
+  pub scannable : (kind : ℕ) → kind < 2 → (a : ℕ) → a < d .accounts → Scannable kind d (account d b a) (account d b 0) ps m
+  scannable kind k a h =
       record {
+        kind-in = k;
         count = s .count-high;
         baskets = few;
         stretch = wide a h;
+        fund-stretch = wide 0 (omega (arith, s .accounts-low));
         prices-size = s .prices-size;
         ranges = ranged;
         prices = s .prices;
         lots = lots-fit a h;
-      }
-
-  pub redemption-ready : RedemptionReady d (account d b 0) m
-  redemption-ready =
-      record {
-        count = s .count-high;
-        baskets = few;
-        stretch = wide 0 (omega (arith, s .accounts-low));
-        ranges = ranged;
       }
 
 -- each component's cash goes to one market
@@ -66,23 +62,22 @@ both-markets shanghai f (suc n) = omega (arith, both-markets shanghai f n, one (
     one true x = omega arith
     one false x = omega arith
 
-cash-le : (d : Day) (f : ℕ → ℕ) → d .count ≤ 300 → ((k : ℕ) → k < d .count → f k ≤ 40_000_000_000_000_000) → otherCash d f + shanghaiCash d f ≤ 12_000_000_000_000_000_000
+cash-le : (d : Day) (f : ℕ → ℕ) → d .count ≤ mostComponents → ((k : ℕ) → k < d .count → f k ≤ 40_000_000_000_000_000) → otherCash d f + shanghaiCash d f ≤ 12_000_000_000_000_000_000
 unfolding otherCash shanghaiCash
 cash-le d f h all = omega (arith, both-markets (column d 4) f (d .count), sum-le f (d .count) 40_000_000_000_000_000 all)
 
-creation-cash-le : (d : Day) (s ps : List ℕ) (m : ℕ) → CreationReady d s ps m → (k : ℕ) → k < d .count → creationCash d s ps m k ≤ 40_000_000_000_000_000
-unfolding creationCash missingWorth missing need column quantity creationRate creationAmount creationLine worthOf missingOf
-creation-cash-le d s ps m r k l = creation-small (componentOf d k) m (r .ranges k l) (r .baskets) (available s k) (priceOf ps k) (r .prices k l) .cash
+module _ (kind : ℕ) (d : Day) (s f ps : List ℕ) (m : ℕ) (r : Scannable kind d s f ps m) where
+  creation-cash-le : (k : ℕ) → k < d .count → creationCash d s ps m k ≤ 40_000_000_000_000_000
+  unfolding creationCash missingWorth missing need column quantity creationRate creationAmount creationLine worthOf missingOf
+  creation-cash-le k l = creation-small (componentOf d k) m (r .ranges k l) (r .baskets) (available s k) (priceOf ps k) (r .prices k l) .cash
 
-redemption-cash-le : (d : Day) (f : List ℕ) (m : ℕ) → RedemptionReady d f m → (k : ℕ) → k < d .count → redemptionCash d m k ≤ 40_000_000_000_000_000
-unfolding redemptionCash need column quantity redemptionRate redemptionAmount redemptionLine
-redemption-cash-le d f m r k l = redemption-small (componentOf d k) m (r .ranges k l) (r .baskets) 0 .cash
+  redemption-cash-le : (k : ℕ) → k < d .count → redemptionCash d m k ≤ 40_000_000_000_000_000
+  unfolding redemptionCash need column quantity redemptionRate redemptionAmount redemptionLine
+  redemption-cash-le k l = redemption-small (componentOf d k) m (r .ranges k l) (r .baskets) 0 .cash
 
--- the cash due and the cash paid fit
-pub due-fits : (d : Day) (s ps : List ℕ) (m : ℕ) → CreationReady d s ps m → creationDue d s ps m ≤ 12_000_000_000_000_000_000
-unfolding creationDue
-due-fits d s ps m r = cash-le d (creationCash d s ps m) (r .count) (creation-cash-le d s ps m r)
-
-pub paid-fits : (d : Day) (f : List ℕ) (m : ℕ) → RedemptionReady d f m → redemptionPaid d m ≤ 12_000_000_000_000_000_000
-unfolding redemptionPaid
-paid-fits d f m r = cash-le d (redemptionCash d m) (r .count) (redemption-cash-le d f m r)
+  -- the cash fits
+  pub cash-fits : total (cashBy kind d s ps m) ≤ 12_000_000_000_000_000_000
+  unfolding cashBy
+  cash-fits =
+      cash-le d _ (r .count)
+      (either-kind (λ (g : ℕ → ℕ). (k : ℕ) → k < d .count → g k ≤ 40_000_000_000_000_000) (creationCash d s ps m) (redemptionCash d m) creation-cash-le redemption-cash-le kind)

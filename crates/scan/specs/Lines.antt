@@ -1,6 +1,6 @@
 -- One component in an order, and the scan of all components below an index.
 use mathlib.Core.Bool.{Bool, true, false, cond, not, _||_}
-use mathlib.Core.List.{[], _∷_}
+use mathlib.Core.List.{List, [], _∷_}
 use Prim.Native.Nat.{ℕ, _+_, _-_, _*_, min}
 use lib.Dec.{ltb, eqb}
 use Rattle.lists.specs.Below.{sumBelow, anyBelow, firstBelow}
@@ -9,6 +9,10 @@ use Rattle.units.specs.declared.Money.{Money}
 use Rattle.units.specs.Units.{splitSize, premium, discount}
 use Rattle.flags.specs.Table.{entry, stockMoves, shortageInCash, shanghai}
 use Rattle.layout.specs.declared.Component.{Component}
+use Rattle.rules.specs.declared.CashByMarket.{CashByMarket}
+use Rattle.layout.specs.Book.{lotsAt}
+use Rattle.rules.specs.Creation.{available}
+use Rattle.rules.specs.Kinds.{byKind, noCash}
 use Rattle.scan.specs.declared.Line.{Line}
 use Rattle.scan.specs.declared.Scan.{Scan}
 
@@ -50,6 +54,14 @@ redemptionLine c have m =
       moved = cond (entry (c .flag) stockMoves) (needOf c m) 0;
     }
 
+-- a component in an order of either kind
+unfoldable pub orderLine : ℕ → Component → ℕ → ℕ → ℕ → Line
+orderLine kind c have price m = byKind kind (creationLine c have price m) (redemptionLine c have m)
+
+-- what there is of component i: of the account, with the stretch s, to hand in; or the old lot of the fund, with the stretch f
+unfoldable pub heldOf : ℕ → List ℕ → List ℕ → ℕ → ℕ
+heldOf kind s f i = byKind kind (available s i) (lotsAt f i .old)
+
 -- a component whose stock is there in full
 unfoldable pub stockLine : ℕ → Line
 stockLine need = record { short = false; missing = 0; worth = money 0; cash = money 0; shanghai = true; moved = need }
@@ -72,14 +84,17 @@ scanBelow f n =
       short = firstBelow (λ i. f i .short) n;
       missing = anyBelow (λ i. ltb 0 (f i .missing)) n;
       «missing_worth» = money (sumBelow (λ i. f i .worth .0) n);
-      other = money (sumBelow (λ i. otherOf (f i)) n);
-      shanghai = money (sumBelow (λ i. shanghaiOf (f i)) n);
+      cash = record { shanghai = money (sumBelow (λ i. shanghaiOf (f i)) n); other = money (sumBelow (λ i. otherOf (f i)) n) };
       «stock_records» = sumBelow (λ i. stockCount (f i .moved)) n;
     }
 
 -- the first short one of i + 1, from the first of i
 unfoldable pub nextShort : ℕ → ℕ → Bool → ℕ
 nextShort first i short = cond (ltb first i) first (cond short i (i + 1))
+
+-- cash with that of one line more
+unfoldable pub withCash : CashByMarket → Line → CashByMarket
+withCash c x = record { shanghai = money (c .shanghai .0 + shanghaiOf x); other = money (c .other .0 + otherOf x) }
 
 -- a scan of i lines with one more
 unfoldable pub withLine : Scan → ℕ → Line → Scan
@@ -88,13 +103,12 @@ withLine t i x =
       short = nextShort (t .short) i (x .short);
       missing = t .missing || ltb 0 (x .missing);
       «missing_worth» = money (t .«missing_worth» .0 + x .worth .0);
-      other = money (t .other .0 + otherOf x);
-      shanghai = money (t .shanghai .0 + shanghaiOf x);
+      cash = withCash (t .cash) x;
       «stock_records» = t .«stock_records» + stockCount (x .moved);
     }
 
 abbrev pub noLines : Scan
-noLines = record { short = 0; missing = false; «missing_worth» = money 0; other = money 0; shanghai = money 0; «stock_records» = 0 }
+noLines = record { short = 0; missing = false; «missing_worth» = money 0; cash = noCash; «stock_records» = 0 }
 
 -- records that an amount of cash takes: none at 0, one below the split size, else two
 unfoldable pub cashCount : ℕ → ℕ
@@ -102,4 +116,4 @@ cashCount c = cond (eqb c 0) 0 (cond (ltb c splitSize) 1 2)
 
 -- records of the order, with the two of the unit
 unfoldable pub recordCount : Scan → ℕ
-recordCount t = 2 + t .«stock_records» + cashCount (t .other .0) + cashCount (t .shanghai .0)
+recordCount t = 2 + t .«stock_records» + cashCount (t .cash .other .0) + cashCount (t .cash .shanghai .0)

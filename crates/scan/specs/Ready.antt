@@ -3,6 +3,7 @@ use mathlib.Core.Path.{_≡_}
 use mathlib.Core.List.{List}
 use Prim.Native.Nat.{ℕ, _+_, _≤_, _<_}
 use lib.ListN.{length}
+use Rattle.layout.specs.Places.{mostComponents}
 use Rattle.layout.specs.declared.Component.{Component}
 use Rattle.layout.specs.Day.{Day}
 use Rattle.layout.specs.Book.{width}
@@ -23,23 +24,18 @@ pub record Ranged (c : Component) : Type 0 where
 pub record Room (t : Scan) (i : ℕ) (x : Line) : Type 0 where
   pub index : i < 300
   pub worth : t .«missing_worth» .0 + x .worth .0 ≤ 12_000_000_000_000_000_000
-  pub other : t .other .0 + x .cash .0 ≤ 12_000_000_000_000_000_000
-  pub shanghai : t .shanghai .0 + x .cash .0 ≤ 12_000_000_000_000_000_000
+  pub other : t .cash .other .0 + x .cash .0 ≤ 12_000_000_000_000_000_000
+  pub shanghai : t .cash .shanghai .0 + x .cash .0 ≤ 12_000_000_000_000_000_000
   pub records : t .«stock_records» ≤ i
 
--- a creation of m baskets by an account with the stretch s
-pub record CreationReady (d : Day) (s ps : List ℕ) (m : ℕ) : Type 0 where
-  pub count : d .count ≤ 300
+-- an order of m baskets by an account with the stretch s, from or to the fund with the stretch f
+pub record Scannable (kind : ℕ) (d : Day) (s f ps : List ℕ) (m : ℕ) : Type 0 where
+  pub kind-in : kind < 2
+  pub count : d .count ≤ mostComponents
   pub baskets : m ≤ mostBaskets
   pub stretch : length s ≡ width d
+  pub fund-stretch : length f ≡ width d
   pub prices-size : length ps ≡ d .count
   pub ranges : (k : ℕ) → k < d .count → Ranged (componentOf d k)
   pub prices : (k : ℕ) → k < d .count → priceOf ps k ≤ mostPrice
   pub lots : (k : ℕ) → k < d .count → available s k ≤ 2_000_000_000_000_000_000
-
--- a redemption of m baskets from the fund with the stretch f
-pub record RedemptionReady (d : Day) (f : List ℕ) (m : ℕ) : Type 0 where
-  pub count : d .count ≤ 300
-  pub baskets : m ≤ mostBaskets
-  pub stretch : length f ≡ width d
-  pub ranges : (k : ℕ) → k < d .count → Ranged (componentOf d k)

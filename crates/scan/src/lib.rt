@@ -8,17 +8,18 @@ ghost use lib.ListN.{length};
 ghost use Rattle.lists.specs.Every.{every};
 ghost use Rattle.units.specs.Units.{ratioBound};
 ghost use Rattle.flags.specs.Table.{entry, stockMoves};
-ghost use Rattle.layout.specs.Places.{basketWidth};
+ghost use Rattle.layout.specs.Book.{behindLine};
+ghost use Rattle.layout.specs.Places.{basketWidth, mostComponents};
 ghost use Rattle.layout.specs.Day.{dayOf};
-ghost use Rattle.layout.specs.Book.{lotsAt};
 ghost use Rattle.rules.specs.Sound.{mostPrice};
 ghost use Rattle.rules.specs.Orders.{mostBaskets};
 ghost use Rattle.rules.specs.Creation.{available};
-ghost use Rattle.scan.specs.Lines.{creationLine, redemptionLine, nextShort, stockLine, withLine, noLines, cashCount, recordCount};
-ghost use Rattle.scan.specs.Scans.{creationScan, redemptionScan};
-ghost use Rattle.scan.specs.Ready.{Ranged, Room, CreationReady, RedemptionReady};
+ghost use Rattle.scan.specs.Lines.{creationLine, redemptionLine, orderLine, heldOf, nextShort, stockLine, withCash, withLine, noLines, cashCount, recordCount};
+ghost use Rattle.scan.specs.Scans.{orderScan};
+ghost use Rattle.scan.specs.Ready.{Ranged, Room, Scannable};
 use layout::DayHead;
 use layout::Component;
+use rules::CashByMarket;
 use units::Money;
 use units::Rate;
 use units::ReferenceValue;
@@ -31,9 +32,7 @@ pub struct Scan {
     pub missing: bool,
     // What the missing stock is worth, without the premium.
     pub missing_worth: Money,
-    // The cash, by market.
-    pub other: Money,
-    pub shanghai: Money,
+    pub cash: CashByMarket,
     // How many components have stock moved.
     pub stock_records: usize,
 }
@@ -48,27 +47,24 @@ struct Line {
     moved: u64,
 }
 
-// Numbers of a stretch before its first line, and for each line.
-const HEAD: usize = 3;
-
-const LINE: usize = 3;
-
 // What an account can hand in of a line.
-fn handable_at(stretch: &[u64], line: usize) -> u64
-    requires { ⌜ (3 * line + 5 < length (now stretch)) × (available (now stretch) line < 2 ^ 64) ⌝ }
+pub fn handable_at(stretch: &[u64], line: usize) -> u64
+    requires { ⌜ (behindLine line ≤ length (now stretch)) × (available (now stretch) line < 2 ^ 64) ⌝ }
     ensures { λ r. ⌜ r ≡ available (now (stretch .entry)) line ⌝ }
 {
-    let at = HEAD + LINE * line;
-    stretch[at + 1] + stretch[at]
+    layout::lots_at(stretch, line).handable()
 }
 
-// The old lot of a line, which is all that the fund has of it.
-fn old_at(stretch: &[u64], line: usize) -> u64
-    requires { ⌜ 3 * line + 5 < length (now stretch) ⌝ }
-    ensures { λ r. ⌜ r ≡ lotsAt (now (stretch .entry)) line .old ⌝ }
+// What there is of a component: what the account can hand in, or the fund's old lot, which is all that the fund has of it.
+fn held_at(kind: usize, stretch: &[u64], fund: &[u64], line: usize) -> u64
+    requires { ⌜ (behindLine line ≤ length (now stretch)) × (behindLine line ≤ length (now fund)) × (available (now stretch) line < 2 ^ 64) ⌝ }
+    ensures { λ r. ⌜ r ≡ heldOf kind (now (stretch .entry)) (now (fund .entry)) line ⌝ }
 {
-    let at = HEAD + LINE * line;
-    stretch[at]
+    if kind == rules::CREATION {
+        return handable_at(stretch, line);
+    }
+    let x = layout::lots_at(fund, line);
+    x.old
 }
 
 // The first amount where the test passes, and the second where it does not.
@@ -163,6 +159,17 @@ fn redemption_line(c: Component, have: u64, m: u64) -> Line
     }
 }
 
+// A component in an order of either kind.
+fn order_line(kind: usize, c: Component, have: u64, price: u64, m: u64) -> Line
+    requires { ⌜ Ranged c × (m ≤ mostBaskets) × (price ≤ mostPrice) ⌝ }
+    ensures { λ r. ⌜ r ≡ orderLine kind c have price m ⌝ }
+{
+    if kind == rules::CREATION {
+        return creation_line(c, have, price, m);
+    }
+    redemption_line(c, have, m)
+}
+
 // The first short component of the first i + 1, from that of the first i.
 fn next_short(first: usize, i: usize, short: bool) -> usize
     requires { ⌜ i < 300 ⌝ }
@@ -197,6 +204,18 @@ fn records_of(moved: u64) -> usize
     0
 }
 
+// The cash with that of one component more, which goes to its market.
+fn with_cash(cash: CashByMarket, line: Line) -> CashByMarket
+    requires { ⌜ (cash .shanghai .0 + line .cash .0 < 2 ^ 64) × (cash .other .0 + line .cash .0 < 2 ^ 64) ⌝ }
+    ensures { λ r. ⌜ r ≡ withCash cash line ⌝ }
+{
+    CashByMarket {
+        shanghai: cash.shanghai
+            .plus(chosen(line.shanghai, line.cash, Money(0))),
+        other: cash.other.plus(chosen(line.shanghai, Money(0), line.cash)),
+    }
+}
+
 // The scan of the first i components with the next one.
 fn with_line(t: Scan, i: usize, line: Line) -> Scan
     requires { ⌜ Room t i line ⌝ }
@@ -206,8 +225,7 @@ fn with_line(t: Scan, i: usize, line: Line) -> Scan
         short: next_short(t.short, i, line.short),
         missing: also_missing(t.missing, line.missing),
         missing_worth: t.missing_worth.plus(line.worth),
-        other: t.other.plus(chosen(line.shanghai, Money(0), line.cash)),
-        shanghai: t.shanghai.plus(chosen(line.shanghai, line.cash, Money(0))),
+        cash: with_cash(t.cash, line),
         stock_records: t.stock_records + records_of(line.moved),
     }
 }
@@ -228,29 +246,27 @@ fn with_stock(t: Scan, i: usize, need: u64) -> Scan
     ensures { λ r. ⌜ r ≡ withLine t i (stockLine need) ⌝ }
 {
     let missing_worth = t.missing_worth;
-    let other = t.other;
-    let shanghai = t.shanghai;
+    let cash = t.cash;
     Scan {
         short: next_short(t.short, i, false),
         missing: t.missing,
         missing_worth,
-        other,
-        shanghai,
+        cash,
         stock_records: t.stock_records + records_of(need),
     }
 }
 
-// The scan of the first i components with the next one, in a creation of m baskets.
-fn creation_turn(t: Scan, i: usize, c: Component, have: u64, price: u64, m: u64) -> Scan
+// The scan of the first i components with the next one, in an order of m baskets.
+fn order_turn(kind: usize, t: Scan, i: usize, c: Component, have: u64, price: u64, m: u64) -> Scan
     requires { ⌜ Ranged c × (m ≤ mostBaskets) × (price ≤ mostPrice) ⌝ }
-    requires { ⌜ Room t i (creationLine c have price m) ⌝ }
-    ensures { λ r. ⌜ r ≡ withLine t i (creationLine c have price m) ⌝ }
+    requires { ⌜ Room t i (orderLine kind c have price m) ⌝ }
+    ensures { λ r. ⌜ r ≡ withLine t i (orderLine kind c have price m) ⌝ }
 {
     let need = m * c.quantity;
     if is_covered(c.flag, need, have) {
         return with_stock(t, i, need);
     }
-    with_line(t, i, creation_line(c, have, price, m))
+    with_line(t, i, order_line(kind, c, have, price, m))
 }
 
 // The scan of no component.
@@ -261,41 +277,35 @@ fn no_lines() -> Scan
         short: 0,
         missing: false,
         missing_worth: Money(0),
-        other: Money(0),
-        shanghai: Money(0),
+        cash: CashByMarket {
+            shanghai: Money(0),
+            other: Money(0),
+        },
         stock_records: 0,
     }
 }
 
-// A creation of m baskets by the account with this stretch.
-pub fn creation_scan(d: DayHead, basket: &[u64], stretch: &[u64], prices: &[u64], m: u64) -> Scan
-    requires { ⌜ CreationReady (dayOf d (now basket)) (now stretch) (now prices) m ⌝ }
+// An order of m baskets by the account with the stretch lent, from or to the fund with its own.
+pub fn order_scan(
+    kind: usize,
+    d: DayHead,
+    basket: &[u64],
+    stretch: &[u64],
+    fund: &[u64],
+    prices: &[u64],
+    m: u64,
+) -> Scan
+    requires { ⌜ Scannable kind (dayOf d (now basket)) (now stretch) (now fund) (now prices) m ⌝ }
     requires { ⌜ length (now basket) ≡ basketWidth ⌝ }
-    ensures { λ r. ⌜ r ≡ creationScan (dayOf d (now (basket .entry))) (now (stretch .entry)) (now (prices .entry)) m ⌝ }
+    ensures { λ r. ⌜ r ≡ orderScan kind (dayOf d (now (basket .entry))) (now (stretch .entry)) (now (fund .entry)) (now (prices .entry)) m ⌝ }
 {
     let n = d.count;
     let mut t = no_lines();
     let mut i = 0;
     while i < n {
         let c = layout::component_of(basket, i);
-        t = creation_turn(t, i, c, handable_at(stretch, i), prices[i], m);
-        i += 1;
-    }
-    t
-}
-
-// A redemption of m baskets from the fund with this stretch.
-pub fn redemption_scan(d: DayHead, basket: &[u64], fund: &[u64], m: u64) -> Scan
-    requires { ⌜ RedemptionReady (dayOf d (now basket)) (now fund) m ⌝ }
-    requires { ⌜ length (now basket) ≡ basketWidth ⌝ }
-    ensures { λ r. ⌜ r ≡ redemptionScan (dayOf d (now (basket .entry))) (now (fund .entry)) m ⌝ }
-{
-    let n = d.count;
-    let mut t = no_lines();
-    let mut i = 0;
-    while i < n {
-        let c = layout::component_of(basket, i);
-        t = with_line(t, i, redemption_line(c, old_at(fund, i), m));
+        let have = held_at(kind, stretch, fund, i);
+        t = order_turn(kind, t, i, c, have, prices[i], m);
         i += 1;
     }
     t
@@ -317,10 +327,10 @@ fn cash_count(cash: Money) -> usize
 
 // How many records the order makes, with the two of the unit.
 pub fn record_count(t: Scan) -> usize
-    requires { ⌜ t .«stock_records» ≤ 300 ⌝ }
+    requires { ⌜ t .«stock_records» ≤ mostComponents ⌝ }
     ensures { λ r. ⌜ r ≡ recordCount t ⌝ }
 {
-    2 + t.stock_records + cash_count(t.other) + cash_count(t.shanghai)
+    2 + t.stock_records + cash_count(t.cash.other) + cash_count(t.cash.shanghai)
 }
 
 // Whether the missing stock of m baskets of so many units is worth more than the maximum cash ratio lets cash stand for.

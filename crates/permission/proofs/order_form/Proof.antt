@@ -13,44 +13,44 @@ is-investor-requires : tie.Need-is-investor-requires
 is-investor-requires c κs = search needs
 
 returns : tie.Need-returns
-returns c = no-account _ _ _ _ _ _ _ (sym (c .before .is-investor .ensures) ∙ not-true _ (c .if1 .taken))
+returns c = no-account _ _ _ _ _ (sym (c .before .is-investor .ensures) ∙ not-true _ (c .if1 .taken))
 
 -- what each passed test says; the argument is the place after it
-account-in : (c : tie.Else1) → isInvestor (c .before .before .before .args .accounts) (c .before .before .before .args .a) ≡ true
+account-in : (c : tie.Else1) → isInvestor (c .before .before .before .args .accounts) (c .before .before .before .args .ask .account) ≡ true
 account-in c = sym (c .before .is-investor .ensures) ∙ not-false _ (c .if1 .left)
 
-units-whole : (c : tie.Else2) → wholeUnits (c .before .before .before .before .before .args .fund) (c .before .before .before .before .before .args .units) ≡ true
+units-whole : (c : tie.Else2) → wholeUnits (c .before .before .before .before .before .args .fund) (c .before .before .before .before .before .args .ask .units) ≡ true
 unfolding wholeUnits
 units-whole c = sym (c .before .whole-baskets .ensures) ∙ not-false _ (c .if2 .left)
 
-switch-open : (c : tie.Else3) → switchOpen (c .before .before .before .before .before .before .before .args .fund) (c .before .before .before .before .before .before .before .args .kind) ≡ true
+switch-open : (c : tie.Else3) → switchOpen (c .before .before .before .before .before .before .before .args .fund) (c .before .before .before .before .before .before .before .args .ask .kind) ≡ true
 unfolding switchOpen
 switch-open c = sym (c .before .switch-allows .ensures) ∙ not-false _ (c .if3 .left)
 
 whole-baskets-requires : tie.Need-whole-baskets-requires
-whole-baskets-requires c κs = search needs
+whole-baskets-requires c κs = (c .before .before .before .pre .0 .basket-low, c .before .before .before .pre .1 .1)
 
 returns-2 : tie.Need-returns-2
 unfolding wholeUnits
-returns-2 c = not-whole _ _ _ _ _ _ _ (account-in (c .before .before)) (sym (c .before .whole-baskets .ensures) ∙ not-true _ (c .if2 .taken))
+returns-2 c = not-whole _ _ _ _ _ (account-in (c .before .before)) (sym (c .before .whole-baskets .ensures) ∙ not-true _ (c .if2 .taken))
 
 switch-allows-requires : tie.Need-switch-allows-requires
 switch-allows-requires c κs = search needs
 
 returns-3 : tie.Need-returns-3
 unfolding switchOpen
-returns-3 c = switched-off _ _ _ _ _ _ _ (account-in (c .before .before .before .before)) (units-whole (c .before .before)) (sym (c .before .switch-allows .ensures) ∙ not-true _ (c .if3 .taken))
+returns-3 c = switched-off _ _ _ _ _ (account-in (c .before .before .before .before)) (units-whole (c .before .before)) (sym (c .before .switch-allows .ensures) ∙ not-true _ (c .if3 .taken))
 
 limits-held-requires : tie.Need-limits-held-requires
 limits-held-requires c κs =
-    let b = c .before .before .before .before .before .before .before in
-    (b .pre .0, (b .pre .1, investor-in _ _ (b .pre .0 .accounts-low) (account-in (c .before .before .before .before)), units-small _ _ (b .pre .0 .basket-high) (units-whole (c .before .before))))
+    let p = c .before .before .before .before .before .before .before .pre in
+    (p .0, (p .1 .0, investor-in _ _ (p .0 .accounts-low) (account-in (c .before .before .before .before)), units-small _ _ (p .0 .basket-high) (units-whole (c .before .before))))
 
 returns-4 : tie.Need-returns-4
-returns-4 c = limit-passed _ _ _ _ _ _ _ (account-in (c .before .before .before .before .before .before)) (units-whole (c .before .before .before .before)) (switch-open (c .before .before)) (sym (c .before .limits-held .ensures) ∙ not-true _ (c .if4 .taken))
+returns-4 c = limit-passed _ _ _ _ _ (account-in (c .before .before .before .before .before .before)) (units-whole (c .before .before .before .before)) (switch-open (c .before .before)) (sym (c .before .limits-held .ensures) ∙ not-true _ (c .if4 .taken))
 
 returns-5 : tie.Need-returns-5
-returns-5 c = form-done _ _ _ _ _ _ _ (account-in (c .before .before .before .before .before .before)) (units-whole (c .before .before .before .before)) (switch-open (c .before .before)) (sym (c .before .limits-held .ensures) ∙ not-false _ (c .if4 .left))
+returns-5 c = form-done _ _ _ _ _ (account-in (c .before .before .before .before .before .before)) (units-whole (c .before .before .before .before)) (switch-open (c .before .before)) (sym (c .before .limits-held .ensures) ∙ not-false _ (c .if4 .left))
 
 pub order-form-spec : {M : Type 1} → statement M
 order-form-spec =

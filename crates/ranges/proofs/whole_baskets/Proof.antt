@@ -1,29 +1,36 @@
--- `ranges::whole_baskets` meets its contract: the remainder is tested first, then the count of baskets.
-use mathlib.Core.Path.{_∙_}
+-- `ranges::whole_baskets` meets its contract: nothing is left over where the count times the size gives the units back.
+use mathlib.Core.Path.{_≡_, _∙_}
 use mathlib.Core.Bool.{and-true}
+use Prim.Native.Nat.{ℕ, _+_, _*_, _/_, _%_}
+use native.Mathlib.Nat.{div-add-mod, mul-comm}
+use native.Mathlib.Omega.{arith}
 use borrow.Author.Needs.{needs}
 use borrow.Author.Tests.{eq-eqb, ne-eqb}
 use Rattle.lists.specs.Every.{every}
 use Rattle.ranges.proofs.whole_baskets.Statement.{statement}
 use Rattle.ranges.proofs.whole_baskets.Tie as tie
 
-rem-if1 : tie.Need-rem-if1
-rem-if1 c = search needs
+-- the baskets and what is left over
+parts : (size units m : ℕ) → m ≡ units / size → m * size + units % size ≡ units
+parts size units m e = rw e (omega (arith, div-add-mod units size, mul-comm (units / size) size))
+
+mul-if1 : tie.Need-mul-if1
+mul-if1 c = omega (arith, parts _ _ _ (c .pre .1))
 
 returns : tie.Need-returns
 unfolding every
-returns c = simp (ne-eqb _ _ (c .if1 .taken))
-
-div-is-inside : tie.Need-div-is-inside
-div-is-inside c = search needs
+returns c =
+    let left : c .before .args .units % c .before .args .size ≡ 0 → ⊥ = λ e. c .if1 .taken (omega (arith, parts _ _ _ (c .before .pre .1))) in
+    simp (ne-eqb _ _ left)
 
 is-inside-requires : tie.Need-is-inside-requires
 is-inside-requires c κs = search needs
 
 returns-2 : tie.Need-returns-2
 unfolding every
-returns-2 c = c .is-inside .ensures ∙ simp (eq-eqb _ _ (c .before .if1 .left), and-true)
+returns-2 c =
+    let none : c .before .before .args .units % c .before .before .args .size ≡ 0 = omega (arith, parts _ _ _ (c .before .before .pre .1)) in
+    c .is-inside .ensures ∙ rw (c .before .before .pre .1) (simp (eq-eqb _ _ none, and-true))
 
 pub whole-baskets-spec : {M : Type 1} → statement M
-whole-baskets-spec =
-    tie.close (tie.spec rem-if1 returns div-is-inside is-inside-requires returns-2)
+whole-baskets-spec = tie.close (tie.spec mul-if1 returns is-inside-requires returns-2)

@@ -1,39 +1,18 @@
--- `scan::handable_at` meets its contract: the bought and the old lot are read at the definition's places.
-use mathlib.Core.Path.{refl}
-use native.Mathlib.Omega.{arith}
-use Rattle.layout.specs.Book.{lotsAt}
+-- `scan::handable_at` meets its contract: it is what may be handed in of the line's lots.
+use mathlib.Core.Path.{_∙_, ap}
+use borrow.Author.Needs.{needs}
+use Rattle.lots.specs.Lots.{handable}
 use Rattle.rules.specs.Creation.{available}
 use Rattle.scan.proofs.handable_at.Statement.{statement}
 use Rattle.scan.proofs.handable_at.Tie as tie
 
-mul-at : tie.Need-mul-at
-mul-at c = omega arith
-
-add-at : tie.Need-add-at
-add-at c = omega arith
-
-add-result : tie.Need-add-result
-add-result c = omega arith
-
-mul-result : tie.Need-mul-result
-mul-result c = omega arith
-
-shared-slice-read-result : tie.Need-shared-slice-read-result
-shared-slice-read-result c = omega arith
-
-mul-result-2 : tie.Need-mul-result-2
-mul-result-2 c = omega arith
-
-shared-slice-read-result-2 : tie.Need-shared-slice-read-result-2
-shared-slice-read-result-2 c = omega arith
-
-add-result-2 : tie.Need-add-result-2
-unfolding available lotsAt
-add-result-2 c = omega arith
+handable-requires : tie.Need-handable-requires
+unfolding available
+handable-requires c κs = rw (c .lots-at .ensures) (c .before .before .pre .1)
 
 returns : tie.Need-returns
-unfolding available lotsAt
-returns c = refl
+unfolding available
+returns c = c .handable .ensures ∙ ap handable (c .before .lots-at .ensures)
 
 pub handable-at-spec : {M : Type 1} → statement M
-handable-at-spec = tie.close (tie.spec mul-at add-at add-result mul-result shared-slice-read-result mul-result-2 shared-slice-read-result-2 add-result-2 returns)
+handable-at-spec = tie.close (tie.spec (λ c κs. search needs) handable-requires returns)

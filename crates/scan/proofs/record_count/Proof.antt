@@ -12,7 +12,7 @@ cash-count-requires : tie.Need-cash-count-requires
 cash-count-requires c κs = tt
 
 add-result-2 : tie.Need-add-result-2
-add-result-2 c = omega (arith, c .cash-count .ensures, cash-count-le (c .before .before .args .t .other .0))
+add-result-2 c = omega (arith, c .cash-count .ensures, cash-count-le (c .before .before .args .t .cash .other .0))
 
 cash-count-requires-2 : tie.Need-cash-count-requires-2
 cash-count-requires-2 c κs = tt
@@ -20,7 +20,7 @@ cash-count-requires-2 c κs = tt
 add-result-3 : tie.Need-add-result-3
 add-result-3 c =
     let t = c .before .before .before .args .t in
-    omega (arith, c .before .cash-count .ensures, c .cash-count2 .ensures, cash-count-le (t .other .0), cash-count-le (t .shanghai .0))
+    omega (arith, c .before .cash-count .ensures, c .cash-count2 .ensures, cash-count-le (t .cash .other .0), cash-count-le (t .cash .shanghai .0))
 
 returns : tie.Need-returns
 unfolding recordCount

@@ -15,11 +15,11 @@ use Rattle.settlement.proofs.settle_stock.Statement.{statement}
 use Rattle.settlement.proofs.settle_stock.Tie as tie
 
 abbrev Inv-loop : tie.InvT-loop
-Inv-loop kind d basket book₀ a m out₀ from w side at₀ i₀ book out at i =
+Inv-loop d basket book₀ m out₀ from kind a w side at₀ i₀ book out at i =
     (i ≤ d .count) × ((book ≡ stockMoves kind (dayOf d basket) a m i book₀) × Wrote (stockBelow kind (dayOf d basket) (account (dayOf d basket) book₀ a) m i) from out₀ out at)
 
 abbrev μ-loop : tie.MeasureT-loop
-μ-loop kind d basket book₀ a m out₀ from w side at₀ i₀ book out at i = d .count - i
+μ-loop d basket book₀ m out₀ from kind a w side at₀ i₀ book out at i = d .count - i
 
 width-of-requires : tie.Need-width-of-requires Inv-loop μ-loop
 width-of-requires c κs = search needs
@@ -40,7 +40,7 @@ move-line-requires c κs =
     let a = c .before .before .before .before .before .before .before .before .before .before .args in
     let p = c .before .before .before .before .before .before .before .before .before .before .pre in
     rw (c .before .component-of .ensures)
-    (line-ready (a .kind) (dayOf (a .d) (a .basket .now)) _ _ _ (p .0 .0) (p .0 .1) _ _ (c .before .before .before .before .loop .inv .1 .0) _ (c .before .before .before .before .before .before .width-of .ensures) (p .1 .0) (p .1 .1 .0) (c .before .before .if1 .taken))
+    (line-ready (a .ask .kind) (dayOf (a .d) (a .basket .now)) _ _ _ (p .0 .0) (p .0 .1) _ _ (c .before .before .before .before .loop .inv .1 .0) _ (c .before .before .before .before .before .before .width-of .ensures) (p .1 .0) (p .1 .1 .0) (c .before .before .if1 .taken))
 
 put-line-requires : tie.Need-put-line-requires Inv-loop μ-loop
 put-line-requires c κs =
@@ -48,8 +48,8 @@ put-line-requires c κs =
     let p = c .before .before .before .before .before .before .before .before .before .before .before .before .before .before .pre in
     let l = c .before .before .before .before .before .before .before .before .loop in
     let d = dayOf (a .d) (a .basket .now) in
-    let q : c .before .before .before .move-line .result ≡ movedBy (a .kind) d (account d (a .book .now) (a .a)) (a .m) (l .i) = (rw (c .before .before .before .before .before .component-of .ensures) at (c .before .before .before .move-line .ensures .0)) ∙ moved-here (a .kind) d _ _ _ (p .0 .0) (p .0 .1) _ _ (l .inv .1 .0) _ (c .before .before .before .before .before .before .before .before .before .before .width-of .ensures) in
-    rw (c .before .before .before .before .before .component-of .ensures, c .before .before .before .before .before .before .before .before .before .stock-side .ensures, q) (line-room (a .kind) d _ _ (c .before .before .before .before .before .before .if1 .taken) (p .1 .1 .1 .0) (l .inv .1 .1))
+    let q : c .before .before .before .move-line .result ≡ movedBy (a .ask .kind) d (account d (a .book .now) (a .ask .account)) (a .m) (l .i) = (rw (c .before .before .before .before .before .component-of .ensures) at (c .before .before .before .move-line .ensures .0)) ∙ moved-here (a .ask .kind) d _ _ _ (p .0 .0) (p .0 .1) _ _ (l .inv .1 .0) _ (c .before .before .before .before .before .before .before .before .before .before .width-of .ensures) in
+    rw (c .before .before .before .before .before .component-of .ensures, c .before .before .before .before .before .before .before .before .before .stock-side .ensures, q) (line-room (a .ask .kind) d _ _ (c .before .before .before .before .before .before .if1 .taken) (p .1 .1 .1 .0) (l .inv .1 .1))
 
 add-i : tie.Need-add-i Inv-loop μ-loop
 add-i c = search needs
@@ -65,14 +65,14 @@ loop-again c =
     let d = dayOf (a .d) (a .basket .now) in
     let moved = c .before .before .before .before .before .before .move-line .ensures in
     let of = rw (c .before .before .before .before .before .before .before .before .component-of .ensures) at (moved .0) in
-    let q : c .before .before .before .before .before .before .move-line .result ≡ movedBy (a .kind) d (account d (a .book .now) (a .a)) (a .m) (l .i) = of ∙ moved-here (a .kind) d _ _ _ (p .0 .0) (p .0 .1) _ _ (l .inv .1 .0) _ (c .before .before .before .before .before .before .before .before .before .before .before .before .before .width-of .ensures) in
-    (omega arith, (lines-more (a .kind) d _ _ _ (p .0 .0) (p .0 .1) _ _ (l .inv .1 .0) _ (c .before .before .before .before .before .before .before .before .before .before .before .before .before .width-of .ensures) _ _ of (moved .1), wrote-as (sym (stock-more (a .kind) d _ _ _)) (wrote-then (l .inv .1 .1) (rw (c .before .before .before .before .before .before .before .before .component-of .ensures, c .before .before .before .before .before .before .before .before .before .before .before .before .stock-side .ensures, q) at (c .before .before .put-line .ensures)))))
+    let q : c .before .before .before .before .before .before .move-line .result ≡ movedBy (a .ask .kind) d (account d (a .book .now) (a .ask .account)) (a .m) (l .i) = of ∙ moved-here (a .ask .kind) d _ _ _ (p .0 .0) (p .0 .1) _ _ (l .inv .1 .0) _ (c .before .before .before .before .before .before .before .before .before .before .before .before .before .width-of .ensures) in
+    (omega arith, (lines-more (a .ask .kind) d _ _ _ (p .0 .0) (p .0 .1) _ _ (l .inv .1 .0) _ (c .before .before .before .before .before .before .before .before .before .before .before .before .before .width-of .ensures) _ _ of (moved .1), wrote-as (sym (stock-more (a .ask .kind) d _ _ _)) (wrote-then (l .inv .1 .1) (rw (c .before .before .before .before .before .before .before .before .component-of .ensures, c .before .before .before .before .before .before .before .before .before .before .before .before .stock-side .ensures, q) at (c .before .before .put-line .ensures)))))
 
 same-length : tie.Need-same-length Inv-loop μ-loop
 same-length c =
     let a = c .before .before .before .before .before .before .before .before .args in
     let p = c .before .before .before .before .before .before .before .before .pre in
-    lines-length (a .kind) (dayOf (a .d) (a .basket .now)) _ _ _ (p .0 .0) (p .0 .1) _ _ (c .before .before .loop .inv .1 .0)
+    lines-length (a .ask .kind) (dayOf (a .d) (a .basket .now)) _ _ _ (p .0 .0) (p .0 .1) _ _ (c .before .before .loop .inv .1 .0)
 
 same-length-2 : tie.Need-same-length-2 Inv-loop μ-loop
 same-length-2 c = wrote-length (c .before .before .loop .inv .1 .1)

@@ -1,0 +1,30 @@
+-- `means::order_from` meets its contract: stock first, then the rest.
+use mathlib.Core.Path.{sym, ap, _∙_}
+use borrow.Author.Needs.{needs}
+use Rattle.rules.specs.Replies.{answerReply}
+use Rattle.means.proofs.Laws.{stock-passes, stock-stops}
+use Rattle.means.proofs.order_from.Statement.{statement}
+use Rattle.means.proofs.order_from.Tie as tie
+
+stock-answer-requires : tie.Need-stock-answer-requires
+stock-answer-requires c κs = search needs
+
+enum-told : tie.Need-enum-told
+enum-told c = search needs
+
+money-answer-requires : tie.Need-money-answer-requires
+money-answer-requires c κs = search needs
+
+enum-known-why : tie.Need-enum-known-why
+enum-known-why c = search needs
+
+returns : tie.Need-returns
+returns c = c .money-answer .ensures ∙ stock-passes _ _ _ _ _ _ _ _ _ (ap answerReply (sym (c .before .enum-told .given .1)) ∙ c .before .before .before .stock-answer .ensures)
+
+returns-2 : tie.Need-returns-2
+returns-2 c = stock-stops _ _ _ _ _ _ _ _ _ (c .before .why .given .0 .0) (ap answerReply (sym (c .before .why .given .1)) ∙ c .before .before .before .stock-answer .ensures)
+
+pub order-from-spec : {M : Type 1} → statement M
+order-from-spec =
+    tie.close
+    (tie.spec stock-answer-requires enum-told money-answer-requires enum-known-why returns returns-2)

@@ -1,0 +1,88 @@
+-- An ask comes to what the rules of its kind say, and the code's text for both kinds says the same.
+use mathlib.Core.Path.{_≡_, refl}
+use mathlib.Core.Bool.{Bool, true, false, cond}
+use mathlib.Core.List.{List}
+use Prim.Native.Nat.{ℕ, _<_}
+use native.Mathlib.Decide.{ℕ-discrete}
+use native.Mathlib.Omega.{arith}
+use lib.Dec.{eqb}
+use Rattle.layout.specs.Day.{Day}
+use Rattle.rules.specs.declared.Ask.{Ask}
+use Rattle.layout.specs.Book.{account}
+use Rattle.rules.specs.Orders.{creation, redemption, baskets}
+use Rattle.rules.specs.Creation.{creationDue, creationRecords, creationReply, creationMoves, createdBook, createdList}
+use Rattle.rules.specs.Redemption.{redemptionPaid, redemptionRecords, redemptionReply, redemptionMoves, redeemedBook, redeemedList}
+use Rattle.rules.specs.Kinds.{byKind, creationOf, redemptionOf, total, movedBy, stockLots, fundLots, unitLots, accountCash, fundCash, orderMoves, recordsBy, cashBy, askedCash, askedRecords, askedChecks, askedReply, askedMoves, askedBook, askedList}
+
+-- what holds of creation and of redemption holds of a kind
+pub by-kind : (P : ℕ → Type 0) → P creation → P redemption → (kind : ℕ) → kind < 2 → P kind
+by-kind P x y kind h = go (ℕ-discrete kind creation)
+  where
+    go : Dec (kind ≡ creation) → P kind
+    go (yes e) = rw e x
+    go (no n) =
+        let e : kind ≡ redemption = omega arith in
+        rw e y
+
+-- what is chosen by a kind has what both have
+pub either-kind : {A : Type 0} (P : A → Type 0) (x y : A) → P x → P y → (kind : ℕ) → P (byKind kind x y)
+either-kind P x y p q kind = go (eqb kind creation)
+  where
+    go : (b : Bool) → P (cond b x y)
+    go true = p
+    go false = q
+
+-- and so of an ask
+pub by-ask : (P : Ask → Type 0) → ((a units : ℕ) → P (creationOf a units)) → ((a units : ℕ) → P (redemptionOf a units)) → (k : Ask) → k .kind < 2 → P k
+by-ask P x y k h = by-kind (λ kind. P (record { kind = kind; account = k .account; units = k .units })) (x (k .account) (k .units)) (y (k .account) (k .units)) (k .kind) h
+
+module _ (d : Day) (b ps : List ℕ) (a units : ℕ) where
+  pub creation-asked : (room : ℕ) → askedReply d b ps (creationOf a units) room ≡ creationReply d b ps a units room
+  unfolding askedReply askedChecks askedRecords creationReply
+  creation-asked room = refl
+
+  pub redemption-asked : (room : ℕ) → askedReply d b ps (redemptionOf a units) room ≡ redemptionReply d b ps a units room
+  unfolding askedReply askedChecks askedRecords redemptionReply
+  redemption-asked room = refl
+
+  pub created-book : (room : ℕ) → askedBook d b ps (creationOf a units) room ≡ createdBook d b ps a units room
+  unfolding askedBook askedMoves askedReply askedChecks askedRecords createdBook creationReply
+  created-book room = refl
+
+  pub redeemed-book : (room : ℕ) → askedBook d b ps (redemptionOf a units) room ≡ redeemedBook d b ps a units room
+  unfolding askedBook askedMoves askedReply askedChecks askedRecords redeemedBook redemptionReply
+  redeemed-book room = refl
+
+  pub created-list : (list : List ℕ) → askedList d b ps (creationOf a units) list ≡ createdList d b ps a units list
+  unfolding askedList askedReply askedChecks askedRecords createdList creationReply
+  created-list list = refl
+
+  pub redeemed-list : (list : List ℕ) → askedList d b ps (redemptionOf a units) list ≡ redeemedList d b ps a units list
+  unfolding askedList askedReply askedChecks askedRecords redeemedList redemptionReply
+  redeemed-list list = refl
+
+-- the cash is what a creation owes, and what a redemption pays
+pub asked-due : (d : Day) (s ps : List ℕ) (a units : ℕ) → total (askedCash d s ps (creationOf a units)) ≡ creationDue d s ps (baskets d units)
+unfolding askedCash cashBy creationDue
+asked-due d s ps a units = refl
+
+pub asked-paid : (d : Day) (s ps : List ℕ) (a units : ℕ) → total (askedCash d s ps (redemptionOf a units)) ≡ redemptionPaid d (baskets d units)
+unfolding askedCash cashBy redemptionPaid
+asked-paid d s ps a units = refl
+
+-- the records and the moves of an ask, by the text for both kinds
+pub asked-records : (d : Day) (s ps : List ℕ) (k : Ask) → k .kind < 2
+    → recordsBy (k .kind) d s (k .units) (baskets d (k .units)) (askedCash d s ps k) ≡ askedRecords d s ps k
+unfolding recordsBy creationRecords redemptionRecords movedBy askedCash cashBy askedRecords
+asked-records d s ps =
+    by-ask (λ k. recordsBy (k .kind) d s (k .units) (baskets d (k .units)) (askedCash d s ps k) ≡ askedRecords d s ps k)
+    (λ a units. refl)
+    (λ a units. refl)
+
+pub asked-moves : (d : Day) (b ps : List ℕ) (k : Ask) → k .kind < 2
+    → orderMoves (k .kind) d (k .account) (k .units) (baskets d (k .units)) (total (askedCash d (account d b (k .account)) ps k)) b ≡ askedMoves d ps k b
+unfolding orderMoves creationMoves redemptionMoves movedBy stockLots fundLots unitLots accountCash fundCash askedCash cashBy creationDue redemptionPaid askedMoves
+asked-moves d b ps =
+    by-ask (λ k. orderMoves (k .kind) d (k .account) (k .units) (baskets d (k .units)) (total (askedCash d (account d b (k .account)) ps k)) b ≡ askedMoves d ps k b)
+    (λ a units. refl)
+    (λ a units. refl)
