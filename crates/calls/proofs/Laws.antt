@@ -6,6 +6,7 @@ use Prim.Native.Nat.{ℕ}
 use lib.ListN.{set}
 use Rattle.lists.specs.Checks.{Check, Reply, reply, answered}
 use Rattle.layout.specs.Day.{Day}
+use Rattle.rules.specs.declared.Ask.{Ask}
 use Rattle.rules.specs.declared.Refusal.the-variants.{UnsoundDay}
 use Rattle.layout.specs.Book.{account}
 use Rattle.rules.specs.Replies.{ifAccepted}
@@ -14,10 +15,9 @@ use Rattle.rules.specs.Price.{priceChecks, priceReply, pricedPrices}
 use Rattle.rules.specs.Trade.{tradeChecks, tradeReply, tradeMoves, tradedBook}
 use Rattle.rules.specs.Value.{referenceValue, valueChecks, worthReply}
 use Rattle.layout.specs.Records.{roomIn, withRecords}
-use Rattle.rules.specs.Creation.{creationRecords, creationChecks, creationReply, creationMoves, createdBook, createdList}
-use Rattle.rules.specs.Redemption.{redemptionRecords, redemptionChecks, redemptionReply, redemptionMoves, redeemedBook, redeemedList}
+use Rattle.rules.specs.Kinds.{askedRecords, askedChecks, askedReply, askedMoves, askedBook, askedList}
 use Rattle.rules.proofs.Replies.{on-sound, on-unsound, leaves-before}
-use Rattle.orders.specs.Orders.{creationAnswer, redemptionAnswer}
+use Rattle.orders.specs.Orders.{askedAnswer}
 
 module _ (d : Day) (b ps : List ℕ) (unsound : isSound d b ps ≡ false) where
   five : (cs : List Check) (v : ℕ) → reply 5 0 0 ≡ answered (onSoundDay d b ps cs) v
@@ -35,21 +35,13 @@ module _ (d : Day) (b ps : List ℕ) (unsound : isSound d b ps ≡ false) where
   unfolding worthReply
   value-five = five (valueChecks d ps) (referenceValue d ps)
 
-  pub creation-five : (a units room : ℕ) → reply 5 0 0 ≡ creationReply d b ps a units room
-  unfolding creationReply
-  creation-five a units room = five (creationChecks d b ps a units room) _
+  pub order-five : (ask : Ask) (room : ℕ) → reply 5 0 0 ≡ askedReply d b ps ask room
+  unfolding askedReply
+  order-five ask room = five (askedChecks d b ps ask room) _
 
-  pub redemption-five : (a units room : ℕ) → reply 5 0 0 ≡ redemptionReply d b ps a units room
-  unfolding redemptionReply
-  redemption-five a units room = five (redemptionChecks d b a units room) _
-
-  pub create-five : (a units : ℕ) (list : List ℕ) → (reply 5 0 0 ≡ creationReply d b ps a units (roomIn list)) × ((b ≡ createdBook d b ps a units (roomIn list)) × (list ≡ createdList d b ps a units list))
-  unfolding createdBook createdList
-  create-five a units list = let e = creation-five a units (roomIn list) in (e, (leaves-before _ _ UnsoundDay _ e, leaves-before _ _ UnsoundDay _ e))
-
-  pub redeem-five : (a units : ℕ) (list : List ℕ) → (reply 5 0 0 ≡ redemptionReply d b ps a units (roomIn list)) × ((b ≡ redeemedBook d b ps a units (roomIn list)) × (list ≡ redeemedList d b ps a units list))
-  unfolding redeemedBook redeemedList
-  redeem-five a units list = let e = redemption-five a units (roomIn list) in (e, (leaves-before _ _ UnsoundDay _ e, leaves-before _ _ UnsoundDay _ e))
+  pub stays-five : (ask : Ask) (list : List ℕ) → (reply 5 0 0 ≡ askedReply d b ps ask (roomIn list)) × ((b ≡ askedBook d b ps ask (roomIn list)) × (list ≡ askedList d b ps ask list))
+  unfolding askedBook askedList
+  stays-five ask list = let e = order-five ask (roomIn list) in (e, (leaves-before _ _ UnsoundDay _ e, leaves-before _ _ UnsoundDay _ e))
 
 module _ (d : Day) (b ps : List ℕ) (sound : isSound d b ps ≡ true) where
   own : (cs : List Check) (v : ℕ) → answered cs v ≡ answered (onSoundDay d b ps cs) v
@@ -71,23 +63,13 @@ module _ (d : Day) (b ps : List ℕ) (sound : isSound d b ps ≡ true) where
   unfolding worthReply
   value-own = own (valueChecks d ps) (referenceValue d ps)
 
-  pub creation-own : (a units room : ℕ) → creationAnswer d b ps a units room ≡ creationReply d b ps a units room
-  unfolding creationAnswer creationReply
-  creation-own a units room = own (creationChecks d b ps a units room) _
-
-  pub redemption-own : (a units room : ℕ) → redemptionAnswer d b a units room ≡ redemptionReply d b ps a units room
-  unfolding redemptionAnswer redemptionReply
-  redemption-own a units room = own (redemptionChecks d b a units room) _
+  pub order-own : (ask : Ask) (room : ℕ) → askedAnswer d b ps ask room ≡ askedReply d b ps ask room
+  unfolding askedAnswer askedReply
+  order-own ask room = own (askedChecks d b ps ask room) _
 
   -- what an order leaves, by the core's answer and by the call's
-  pub create-own : (a units : ℕ) (list : List ℕ)
-      → (ifAccepted (creationAnswer d b ps a units (roomIn list)) (creationMoves d ps a units b) b ≡ createdBook d b ps a units (roomIn list))
-      × (ifAccepted (creationAnswer d b ps a units (roomIn list)) (withRecords (creationRecords d (account d b a) ps units) list) list ≡ createdList d b ps a units list)
-  unfolding createdBook createdList
-  create-own a units list = rw (creation-own a units (roomIn list)) (refl, refl)
-
-  pub redeem-own : (a units : ℕ) (list : List ℕ)
-      → (ifAccepted (redemptionAnswer d b a units (roomIn list)) (redemptionMoves d a units b) b ≡ redeemedBook d b ps a units (roomIn list))
-      × (ifAccepted (redemptionAnswer d b a units (roomIn list)) (withRecords (redemptionRecords d units) list) list ≡ redeemedList d b ps a units list)
-  unfolding redeemedBook redeemedList
-  redeem-own a units list = rw (redemption-own a units (roomIn list)) (refl, refl)
+  pub leaves-own : (ask : Ask) (list : List ℕ)
+      → (ifAccepted (askedAnswer d b ps ask (roomIn list)) (askedMoves d ps ask b) b ≡ askedBook d b ps ask (roomIn list))
+      × (ifAccepted (askedAnswer d b ps ask (roomIn list)) (withRecords (askedRecords d (account d b (ask .account)) ps ask) list) list ≡ askedList d b ps ask list)
+  unfolding askedBook askedList
+  leaves-own ask list = rw (order-own ask (roomIn list)) (refl, refl)

@@ -1,7 +1,7 @@
 // The calls on a day that is known to be sound or is to be tested: 5 where it is not sound, and else the core's answer.
 // `known` says that the day is sound, so that a list of calls tests it once.
 ghost use mathlib.Core.Path.{_≡_};
-ghost use Prim.Native.Nat.{_/_};
+ghost use Prim.Native.Nat.{_/_, _<_};
 ghost use mathlib.Core.Bool.{true};
 ghost use lib.ListN.{length};
 ghost use Rattle.layout.specs.Day.{dayOf};
@@ -11,11 +11,11 @@ ghost use Rattle.rules.specs.Trade.{tradeReply, tradedBook};
 ghost use Rattle.rules.specs.Value.{worthReply};
 ghost use Rattle.layout.specs.Places.{recordWidth, basketWidth};
 ghost use Rattle.layout.specs.Records.{roomIn};
-ghost use Rattle.rules.specs.Creation.{creationReply, createdBook, createdList};
-ghost use Rattle.rules.specs.Redemption.{redemptionReply, redeemedBook, redeemedList};
+ghost use Rattle.rules.specs.Kinds.{askedReply, askedBook, askedList};
 ghost use Rattle.rules.specs.Sound.{isSound};
 use layout::DayHead;
 use rules::Answer;
+use rules::Ask;
 use rules::OrderAnswer;
 use rules::Refusal;
 use rules::ValueAnswer;
@@ -95,90 +95,44 @@ pub fn reference_value(
     value::reference_value(d, basket, prices)
 }
 
-// Creates units for an account; the records go to the lent list.
-pub fn create(
+// An order; the records go to the lent list.
+pub fn order(
     known: bool,
     d: DayHead,
     basket: &[u64],
     book: &mut [u64],
     prices: &[u64],
-    a: usize,
-    units: u64,
+    ask: Ask,
     list: &mut [u64],
 ) -> OrderAnswer
     requires { ⌜ (known ≡ true → isSound (dayOf d (now basket)) (now book) (now prices) ≡ true) ⌝ }
-    requires { ⌜ length (now basket) ≡ basketWidth ⌝ }
-    ensures { λ r. ⌜ orderReply r ≡ creationReply (dayOf d (now (basket .entry))) (now (book .entry)) (now (prices .entry)) a units (roomIn (now (list .entry))) ⌝ }
-    ensures book { λ r. ⌜ now (book .exit) ≡ createdBook (dayOf d (now (basket .entry))) (now (book .entry)) (now (prices .entry)) a units (roomIn (now (list .entry))) ⌝ }
-    ensures list { λ r. ⌜ now (list .exit) ≡ createdList (dayOf d (now (basket .entry))) (now (book .entry)) (now (prices .entry)) a units (now (list .entry)) ⌝ }
+    requires { ⌜ (ask .kind < 2) × (length (now basket) ≡ basketWidth) ⌝ }
+    ensures { λ r. ⌜ orderReply r ≡ askedReply (dayOf d (now (basket .entry))) (now (book .entry)) (now (prices .entry)) ask (roomIn (now (list .entry))) ⌝ }
+    ensures book { λ r. ⌜ now (book .exit) ≡ askedBook (dayOf d (now (basket .entry))) (now (book .entry)) (now (prices .entry)) ask (roomIn (now (list .entry))) ⌝ }
+    ensures list { λ r. ⌜ now (list .exit) ≡ askedList (dayOf d (now (basket .entry))) (now (book .entry)) (now (prices .entry)) ask (now (list .entry)) ⌝ }
 {
     if !sound_day(known, d, basket, book, prices) {
         return OrderAnswer::Refused(Refusal::UnsoundDay);
     }
-    orders::create(d, basket, book, prices, a, units, list)
+    orders::order(d, basket, book, prices, ask, list)
 }
 
-// Redeems units of an account; the records go to the lent list.
-pub fn redeem(
-    known: bool,
-    d: DayHead,
-    basket: &[u64],
-    book: &mut [u64],
-    prices: &[u64],
-    a: usize,
-    units: u64,
-    list: &mut [u64],
-) -> OrderAnswer
-    requires { ⌜ (known ≡ true → isSound (dayOf d (now basket)) (now book) (now prices) ≡ true) ⌝ }
-    requires { ⌜ length (now basket) ≡ basketWidth ⌝ }
-    ensures { λ r. ⌜ orderReply r ≡ redemptionReply (dayOf d (now (basket .entry))) (now (book .entry)) (now (prices .entry)) a units (roomIn (now (list .entry))) ⌝ }
-    ensures book { λ r. ⌜ now (book .exit) ≡ redeemedBook (dayOf d (now (basket .entry))) (now (book .entry)) (now (prices .entry)) a units (roomIn (now (list .entry))) ⌝ }
-    ensures list { λ r. ⌜ now (list .exit) ≡ redeemedList (dayOf d (now (basket .entry))) (now (book .entry)) (now (prices .entry)) a units (now (list .entry)) ⌝ }
-{
-    if !sound_day(known, d, basket, book, prices) {
-        return OrderAnswer::Refused(Refusal::UnsoundDay);
-    }
-    orders::redeem(d, basket, book, prices, a, units, list)
-}
-
-// The tests of a creation alone, with the length of the list: the answer that the creation would give.
-pub fn creation_test(
+// The tests of an order alone, with the length of the list: the answer that the order would give.
+pub fn order_test(
     d: DayHead,
     basket: &[u64],
     book: &[u64],
     prices: &[u64],
-    a: usize,
-    units: u64,
+    ask: Ask,
     list_length: usize,
 ) -> OrderAnswer
-    requires { ⌜ length (now basket) ≡ basketWidth ⌝ }
-    ensures { λ r. ⌜ orderReply r ≡ creationReply (dayOf d (now (basket .entry))) (now (book .entry)) (now (prices .entry)) a units («list_length» / recordWidth) ⌝ }
+    requires { ⌜ (ask .kind < 2) × (length (now basket) ≡ basketWidth) ⌝ }
+    ensures { λ r. ⌜ orderReply r ≡ askedReply (dayOf d (now (basket .entry))) (now (book .entry)) (now (prices .entry)) ask («list_length» / recordWidth) ⌝ }
 {
     if !sound::is_sound(d, basket, book, prices) {
         return OrderAnswer::Refused(Refusal::UnsoundDay);
     }
     let room = list_length / layout::RECORD_WIDTH;
-    let t = orders::creation_tested(d, basket, book, prices, a, units, room);
-    t.answer
-}
-
-// The tests of a redemption alone.
-pub fn redemption_test(
-    d: DayHead,
-    basket: &[u64],
-    book: &[u64],
-    prices: &[u64],
-    a: usize,
-    units: u64,
-    list_length: usize,
-) -> OrderAnswer
-    requires { ⌜ length (now basket) ≡ basketWidth ⌝ }
-    ensures { λ r. ⌜ orderReply r ≡ redemptionReply (dayOf d (now (basket .entry))) (now (book .entry)) (now (prices .entry)) a units («list_length» / recordWidth) ⌝ }
-{
-    if !sound::is_sound(d, basket, book, prices) {
-        return OrderAnswer::Refused(Refusal::UnsoundDay);
-    }
-    let room = list_length / layout::RECORD_WIDTH;
-    let t = orders::redemption_tested(d, basket, book, prices, a, units, room);
+    let t = orders::order_tested(d, basket, book, prices, ask, room);
     t.answer
 }

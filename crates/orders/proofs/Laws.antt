@@ -1,50 +1,54 @@
 -- From a sound day and an order's form to what its third stage, its records and its move ask.
 use mathlib.Core.Path.{_≡_, sym, ap, _∙_}
-use mathlib.Core.Bool.{true, false}
+use mathlib.Core.Bool.{true}
 use mathlib.Core.List.{List, _++_, append-assoc}
 use Prim.Native.Nat.{ℕ, _+_, _*_, _≤_, _<_}
 use native.Mathlib.Omega.{arith}
 use lib.ListN.{length}
 use borrow.Author.Tests.{not-false}
-use Rattle.lists.specs.Checks.{Check, reply, answered, isAccepted, all-passed, answered-next, answered-stop, accepted-passes, refused-stops}
-use Rattle.lists.specs.Stretch.{within, stretch-length}
+use Rattle.lists.specs.Checks.{Check, reply, answered, isAccepted, all-passed}
+use Rattle.lists.specs.Stretch.{within}
 use Rattle.fund.proofs.Laws.{FundRanges, fund-sound}
 use Rattle.layout.specs.Day.{Day}
+use Rattle.rules.specs.declared.Ask.{Ask}
+use Rattle.rules.specs.declared.CashByMarket.{CashByMarket}
+use Rattle.layout.specs.declared.Record.{Record}
 use Rattle.rules.specs.declared.Refusal.{Refusal}
 use Rattle.layout.specs.Book.{widthOf, account, headTotal}
 use Rattle.rules.specs.Replies.{refusalReply}
 use Rattle.rules.specs.Sound.{isSound}
-use Rattle.rules.specs.Orders.{creation, redemption, baskets, wholeBaskets, countOf, fundCount, withinLimits}
-use Rattle.layout.specs.declared.Record.{Record}
+use Rattle.rules.specs.Orders.{baskets, wholeBaskets, countOf, fundCount, withinLimits}
 use Rattle.layout.specs.Records.{roomIn, withRecords}
-use Rattle.rules.specs.Creation.{creationDue, creationRecords, creationMeans, creationChecks, creationReply, creationMoves}
-use Rattle.rules.specs.Redemption.{unitsAvailable, redemptionRecords, redemptionPaid, redemptionMeans, redemptionChecks, redemptionReply, redemptionMoves}
-use Rattle.rules.specs.Kinds.{recordsBy, orderMoves, creation-moves, redemption-moves, creation-records, redemption-records}
+use Rattle.rules.specs.Creation.{available, creationDue, creationChecks, creationReply}
+use Rattle.rules.specs.Redemption.{redemptionPaid, redemptionChecks, redemptionReply}
+use Rattle.rules.specs.Kinds.{creationOf, redemptionOf, total, cashBy, orderMoves, recordsBy, askedCash, askedRecords, askedMeans, askedChecks, askedReply, askedMoves}
 use Rattle.rules.proofs.SoundDay.{SoundDay, sound-facts}
-use Rattle.rules.proofs.Accepted.{Orders, order-facts, Creates, creation-facts, Redeems, redemption-facts}
-use Rattle.rules.proofs.Replies.{is-accepted, is-refused, on-sound}
+use Rattle.rules.proofs.Accepted.{Orders, order-facts, creation-facts, redemption-facts}
+use Rattle.rules.proofs.Replies.{is-accepted, on-sound, stage-passed, stage-stopped}
+use Rattle.rules.proofs.Asked.{by-ask, asked-records, asked-moves}
 use Rattle.book.specs.Ready.{OrderReady}
-use Rattle.book.proofs.Ready.{creation-ready as creation-ready-to-move, redemption-ready as redemption-ready-to-move}
+use Rattle.book.proofs.Ready.{creation-ready, redemption-ready}
 use Rattle.records.specs.Ready.{Writable}
-use Rattle.records.proofs.Sound.{sound-writable, room-enough}
-use Rattle.means.specs.Tests.{CreationFound, RedemptionFound}
-use Rattle.permission.specs.Form.{headOf, headSum, wholeUnits, limitsHeld, orderForm, order-form}
+use Rattle.records.proofs.Sound.{sound-writable}
+use Rattle.means.specs.Tests.{meansAnswer}
+use Rattle.permission.specs.Form.{headOf, headSum, wholeUnits, limitsHeld, orderForm}
+use Rattle.permission.proofs.Laws.{order-form}
 use Rattle.value.specs.Worth.{Priceable}
 use Rattle.value.proofs.Laws.{priceable}
-use Rattle.scan.specs.Ready.{CreationReady, RedemptionReady}
-use Rattle.scan.proofs.Ready.{creation-ready, redemption-ready}
+use Rattle.scan.specs.Ready.{Scannable}
+use Rattle.scan.proofs.Ready.{scannable}
 use Rattle.trades.proofs.Laws.{sound-fits}
-use Rattle.orders.specs.Orders.{creationAnswer, redemptionAnswer, Formed}
+use Rattle.orders.specs.Orders.{askedAnswer, Formed}
 
-module _ (d : Day) (b ps : List ℕ) (kind a units : ℕ) (f : Formed d b ps kind a units) where
+module _ (d : Day) (b ps : List ℕ) (ask : Ask) (f : Formed d b ps ask) where
   pub sound : SoundDay d b ps
   sound = sound-facts d b ps (f .sound)
 
-  pub order : Orders d b kind a units
+  pub order : Orders d b (ask .kind) (ask .account) (ask .units)
   unfolding orderForm wholeUnits limitsHeld headOf headSum wholeBaskets baskets withinLimits fundCount countOf headTotal
   order =
-      let p = all-passed (orderForm (d .accounts) (d .count) (d .fund) b kind a units) 0 tt (is-accepted 0 _ (f .formed)) in
-      order-facts d b kind a units (sound .accounts-low) (not-false _ (p .0)) (not-false _ (p .1 .0)) (not-false _ (p .1 .1 .1 .0))
+      let p = all-passed (orderForm (d .accounts) (d .count) (d .fund) b ask) 0 tt (is-accepted 0 _ (f .formed)) in
+      order-facts d b (ask .kind) (ask .account) (ask .units) (sound .accounts-low) (not-false _ (p .0)) (not-false _ (p .1 .0)) (not-false _ (p .1 .1 .1 .0))
 
   pub fund : FundRanges (d .fund)
   fund = fund-sound (d .fund) (sound .fund-fields)
@@ -55,117 +59,71 @@ module _ (d : Day) (b ps : List ℕ) (kind a units : ℕ) (f : Formed d b ps kin
   pub first : 0 < d .accounts
   first = omega (arith, sound .accounts-low)
 
-  -- what the third stage asks, on a part s of the book that is the account's stretch, or f that is the fund's
-  pub creation-asks : (s : List ℕ) → s ≡ account d b a → CreationReady d s ps (baskets d units)
-  creation-asks s e = rw e (creation-ready d b ps sound (baskets d units) (order .baskets-high) a (order .account-in))
-
-  pub redemption-asks : (s : List ℕ) → s ≡ account d b 0 → RedemptionReady d s (baskets d units)
-  redemption-asks s e = rw e (redemption-ready d b ps sound (baskets d units) (order .baskets-high))
+  -- what the third stage asks, on parts s and t of the book that are the account's stretch and the fund's
+  pub stage-asks : (s t : List ℕ) (m : ℕ) → s ≡ account d b (ask .account) → t ≡ account d b 0 → m ≡ baskets d (ask .units) → Scannable (ask .kind) d s t ps m
+  stage-asks s t m e g whole = rw (e, g, whole) (scannable d b ps sound (baskets d (ask .units)) (order .baskets-high) (ask .kind) (f .kind-in) (ask .account) (order .account-in))
 
   pub prices-ask : Priceable d ps
   prices-ask = priceable d b ps sound
 
-  pub units-ask : (s : List ℕ) → s ≡ account d b a → (length s ≡ widthOf (d .count)) × (unitsAvailable d s ≤ 2_000_000_000_000_000_000)
-  unfolding unitsAvailable
-  units-ask s e = rw e (stretch-length (widthOf (d .count)) b a (inside a (order .account-in)), omega (arith, sound-fits d b ps sound .lots a (d .count) (order .account-in) (omega arith)))
+  pub units-ask : (s : List ℕ) → s ≡ account d b (ask .account) → available s (d .count) ≤ 2_000_000_000_000_000_000
+  unfolding available
+  units-ask s e = rw e (omega (arith, sound-fits d b ps sound .lots (ask .account) (d .count) (order .account-in) (omega arith)))
 
 -- the answer from the stages
-module _ (d : Day) (b ps : List ℕ) (a units room : ℕ) where
-  creation-stages : creationChecks d b ps a units room ≡ orderForm (d .accounts) (d .count) (d .fund) b creation a units ++ creationMeans d (account d b a) ps units room
-  unfolding creationChecks
-  creation-stages = rw (order-form d b creation a units) (simp append-assoc)
+module _ (d : Day) (b ps : List ℕ) (room : ℕ) where
+  abbrev form : Ask → List Check
+  form ask = orderForm (d .accounts) (d .count) (d .fund) b ask
 
-  pub creation-passed : reply 0 0 0 ≡ answered (orderForm (d .accounts) (d .count) (d .fund) b creation a units) 0
-      → answered (creationMeans d (account d b a) ps units room) (length (creationRecords d (account d b a) ps units)) ≡ creationAnswer d b ps a units room
-  unfolding creationAnswer orderForm
-  creation-passed e =
-      let cs = orderForm (d .accounts) (d .count) (d .fund) b creation a units in
-      sym (ap (λ (x : List Check). answered x (length (creationRecords d (account d b a) ps units))) creation-stages ∙ answered-next cs _ _ (accepted-passes cs 0 tt (is-accepted 0 _ e)))
+  abbrev means : Ask → List Check
+  means ask = askedMeans d (account d b (ask .account)) (account d b 0) ps ask room
 
-  pub creation-stopped : (why : Refusal) → refusalReply why ≡ answered (orderForm (d .accounts) (d .count) (d .fund) b creation a units) 0 → refusalReply why ≡ creationAnswer d b ps a units room
-  unfolding creationAnswer
-  creation-stopped why e =
-      let cs = orderForm (d .accounts) (d .count) (d .fund) b creation a units in
-      e ∙ sym (ap (λ (x : List Check). answered x (length (creationRecords d (account d b a) ps units))) creation-stages ∙ answered-stop cs _ _ 0 (refused-stops cs 0 (is-refused why _ e)))
+  stages : (ask : Ask) → ask .kind < 2 → askedChecks d b ps ask room ≡ form ask ++ means ask
+  unfolding askedChecks askedMeans creationChecks redemptionChecks
+  stages =
+      by-ask (λ ask. askedChecks d b ps ask room ≡ form ask ++ means ask)
+      (λ a units. rw (order-form d b (creationOf a units)) (simp append-assoc))
+      (λ a units. rw (order-form d b (redemptionOf a units)) (simp append-assoc))
 
-module _ (d : Day) (b : List ℕ) (a units room : ℕ) where
-  redemption-stages : redemptionChecks d b a units room ≡ orderForm (d .accounts) (d .count) (d .fund) b redemption a units ++ redemptionMeans d (account d b a) (account d b 0) units room
-  unfolding redemptionChecks
-  redemption-stages = rw (order-form d b redemption a units) (simp append-assoc)
+  module _ (ask : Ask) (k : ask .kind < 2) where
+    pub form-passed : reply 0 0 0 ≡ answered (form ask) 0 → meansAnswer d (account d b (ask .account)) (account d b 0) ps ask room ≡ askedAnswer d b ps ask room
+    unfolding askedAnswer meansAnswer orderForm
+    form-passed e = rw (stages ask k) (stage-passed (form ask) _ _ tt e)
 
-  pub redemption-passed : reply 0 0 0 ≡ answered (orderForm (d .accounts) (d .count) (d .fund) b redemption a units) 0
-      → answered (redemptionMeans d (account d b a) (account d b 0) units room) (length (redemptionRecords d units)) ≡ redemptionAnswer d b a units room
-  unfolding redemptionAnswer orderForm
-  redemption-passed e =
-      let cs = orderForm (d .accounts) (d .count) (d .fund) b redemption a units in
-      sym (ap (λ (x : List Check). answered x (length (redemptionRecords d units))) redemption-stages ∙ answered-next cs _ _ (accepted-passes cs 0 tt (is-accepted 0 _ e)))
+    pub form-stopped : (why : Refusal) → refusalReply why ≡ answered (form ask) 0 → refusalReply why ≡ askedAnswer d b ps ask room
+    unfolding askedAnswer
+    form-stopped why e = rw (stages ask k) (stage-stopped (form ask) _ _ why e)
 
-  pub redemption-stopped : (why : Refusal) → refusalReply why ≡ answered (orderForm (d .accounts) (d .count) (d .fund) b redemption a units) 0 → refusalReply why ≡ redemptionAnswer d b a units room
-  unfolding redemptionAnswer
-  redemption-stopped why e =
-      let cs = orderForm (d .accounts) (d .count) (d .fund) b redemption a units in
-      e ∙ sym (ap (λ (x : List Check). answered x (length (redemptionRecords d units))) redemption-stages ∙ answered-stop cs _ _ 0 (refused-stops cs 0 (is-refused why _ e)))
+-- what an accepted order has
+record Accepted (d : Day) (b ps : List ℕ) (room : ℕ) (ask : Ask) : Type 0 where
+  pub sound : SoundDay d b ps
+  pub movable : OrderReady (ask .kind) d b (ask .account) (ask .units) (baskets d (ask .units)) (total (askedCash d (account d b (ask .account)) ps ask))
+  pub listed : length (askedRecords d (account d b (ask .account)) ps ask) ≤ room
 
--- an accepted order can be written and moved, and gives the rules' records and book
-module _ (d : Day) (b ps : List ℕ) (a units count : ℕ) (list : List ℕ) (other shanghai : ℕ) (whole : isSound d b ps ≡ true) where
-  module _ (made : reply 0 0 count ≡ creationAnswer d b ps a units (roomIn list)) (found : CreationFound d (account d b a) ps units other shanghai) where
-    creates : Creates d b ps a units (roomIn list)
-    unfolding creationAnswer creationReply
-    creates = creation-facts d b ps a units (roomIn list) (ap isAccepted (on-sound d b ps (creationChecks d b ps a units (roomIn list)) _ whole) ∙ is-accepted count _ made)
+accepted : (d : Day) (b ps : List ℕ) (room : ℕ) (ask : Ask) → ask .kind < 2 → isAccepted (askedReply d b ps ask room) ≡ true → Accepted d b ps room ask
+unfolding askedReply askedChecks askedRecords askedCash cashBy creationReply creationDue redemptionReply redemptionPaid
+accepted d b ps room =
+    by-ask (λ ask. isAccepted (askedReply d b ps ask room) ≡ true → Accepted d b ps room ask)
+    (λ a units e. let t = creation-facts d b ps a units room e in record { sound = t .sound; movable = creation-ready t; listed = t .listed })
+    (λ a units e. let t = redemption-facts d b ps a units room e in record { sound = t .sound; movable = redemption-ready t; listed = t .listed })
 
-    due : other + shanghai ≡ creationDue d (account d b a) ps (baskets d units)
-    unfolding creationDue
-    due = rw (found .other-is, found .shanghai-is)
+-- it can be written and moved, and gives the rules' records and book; m is its count of baskets, and c its cash
+module _ (d : Day) (b ps : List ℕ) (ask : Ask) (list : List ℕ) (k : ask .kind < 2) (whole : isSound d b ps ≡ true) (count : ℕ)
+    (made : reply 0 0 count ≡ askedAnswer d b ps ask (roomIn list)) (m : ℕ) (in-baskets : m ≡ baskets d (ask .units)) (c : CashByMarket) (paid : c ≡ askedCash d (account d b (ask .account)) ps ask) where
+  facts : Accepted d b ps (roomIn list) ask
+  unfolding askedAnswer askedReply
+  facts = accepted d b ps (roomIn list) ask k (ap isAccepted (on-sound d b ps (askedChecks d b ps ask (roomIn list)) _ whole) ∙ is-accepted count _ made)
 
-    records : recordsBy creation d (account d b a) units (baskets d units) other shanghai ≡ creationRecords d (account d b a) ps units
-    records = rw (found .other-is, found .shanghai-is) (creation-records d (account d b a) ps units)
+  records : recordsBy (ask .kind) d (account d b (ask .account)) (ask .units) m c ≡ askedRecords d (account d b (ask .account)) ps ask
+  records = rw (in-baskets, paid) (asked-records d (account d b (ask .account)) ps ask k)
 
-    pub creation-makes : OrderReady creation d b a units (baskets d units) (other + shanghai) × (Writable creation d (account d b a) units (baskets d units) other shanghai list × (0 < d .fund .«basket_size»))
-    creation-makes =
-        let t = creates in
-        let f = fund-sound (d .fund) (t .sound .fund-fields) in (
-          rw due (creation-ready-to-move t),
-          (
-            sound-writable d b ps a (t .sound) (t .order .account-in) creation units (baskets d units) other shanghai list (omega arith) (t .order .baskets-high) (rw records (room-enough _ _ (t .listed))),
-            f .size-low,
-          ),
-        )
+  pub order-makes : OrderReady (ask .kind) d b (ask .account) (ask .units) m (total c) × Writable d (account d b (ask .account)) ask m c list
+  order-makes = (rw (in-baskets, paid) (facts .movable), sound-writable d b ps (facts .sound) _ ask m c list (rw records (facts .listed)))
 
-    pub creation-made : (after written : List ℕ) → after ≡ orderMoves creation d a units (baskets d units) (other + shanghai) b
-        → written ≡ withRecords (recordsBy creation d (account d b a) units (baskets d units) other shanghai) list
-        → (after ≡ creationMoves d ps a units b) × (written ≡ withRecords (creationRecords d (account d b a) ps units) list)
-    creation-made after written e w = (
-      e ∙ ap (λ (c : ℕ). orderMoves creation d a units (baskets d units) c b) due ∙ creation-moves d ps a units b,
-      w ∙ ap (λ (rs : List Record). withRecords rs list) records,
-    )
-
-  module _ (made : reply 0 0 count ≡ redemptionAnswer d b a units (roomIn list)) (found : RedemptionFound d units other shanghai) where
-    redeems : Redeems d b ps a units (roomIn list)
-    unfolding redemptionAnswer redemptionReply
-    redeems = redemption-facts d b ps a units (roomIn list) (ap isAccepted (on-sound d b ps (redemptionChecks d b a units (roomIn list)) _ whole) ∙ is-accepted count _ made)
-
-    paid : other + shanghai ≡ redemptionPaid d (baskets d units)
-    unfolding redemptionPaid
-    paid = rw (found .other-is, found .shanghai-is)
-
-    paid-records : recordsBy redemption d (account d b a) units (baskets d units) other shanghai ≡ redemptionRecords d units
-    paid-records = rw (found .other-is, found .shanghai-is) (redemption-records d (account d b a) units)
-
-    pub redemption-makes : OrderReady redemption d b a units (baskets d units) (other + shanghai) × (Writable redemption d (account d b a) units (baskets d units) other shanghai list × (0 < d .fund .«basket_size»))
-    redemption-makes =
-        let t = redeems in
-        let f = fund-sound (d .fund) (t .sound .fund-fields) in (
-          rw paid (redemption-ready-to-move t),
-          (
-            sound-writable d b ps a (t .sound) (t .order .account-in) redemption units (baskets d units) other shanghai list (omega arith) (t .order .baskets-high) (rw paid-records (room-enough _ _ (t .listed))),
-            f .size-low,
-          ),
-        )
-
-    pub redemption-made : (after written : List ℕ) → after ≡ orderMoves redemption d a units (baskets d units) (other + shanghai) b
-        → written ≡ withRecords (recordsBy redemption d (account d b a) units (baskets d units) other shanghai) list
-        → (after ≡ redemptionMoves d a units b) × (written ≡ withRecords (redemptionRecords d units) list)
-    redemption-made after written e w = (
-      e ∙ ap (λ (c : ℕ). orderMoves redemption d a units (baskets d units) c b) paid ∙ redemption-moves d a units b,
-      w ∙ ap (λ (rs : List Record). withRecords rs list) paid-records,
-    )
+  pub order-made : (after written : List ℕ) → after ≡ orderMoves (ask .kind) d (ask .account) (ask .units) m (total c) b
+      → written ≡ withRecords (recordsBy (ask .kind) d (account d b (ask .account)) (ask .units) m c) list
+      → (after ≡ askedMoves d ps ask b) × (written ≡ withRecords (askedRecords d (account d b (ask .account)) ps ask) list)
+  order-made after written e w = (
+    e ∙ rw (in-baskets, paid) (asked-moves d b ps ask k),
+    w ∙ ap (λ (rs : List Record). withRecords rs list) records,
+  )
