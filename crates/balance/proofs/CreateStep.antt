@@ -100,7 +100,7 @@ module _ (d : Day) (b ps : List ℕ) (a units room : ℕ) (t : Creates d b ps a 
       (own-rises d b ps creation a units move (t .sound) (t .order) low)
       (other-stays d b ps creation a units move (t .sound) (t .order) low)
       (t .order .below-ceiling)
-      (omega (arith, t .sound .redeemed-most))
+      (omega (arith, t .sound .book .redeemed-most))
       k
 
 pub create-keeps : (s : State) (a units : ℕ) (lent : Lent) → AcceptedKeeps s (create a units) lent

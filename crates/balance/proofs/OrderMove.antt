@@ -69,10 +69,10 @@ module _ (d : Day) (b ps : List ℕ) (kind a units : ℕ) (m : Move) (sound : So
   after = record { day = d; book = moved; prices = ps }
 
   inside : (i : ℕ) → i < d .accounts → i * width d + width d ≤ length b
-  inside i l = rw (sound .book-size) (within (width d) i (d .accounts) l)
+  inside i l = rw (sound .book .book-size) (within (width d) i (d .accounts) l)
 
   first-in : 0 < d .accounts
-  first-in = omega (arith, sound .accounts-low)
+  first-in = omega (arith, sound .own .accounts-low)
 
   wide : behindLine (d .count) ≤ length investor
   wide = omega (arith, stretch-length (width d) b a (inside a (order .account-in)))

@@ -10,7 +10,7 @@ use Rattle.layout.specs.Day.{Day}
 use Rattle.rules.specs.Lines.{priceOf}
 use Rattle.rules.specs.Sound.{mostPrice}
 use Rattle.rules.specs.Price.{pricedPrices}
-use Rattle.rules.proofs.SoundDay.{Kept}
+use Rattle.rules.proofs.SoundDay.{PricesSound, kept-priced}
 use Rattle.rules.proofs.Accepted.{Prices, price-facts}
 use Rattle.balance.specs.Calls.{State, Lent, price, step}
 use Rattle.balance.specs.Counts.{callSold, callBought, callGot, callHandedIn, callCreated, callRedeemed, callCreatedByAll, callRedeemedByAll}
@@ -20,40 +20,18 @@ module _ (d : Day) (b ps : List ℕ) (line p : ℕ) (h : Prices d b ps line p) w
   price-in : (i : ℕ) → i < d .count → Dec (i ≡ line) → priceOf (set ps line p) i ≤ mostPrice
   unfolding priceOf
   price-in i l (yes e) =
-      let size = h .sound .prices-size in
+      let size = h .sound .prices .prices-size in
       let inside : line < length ps = omega (arith, h .line-in) in
       subst⁻¹ (λ (k : ℕ). priceOf (set ps line p) k ≤ mostPrice) e (omega (arith, getD-set-same ps line p 0 inside, h .price-high))
-  price-in i l (no n) = omega (arith, getD-set-other ps line i p 0 n, h .sound .prices i l)
+  price-in i l (no n) = omega (arith, getD-set-other ps line i p 0 n, h .sound .prices .prices-most i l)
 
-  priced-kept : Kept d b ps → Kept d b (set ps line p)
-  priced-kept k =
-      let s = k .sound in
+  priced : PricesSound d (set ps line p)
+  priced =
       record {
-        sound =
-            record {
-              accounts-low = s .accounts-low;
-              accounts-high = s .accounts-high;
-              count-low = s .count-low;
-              count-high = s .count-high;
-              book-size = s .book-size;
-              prices-size = length-set ps line p ∙ s .prices-size;
-              fund-fields = s .fund-fields;
-              components = s .components;
-              lines = s .lines;
-              units = s .units;
-              money = s .money;
-              prices = λ i l. price-in i l (ℕ-discrete i line);
-              created-most = s .created-most;
-              redeemed-most = s .redeemed-most;
-              fund-units = s .fund-units;
-              fund-created = s .fund-created;
-              fund-redeemed = s .fund-redeemed;
-              fund-bought = s .fund-bought;
-              fund-got = s .fund-got;
-            };
-        room = k .room;
+        prices-size = length-set ps line p ∙ h .sound .prices .prices-size;
+        prices-most = λ i l. price-in i l (ℕ-discrete i line);
       }
 
 pub price-keeps : (s : State) (line p : ℕ) (lent : Lent) → AcceptedKeeps s (price line p) lent
 unfolding step pricedPrices callSold callBought callGot callHandedIn callCreated callRedeemed callCreatedByAll callRedeemedByAll
-price-keeps s line p lent k e = rw e (keeps-same (priced-kept (s .day) (s .book) (s .prices) line p (price-facts _ _ _ _ _ e) k))
+price-keeps s line p lent k e = rw e (keeps-same (kept-priced k (priced (s .day) (s .book) (s .prices) line p (price-facts _ _ _ _ _ e))))

@@ -72,7 +72,7 @@ module _ (d : Day) (b ps : List ℕ) (a units room : ℕ) (t : Redeems d b ps a 
       order-keeps d b ps redemption a units move (t .sound) (t .order) low settles
       (other-stays d b ps redemption a units move (t .sound) (t .order) low)
       (own-rises d b ps redemption a units move (t .sound) (t .order) low)
-      (omega (arith, t .sound .created-most))
+      (omega (arith, t .sound .book .created-most))
       (t .order .below-ceiling)
       k
 

@@ -27,10 +27,10 @@ module _ (d : Day) (b ps : List ℕ) (sound : SoundDay d b ps) (l : ℕ) (inside
   unfolding stockQuantity
   quantity-is =
       list-tally (λ r. r .quantity) (λ xs p. getD xs (p + 2) 0) (λ r xs. refl) quantity-later (codeOf d l) records list
-      ∙ stock-moved d (sound .components) l inside side rest units moved other shanghai
+      ∙ stock-moved d (sound .own .components) l inside side rest units moved other shanghai
 
   pub record-unique : stockRecords (codeOf d l) (withRecords records list) (length records) ≤ 1
   unfolding stockRecords
   record-unique =
       rw (list-tally (λ r. 1) (λ xs p. 1) (λ r xs. refl) (λ r xs p. refl) (codeOf d l) records list)
-      (stock-once d (sound .components) l inside side rest units moved other shanghai)
+      (stock-once d (sound .own .components) l inside side rest units moved other shanghai)

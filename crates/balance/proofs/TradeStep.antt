@@ -57,7 +57,7 @@ module _ (d : Day) (b ps : List ℕ) (line q p seller buyer : ℕ) (t : Trades d
 
   -- an account's stretch lies in the book and has its width
   inside : (a : ℕ) → a < d .accounts → a * width d + width d ≤ length b
-  inside a h = rw (t .sound .book-size) (within (width d) a (d .accounts) h)
+  inside a h = rw (t .sound .book .book-size) (within (width d) a (d .accounts) h)
 
   long : (a : ℕ) → a < d .accounts → behindLine line ≤ length (account d b a)
   long a h = omega (arith, stretch-length (width d) b a (inside a h), t .line-in)
@@ -156,9 +156,9 @@ module _ (d : Day) (b ps : List ℕ) (line q p seller buyer : ℕ) (t : Trades d
       let s = k .sound in
       record {
         sound =
-            sound-moved s (changed .size) (λ l h. stock l) (omega (arith, stock (d .count), s .units)) money
-            (omega (arith, counter-total created (omega arith) (omega arith), s .created-most))
-            (omega (arith, counter-total redeemed (omega arith) (omega arith), s .redeemed-most))
+            sound-moved s (changed .size) (λ l h. stock l) (omega (arith, stock (d .count), s .book .units)) money
+            (omega (arith, counter-total created (omega arith) (omega arith), s .book .created-most))
+            (omega (arith, counter-total redeemed (omega arith) (omega arith), s .book .redeemed-most))
             (λ j h i. ap (λ (x : List ℕ). headAt x j) fund-same)
             (ap (λ (x : List ℕ). lotsAt x (d .count) .old) fund-same)
             (λ l h. ap (λ (x : List ℕ). lotsAt x l .bought) fund-same)

@@ -27,7 +27,7 @@ use Rattle.book.specs.Ready.{Tradable, StockReady, OrderReady}
 -- what a sound day says of one account
 module _ {d : Day} {b ps : List ℕ} (s : SoundDay d b ps) (a : ℕ) (a-in : a < d .accounts) where
   account-in : a * width d + width d ≤ length b
-  account-in = rw (s .book-size) (within (width d) a (d .accounts) a-in)
+  account-in = rw (s .book .book-size) (within (width d) a (d .accounts) a-in)
 
   head-most : (k : ℕ) → headAt (account d b a) k ≤ headTotal d b k
   unfolding headTotal over
@@ -38,8 +38,8 @@ module _ {d : Day} {b ps : List ℕ} (s : SoundDay d b ps) (a : ℕ) (a-in : a <
   line-most l h =
       let part : lotsTotal (lotsAt (account d b a) l) ≤ lineTotal d b l = sum-part (λ i. lotsTotal (lotsAt (account d b i) l)) (d .accounts) a a-in in
       ⊎-elim
-      (λ e. omega (arith, part, ap (lineTotal d b) e, s .units))
-      (λ q. omega (arith, part, s .lines l q))
+      (λ e. omega (arith, part, ap (lineTotal d b) e, s .book .units))
+      (λ q. omega (arith, part, s .book .lines l q))
       (eq-or-lt-of-le h)
 
 pub trade-ready : {d : Day} {b ps : List ℕ} {line q price seller buyer : ℕ} → Trades d b ps line q price seller buyer
@@ -47,7 +47,7 @@ pub trade-ready : {d : Day} {b ps : List ℕ} {line q price seller buyer : ℕ} 
 trade-ready {d} {b} {ps} {line} {q} {price} {seller} {buyer} t =
     let s = t .sound in
     record {
-      count-high = s .count-high;
+      count-high = s .own .count-high;
       line-in = t .line-in;
       seller-in = account-in s seller (t .seller-in);
       buyer-in = account-in s buyer (t .buyer-in);
@@ -55,7 +55,7 @@ trade-ready {d} {b} {ps} {line} {q} {price} {seller} {buyer} t =
       stock = t .stock;
       lots-fit = omega (arith, t .quantity-high, line-most s buyer (t .buyer-in) line (t .line-in));
       money = t .money;
-      cash-fits = omega (arith, t .money, head-most s buyer (t .buyer-in) cash, head-most s seller (t .seller-in) cash, s .money);
+      cash-fits = omega (arith, t .money, head-most s buyer (t .buyer-in) cash, head-most s seller (t .seller-in) cash, s .book .money);
     }
 
 -- what both kinds of order have, with the cash c
@@ -63,9 +63,9 @@ module _ {d : Day} {b ps : List ℕ} {kind a units : ℕ} (c : ℕ) (s : SoundDa
   stock-ready : StockReady d (account d b a) (baskets d units)
   stock-ready =
       record {
-        count-high = s .count-high;
+        count-high = s .own .count-high;
         wide = omega (arith, stretch-length (width d) b a (account-in s a (o .account-in)));
-        needs = λ i l. omega (arith, under 20 99_999_999 (o .baskets-high) (components-fine (d .fund .«first_code») (d .components) (d .count) (s .components) i l .quantity));
+        needs = λ i l. omega (arith, under 20 99_999_999 (o .baskets-high) (components-fine (d .fund .«first_code») (d .components) (d .count) (s .own .components) i l .quantity));
         held = λ i l. omega (arith, line-most s a (o .account-in) i (omega arith));
       }
 
@@ -76,7 +76,7 @@ module _ {d : Day} {b ps : List ℕ} {kind a units : ℕ} (c : ℕ) (s : SoundDa
       → OrderReady kind d b a units (baskets d units) c
   unfolding fundCount
   order-ready handed pays delivers fund-pays =
-      let zero-in : 0 < d .accounts = omega (arith, s .accounts-low) in
+      let zero-in : 0 < d .accounts = omega (arith, s .own .accounts-low) in
       let units-small : units ≤ ceiling = omega (arith, o .below-ceiling) in
       record {
         account-low = o .account-low;
@@ -88,12 +88,12 @@ module _ {d : Day} {b ps : List ℕ} {kind a units : ℕ} (c : ℕ) (s : SoundDa
               handed = handed;
               units-fit = omega (arith, line-most s a (o .account-in) (d .count) (omega arith));
               pays = pays;
-              cash-fits = omega (arith, head-most s a (o .account-in) cash, s .money);
+              cash-fits = omega (arith, head-most s a (o .account-in) cash, s .book .money);
               count-fits = omega (arith, head-most s a (o .account-in) (counter kind), o .below-ceiling);
             };
         fund = record { room = λ i l. omega (arith, line-most s 0 zero-in i (omega arith)); delivers = delivers };
         fund-pays = fund-pays;
-        fund-fits = omega (arith, head-most s 0 zero-in cash, s .money);
+        fund-fits = omega (arith, head-most s 0 zero-in cash, s .book .money);
       }
 
 pub creation-ready : {d : Day} {b ps : List ℕ} {a units room : ℕ} → Creates d b ps a units room
@@ -101,7 +101,7 @@ pub creation-ready : {d : Day} {b ps : List ℕ} {a units room : ℕ} → Create
 creation-ready {d} {b} {ps} {a} {units} {room} r =
     let s = r .sound in
     let o = r .order in
-    order-ready _ s o (omega arith) (omega (arith, r .money, head-most s a (o .account-in) cash, s .money))
+    order-ready _ s o (omega arith) (omega (arith, r .money, head-most s a (o .account-in) cash, s .book .money))
     (λ n. absurd (n refl))
     (λ _. r .money)
     (λ n. absurd (n refl))
@@ -113,7 +113,7 @@ unfolding movedBy unitsAvailable
 redemption-ready {d} {b} {ps} {a} {units} {room} r =
     let s = r .sound in
     let o = r .order in
-    order-ready _ s o (omega arith) (omega (arith, r .money, head-most s 0 (omega (arith, s .accounts-low)) cash, s .money))
+    order-ready _ s o (omega arith) (omega (arith, r .money, head-most s 0 (omega (arith, s .own .accounts-low)) cash, s .book .money))
     (λ _. r .handed)
     (λ e. absurd (omega arith))
     (λ _. r .stocked)

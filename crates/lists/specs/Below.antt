@@ -4,7 +4,7 @@ use mathlib.Core.Bool.{Bool, true, false, _||_, _&&_, cond, false≢true, or-tru
 use mathlib.Core.List.{List, [], _∷_, _++_}
 use mathlib.Core.Logic.{⊎-elim}
 use Prim.Native.Nat.{ℕ, zero, suc, _+_, _*_, _≤_, _<_, zero-le}
-use native.Mathlib.Nat.{suc-mul, lt-suc-self, le-step, zero-mul, not-suc-le-zero, eq-or-lt-of-le, le-of-suc-le-suc, le-refl, le-suc, le-of-eq, le-antisymm, not-suc-le-self, lt-irrefl}
+use native.Mathlib.Nat.{suc-mul, lt-suc-self, le-step, zero-mul, not-suc-le-zero, eq-or-lt-of-le, le-of-suc-le-suc, le-refl, le-suc, le-of-eq, le-antisymm, not-suc-le-self}
 use native.Mathlib.Numerals.{add-one}
 use native.Mathlib.Decide.{ℕ-discrete}
 use native.Mathlib.Omega.{arith}
@@ -246,6 +246,12 @@ pub first-end : (f : ℕ → Bool) (n : ℕ) → ((k : ℕ) → k < n → f k �
 unfolding firstBelow
 first-end f zero h = refl
 first-end f (suc n) h = simp (first-end f n (λ k l. h k (le-step l)), le-ltb n n (le-refl n), h n (lt-suc-self n))
+
+-- two tests that agree below n
+pub first-same : (f g : ℕ → Bool) (n : ℕ) → ((k : ℕ) → k < n → f k ≡ g k) → firstBelow f n ≡ firstBelow g n
+unfolding firstBelow
+first-same f g zero e = refl
+first-same f g (suc n) e = rw (first-same f g n (λ k h. e k (le-step h)), e n (lt-suc-self n))
 
 -- a search that stops below n has not passed all
 pub first-stops : (f : ℕ → Bool) (n : ℕ) → ltb (firstBelow f n) n ≡ false → firstBelow f n ≡ n

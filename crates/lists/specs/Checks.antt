@@ -2,7 +2,7 @@
 use mathlib.Core.Path.{_≡_, refl, sym, ap, subst, _∙_}
 use mathlib.Core.Bool.{Bool, true, false, cond, not, _&&_, false≢true}
 use mathlib.Core.List.{List, [], _∷_, _++_}
-use Prim.Native.Nat.{ℕ, zero, suc, _≤_, _<_}
+use Prim.Native.Nat.{ℕ}
 use native.Mathlib.Omega.{arith}
 use lib.Dec.{T, T-not, ltb, eqb, ltb→lt}
 use borrow.Author.Tests.{eqb-true, eq-eqb}
@@ -133,6 +133,29 @@ answered-stop (c ∷ cs) ds v w e = go (c .fails) e (answered-stop cs ds v w)
         → cond f (reply (c .number) (c .place) 0) (answered (cs ++ ds) v) ≡ cond f (reply (c .number) (c .place) 0) (answered cs w)
     go true e rest = refl
     go false e rest = rest e
+
+-- stages that pass together pass each, and the other way round
+pub passed-each : (cs ds : List Check) → Passed (cs ++ ds) → Passed cs × Passed ds
+passed-each [] ds p = (tt, p)
+passed-each (c ∷ cs) ds p =
+    let q = passed-each cs ds (p .1) in
+    ((p .0, q .0), q .1)
+
+pub passed-both : (cs ds : List Check) → Passed cs → Passed ds → Passed (cs ++ ds)
+passed-both [] ds p q = q
+passed-both (c ∷ cs) ds p q = (p .0, passed-both cs ds (p .1) q)
+
+-- Tests es inserted behind cs. They are not seen where they pass, nor where cs fails. So the answer of the list with them is the answer
+-- of the list without them but where cs passes and one of them fails, and then it is theirs.
+pub answered-insert : (cs es ds : List Check) (v : ℕ) → (passes cs ≡ true → passes es ≡ true) → answered (cs ++ (es ++ ds)) v ≡ answered (cs ++ ds) v
+answered-insert cs es ds v pass = go (passes cs) refl
+  where
+    go : (b : Bool) → passes cs ≡ b → answered (cs ++ (es ++ ds)) v ≡ answered (cs ++ ds) v
+    go true e = answered-next cs (es ++ ds) v e ∙ answered-next es ds v (pass e) ∙ sym (answered-next cs ds v e)
+    go false e = answered-stop cs (es ++ ds) v v e ∙ sym (answered-stop cs ds v v e)
+
+pub inserted-refuses : (cs es ds : List Check) (v w : ℕ) → passes cs ≡ true → passes es ≡ false → answered (cs ++ (es ++ ds)) v ≡ answered es w
+inserted-refuses cs es ds v w e f = answered-next cs (es ++ ds) v e ∙ answered-stop es ds v w f
 
 -- an accepted list has passed, and a refused one has not
 pub accepted-passes : (cs : List Check) (v : ℕ) → T (numbered cs) → isAccepted (answered cs v) ≡ true → passes cs ≡ true

@@ -1,14 +1,13 @@
 -- Opening's answer, stage by stage.
-use mathlib.Core.Path.{_≡_, refl, sym, ap, _∙_}
-use mathlib.Core.Bool.{Bool, true, false, not, _&&_, true≢false}
+use mathlib.Core.Path.{_≡_, sym, ap, _∙_}
+use mathlib.Core.Bool.{true, false, not}
 use mathlib.Core.List.{List, [], _∷_}
 use Prim.Native.Nat.{ℕ, _+_, _≤_, _<_}
 use native.Mathlib.Omega.{arith}
 use lib.Dec.{ltb}
 use lib.ListN.{length, replicate}
-use borrow.Author.Tests.{lt-ltb, le-ltb, eqb-true}
+use borrow.Author.Tests.{lt-ltb, le-ltb}
 use Rattle.lists.specs.Below.{joinBelow}
-use Rattle.lists.specs.Every.{every, every-at, inside}
 use Rattle.lists.specs.Checks.{Check, check, reply, answered, isAccepted}
 use Rattle.layout.specs.declared.Component.{Component}
 use Rattle.fund.specs.Fund.{fundInRange}
@@ -19,40 +18,22 @@ use Rattle.rules.specs.declared.Refusal.{Refusal}
 use Rattle.rules.specs.declared.Answer.{Answer}
 use Rattle.rules.specs.declared.Answer.the-variants.{Done, Refused}
 use Rattle.rules.specs.Replies.{answerReply}
-use Rattle.rules.specs.Opening.{Opening, holdingsOf, componentsOpened, lengthsFit, openedTotal, openedCash, totalFault, dayChecks, openingReply, openedDay, openedStretch, openedBook, openedPrices}
+use Rattle.rules.specs.Opening.{Opening, holdingsOf, openedTotal, openedCash, sizeChecks, fundChecks, totalFault, totalChecks, dayChecks, componentsOpened, openingSizesFit, openingReply, openedDay, openedStretch, openedBook, openedPrices}
 use Rattle.rules.proofs.Replies.{refused}
 use Rattle.rules.proofs.OpenedDay.{opened-opens, opened-day, opened-book, opened-prices}
-use Rattle.opening.specs.Given.{Outcome, sizesFit, overOpened, faultOpened}
-use Rattle.opening.proofs.Sizes.{Sizes}
-
--- refusal 1's three tests on plain truth values
-sizes-fail : (a n l : Bool) (cs : List Check) → (a && (n && l)) ≡ false → answered (check (not a) 1 0 ∷ check (not n) 1 0 ∷ check (not l) 1 0 ∷ cs) 0 ≡ reply 1 0 0
-unfolding answered
-sizes-fail true true true cs e = absurd (true≢false e)
-sizes-fail true true false cs e = refl
-sizes-fail true false l cs e = refl
-sizes-fail false n l cs e = refl
-
-sizes-pass : (a n l : Bool) (cs : List Check) → (a && (n && l)) ≡ true → answered (check (not a) 1 0 ∷ check (not n) 1 0 ∷ check (not l) 1 0 ∷ cs) 0 ≡ answered cs 0
-unfolding answered
-sizes-pass true true true cs e = refl
-sizes-pass true true false cs e = absurd (true≢false (sym e))
-sizes-pass true false l cs e = absurd (true≢false (sym e))
-sizes-pass false n l cs e = absurd (true≢false (sym e))
+use Rattle.opening.specs.Given.{Outcome, totalsOf}
+use Rattle.opening.proofs.Sizes.{LentSizes, lent-facts}
 
 module _ (o : Opening) where
-  -- refusal 1's test and its facts, and the places that refusals 3 and 4 name
-  abbrev pub sizesOf : Bool
-  sizesOf = sizesFit (o .accounts) (o .count) (length (o .components)) (length (o .holdings)) (length (o .book)) (length (o .prices))
-
-  abbrev pub LentSizes : Type 0
-  LentSizes = Sizes (o .accounts) (o .count) (length (o .components)) (length (o .holdings)) (length (o .book)) (length (o .prices))
+  -- refusal 1's facts, and the places that refusals 3 and 4 name
+  abbrev pub Sizes : Type 0
+  Sizes = LentSizes (o .accounts) (o .count) (length (o .components)) (length (o .holdings)) (length (o .book)) (length (o .prices))
 
   abbrev pub componentPlace : ℕ
   componentPlace = componentFault (o .fund .«first_code») (componentsOpened o) (o .count)
 
   abbrev pub linePlace : ℕ
-  linePlace = faultOpened (o .accounts) (o .count) (o .holdings)
+  linePlace = totalFault (o .count) (totalsOf (o .accounts) (o .count) (o .holdings))
 
   -- the tests after refusal 1's
   abbrev laterChecks : List Check
@@ -62,25 +43,25 @@ module _ (o : Opening) where
       ∷ check (ltb linePlace (o .count + 2)) 4 linePlace
       ∷ []
 
-  pub answer-sizes : sizesOf ≡ false → reply 1 0 0 ≡ openingReply o
-  unfolding openingReply dayChecks sizesFit lengthsFit every
-  answer-sizes e = sym (sizes-fail (inside 2 64 (o .accounts)) (inside 1 300 (o .count)) (lengthsFit o) _ e)
+  pub answer-sizes : openingSizesFit o ≡ false → reply 1 0 0 ≡ openingReply o
+  unfolding openingReply dayChecks sizeChecks answered
+  answer-sizes e = rw e
 
-  later : sizesOf ≡ true → answered laterChecks 0 ≡ openingReply o
-  unfolding openingReply dayChecks totalFault faultOpened overOpened openedTotal openedCash sizesFit lengthsFit every
-  later e = sym (sizes-pass (inside 2 64 (o .accounts)) (inside 1 300 (o .count)) (lengthsFit o) _ e)
+  later : openingSizesFit o ≡ true → answered laterChecks 0 ≡ openingReply o
+  unfolding openingReply dayChecks sizeChecks fundChecks totalChecks openedTotal openedCash answered
+  later e = rw e
 
-  pub answer-fund : sizesOf ≡ true → fundInRange (o .fund) ≡ false → reply 2 0 0 ≡ openingReply o
+  pub answer-fund : openingSizesFit o ≡ true → fundInRange (o .fund) ≡ false → reply 2 0 0 ≡ openingReply o
   unfolding answered
   answer-fund e f = rw (← later e, f)
 
-  pub answer-component : (fault : ℕ) → sizesOf ≡ true → fundInRange (o .fund) ≡ true → fault ≡ componentPlace → fault < o .count → reply 3 fault 0 ≡ openingReply o
+  pub answer-component : (fault : ℕ) → openingSizesFit o ≡ true → fundInRange (o .fund) ≡ true → fault ≡ componentPlace → fault < o .count → reply 3 fault 0 ≡ openingReply o
   unfolding answered
   answer-component fault e f p c =
       let low : componentPlace < o .count = omega arith in
       rw (← later e, f, lt-ltb componentPlace (o .count) low, p)
 
-  pub answer-total : (fault line : ℕ) → sizesOf ≡ true → fundInRange (o .fund) ≡ true → fault ≡ componentPlace → o .count ≤ fault
+  pub answer-total : (fault line : ℕ) → openingSizesFit o ≡ true → fundInRange (o .fund) ≡ true → fault ≡ componentPlace → o .count ≤ fault
       → line ≡ linePlace → line < o .count + 2 → reply 4 line 0 ≡ openingReply o
   unfolding answered
   answer-total fault line e f p c q t =
@@ -88,7 +69,7 @@ module _ (o : Opening) where
       let low : linePlace < o .count + 2 = omega arith in
       rw (← later e, f, le-ltb componentPlace (o .count) past, lt-ltb linePlace (o .count + 2) low, q)
 
-  pub answer-done : (fault line : ℕ) → sizesOf ≡ true → fundInRange (o .fund) ≡ true → fault ≡ componentPlace → o .count ≤ fault
+  pub answer-done : (fault line : ℕ) → openingSizesFit o ≡ true → fundInRange (o .fund) ≡ true → fault ≡ componentPlace → o .count ≤ fault
       → line ≡ linePlace → o .count + 2 ≤ line → reply 0 0 0 ≡ openingReply o
   unfolding answered
   answer-done fault line e f p c q t =
@@ -101,25 +82,15 @@ module _ (o : Opening) where
   places-fault fault p = p
 
   -- what an accepted opening says of the lent lengths
-  accepted-sizes : isAccepted (openingReply o) ≡ true → LentSizes
-  unfolding lengthsFit
-  accepted-sizes e =
-      let p = opened-opens o e in
-      let at = every-at _ (p .lengths) in
-      record {
-        sized = record { accounts-low = p .accounts-low; accounts-high = p .accounts-high; count-low = p .count-low; count-high = p .count-high };
-        components-size = eqb-true _ _ (at 0);
-        holdings-size = eqb-true _ _ (at 1);
-        book-size = eqb-true _ _ (at 2);
-        prices-size = eqb-true _ _ (at 3);
-      }
+  accepted-sizes : isAccepted (openingReply o) ≡ true → Sizes
+  accepted-sizes e = lent-facts _ _ _ _ _ _ (opened-opens o e .sizes)
 
   module _ (answer : Answer) (said : answerReply answer ≡ openingReply o) where
     done : answer ≡ Done → isAccepted (openingReply o) ≡ true
     unfolding isAccepted
     done e = rw (← said, e)
 
-    pub done-sizes : answer ≡ Done → LentSizes
+    pub done-sizes : answer ≡ Done → Sizes
     done-sizes e = accepted-sizes (done e)
 
     -- an accepted opening
@@ -132,7 +103,7 @@ module _ (o : Opening) where
           answer-is = said;
           day-is = rw p (sym (opened-day o (done e)));
           book-is = b ∙ sym (opened-book o (done e));
-          prices-is = q ∙ ap (λ (n : ℕ). replicate n 0) (done-sizes e .prices-size) ∙ sym (opened-prices o (done e));
+          prices-is = q ∙ ap (λ (n : ℕ). replicate n 0) (done-sizes e .day .prices-size) ∙ sym (opened-prices o (done e));
         }
 
     -- a refused one

@@ -1,19 +1,13 @@
 -- What the code of opening is given, and the parts of its work.
-use Prim.Native.Nat.{ℕ, _+_, _*_, _≤_, min}
+use Prim.Native.Nat.{ℕ, _+_}
 use mathlib.Core.Path.{_≡_}
-use mathlib.Core.Bool.{Bool}
-use mathlib.Core.List.{List, [], _∷_}
-use lib.Dec.{eqb}
+use mathlib.Core.List.{List}
 use lib.ListN.{getD, set}
-use Rattle.lists.specs.Below.{firstBelow}
-use Rattle.lists.specs.Every.{every, inside}
 use Rattle.lists.specs.Stretch.{stretchOf, over}
 use Rattle.layout.specs.declared.Fund.{Fund}
-use Rattle.layout.specs.Places.{componentWidth}
-use Rattle.layout.specs.Book.{widthOf}
 use Rattle.rules.specs.declared.Opened.{Opened}
 use Rattle.rules.specs.Replies.{answerReply}
-use Rattle.rules.specs.Opening.{Opening, cashOpened, heldOpened, mostOfLine, overAt, openingReply, openedDay, openedBook, openedPrices}
+use Rattle.rules.specs.Opening.{Opening, cashOpened, heldOpened, mostOfLine, DayTotals, openingReply, openedDay, openedBook, openedPrices}
 
 -- opening's arguments as one
 abbrev pub given : ℕ → ℕ → Fund → List ℕ → List ℕ → List ℕ → List ℕ → Opening
@@ -27,36 +21,19 @@ pub record Outcome (o : Opening) (r : Opened) (book prices : List ℕ) : Type 0 
   pub book-is : book ≡ openedBook o
   pub prices-is : prices ≡ openedPrices o
 
--- A and N are small enough to reckon with
-pub record Sized (accounts count : ℕ) : Type 0 where
-  pub accounts-low : 2 ≤ accounts
-  pub accounts-high : accounts ≤ 64
-  pub count-low : 1 ≤ count
-  pub count-high : count ≤ 300
+-- the totals that refusal 4 looks at: as they stand in a list, cash first, and of the holdings of so many accounts
+abbrev pub totalsIn : List ℕ → ℕ → DayTotals
+totalsIn t fundUnits =
+    record { line = λ l. getD t (1 + l) 0; unitsMost = mostOfLine; fundUnits = fundUnits; cashTotal = getD t 0 0 }
 
--- refusal 1's test: A, N, and the lent lengths of components, holdings, book and prices
-unfoldable pub sizesFit : ℕ → ℕ → ℕ → ℕ → ℕ → ℕ → Bool
-sizesFit accounts count components holdings book prices =
-    every
-    (inside 2 64 accounts
-    ∷ inside 1 300 count
-    ∷ eqb components (componentWidth * count)
-    ∷ eqb holdings (accounts * (count + 2))
-    ∷ eqb book (accounts * widthOf count)
-    ∷ eqb prices count
-    ∷ [])
-
--- the total of a column over the first k rows of w numbers, as far as a cap
-unfoldable pub cappedTotal : ℕ → List ℕ → ℕ → ℕ → ℕ → ℕ
-cappedTotal w run k column cap = min (over w k (λ h. getD h column 0) run) cap
-
--- refusal 4 at a place, and the lowest such place, of the holdings of so many accounts
-unfoldable pub overOpened : ℕ → ℕ → List ℕ → ℕ → Bool
-overOpened accounts n holdings place =
-    overAt n (λ l. over (n + 2) accounts (heldOpened l) holdings) mostOfLine (heldOpened n (stretchOf (n + 2) holdings 0)) (over (n + 2) accounts cashOpened holdings) place
-
-unfoldable pub faultOpened : ℕ → ℕ → List ℕ → ℕ
-faultOpened accounts n holdings = firstBelow (overOpened accounts n holdings) (n + 2)
+abbrev pub totalsOf : ℕ → ℕ → List ℕ → DayTotals
+totalsOf accounts n holdings =
+    record {
+      line = λ l. over (n + 2) accounts (heldOpened l) holdings;
+      unitsMost = mostOfLine;
+      fundUnits = heldOpened n (stretchOf (n + 2) holdings 0);
+      cashTotal = over (n + 2) accounts cashOpened holdings;
+    }
 
 -- three numbers from a place on
 unfoldable pub putThree : ℕ → ℕ → ℕ → ℕ → List ℕ → List ℕ

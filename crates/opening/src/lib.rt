@@ -1,15 +1,17 @@
 // Opening: its tests, refusals 1 to 4, and the book and prices that an accepted opening leaves.
 ghost use mathlib.Core.Path.{_≡_};
-ghost use Prim.Native.Nat.{_+_, _*_, _≤_, _<_, min};
+ghost use Prim.Native.Nat.{_+_, _*_, _≤_, _<_};
 ghost use lib.ListN.{length, replicate};
 ghost use Rattle.lists.specs.Below.{joinBelow};
 ghost use Rattle.lists.specs.Stretch.{stretchOf, putStretch};
+ghost use Rattle.layout.specs.Places.{mostComponents};
 ghost use Rattle.layout.specs.Book.{widthOf};
 ghost use Rattle.rules.specs.Replies.{answerReply};
-ghost use Rattle.rules.specs.Opening.{openingReply, openedStretch};
+ghost use Rattle.totals.specs.Totals.{widest, mostRows};
+ghost use Rattle.rules.specs.Opening.{overAt, totalFault, lentSizesFit, openingReply, openedStretch};
 ghost use Rattle.layout.specs.Fund.{blankFund};
 ghost use Rattle.layout.specs.Day.{blankDay};
-ghost use Rattle.opening.specs.Given.{given, Outcome, Sized, sizesFit, cappedTotal, overOpened, faultOpened, putThree};
+ghost use Rattle.opening.specs.Given.{given, Outcome, totalsIn, totalsOf, putThree};
 use layout::Fund;
 use rules::Answer;
 use rules::Day;
@@ -17,72 +19,46 @@ use rules::Opened;
 use rules::Refusal;
 use units::Rate;
 
-// The most that a line may total, the unit too.
-const MOST_OF_LINE: u64 = 1_000_000_000_000_000_000;
-
-// The most that cash may total.
-const MOST_CASH: u64 = 4_000_000_000_000_000_000;
-
-// total + x, or cap where that is more.
-fn add_capped(total: u64, x: u64, cap: u64) -> u64
-    requires { ⌜ total ≤ cap ⌝ }
-    ensures { λ r. ⌜ r ≡ min (total + x) cap ⌝ }
+// Refusal 4 at a place, by the totals of the holdings' rows and the fund's units: a line, of which `count` is the unit, or one past it for cash.
+fn over_at(totals: &[u64; totals::WIDEST], units: u64, count: usize, place: usize) -> bool
+    requires { ⌜ (count ≤ mostComponents) × (place < count + 2) × (length (now totals) ≡ widest) ⌝ }
+    ensures { λ r. ⌜ r ≡ overAt count (totalsIn (now (totals .entry)) units) place ⌝ }
 {
-    if cap - total < x {
-        return cap;
-    }
-    total + x
-}
-
-// The total of a column over all accounts, as far as a cap.
-fn column_total(run: &[u64], w: usize, accounts: usize, column: usize, cap: u64) -> u64
-    requires { ⌜ column < w ⌝ }
-    requires { ⌜ length (now run) ≡ accounts * w ⌝ }
-    ensures { λ r. ⌜ r ≡ cappedTotal w (now (run .entry)) accounts column cap ⌝ }
-{
-    let mut total: u64 = 0;
-    let mut a = 0;
-    while a < accounts {
-        total = add_capped(total, run[a * w + column], cap);
-        a += 1;
-    }
-    total
-}
-
-// Refusal 4 at a place: a line, of which `count` is the unit, or one past it for cash.
-fn over_at(holdings: &[u64], accounts: usize, count: usize, place: usize) -> bool
-    requires { ⌜ Sized accounts count ⌝ }
-    requires { ⌜ length (now holdings) ≡ accounts * (count + 2) ⌝ }
-    requires { ⌜ place < count + 2 ⌝ }
-    ensures { λ r. ⌜ r ≡ overOpened accounts count (now (holdings .entry)) place ⌝ }
-{
-    let w = count + 2;
     if count < place {
-        return MOST_CASH < column_total(holdings, w, accounts, 0, MOST_CASH + 1);
+        return rules::MOST_CASH < totals[0];
     }
     if place == count {
-        if 0 < holdings[count + 1] {
+        if 0 < units {
             return true;
         }
     }
-    MOST_OF_LINE < column_total(holdings, w, accounts, 1 + place, MOST_OF_LINE + 1)
+    rules::MOST_OF_LINE < totals[1 + place]
 }
 
-// The lowest place at which refusal 4 holds, and `count` + 2 where there is none.
-fn total_fault(holdings: &[u64], accounts: usize, count: usize) -> usize
-    requires { ⌜ Sized accounts count ⌝ }
-    requires { ⌜ length (now holdings) ≡ accounts * (count + 2) ⌝ }
-    ensures { λ r. ⌜ r ≡ faultOpened accounts count (now (holdings .entry)) ⌝ }
+// The lowest place at which it holds, and `count` + 2 where there is none.
+fn first_over(totals: &[u64; totals::WIDEST], units: u64, count: usize) -> usize
+    requires { ⌜ (count ≤ mostComponents) × (length (now totals) ≡ widest) ⌝ }
+    ensures { λ r. ⌜ r ≡ totalFault count (totalsIn (now (totals .entry)) units) ⌝ }
 {
     let places = count + 2;
     let mut place = 0;
     while place < places {
-        if over_at(holdings, accounts, count, place) {
+        if over_at(totals, units, count, place) {
             return place;
         }
         place += 1;
     }
     place
+}
+
+// The same of the holdings. Their totals, as far as 2^62, will do: every limit is below that.
+fn total_fault(holdings: &[u64], accounts: usize, count: usize) -> usize
+    requires { ⌜ (1 ≤ accounts) × (accounts ≤ mostRows) × (count ≤ mostComponents) × (length (now holdings) ≡ accounts * (count + 2)) ⌝ }
+    ensures { λ r. ⌜ r ≡ totalFault count (totalsOf accounts count (now (holdings .entry))) ⌝ }
+{
+    let mut totals = [0u64; totals::WIDEST];
+    totals::fill(&mut totals, holdings, accounts, count + 2);
+    first_over(&totals, holdings[count + 1], count)
 }
 
 // Refusal 1's test. The ranges come first, so that no product is too large.
@@ -94,30 +70,15 @@ fn sizes_fit(
     book: usize,
     prices: usize,
 ) -> bool
-    ensures { λ r. ⌜ r ≡ sizesFit accounts count components holdings book prices ⌝ }
+    ensures { λ r. ⌜ r ≡ lentSizesFit accounts count components holdings book prices ⌝ }
 {
-    if accounts < 2 {
-        return false;
-    }
-    if 64 < accounts {
-        return false;
-    }
-    if count < 1 {
-        return false;
-    }
-    if layout::MOST_COMPONENTS < count {
+    if !sound::sizes_fit(accounts, count, book, prices) {
         return false;
     }
     if components != layout::COMPONENT_WIDTH * count {
         return false;
     }
-    if holdings != accounts * (count + 2) {
-        return false;
-    }
-    if book != accounts * (3 + 3 * (count + 1)) {
-        return false;
-    }
-    prices == count
+    holdings == accounts * (count + 2)
 }
 
 // The answer, which changes nothing.

@@ -130,7 +130,7 @@ sound-ready d b ps o day inside k m =
     let rs = recordsIn d o b in
     let w = sound-writable d b ps (o .account) day inside (o .kind) (o .units) (o .baskets) (o .other .0) (o .shanghai .0) (flatten rs) k m (le-of-eq (sym (flatten-length rs))) in
     record {
-      account-in = rw (day .book-size) (within (width d) (o .account) (d .accounts) inside);
+      account-in = rw (day .book .book-size) (within (width d) (o .account) (d .accounts) inside);
       stock = w .stock;
       first-code = w .first-code;
     }
@@ -214,7 +214,7 @@ module _ (d : Day) (b ps : List ℕ) (a units room m : ℕ) (t : Tested) (whole 
 
 -- the baskets are counted by a size above 0
 pub size-low : (d : Day) (b ps : List ℕ) → isSound d b ps ≡ true → 0 < d .fund .«basket_size»
-size-low d b ps e = fund-sound (d .fund) (sound-facts d b ps e .fund-fields) .size-low
+size-low d b ps e = fund-sound (d .fund) (sound-facts d b ps e .own .fund-fields) .size-low
 
 pub creation-unsound : (d : Day) (b ps : List ℕ) (a units room : ℕ) → isSound d b ps ≡ false → creationReply d b ps a units room ≡ reply 5 0 0
 unfolding creationReply

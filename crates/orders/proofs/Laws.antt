@@ -48,16 +48,16 @@ module _ (d : Day) (b ps : List ℕ) (ask : Ask) (f : Formed d b ps ask) where
   unfolding orderForm wholeUnits limitsHeld headOf headSum wholeBaskets baskets withinLimits fundCount countOf headTotal
   order =
       let p = all-passed (orderForm (d .accounts) (d .count) (d .fund) b ask) 0 tt (is-accepted 0 _ (f .formed)) in
-      order-facts d b (ask .kind) (ask .account) (ask .units) (sound .accounts-low) (not-false _ (p .0)) (not-false _ (p .1 .0)) (not-false _ (p .1 .1 .1 .0))
+      order-facts d b (ask .kind) (ask .account) (ask .units) (sound .own .accounts-low) (not-false _ (p .0)) (not-false _ (p .1 .0)) (not-false _ (p .1 .1 .1 .0))
 
   pub fund : FundRanges (d .fund)
-  fund = fund-sound (d .fund) (sound .fund-fields)
+  fund = fund-sound (d .fund) (sound .own .fund-fields)
 
   pub inside : (i : ℕ) → i < d .accounts → i * widthOf (d .count) + widthOf (d .count) ≤ length b
-  inside i h = rw (sound .book-size) (within (widthOf (d .count)) i (d .accounts) h)
+  inside i h = rw (sound .book .book-size) (within (widthOf (d .count)) i (d .accounts) h)
 
   pub first : 0 < d .accounts
-  first = omega (arith, sound .accounts-low)
+  first = omega (arith, sound .own .accounts-low)
 
   -- what the third stage asks, on parts s and t of the book that are the account's stretch and the fund's
   pub stage-asks : (s t : List ℕ) (m : ℕ) → s ≡ account d b (ask .account) → t ≡ account d b 0 → m ≡ baskets d (ask .units) → Scannable (ask .kind) d s t ps m

@@ -76,16 +76,16 @@ units-small f units high e =
 pub sound-countable : (d : Day) (b ps : List ℕ) → SoundDay d b ps → Countable (d .accounts) (d .count) (d .fund) b
 unfolding headSum headTotal
 sound-countable d b ps s =
-    let f = fund-sound (d .fund) (s .fund-fields) in
+    let f = fund-sound (d .fund) (s .own .fund-fields) in
     record {
-      accounts-low = s .accounts-low;
-      accounts-high = s .accounts-high;
-      count-high = s .count-high;
-      size = s .book-size;
+      accounts-low = s .own .accounts-low;
+      accounts-high = s .own .accounts-high;
+      count-high = s .own .count-high;
+      size = s .book .book-size;
       basket-low = f .size-low;
       basket-high = f .size-high;
-      created-most = s .created-most;
-      redeemed-most = s .redeemed-most;
+      created-most = s .book .created-most;
+      redeemed-most = s .book .redeemed-most;
     }
 
 -- a counter of all accounts is at most the ceiling

@@ -22,4 +22,4 @@ room-enough n list h = omega arith
 pub sound-writable : (d : Day) (b ps : List ℕ) → SoundDay d b ps → (s : List ℕ) (ask : Ask) (m : ℕ) (c : CashByMarket) (list : List ℕ)
     → length (recordsBy (ask .kind) d s (ask .units) m c) ≤ roomIn list → Writable d s ask m c list
 sound-writable d b ps day s ask m c list room =
-    record { first-code = fund-sound (d .fund) (day .fund-fields) .first-code; room = room-enough _ list room }
+    record { first-code = fund-sound (d .fund) (day .own .fund-fields) .first-code; room = room-enough _ list room }

@@ -1,14 +1,14 @@
 -- What an accepted call has passed, fact by fact.
 use mathlib.Core.Path.{_≡_, refl, sym}
-use mathlib.Core.Bool.{Bool, true, false, not, _||_}
+use mathlib.Core.Bool.{Bool, true, false, _||_}
 use mathlib.Core.List.{List, [], _∷_}
 use Prim.Native.Nat.{ℕ, _+_, _-_, _*_, _%_, _≤_, _<_}
 use native.Mathlib.Omega.{arith}
-use lib.Dec.{leb, ltb, eqb}
+use lib.Dec.{leb, eqb}
 use lib.ListN.{length}
 use borrow.Author.Tests.{leb-true, ltb-false, leb-false, eqb-true, eqb-false, not-false}
 use Rattle.lists.specs.Below.{first-all, first-stops}
-use Rattle.lists.specs.Every.{every, every-at, inside, inside-facts}
+use Rattle.lists.specs.Every.{every-at, inside, inside-facts}
 use Rattle.lists.specs.Checks.{isAccepted, all-passed, accepted-value}
 use Rattle.lots.specs.Lots.{sellable}
 use Rattle.fund.specs.Fund.{ceiling, limitOf, cumulativeLimit, cumulativeLimitEach, netLimit, netLimitEach}
@@ -69,8 +69,8 @@ trade-facts d b ps line q price seller buyer e =
     let sound = sound-facts d b ps (not-false _ (p .0)) in
     let qs = inside-facts 1 999_999_999 q (not-false _ (p .1 .1 .0)) in
     let prices = inside-facts 1 mostPrice price (not-false _ (p .1 .1 .1 .0)) in
-    let sells = investor-facts d seller (sound .accounts-low) (not-false _ (p .1 .1 .1 .1 .0)) in
-    let buys = investor-facts d buyer (sound .accounts-low) (not-false _ (p .1 .1 .1 .1 .1 .0)) in
+    let sells = investor-facts d seller (sound .own .accounts-low) (not-false _ (p .1 .1 .1 .1 .0)) in
+    let buys = investor-facts d buyer (sound .own .accounts-low) (not-false _ (p .1 .1 .1 .1 .1 .0)) in
     record {
       sound = sound;
       line-in = ltb-false _ _ (p .1 .0);
@@ -146,7 +146,7 @@ creation-facts d b ps a units room e =
     let short = first-stops (isShort d (account d b a) (baskets d units)) (d .count) (p .1 .1 .1 .1 .1 .0) in
     record {
       sound = sound;
-      order = order-facts d b creation a units (sound .accounts-low) (not-false _ (p .1 .0)) (not-false _ (p .1 .1 .0)) (not-false _ (p .1 .1 .1 .1 .0));
+      order = order-facts d b creation a units (sound .own .accounts-low) (not-false _ (p .1 .0)) (not-false _ (p .1 .1 .0)) (not-false _ (p .1 .1 .1 .1 .0));
       allowed = not-false _ (p .1 .1 .1 .0);
       stocked = first-all (isShort d (account d b a) (baskets d units)) (d .count) short;
       money = ltb-false _ _ (p .1 .1 .1 .1 .1 .1 .1 .1 .0);
@@ -177,7 +177,7 @@ redemption-facts d b ps a units room e =
     let lacks = first-stops (fundLacks d (account d b 0) (baskets d units)) (d .count) (p .1 .1 .1 .1 .1 .1 .0) in
     record {
       sound = sound;
-      order = order-facts d b redemption a units (sound .accounts-low) (not-false _ (p .1 .0)) (not-false _ (p .1 .1 .0)) (not-false _ (p .1 .1 .1 .1 .0));
+      order = order-facts d b redemption a units (sound .own .accounts-low) (not-false _ (p .1 .0)) (not-false _ (p .1 .1 .0)) (not-false _ (p .1 .1 .1 .1 .0));
       allowed = not-false _ (p .1 .1 .1 .0);
       handed = omega (arith, ltb-false (unitsAvailable d (account d b a)) units (p .1 .1 .1 .1 .1 .0));
       stocked = λ i h. ltb-false _ _ (first-all (fundLacks d (account d b 0) (baskets d units)) (d .count) lacks i h);

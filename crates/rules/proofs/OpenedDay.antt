@@ -2,11 +2,12 @@
 use mathlib.Core.Path.{_≡_, refl, sym, ap, _∙_}
 use mathlib.Core.Bool.{true}
 use mathlib.Core.List.{List, [], _∷_}
-use Prim.Native.Nat.{ℕ, suc, _+_, _-_, _*_, _<_}
+use Prim.Native.Nat.{ℕ, suc, _+_, _*_, _<_}
 use native.Mathlib.Nat.{add-zero}
 use native.Mathlib.Omega.{arith}
 use lib.ListN.{length, getD, replicate, length-replicate, getD-replicate}
 use Rattle.lists.specs.Below.{joinBelow, join-length, sum-same, sum-zero}
+use Rattle.lists.specs.Every.{every-at}
 use Rattle.lists.specs.Checks.{isAccepted, all-passed}
 use Rattle.lists.specs.Every.{every-at}
 use borrow.Author.Tests.{eqb-true}
@@ -20,10 +21,10 @@ use Rattle.layout.proofs.Components.{places-at}
 use Rattle.layout.specs.Day.{Day, dayAt}
 use Rattle.layout.proofs.Day.{day-back}
 use Rattle.fund.proofs.Laws.{fund-sound, cash-size}
-use Rattle.layout.specs.Book.{widthOf, cash, created, redeemed, headAt, lotsAt, width, account, headTotal, lineTotal, lineFrom}
+use Rattle.layout.specs.Book.{widthOf, cash, created, redeemed, headAt, lotsAt, headTotal, lineTotal, lineFrom}
 use Rattle.rules.specs.Lines.{componentOf, priceOf}
-use Rattle.rules.specs.Opening.{Opening, holdingsOf, cashOpened, heldOpened, openedTotal, openedCash, mostOfLine, dayChecks, componentsOpened, lengthsFit, openingReply, openedDay, openedRun, openedStretch, openedBook, openedPrices}
-use Rattle.rules.proofs.SoundDay.{Opens, opens-facts, Kept}
+use Rattle.rules.specs.Opening.{Opening, holdingsOf, cashOpened, heldOpened, openedTotal, openedCash, sizeChecks, fundChecks, totalChecks, dayChecks, componentsOpened, lentSizesFit, openingSizesFit, openedTotals, openingReply, openedDay, openedRun, openedStretch, openedBook, openedPrices}
+use Rattle.rules.proofs.SoundDay.{DaySizes, sizes-facts, Opens, opens-facts, Kept}
 
 -- one account's stretch
 module _ (n : ℕ) (h : List ℕ) where
@@ -79,9 +80,13 @@ module _ (o : Opening) (accepted : isAccepted (openingReply o) ≡ true) where
   unfolding openedPrices
   opened-prices = rw accepted
 
-  pub opened-opens : Opens (o .accounts) (o .count) (lengthsFit o) (o .fund) (componentsOpened o) (openedTotal o) mostOfLine (heldOpened (o .count) (holdingsOf o 0)) (openedCash o)
-  unfolding openingReply dayChecks
-  opened-opens = opens-facts _ _ _ _ _ _ _ _ _ (all-passed _ 0 tt accepted)
+  pub opened-opens : Opens (openingSizesFit o) (o .fund) (componentsOpened o) (o .count) (openedTotals o)
+  unfolding openingReply dayChecks sizeChecks fundChecks totalChecks
+  opened-opens = opens-facts _ _ _ _ _ (all-passed _ 0 tt accepted)
+
+  pub opened-sizes : DaySizes (o .accounts) (o .count) (length (o .book)) (length (o .prices))
+  unfolding lentSizesFit
+  opened-sizes = sizes-facts _ _ _ _ (every-at _ (opened-opens .sizes) 0)
 
   -- an account's stretch of the opened book
   pub opened-account : (a : ℕ) → a < o .accounts → stretchOf (widthOf (o .count)) (openedBook o) a ≡ openedStretch (o .count) (holdingsOf o a)
@@ -90,7 +95,7 @@ module _ (o : Opening) (accepted : isAccepted (openingReply o) ≡ true) where
   -- a component's place in the opened day
   component-is : (i : ℕ) → i < o .count → getD (componentsOpened o) i blank ≡ componentAt (o .components) i
   unfolding componentsOpened
-  component-is i h = places-at (componentAt (o .components)) (o .count) i h (opened-opens .count-high)
+  component-is i h = places-at (componentAt (o .components)) (o .count) i h (opened-sizes .count-high)
 
   pub opened-component : (i : ℕ) → i < o .count → componentOf (openedDay o) i ≡ componentAt (o .components) i
   opened-component i h = rw opened-day (component-is i h)
@@ -119,7 +124,7 @@ module _ (o : Opening) (accepted : isAccepted (openingReply o) ≡ true) where
 
   -- the fund's stretch
   fund-account : stretchOf (widthOf (o .count)) (openedBook o) 0 ≡ openedStretch (o .count) (holdingsOf o 0)
-  fund-account = opened-account 0 (omega (arith, opened-opens .accounts-low))
+  fund-account = opened-account 0 (omega (arith, opened-sizes .accounts-low))
 
   fund-lots : (l : ℕ) → l < o .count + 1 → lotsAt (stretchOf (widthOf (o .count)) (openedBook o) 0) l ≡ lots (heldOpened l (holdingsOf o 0)) 0 0
   fund-lots l h = ap (λ (s : List ℕ). lotsAt s l) fund-account ∙ opened-lots (o .count) (holdingsOf o 0) l h
@@ -135,38 +140,47 @@ module _ (o : Opening) (accepted : isAccepted (openingReply o) ≡ true) where
       (record {
         sound =
             record {
-              accounts-low = p .accounts-low;
-              accounts-high = p .accounts-high;
-              count-low = p .count-low;
-              count-high = p .count-high;
-              book-size = rw opened-book (join-length _ (o .accounts) (widthOf (o .count)) (λ k. opened-length (o .count) (holdingsOf o k)));
-              prices-size = rw opened-prices (length-replicate (o .count) 0);
-              fund-fields = p .fund-fields;
-              components = p .components;
-              lines = λ l h. omega (arith, p .lines l h, rw opened-day at (opened-line l (omega arith)));
-              units = omega (arith, p .units, rw opened-day at (opened-line (o .count) (omega arith)));
-              money = omega (arith, p .money, rw opened-day at opened-money);
-              prices = λ i h. omega (arith, opened-price i h);
-              created-most = omega (arith, rw opened-day at (opened-counter created (opened-created (o .count))));
-              redeemed-most = omega (arith, rw opened-day at (opened-counter redeemed (opened-redeemed (o .count))));
-              fund-units = ap (λ (x : Lots). x .old) (fund-lots (o .count) (omega arith)) ∙ p .fund-units;
-              fund-created = ap (λ (s : List ℕ). headAt s created) fund-account ∙ opened-created (o .count) (holdingsOf o 0);
-              fund-redeemed = ap (λ (s : List ℕ). headAt s redeemed) fund-account ∙ opened-redeemed (o .count) (holdingsOf o 0);
-              fund-bought = λ l h. ap (λ (x : Lots). x .bought) (fund-lots l h);
-              fund-got = λ l h. ap (λ (x : Lots). x .got) (fund-lots l h);
+              own =
+                  record {
+                    accounts-low = opened-sizes .accounts-low;
+                    accounts-high = opened-sizes .accounts-high;
+                    count-low = opened-sizes .count-low;
+                    count-high = opened-sizes .count-high;
+                    fund-fields = p .fund-fields;
+                    components = p .components;
+                  };
+              book =
+                  record {
+                    book-size = rw opened-book (join-length _ (o .accounts) (widthOf (o .count)) (λ k. opened-length (o .count) (holdingsOf o k)));
+                    lines = λ l h. omega (arith, p .lines l h, rw opened-day at (opened-line l (omega arith)));
+                    units = omega (arith, p .units, rw opened-day at (opened-line (o .count) (omega arith)));
+                    money = omega (arith, p .money, rw opened-day at opened-money);
+                    created-most = omega (arith, rw opened-day at (opened-counter created (opened-created (o .count))));
+                    redeemed-most = omega (arith, rw opened-day at (opened-counter redeemed (opened-redeemed (o .count))));
+                    fund-units = ap (λ (x : Lots). x .old) (fund-lots (o .count) (omega arith)) ∙ p .fund-units;
+                    fund-created = ap (λ (s : List ℕ). headAt s created) fund-account ∙ opened-created (o .count) (holdingsOf o 0);
+                    fund-redeemed = ap (λ (s : List ℕ). headAt s redeemed) fund-account ∙ opened-redeemed (o .count) (holdingsOf o 0);
+                    fund-bought = λ l h. ap (λ (x : Lots). x .bought) (fund-lots l h);
+                    fund-got = λ l h. ap (λ (x : Lots). x .got) (fund-lots l h);
+                  };
+              prices =
+                  record {
+                    prices-size = rw opened-prices (length-replicate (o .count) 0);
+                    prices-most = λ i h. omega (arith, opened-price i h);
+                  };
             };
         room =
             omega (arith, p .units, rw opened-day at (opened-line (o .count) (omega arith)), rw opened-day at (opened-counter created (opened-created (o .count))));
       })
     where
-      p : Opens (o .accounts) (o .count) (lengthsFit o) (o .fund) (componentsOpened o) (openedTotal o) mostOfLine (heldOpened (o .count) (holdingsOf o 0)) (openedCash o)
+      p : Opens (openingSizesFit o) (o .fund) (componentsOpened o) (o .count) (openedTotals o)
       p = opened-opens
 
   -- the run that an accepted opening leaves says the opened day
   pub opened-run : length (o .fund .limits) ≡ limitCount → dayAt (openedRun o) ≡ openedDay o
-  unfolding openedRun openedDay componentsOpened lengthsFit
+  unfolding openedRun openedDay componentsOpened lentSizesFit
   opened-run limits =
       let p = opened-opens in
       rw accepted
-      (day-back (o .accounts) (o .count) (o .fund) (o .components) (p .count-high) (eqb-true _ _ (every-at _ (p .lengths) 0)) limits
+      (day-back (o .accounts) (o .count) (o .fund) (o .components) (opened-sizes .count-high) (eqb-true _ _ (every-at _ (p .sizes) 1)) limits
       (cash-size (o .fund .«estimated_cash») (fund-sound (o .fund) (p .fund-fields) .cash)))

@@ -12,15 +12,14 @@ use Rattle.lists.specs.Checks.{Reply, answered, passes, isAccepted}
 use Rattle.lists.specs.Stretch.{stretchOf, over}
 use Rattle.units.specs.Units.{rounded, premium, discount, ratioBound}
 use Rattle.flags.specs.Table.{flagTable, entry}
-use Rattle.layout.specs.declared.Fund.{Fund}
 use Rattle.fund.specs.Fund.{cashInRange, limitInRange, limitsInRange, fundInRange, limitOf}
 use Rattle.fund.specs.Components.{outsideGroup, zeroUnless, componentInRange, fits, faultAt, componentFault}
 use Rattle.layout.specs.Places.{dayWidth}
 use Rattle.layout.specs.Components.{componentAt, placesOf}
 use Rattle.layout.specs.Book.{headAt, lotsAt, account, headTotal, lineTotal}
 use Rattle.rules.specs.Lines.{codeOf, quantity, column, creationRate, redemptionRate, creationAmount, redemptionAmount, priceOf}
-use Rattle.rules.specs.Opening.{Opening, cashOpened, heldOpened, openedTotal, openedCash, overAt, totalFault, dayChecks, componentsOpened, lengthsFit, openingReply, openedDay, openedStretch, openedBook}
-use Rattle.rules.specs.Sound.{lentFits, opens, fundStill, isSound}
+use Rattle.rules.specs.Opening.{Opening, cashOpened, heldOpened, openedTotal, openedCash, daySizesFit, sizeChecks, fundChecks, overAt, totalFault, totalChecks, dayChecks, componentsOpened, lentSizesFit, openingReply, openedDay, openedStretch, openedBook}
+use Rattle.rules.specs.Sound.{opens, fundStill, isSound}
 use Rattle.rules.specs.Trade.{isInvestor}
 use Rattle.rules.specs.Value.{worthAt, lacksPrice, cashAdded, cashTaken, worthBefore, referenceValue, hasValue, valueChecks, worthReply}
 use Rattle.rules.specs.Records.{sideB, cashParts, cashRecords, stockRecord, orderRecords}
@@ -178,8 +177,9 @@ unfolding sumBelow anyBelow allBelow firstBelow joinBelow tabulate every inside 
     rounded premium discount ratioBound flagTable entry cashInRange limitInRange limitsInRange fundInRange limitOf
     outsideGroup zeroUnless componentInRange fits faultAt componentFault componentAt headAt lotsAt headTotal lineTotal
     codeOf quantity column creationRate redemptionRate creationAmount redemptionAmount priceOf
-    cashOpened heldOpened openedTotal openedCash overAt totalFault dayChecks componentsOpened placesOf lengthsFit openingReply openedDay openedStretch openedBook
-    lentFits opens fundStill isSound isInvestor worthAt lacksPrice cashAdded cashTaken worthBefore referenceValue hasValue valueChecks worthReply
+    cashOpened heldOpened openedTotal openedCash daySizesFit sizeChecks fundChecks overAt totalFault totalChecks dayChecks
+    componentsOpened placesOf lentSizesFit openingReply openedDay openedStretch openedBook
+    opens fundStill isSound isInvestor worthAt lacksPrice cashAdded cashTaken worthBefore referenceValue hasValue valueChecks worthReply
     cashParts cashRecords stockRecord orderRecords flatten roomIn withRecords
     baskets wholeBaskets formChecks switchAllows withinLimit countOf fundCount withinLimits permissionChecks need shanghaiCash otherCash
     available handedIn isShort missing missingWorth isMissing creationCash creationDue ratioPassed creationRecords firstShort creationMeans creationChecks creationReply createdList

@@ -2,8 +2,8 @@
 use Prim.Native.Nat.{ℕ, _+_, _*_}
 use mathlib.Core.Bool.{Bool, cond, not, _||_}
 use mathlib.Core.List.{List, [], _∷_, _++_}
-use lib.Dec.{leb, ltb, eqb}
-use lib.IntN.{ℤ, pos}
+use lib.Dec.{ltb, eqb}
+use lib.IntN.{pos}
 use lib.ListN.{length, getD, replicate}
 use Rattle.lists.specs.Below.{firstBelow, joinBelow}
 use Rattle.lists.specs.Every.{every, inside}
@@ -14,7 +14,7 @@ use Rattle.layout.specs.declared.Component.{Component}
 use Rattle.fund.specs.Fund.{fundInRange}
 use Rattle.layout.specs.Components.{blank, componentAt, placesOf}
 use Rattle.fund.specs.Components.{componentFault}
-use Rattle.layout.specs.Places.{componentWidth, dayWidth}
+use Rattle.layout.specs.Places.{componentWidth, dayWidth, mostComponents}
 use Rattle.layout.specs.Day.{Day, dayNumbers}
 use Rattle.rules.specs.Replies.{ifAccepted}
 use Rattle.layout.specs.Book.{widthOf}
@@ -54,49 +54,78 @@ mostOfLine = 1_000_000_000_000_000_000
 abbrev pub mostCash : ℕ
 mostCash = 4_000_000_000_000_000_000
 
--- refusal 4 at a place: a line, of which N is the unit, or N+1 for cash
-unfoldable pub overAt : ℕ → (ℕ → ℕ) → ℕ → ℕ → ℕ → ℕ → Bool
-overAt n total mostUnits fundUnits cashTotal i =
-    cond (ltb i n) (ltb mostOfLine (total i))
-    (cond (eqb i n) (ltb mostUnits (total n) || ltb 0 fundUnits) (ltb mostCash cashTotal))
+-- Opening's tests stand in three stages, joined. Refusal 5 makes them again, on what a later day has.
+
+-- 1: A and N in their ranges, and the book and the prices as long as these need
+unfoldable pub daySizesFit : ℕ → ℕ → ℕ → ℕ → Bool
+daySizesFit accounts n book prices =
+    every (inside 2 64 accounts ∷ inside 1 mostComponents n ∷ eqb book (accounts * widthOf n) ∷ eqb prices n ∷ [])
+
+unfoldable pub sizeChecks : Bool → List Check
+sizeChecks fit = check (not fit) 1 0 ∷ []
+
+-- 2 and 3: the fund's fields and its components
+unfoldable pub fundChecks : Fund → List Component → ℕ → List Check
+fundChecks fund components n =
+    check (not (fundInRange fund)) 2 0
+    ∷ check (ltb (componentFault (fund .«first_code») components n) n) 3 (componentFault (fund .«first_code») components n)
+    ∷ []
+
+-- 4: the total of each line, of which N is the unit; the most that units may total; the fund's units; the cash total
+pub record DayTotals : Type 0 where
+  pub line : ℕ → ℕ
+  pub unitsMost : ℕ
+  pub fundUnits : ℕ
+  pub cashTotal : ℕ
+
+-- refusal 4 at a place: a line, or N+1 for cash
+unfoldable pub overAt : ℕ → DayTotals → ℕ → Bool
+overAt n t i =
+    cond (ltb i n) (ltb mostOfLine (t .line i))
+    (cond (eqb i n) (ltb (t .unitsMost) (t .line n) || ltb 0 (t .fundUnits)) (ltb mostCash (t .cashTotal)))
 
 -- the lowest such place, N+2 where there is none
-unfoldable pub totalFault : ℕ → (ℕ → ℕ) → ℕ → ℕ → ℕ → ℕ
-totalFault n total mostUnits fundUnits cashTotal = firstBelow (overAt n total mostUnits fundUnits cashTotal) (n + 2)
+unfoldable pub totalFault : ℕ → DayTotals → ℕ
+totalFault n t = firstBelow (overAt n t) (n + 2)
 
--- the tests of opening, on what a day has: A, N, whether the lent lengths are what A and N need, the fund, the
--- components, each line's total, the most that units may total, the fund's units, and the cash total
-unfoldable pub dayChecks : ℕ → ℕ → Bool → Fund → List Component → (ℕ → ℕ) → ℕ → ℕ → ℕ → List Check
-dayChecks accounts n fits fund components total mostUnits fundUnits cashTotal =
-    check (not (inside 2 64 accounts)) 1 0
-    ∷ check (not (inside 1 300 n)) 1 0
-    ∷ check (not fits) 1 0
-    ∷ check (not (fundInRange fund)) 2 0
-    ∷ check (ltb (componentFault (fund .«first_code») components n) n) 3 (componentFault (fund .«first_code») components n)
-    ∷ check (ltb (totalFault n total mostUnits fundUnits cashTotal) (n + 2)) 4 (totalFault n total mostUnits fundUnits cashTotal)
-    ∷ []
+unfoldable pub totalChecks : ℕ → DayTotals → List Check
+totalChecks n t = check (ltb (totalFault n t) (n + 2)) 4 (totalFault n t) ∷ []
+
+-- all three: whether the sizes fit, the fund and its components, and the totals
+unfoldable pub dayChecks : Bool → Fund → List Component → ℕ → DayTotals → List Check
+dayChecks fit fund components n totals = sizeChecks fit ++ (fundChecks fund components n ++ totalChecks n totals)
 
 -- the day's component places: those of the run, then blank ones
 unfoldable pub componentsOpened : Opening → List Component
 componentsOpened o = placesOf (componentAt (o .components)) (o .count)
 
--- each lent length is what A and N need
-unfoldable pub lengthsFit : Opening → Bool
-lengthsFit o =
+-- and for opening the runs of components and of holdings as long as these need, and that for the day as long as a day
+unfoldable pub lentSizesFit : ℕ → ℕ → ℕ → ℕ → ℕ → ℕ → ℕ → Bool
+lentSizesFit accounts n components holdings book prices day =
     every
-    (eqb (length (o .components)) (componentWidth * o .count)
-    ∷ eqb (length (o .holdings)) (o .accounts * (o .count + 2))
-    ∷ eqb (length (o .book)) (o .accounts * widthOf (o .count))
-    ∷ eqb (length (o .prices)) (o .count)
-    ∷ eqb (length (o .day)) dayWidth
+    (daySizesFit accounts n book prices
+    ∷ eqb components (componentWidth * n)
+    ∷ eqb holdings (accounts * (n + 2))
+    ∷ eqb day dayWidth
     ∷ [])
+
+abbrev pub openingSizesFit : Opening → Bool
+openingSizesFit o =
+    lentSizesFit (o .accounts) (o .count) (length (o .components)) (length (o .holdings)) (length (o .book)) (length (o .prices)) (length (o .day))
+
+-- opening's totals: units may total as much as any line
+abbrev pub openedTotals : Opening → DayTotals
+openedTotals o =
+    record {
+      line = openedTotal o;
+      unitsMost = mostOfLine;
+      fundUnits = heldOpened (o .count) (holdingsOf o 0);
+      cashTotal = openedCash o;
+    }
 
 unfoldable pub openingReply : Opening → Reply
 openingReply o =
-    answered
-    (dayChecks (o .accounts) (o .count) (lengthsFit o) (o .fund) (componentsOpened o)
-    (openedTotal o) mostOfLine (heldOpened (o .count) (holdingsOf o 0)) (openedCash o))
-    0
+    answered (dayChecks (openingSizesFit o) (o .fund) (componentsOpened o) (o .count) (openedTotals o)) 0
 
 -- the day that is opened, and the run that says it
 unfoldable pub openedDay : Opening → Day

@@ -1,17 +1,17 @@
 -- Refusal 5: a day that breaks a test of opening, or has a price, a counter or a fund's lot that no day can have.
-use Prim.Native.Nat.{ℕ, _+_, _-_, _*_}
-use mathlib.Core.Bool.{Bool, true, false, not}
+use Prim.Native.Nat.{ℕ, _+_, _-_}
+use mathlib.Core.Bool.{Bool, not}
 use mathlib.Core.List.{List, [], _∷_}
-use lib.Dec.{leb, ltb, eqb}
+use lib.Dec.{leb, eqb}
 use lib.ListN.{length}
 use Rattle.lists.specs.Below.{allBelow}
 use Rattle.lists.specs.Every.{every}
 use Rattle.lists.specs.Checks.{Check, check, passes}
 use Rattle.fund.specs.Fund.{ceiling}
 use Rattle.layout.specs.Day.{Day}
-use Rattle.layout.specs.Book.{cash, created, redeemed, headAt, lotsAt, width, account, headTotal, lineTotal}
+use Rattle.layout.specs.Book.{cash, created, redeemed, headAt, lotsAt, account, headTotal, lineTotal}
 use Rattle.rules.specs.Lines.{priceOf}
-use Rattle.rules.specs.Opening.{dayChecks}
+use Rattle.rules.specs.Opening.{daySizesFit, DayTotals, dayChecks}
 
 -- units may total more than at opening
 abbrev pub mostUnits : ℕ
@@ -20,16 +20,20 @@ mostUnits = 2_000_000_000_000_000_000
 abbrev pub mostPrice : ℕ
 mostPrice = 9_999_999
 
--- the book and the prices have the lengths that A and N need
-unfoldable pub lentFits : Day → List ℕ → List ℕ → Bool
-lentFits d b ps = every (eqb (length b) (d .accounts * width d) ∷ eqb (length ps) (d .count) ∷ [])
+-- the totals that the tests of opening look at
+abbrev pub dayTotals : Day → List ℕ → DayTotals
+dayTotals d b =
+    record {
+      line = lineTotal d b;
+      unitsMost = mostUnits;
+      fundUnits = lotsAt (account d b 0) (d .count) .old;
+      cashTotal = headTotal d b cash;
+    }
 
 -- the day passes the tests of opening (units: 2 times 10^18)
 unfoldable pub opens : Day → List ℕ → List ℕ → Bool
 opens d b ps =
-    passes
-    (dayChecks (d .accounts) (d .count) (lentFits d b ps) (d .fund) (d .components)
-    (lineTotal d b) mostUnits (lotsAt (account d b 0) (d .count) .old) (headTotal d b cash))
+    passes (dayChecks (daySizesFit (d .accounts) (d .count) (length b) (length ps)) (d .fund) (d .components) (d .count) (dayTotals d b))
 
 -- the fund's counters are 0, and it has nothing in bought or got
 unfoldable pub fundStill : Day → List ℕ → Bool

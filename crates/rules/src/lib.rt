@@ -85,6 +85,13 @@ pub const OTHER_CASH: u64 = 5;
 // The most baskets of one order.
 pub const MOST_BASKETS: u64 = 20;
 
+// The most that a line may total, at opening the units too; that units may total on a later day; and that cash may total.
+pub const MOST_OF_LINE: u64 = 1_000_000_000_000_000_000;
+
+pub const MOST_UNITS: u64 = 2_000_000_000_000_000_000;
+
+pub const MOST_CASH: u64 = 4_000_000_000_000_000_000;
+
 // The most that a price may be.
 pub const MOST_PRICE: u64 = 9_999_999;
 

@@ -26,29 +26,29 @@ use Rattle.scan.proofs.OneLine.{creation-small, redemption-small}
 module _ (d : Day) (b ps : List ℕ) (s : SoundDay d b ps) (m : ℕ) (few : m ≤ mostBaskets) where
   ranged : (k : ℕ) → k < d .count → Ranged (componentOf d k)
   ranged k h =
-      let c = components-fine (d .fund .«first_code») (d .components) (d .count) (s .components) k h in
+      let c = components-fine (d .fund .«first_code») (d .components) (d .count) (s .own .components) k h in
       record { quantity = c .quantity; rate = c .rate; amount = c .amount }
 
   wide : (a : ℕ) → a < d .accounts → length (account d b a) ≡ width d
-  wide a h = stretch-length (width d) b a (omega (arith, within (width d) a (d .accounts) h, s .book-size))
+  wide a h = stretch-length (width d) b a (omega (arith, within (width d) a (d .accounts) h, s .book .book-size))
 
   -- an account's lots of a line are at most the line's total
   lots-fit : (a : ℕ) → a < d .accounts → (k : ℕ) → k < d .count → available (account d b a) k ≤ 2_000_000_000_000_000_000
   unfolding available lineTotal over
   lots-fit a h k l =
-      omega (arith, sum-part (λ i. lotsTotal (lotsAt (stretchOf (width d) b i) k)) (d .accounts) a h, s .lines k l)
+      omega (arith, sum-part (λ i. lotsTotal (lotsAt (stretchOf (width d) b i) k)) (d .accounts) a h, s .book .lines k l)
 
   pub scannable : (kind : ℕ) → kind < 2 → (a : ℕ) → a < d .accounts → Scannable kind d (account d b a) (account d b 0) ps m
   scannable kind k a h =
       record {
         kind-in = k;
-        count = s .count-high;
+        count = s .own .count-high;
         baskets = few;
         stretch = wide a h;
-        fund-stretch = wide 0 (omega (arith, s .accounts-low));
-        prices-size = s .prices-size;
+        fund-stretch = wide 0 (omega (arith, s .own .accounts-low));
+        prices-size = s .prices .prices-size;
         ranges = ranged;
-        prices = s .prices;
+        prices = s .prices .prices-most;
         lots = lots-fit a h;
       }
 

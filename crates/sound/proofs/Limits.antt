@@ -1,61 +1,31 @@
 -- What the tests on totals, on the fund's stretch and on sizes say, fact by fact.
-use mathlib.Core.Path.{_≡_, sym, ap, _∙_}
+use mathlib.Core.Path.{_≡_, sym, _∙_}
 use mathlib.Core.Bool.{true, false, true≢false}
 use mathlib.Core.List.{List}
-use Prim.Native.Nat.{ℕ, _+_, _-_, _*_, _/_, _≤_, _<_}
-use native.Mathlib.Decide.{decLt, ℕ-discrete}
+use Prim.Native.Nat.{ℕ, _+_, _*_, _≤_, _<_, min}
 use native.Mathlib.Omega.{arith}
 use lib.Dec.{ltb}
 use lib.ListN.{getD}
 use borrow.Author.Tests.{le-leb, leb-true, lt-ltb, le-ltb, eq-eqb, eqb-true}
+use Rattle.totals.specs.Totals.{top}
 use Rattle.lists.specs.Below.{all-at, all-true, cond-le}
-use Rattle.lists.specs.Every.{every-at, every-more, every-none, false-of, inside-facts, inside-true}
+use Rattle.lists.specs.Every.{every-at, every-more, every-none, false-of}
 use Rattle.lists.specs.Stretch.{within}
 use Rattle.fund.specs.Fund.{ceiling}
-use Rattle.layout.specs.Book.{cash, created, redeemed, widthOf}
-use Rattle.rules.specs.Opening.{mostOfLine, mostCash}
+use Rattle.layout.specs.Book.{cash, created, redeemed, widthOf, lineFrom}
+use Rattle.rules.specs.Opening.{mostOfLine, mostCash, daySizesFit}
 use Rattle.rules.specs.Sound.{mostUnits}
-use Rattle.sound.specs.Totals.{top}
-use Rattle.sound.specs.Parts.{sizesFit, mostOf, lineOf, lineFits, totalsFit, lineStill, stretchStill}
+use Rattle.rules.proofs.SoundDay.{DaySizes, sizes-facts}
+use Rattle.sound.specs.Parts.{mostOf, lineOf, lineFits, totalsFit, lineStill, stretchStill}
 
 -- Sizes.
 
-pub record Sizes (accounts n book prices : ℕ) : Type 0 where
-  pub accounts-low : 2 ≤ accounts
-  pub accounts-high : accounts ≤ 64
-  pub count-low : 1 ≤ n
-  pub count-high : n ≤ 300
-  pub book-size : book ≡ accounts * widthOf n
-  pub prices-size : prices ≡ n
-
 module _ (accounts n book prices : ℕ) where
-  pub sizes-true : Sizes accounts n book prices → sizesFit accounts n book prices ≡ true
-  unfolding sizesFit
-  sizes-true s =
-      every-more _ _ (inside-true 2 64 accounts (s .accounts-low) (s .accounts-high))
-      (every-more _ _ (inside-true 1 300 n (s .count-low) (s .count-high))
-      (every-more _ _ (eq-eqb _ _ (s .book-size)) (every-more _ _ (eq-eqb _ _ (s .prices-size)) every-none)))
-
-  pub sizes-facts : sizesFit accounts n book prices ≡ true → Sizes accounts n book prices
-  unfolding sizesFit
-  sizes-facts e =
-      let at = every-at _ e in
-      let a = inside-facts 2 64 accounts (at 0) in
-      let c = inside-facts 1 300 n (at 1) in
-      record {
-        accounts-low = a .0;
-        accounts-high = a .1;
-        count-low = c .0;
-        count-high = c .1;
-        book-size = eqb-true _ _ (at 2);
-        prices-size = eqb-true _ _ (at 3);
-      }
-
-  pub sizes-false : (Sizes accounts n book prices → ⊥) → sizesFit accounts n book prices ≡ false
-  sizes-false h = false-of (sizesFit accounts n book prices) (λ e. h (sizes-facts e))
+  pub sizes-false : (DaySizes accounts n book prices → ⊥) → daySizesFit accounts n book prices ≡ false
+  sizes-false h = false-of (daySizesFit accounts n book prices) (λ e. h (sizes-facts accounts n book prices e))
 
 -- the first stretch lies in the book
-pub sizes-first : {accounts n book prices : ℕ} → Sizes accounts n book prices → widthOf n ≤ book
+pub sizes-first : {accounts n book prices : ℕ} → DaySizes accounts n book prices → widthOf n ≤ book
 sizes-first {accounts} {n} s = omega (arith, within (widthOf n) 0 accounts (omega arith), s .book-size)
 
 -- Totals.
@@ -111,52 +81,47 @@ module _ (n : ℕ) (t : ℕ → ℕ) where
   pub line-false : (l : ℕ) → l < n + 1 → lineFits n t l ≡ false → totalsFit n t ≡ false
   line-false l h e = fits-false (λ f. true≢false (sym (f .lines l h) ∙ e))
 
-  -- a total within its limit is below 2^62
-  pub fits-low : Fits n t → (k : ℕ) → k < widthOf n → t k < top
-  fits-low f k h = place (decLt k 3) (ℕ-discrete k cash) (ℕ-discrete k created)
-    where
-      line : ℕ
-      line = (k - 3) / 3
+-- Two families of totals: u is t as far as 2^62. As each limit is below that, both fit or neither does.
+module _ (n : ℕ) (t u : ℕ → ℕ) (capped : (k : ℕ) → k < widthOf n → u k ≡ min (t k) top) where
+  pub capped-fits : Fits n t → Fits n u
+  capped-fits f =
+      record {
+        money = omega (arith, f .money, capped cash (omega arith));
+        created-most = omega (arith, f .created-most, capped created (omega arith));
+        redeemed-most = omega (arith, f .redeemed-most, capped redeemed (omega arith));
+        lines = λ l h. line-true n u l (omega (arith, line-facts n t l (f .lines l h), capped (lineFrom l) (omega arith), capped (lineFrom l + 1) (omega arith), capped (lineFrom l + 2) (omega arith)));
+      }
 
-      lot : 3 ≤ k → Dec (k ≡ 3 + 3 * line) → Dec (k ≡ 3 + 3 * line + 1) → t k ≤ lineOf t line
-      lot g (yes e) i = omega (arith, ap t e)
-      lot g (no e) (yes i) = omega (arith, ap t i)
-      lot g (no e) (no i) =
-          let j : k ≡ 3 + 3 * line + 2 = omega arith in
-          omega (arith, ap t j)
+  pub fits-capped : Fits n u → Fits n t
+  fits-capped f =
+      record {
+        money = omega (arith, f .money, capped cash (omega arith));
+        created-most = omega (arith, f .created-most, capped created (omega arith));
+        redeemed-most = omega (arith, f .redeemed-most, capped redeemed (omega arith));
+        lines = λ l h.
+            line-true n t l (omega (arith, line-facts n u l (f .lines l h), most-le n l, capped (lineFrom l) (omega arith), capped (lineFrom l + 1) (omega arith), capped (lineFrom l + 2) (omega arith)));
+      }
 
-      place : Dec (k < 3) → Dec (k ≡ cash) → Dec (k ≡ created) → t k < top
-      place (yes l) (yes e) i = omega (arith, ap t e)
-      place (yes l) (no e) (yes i) = omega (arith, ap t i)
-      place (yes l) (no e) (no i) =
-          let j : k ≡ redeemed = omega arith in
-          omega (arith, ap t j)
-      place (no l) e i =
-          omega (arith, lot (omega arith) (ℕ-discrete k (3 + 3 * line)) (ℕ-discrete k (3 + 3 * line + 1)), line-facts line (f .lines line (omega arith)), most-le n line)
-
--- two families of totals that agree on the places of a stretch
-pub fits-same : (n : ℕ) (t u : ℕ → ℕ) → ((k : ℕ) → k < widthOf n → t k ≡ u k) → Fits n t → Fits n u
-fits-same n t u same f =
-    record {
-      money = omega (arith, f .money, same cash (omega arith));
-      created-most = omega (arith, f .created-most, same created (omega arith));
-      redeemed-most = omega (arith, f .redeemed-most, same redeemed (omega arith));
-      lines = λ l h. line-true n u l (omega (arith, line-facts n t l (f .lines l h), same (3 + 3 * l) (omega arith), same (3 + 3 * l + 1) (omega arith), same (3 + 3 * l + 2) (omega arith)));
-    }
+  -- of totals that fit, those of the units and of `created` are not capped
+  pub units-capped : Fits n t → (lineOf u n ≡ lineOf t n) × (u created ≡ t created)
+  units-capped f = (
+    omega (arith, line-facts n t n (f .lines n (omega arith)), most-le n n, capped (lineFrom n) (omega arith), capped (lineFrom n + 1) (omega arith), capped (lineFrom n + 2) (omega arith)),
+    omega (arith, f .created-most, capped created (omega arith)),
+  )
 
 -- The fund's stretch.
 
 pub record Still (n : ℕ) (b : List ℕ) : Type 0 where
   pub created-none : getD b created 0 ≡ 0
   pub redeemed-none : getD b redeemed 0 ≡ 0
-  pub no-units : getD b (3 + 3 * n) 0 ≡ 0
+  pub no-units : getD b (lineFrom n) 0 ≡ 0
   pub lines : (l : ℕ) → l < n + 1 → lineStill b l ≡ true
 
-pub line-still : (b : List ℕ) (l : ℕ) → getD b (3 + 3 * l + 1) 0 ≡ 0 → getD b (3 + 3 * l + 2) 0 ≡ 0 → lineStill b l ≡ true
+pub line-still : (b : List ℕ) (l : ℕ) → getD b (lineFrom l + 1) 0 ≡ 0 → getD b (lineFrom l + 2) 0 ≡ 0 → lineStill b l ≡ true
 unfolding lineStill
 line-still b l p q = every-more _ _ (eq-eqb _ _ p) (every-more _ _ (eq-eqb _ _ q) every-none)
 
-pub still-line : (b : List ℕ) (l : ℕ) → lineStill b l ≡ true → (getD b (3 + 3 * l + 1) 0 ≡ 0) × (getD b (3 + 3 * l + 2) 0 ≡ 0)
+pub still-line : (b : List ℕ) (l : ℕ) → lineStill b l ≡ true → (getD b (lineFrom l + 1) 0 ≡ 0) × (getD b (lineFrom l + 2) 0 ≡ 0)
 unfolding lineStill
 still-line b l e =
     let at = every-at _ e in

@@ -5,17 +5,12 @@ use Prim.Native.Nat.{ℕ, _+_, _-_, _*_}
 use lib.Dec.{leb, ltb, eqb}
 use lib.ListN.{getD}
 use Rattle.lists.specs.Below.{allBelow}
-use Rattle.lists.specs.Every.{every, inside}
+use Rattle.lists.specs.Every.{every}
 use Rattle.fund.specs.Fund.{ceiling}
-use Rattle.layout.specs.Book.{cash, created, redeemed, widthOf}
+use Rattle.layout.specs.Book.{cash, created, redeemed, lineFrom}
 use Rattle.rules.specs.Lines.{priceOf}
 use Rattle.rules.specs.Opening.{mostOfLine, mostCash}
 use Rattle.rules.specs.Sound.{mostUnits, mostPrice}
-
--- A, N and the lengths of the book and of the prices
-unfoldable pub sizesFit : ℕ → ℕ → ℕ → ℕ → Bool
-sizesFit accounts n book prices =
-    every (inside 2 64 accounts ∷ inside 1 300 n ∷ eqb book (accounts * widthOf n) ∷ eqb prices n ∷ [])
 
 -- the most that line l of n components may total; line n is the unit
 unfoldable pub mostOf : ℕ → ℕ → ℕ
@@ -23,7 +18,7 @@ mostOf n l = cond (ltb l n) mostOfLine mostUnits
 
 -- the total of line l: its three lots
 abbrev pub lineOf : (ℕ → ℕ) → ℕ → ℕ
-lineOf t l = t (3 + 3 * l) + t (3 + 3 * l + 1) + t (3 + 3 * l + 2)
+lineOf t l = t (lineFrom l) + t (lineFrom l + 1) + t (lineFrom l + 2)
 
 unfoldable pub lineFits : ℕ → (ℕ → ℕ) → ℕ → Bool
 lineFits n t l = leb (lineOf t l) (mostOf n l)
@@ -39,7 +34,7 @@ totalsFit n t =
 
 -- bought and got of line l of the fund
 unfoldable pub lineStill : List ℕ → ℕ → Bool
-lineStill b l = every (eqb (getD b (3 + 3 * l + 1) 0) 0 ∷ eqb (getD b (3 + 3 * l + 2) 0) 0 ∷ [])
+lineStill b l = every (eqb (getD b (lineFrom l + 1) 0) 0 ∷ eqb (getD b (lineFrom l + 2) 0) 0 ∷ [])
 
 -- the fund's counters, its units, and its bought and got lots are 0
 unfoldable pub stretchStill : ℕ → List ℕ → Bool
@@ -47,7 +42,7 @@ stretchStill n b =
     every
     (eqb (getD b created 0) 0
     ∷ eqb (getD b redeemed 0) 0
-    ∷ eqb (getD b (3 + 3 * n) 0) 0
+    ∷ eqb (getD b (lineFrom n) 0) 0
     ∷ allBelow (lineStill b) (n + 1)
     ∷ [])
 

@@ -143,19 +143,19 @@ tradable k n b line q p seller buyer f e =
 
 -- a sound day gives the fits: what one account has is at most the total
 line-most : (d : Day) (b ps : List ℕ) → SoundDay d b ps → (l : ℕ) → l ≤ d .count → Dec (l < d .count) → lineTotal d b l ≤ mostUnits
-line-most d b ps s l i (yes h) = omega (arith, s .lines l h)
+line-most d b ps s l i (yes h) = omega (arith, s .book .lines l h)
 line-most d b ps s l i (no n) =
     let e : l ≡ d .count = omega arith in
-    omega (arith, ap (lineTotal d b) e, s .units)
+    omega (arith, ap (lineTotal d b) e, s .book .units)
 
 pub sound-fits : (d : Day) (b ps : List ℕ) → SoundDay d b ps → BookFits (d .accounts) (d .count) b
 unfolding lineTotal headTotal over
 sound-fits d b ps s =
     record {
-      accounts-low = s .accounts-low;
-      accounts-high = s .accounts-high;
-      count-high = s .count-high;
-      size = s .book-size;
+      accounts-low = s .own .accounts-low;
+      accounts-high = s .own .accounts-high;
+      count-high = s .own .count-high;
+      size = s .book .book-size;
       lots = λ a l h i. omega (arith, line-most d b ps s l i (decLt l (d .count)), sum-part (λ a. lotsTotal (lotsAt (stretchOf (widthOf (d .count)) b a) l)) (d .accounts) a h);
-      money = λ a h. omega (arith, s .money, sum-part (λ a. headAt (stretchOf (widthOf (d .count)) b a) cash) (d .accounts) a h);
+      money = λ a h. omega (arith, s .book .money, sum-part (λ a. headAt (stretchOf (widthOf (d .count)) b a) cash) (d .accounts) a h);
     }

@@ -24,16 +24,16 @@ use Rattle.value.specs.Worth.{worth, lacks, valueFrom, Countable, Pricea
 -- a sound day's components, prices and fund are in their ranges
 pub priceable : (d : Day) (b ps : List ℕ) → SoundDay d b ps → Priceable d ps
 priceable d b ps s =
-    let fund = fund-sound (d .fund) (s .fund-fields) in
+    let fund = fund-sound (d .fund) (s .own .fund-fields) in
     record {
-      count = s .count-high;
-      prices-size = s .prices-size;
+      count = s .own .count-high;
+      prices-size = s .prices .prices-size;
       size-low = fund .size-low;
       size-high = fund .size-high;
       cash = fund .cash;
       countable = λ k h.
-          let c = components-fine (d .fund .«first_code») (d .components) (d .count) (s .components) k h in
-          record { quantity = c .quantity; amount = c .amount; cost = s .prices k h };
+          let c = components-fine (d .fund .«first_code») (d .components) (d .count) (s .own .components) k h in
+          record { quantity = c .quantity; amount = c .amount; cost = s .prices .prices-most k h };
     }
 
 -- The sum.

@@ -17,7 +17,7 @@ returns : tie.Need-returns
 returns c = price-five _ _ _ (sym (c .before .sound-day .ensures) ∙ not-true _ (c .if1 .taken)) _ _
 
 set-price-requires : tie.Need-set-price-requires
-set-price-requires c κs = sound-facts _ _ _ (sym (c .before .before .sound-day .ensures) ∙ not-false _ (c .before .if1 .left)) .prices-size
+set-price-requires c κs = sound-facts _ _ _ (sym (c .before .before .sound-day .ensures) ∙ not-false _ (c .before .if1 .left)) .prices .prices-size
 
 same-length-2 : tie.Need-same-length-2
 same-length-2 c = search needs

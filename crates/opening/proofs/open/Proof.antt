@@ -3,7 +3,7 @@
 use borrow.Author.Needs.{needs}
 use Rattle.rules.specs.Opening.{Opening}
 use Rattle.opening.specs.Given.{given}
-use Rattle.opening.proofs.Answer.{LentSizes, done-sizes, outcome-done, outcome-refused}
+use Rattle.opening.proofs.Answer.{Sizes, done-sizes, outcome-done, outcome-refused}
 use Rattle.opening.proofs.open.Statement.{statement}
 use Rattle.opening.proofs.open.Tie as tie
 
@@ -14,7 +14,7 @@ opening c =
     given (a .accounts) (a .count) (a .fund) (a .components .now) (a .holdings .now) (a .book .now) (a .prices .now)
 
 -- the lent lengths where the answer is done
-sizes : (c : tie.After-enum-told) → LentSizes (opening (c .before .before .before .before .before .before .before .before .before))
+sizes : (c : tie.After-enum-told) → Sizes (opening (c .before .before .before .before .before .before .before .before .before))
 sizes c = done-sizes (opening (c .before .before .before .before .before .before .before .before .before)) _ (c .before .before .opening-answer .ensures) (c .enum-told .given .1)
 
 opening-answer-requires : tie.Need-opening-answer-requires
@@ -26,7 +26,7 @@ enum-told c = search needs
 open-book-requires : tie.Need-open-book-requires
 open-book-requires c κs =
     let s = sizes (c .before) in
-    (s .book-size, s .holdings-size)
+    (s .day .book-size, s .holdings-size)
 
 clear-requires : tie.Need-clear-requires
 clear-requires c κs = search needs
@@ -34,7 +34,7 @@ clear-requires c κs = search needs
 components-of-requires : tie.Need-components-of-requires
 components-of-requires c κs =
     let s = sizes (c .before .before .before .before .before .before .before .before) in
-    (s .sized .count-high, s .components-size)
+    (s .day .count-high, s .components-size)
 
 enum-told-2 : tie.Need-enum-told-2
 enum-told-2 c = search needs
@@ -63,7 +63,8 @@ same-length-4 : tie.Need-same-length-4
 same-length-4 c = search needs
 
 returns-2 : tie.Need-returns-2
-returns-2 c = outcome-refused (opening (c .before .before .before .before .before .before .before .before .before .before)) _ (c .before .before .before .opening-answer .ensures) _ _ (c .before .enum-told2 .given .1) (c .blank-day .ensures)
+returns-2 c =
+    outcome-refused (opening (c .before .before .before .before .before .before .before .before .before .before)) _ (c .before .before .before .opening-answer .ensures) _ _ (c .before .enum-told2 .given .1) (c .blank-day .ensures)
 
 pub open-spec : {M : Type 1} → statement M
 open-spec =

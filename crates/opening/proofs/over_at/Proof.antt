@@ -1,69 +1,65 @@
 -- `opening::over_at` meets its contract: past the unit the cash total is tested, at the unit the fund's own units come before the total.
-use mathlib.Core.Path.{sym, ap, _∙_}
+use mathlib.Core.Path.{_≡_, refl, sym, _∙_}
+use mathlib.Core.Bool.{true, or-true, or-false}
 use mathlib.Core.Logic.{⊎-elim}
-use Prim.Native.Nat.{ℕ, _+_}
+use Prim.Native.Nat.{ℕ, _+_, _≤_, _<_}
+use native.Mathlib.Decide.{decLt}
 use native.Mathlib.Omega.{arith}
 use lib.Dec.{ltb}
 use borrow.Author.Needs.{needs}
-use Rattle.lists.specs.Stretch.{within}
-use Rattle.rules.specs.Opening.{mostOfLine, mostCash}
-use Rattle.opening.proofs.Totals.{over-cash, over-fund, over-line}
+use borrow.Author.Tests.{lt-ltb}
+use Rattle.rules.specs.Opening.{mostOfLine, mostCash, DayTotals, overAt}
+use Rattle.rules.proofs.SoundDay.{over-line, over-units, over-cash}
 use Rattle.opening.proofs.over_at.Statement.{statement}
 use Rattle.opening.proofs.over_at.Tie as tie
 
-add-w : tie.Need-add-w
-add-w c = search needs
+module _ (n : ℕ) (t : DayTotals) (place : ℕ) where
+  at-cash : n < place → place < n + 2 → ltb mostCash (t .cashTotal) ≡ overAt n t place
+  at-cash l h =
+      let e : place ≡ n + 1 = omega arith in
+      rw e (sym (over-cash n t))
 
-add-column-total : tie.Need-add-column-total
-add-column-total c = search needs
+  at-fund : place ≡ n → 0 < t .fundUnits → true ≡ overAt n t place
+  at-fund e l = rw e (sym (over-units n t ∙ rw (lt-ltb 0 (t .fundUnits) l) (or-true (ltb (t .unitsMost) (t .line n)))))
 
-column-total-requires : tie.Need-column-total-requires
-column-total-requires c κs = search needs
+  at-line : place ≤ n → t .unitsMost ≡ mostOfLine → (place ≡ n → t .fundUnits ≡ 0) → ltb mostOfLine (t .line place) ≡ overAt n t place
+  at-line l most none = case (decLt place n)
+    where
+      case : Dec (place < n) → ltb mostOfLine (t .line place) ≡ overAt n t place
+      case (yes h) = sym (over-line n t place h)
+      case (no h) =
+          let e : place ≡ n = omega arith in
+          rw e (sym (over-units n t ∙ rw (most, none e, or-false)))
+
+element-copy-out-result : tie.Need-element-copy-out-result
+element-copy-out-result c = search needs
 
 returns : tie.Need-returns
-returns c = ap (λ (t : ℕ). ltb mostCash t) (c .column-total .ensures) ∙ over-cash _ _ _ _ (c .before .if1 .taken)
-
-add-if3 : tie.Need-add-if3
-add-if3 c = search needs
-
-mul-if3 : tie.Need-mul-if3
-mul-if3 c = search needs
-
-shared-slice-read-if3 : tie.Need-shared-slice-read-if3
-shared-slice-read-if3 c =
-    let a = c .before .before .before .before .args in
-    omega (arith, within (a .count + 2) 0 (a .accounts) (omega arith))
+returns c = at-cash _ _ _ (c .before .if1 .taken) (c .before .before .pre .1)
 
 returns-2 : tie.Need-returns-2
-returns-2 c = sym (over-fund _ _ _ _ (c .before .before .if2 .taken) (c .if3 .taken))
+returns-2 c = at-fund _ _ _ (c .before .if2 .taken) (c .if3 .taken)
 
-add-column-total-2 : tie.Need-add-column-total-2
-add-column-total-2 c = search needs
+add-result : tie.Need-add-result
+add-result c = search needs
 
-add-column-total-3 : tie.Need-add-column-total-3
-add-column-total-3 c = search needs
+mul-result : tie.Need-mul-result
+mul-result c = search needs
 
-column-total-requires-2 : tie.Need-column-total-requires-2
-column-total-requires-2 c κs = search needs
+element-copy-out-result-2 : tie.Need-element-copy-out-result-2
+element-copy-out-result-2 c = search needs
 
 returns-3 : tie.Need-returns-3
-returns-3 c =
-    ap (λ (t : ℕ). ltb mostOfLine t) (c .column-total2 .ensures)
-    ∙ over-line _ _ _ _ (c .before .before .if1 .left) (λ e. ⊎-elim (λ w. omega arith) (λ w. omega arith) (c .before .if2 .came))
+returns-3 c = at-line _ _ _ (c .before .before .if1 .left) refl (λ e. ⊎-elim (λ w. omega arith) (λ w. omega arith) (c .before .if2 .came))
 
 pub over-at-spec : {M : Type 1} → statement M
 over-at-spec =
     tie.close
     (tie.spec
-    add-w
-    add-column-total
-    column-total-requires
+    element-copy-out-result
     returns
-    add-if3
-    mul-if3
-    shared-slice-read-if3
     returns-2
-    add-column-total-2
-    add-column-total-3
-    column-total-requires-2
+    add-result
+    mul-result
+    element-copy-out-result-2
     returns-3)

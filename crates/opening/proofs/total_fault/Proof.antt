@@ -1,59 +1,50 @@
--- `opening::total_fault` meets its contract. The loop's invariant: refusal 4 holds at no place below `place`.
-use mathlib.Core.Path.{_≡_, sym, _∙_}
-use Prim.Native.Nat.{_+_, _-_, _≤_}
+-- `opening::total_fault` meets its contract: on the totals as far as 2^62 the same place is at fault.
+use mathlib.Core.Path.{_∙_}
+use Prim.Native.Nat.{_+_}
 use native.Mathlib.Omega.{arith}
-use Rattle.lists.specs.Below.{firstBelow, first-none, first-more, first-here}
-use Rattle.opening.specs.Given.{overOpened, faultOpened}
+use lib.ListN.{getD-replicate}
+use borrow.Author.Needs.{needs}
+use Rattle.lists.specs.Stretch.{within}
+use Rattle.totals.specs.Totals.{widest}
+use Rattle.opening.proofs.Totals.{fault-same}
 use Rattle.opening.proofs.total_fault.Statement.{statement}
 use Rattle.opening.proofs.total_fault.Tie as tie
 
-abbrev Inv-loop : tie.InvT-loop
-Inv-loop holdings accounts count places place₀ place = (place ≤ count + 2) × (firstBelow (overOpened accounts count holdings) place ≡ place)
+add-fill : tie.Need-add-fill
+add-fill c = search needs
 
-abbrev μ-loop : tie.MeasureT-loop
-μ-loop holdings accounts count places place₀ place = places - place
+fill-requires : tie.Need-fill-requires
+fill-requires c κs =
+    let p = c .before .before .pre in
+    (omega arith, p .1, p .3, (λ k h. getD-replicate widest k 0 0 (omega arith)), omega arith)
 
-add-places : tie.Need-add-places Inv-loop μ-loop
-add-places c = omega arith
+add-first-over : tie.Need-add-first-over
+add-first-over c = search needs
 
-loop-holds : tie.Need-loop-holds Inv-loop μ-loop
-loop-holds c = (omega arith, first-none _)
+mul-first-over : tie.Need-mul-first-over
+mul-first-over c = search needs
 
-over-at-requires : tie.Need-over-at-requires Inv-loop μ-loop
-over-at-requires c κs =
-    let p = c .before .before .before .pre in
-    (p .0, (p .1, omega arith))
+shared-slice-read-first-over : tie.Need-shared-slice-read-first-over
+shared-slice-read-first-over c =
+    let a = c .before .before .before .before .before .args in
+    omega (arith, within (a .count + 2) 0 (a .accounts) (omega arith))
 
-returns : tie.Need-returns Inv-loop μ-loop
-unfolding faultOpened
-returns c = sym (first-here _ _ _ (omega arith) (c .before .before .before .loop .inv .1) (sym (c .before .over-at .ensures) ∙ c .if1 .taken))
+first-over-requires : tie.Need-first-over-requires
+first-over-requires c κs = (c .before .before .before .before .before .pre .2, c .before .before .fill .ensures .0)
 
-add-place : tie.Need-add-place Inv-loop μ-loop
-add-place c = omega arith
-
-loop-less : tie.Need-loop-less Inv-loop μ-loop
-loop-less c = omega arith
-
-loop-again : tie.Need-loop-again Inv-loop μ-loop
-loop-again c = (omega arith, first-more _ _ (c .before .before .before .loop .inv .1) (sym (c .before .over-at .ensures) ∙ c .if1 .left))
-
-returns-2 : tie.Need-returns-2 Inv-loop μ-loop
-unfolding faultOpened
-returns-2 c =
-    let e : c .before .loop .place ≡ c .before .before .before .args .count + 2 = omega arith in
-    rw e (sym (rw e at (c .before .loop .inv .1)))
+returns : tie.Need-returns
+returns c =
+    let a = c .before .before .before .before .before .before .args in
+    c .first-over .ensures ∙ fault-same (a .accounts) (a .count) (a .holdings .now) (c .before .before .before .fill .last .0) (c .before .before .before .fill .ensures .1)
 
 pub total-fault-spec : {M : Type 1} → statement M
 total-fault-spec =
     tie.close
     (tie.spec
-    Inv-loop
-    μ-loop
-    add-places
-    loop-holds
-    over-at-requires
-    returns
-    add-place
-    loop-less
-    loop-again
-    returns-2)
+    add-fill
+    fill-requires
+    add-first-over
+    mul-first-over
+    shared-slice-read-first-over
+    first-over-requires
+    returns)

@@ -11,7 +11,7 @@ use Rattle.sound.proofs.Day.{day-fits, room-same, unkept}
 use Rattle.sound.proofs.is_kept.Statement.{statement}
 use Rattle.sound.proofs.is_kept.Tie as tie
 
-sound : (c : tie.Else1) → SoundDay (dayOf (c .before .before .before .before .before .args .d) (c .before .before .before .before .before .args .basket .now)) (c .before .before .before .before .before .args .book .now) (c .before .before .before .before .before .args .prices .now)
+sound : (c : tie.Else1) → let a = c .before .before .before .before .before .args in SoundDay (dayOf (a .d) (a .basket .now)) (a .book .now) (a .prices .now)
 sound c = sound-facts _ _ _ (sym (c .before .is-sound .ensures) ∙ not-false _ (c .if1 .left))
 
 is-sound-requires : tie.Need-is-sound-requires
@@ -23,7 +23,7 @@ returns c = sym (unkept _ _ _ (λ k. true≢false (sym (sound-true _ _ _ (k .sou
 room-left-requires : tie.Need-room-left-requires
 room-left-requires c κs =
     let s = sound c in
-    (s .count-high, s .book-size, fits-true _ _ (day-fits s))
+    (s .own .count-high, s .book .book-size, fits-true _ _ (day-fits s))
 
 returns-2 : tie.Need-returns-2
 returns-2 c =

@@ -15,13 +15,13 @@ use Rattle.lists.specs.Every.{same-test}
 use Rattle.layout.specs.declared.Component.{Component}
 use Rattle.fund.specs.Components.{faultAt, componentFault}
 use Rattle.layout.specs.Components.{componentAt, placesOf}
-use Rattle.rules.proofs.SoundDay.{sound-facts, sound-true}
-use Rattle.sound.proofs.Limits.{Sizes, sizes-true, sizes-facts, sizes-first, still-true, still-facts, fits-true, fits-facts}
-use Rattle.sound.proofs.Day.{fault-places, day-sizes, day-prices, day-still, day-fits, day-sound, unsound}
+use Rattle.rules.proofs.SoundDay.{DaySizes, sizes-true, sizes-facts, sound-facts, sound-true, sound-sizes}
+use Rattle.sound.proofs.Limits.{sizes-first, still-true, still-facts, fits-true, fits-facts}
+use Rattle.sound.proofs.Day.{fault-places, day-prices, day-still, day-fits, day-sound, unsound}
 use Rattle.sound.proofs.is_sound.Statement.{statement}
 use Rattle.sound.proofs.is_sound.Tie as tie
 
-sizes : (c : tie.Else1) → Sizes (c .before .before .before .before .before .before .args .d .accounts) (c .before .before .before .before .before .before .args .d .count) (length (c .before .before .before .before .before .before .args .book .now)) (length (c .before .before .before .before .before .before .args .prices .now))
+sizes : (c : tie.Else1) → let a = c .before .before .before .before .before .before .args in DaySizes (a .d .accounts) (a .d .count) (length (a .book .now)) (length (a .prices .now))
 sizes c = sizes-facts _ _ _ _ (sym (c .before .sizes-fit .ensures) ∙ not-false _ (c .if1 .left))
 
 -- a search that did not stop below n found no fault
@@ -30,22 +30,22 @@ unfolding componentFault
 no-fault g cs n e h = le-antisymm (first-le (faultAt g cs) n) (omega arith)
 
 -- the search in the basket is the search in the day's places
-faults : (c : tie.Else2) {r : ℕ}
-    → r ≡ componentFault (c .before .before .before .before .before .before .before .before .args .d .fund .«first_code») (placesOf (componentAt (now (c .before .before .before .before .before .before .before .before .args .basket))) (c .before .before .before .before .before .before .before .before .args .d .count)) (c .before .before .before .before .before .before .before .before .args .d .count)
-    → r ≡ componentFault (c .before .before .before .before .before .before .before .before .args .d .fund .«first_code») (placesOf (componentAt (now (c .before .before .before .before .before .before .before .before .args .basket))) 300) (c .before .before .before .before .before .before .before .before .args .d .count)
+faults : (c : tie.Else2) {r : ℕ} → let a = c .before .before .before .before .before .before .before .before .args in
+    r ≡ componentFault (a .d .fund .«first_code») (placesOf (componentAt (now (a .basket))) (a .d .count)) (a .d .count)
+    → r ≡ componentFault (a .d .fund .«first_code») (placesOf (componentAt (now (a .basket))) 300) (a .d .count)
 faults c e = e ∙ fault-places _ (componentAt (now (c .before .before .before .before .before .before .before .before .args .basket))) _ (sizes (c .before .before) .count-high)
 
 sizes-fit-requires : tie.Need-sizes-fit-requires
 sizes-fit-requires c κs = search needs
 
 returns : tie.Need-returns
-returns c = sym (unsound _ _ _ (λ s. true≢false (sym (sizes-true _ _ _ _ (day-sizes s)) ∙ sym (c .before .sizes-fit .ensures) ∙ not-true _ (c .if1 .taken))))
+returns c = sym (unsound _ _ _ (λ s. true≢false (sym (sizes-true _ _ _ _ (sound-sizes s)) ∙ sym (c .before .sizes-fit .ensures) ∙ not-true _ (c .if1 .taken))))
 
 fund-in-range-requires : tie.Need-fund-in-range-requires
 fund-in-range-requires c κs = search needs
 
 returns-2 : tie.Need-returns-2
-returns-2 c = sym (unsound _ _ _ (λ s. true≢false (sym (s .fund-fields) ∙ sym (c .before .fund-in-range .ensures) ∙ not-true _ (c .if2 .taken))))
+returns-2 c = sym (unsound _ _ _ (λ s. true≢false (sym (s .own .fund-fields) ∙ sym (c .before .fund-in-range .ensures) ∙ not-true _ (c .if2 .taken))))
 
 run-fault-requires : tie.Need-run-fault-requires
 run-fault-requires c κs =
@@ -53,7 +53,7 @@ run-fault-requires c κs =
     (s .count-high, omega (arith, s .count-high, c .before .before .before .before .before .before .before .before .pre))
 
 returns-3 : tie.Need-returns-3
-returns-3 c = sym (unsound _ _ _ (λ s. omega (arith, s .components, faults (c .before .before) (c .before .run-fault .ensures), c .if3 .taken)))
+returns-3 c = sym (unsound _ _ _ (λ s. omega (arith, s .own .components, faults (c .before .before) (c .before .run-fault .ensures), c .if3 .taken)))
 
 prices-fit-requires : tie.Need-prices-fit-requires
 prices-fit-requires c κs = sizes (c .before .before .before .before) .prices-size
@@ -79,7 +79,9 @@ returns-6 c =
     (day-sound
     (sizes (c .before .before .before .before .before .before .before .before .before))
     (sym (c .before .before .before .before .before .before .before .before .fund-in-range .ensures) ∙ not-false _ (c .before .before .before .before .before .before .before .if2 .left))
-    (no-fault _ _ _ (faults (c .before .before .before .before .before .before .before) (c .before .before .before .before .before .before .run-fault .ensures)) (c .before .before .before .before .before .if3 .left))
+    (no-fault _ _ _
+    (faults (c .before .before .before .before .before .before .before) (c .before .before .before .before .before .before .run-fault .ensures))
+    (c .before .before .before .before .before .if3 .left))
     (sym (c .before .before .before .before .prices-fit .ensures) ∙ not-false _ (c .before .before .before .if4 .left))
     (still-facts _ _ (sym (c .before .before .fund-still .ensures) ∙ not-false _ (c .before .if5 .left)))
     (fits-facts _ _ (sym (c .book-fits .ensures) ∙ e))))

@@ -1,15 +1,16 @@
--- `sound::line_fits` meets its contract: three totals below 2^62 add up without wrapping.
-use Prim.Native.Nat.{_+_, _*_, _<_}
+-- `sound::line_fits` meets its contract: three totals of at most 2^62 add up without wrapping.
+use Prim.Native.Nat.{_+_, _*_, _≤_}
 use native.Mathlib.Omega.{arith}
 use lib.ListN.{getD}
 use borrow.Author.Needs.{needs}
-use Rattle.sound.specs.Totals.{top, numberAt}
+use Rattle.layout.specs.Book.{lineFrom}
+use Rattle.totals.specs.Totals.{top, numberAt}
 use Rattle.sound.specs.Parts.{lineFits}
 use Rattle.sound.proofs.line_fits.Statement.{statement}
 use Rattle.sound.proofs.line_fits.Tie as tie
 
 -- the three lots
-lots : (c : tie.Start) → (getD (c .args .totals .now) (3 + 3 * c .args .line) 0 < top) × (getD (c .args .totals .now) (3 + 3 * c .args .line + 1) 0 < top) × (getD (c .args .totals .now) (3 + 3 * c .args .line + 2) 0 < top)
+lots : (c : tie.Start) → let t = c .args .totals .now in let at = lineFrom c .args .line in (getD t at 0 ≤ top) × (getD t (at + 1) 0 ≤ top) × (getD t (at + 2) 0 ≤ top)
 lots c = (c .pre .2 _ (omega arith), c .pre .2 _ (omega arith), c .pre .2 _ (omega arith))
 
 mul-at : tie.Need-mul-at

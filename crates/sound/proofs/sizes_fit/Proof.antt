@@ -1,4 +1,4 @@
--- `sound::sizes_fit` meets its contract: sizes that fail a test lack one of `Sizes`. The product is made once both factors are known to be small.
+-- `sound::sizes_fit` meets its contract: sizes that fail a test lack one of `DaySizes`. The product is made once both factors are known to be small.
 use mathlib.Core.Path.{sym, ap, _∙_}
 use Prim.Native.Nat.{ℕ, _*_}
 use native.Mathlib.Omega.{arith}
@@ -6,7 +6,9 @@ use borrow.Author.Needs.{needs}
 use borrow.Author.Tests.{eq-eqb, eqb-true}
 use Rattle.lists.specs.Every.{same-test}
 use Rattle.units.proofs.Laws.{under}
-use Rattle.sound.proofs.Limits.{sizes-true, sizes-facts, sizes-false}
+use Rattle.totals.specs.Totals.{widest}
+use Rattle.rules.proofs.SoundDay.{sizes-true, sizes-facts}
+use Rattle.sound.proofs.Limits.{sizes-false}
 use Rattle.sound.proofs.sizes_fit.Statement.{statement}
 use Rattle.sound.proofs.sizes_fit.Tie as tie
 
@@ -26,7 +28,7 @@ width-of-requires : tie.Need-width-of-requires
 width-of-requires c κs = search needs
 
 mul-if5 : tie.Need-mul-if5
-mul-if5 c = omega (arith, under 64 906 {a = c .before .before .before .before .before .args .accounts} {b = c .width-of .result} (omega arith) (omega arith))
+mul-if5 c = omega (arith, under 64 widest {a = c .before .before .before .before .before .args .accounts} {b = c .width-of .result} (omega arith) (omega arith))
 
 returns-5 : tie.Need-returns-5
 returns-5 c = sym (sizes-false _ _ _ _ (λ s. c .if5 .taken (s .book-size ∙ ap (λ (w : ℕ). c .before .before .before .before .before .before .args .accounts * w) (sym (c .before .width-of .ensures)))))

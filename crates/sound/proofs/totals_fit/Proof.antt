@@ -6,7 +6,7 @@ use native.Mathlib.Nat.{not-suc-le-zero}
 use native.Mathlib.Omega.{arith}
 use borrow.Author.Count.{below-more}
 use borrow.Author.Tests.{not-true, not-false}
-use Rattle.sound.specs.Totals.{numberAt}
+use Rattle.totals.specs.Totals.{numberAt}
 use Rattle.sound.specs.Parts.{lineFits}
 use Rattle.sound.proofs.Limits.{fits-true, fits-false, line-false}
 use Rattle.sound.proofs.totals_fit.Statement.{statement}

@@ -1,19 +1,19 @@
--- `sound::add_eights` meets its contract. The loop's invariant: the totals are those of the first `a` accounts, wrapped, and where the or is
--- 0 each is at most that of `a` numbers below 2^56. Of at most 64 accounts, no total then reaches 2^62.
+-- `totals::add_eights` meets its contract. The loop's invariant: the totals are those of the first `a` rows, wrapped, and where the or is
+-- 0 each is at most that of `a` numbers below 2^56. Of at most 64 rows, no total then reaches 2^62.
 use mathlib.Core.Path.{_≡_, refl, sym}
 use Prim.Native.Nat.{_-_, _%_, _≤_, zero-le}
 use native.Mathlib.Nat.{le-trans, le-of-eq}
 use native.Mathlib.Omega.{arith}
 use Rattle.lists.specs.Stretch.{within}
-use Rattle.sound.proofs.Accounts.{Quick, quick-none, quick-eight, quick-end, within-eight, counted-none, start-at}
-use Rattle.sound.proofs.add_eights.Statement.{statement}
-use Rattle.sound.proofs.add_eights.Tie as tie
+use Rattle.totals.proofs.Rows.{Quick, quick-none, quick-eight, quick-end, within-eight, counted-none, start-at}
+use Rattle.totals.proofs.add_eights.Statement.{statement}
+use Rattle.totals.proofs.add_eights.Tie as tie
 
 abbrev Inv-loop : tie.InvT-loop
-Inv-loop totals₀ book accounts width end high₀ a₀ totals high a = (a ≤ end) × (a % 8 ≡ 0) × Quick totals book width a high
+Inv-loop totals₀ run rows width end high₀ a₀ totals high a = (a ≤ end) × (a % 8 ≡ 0) × Quick totals run width a high
 
 abbrev μ-loop : tie.MeasureT-loop
-μ-loop totals₀ book accounts width end high₀ a₀ totals high a = end - a
+μ-loop totals₀ run rows width end high₀ a₀ totals high a = end - a
 
 sub-end : tie.Need-sub-end Inv-loop μ-loop
 sub-end c = omega arith
@@ -22,14 +22,14 @@ loop-holds : tie.Need-loop-holds Inv-loop μ-loop
 loop-holds c = (omega arith, omega arith, quick-none _ _ _ (c .before .pre .3) (c .before .pre .4))
 
 mul-add-eight : tie.Need-mul-add-eight Inv-loop μ-loop
-mul-add-eight c = omega (arith, within (c .before .before .before .before .args .width) (c .before .before .loop .a) (c .before .before .before .before .args .accounts) (omega arith))
+mul-add-eight c = omega (arith, within (c .before .before .before .before .args .width) (c .before .before .loop .a) (c .before .before .before .before .args .rows) (omega arith))
 
 add-eight-requires : tie.Need-add-eight-requires Inv-loop μ-loop
 add-eight-requires c κs =
     let l = c .before .before .loop in
     let s = c .before .before .before .before in (
       s .pre .0,
-      le-trans (within-eight (s .args .width) (l .a) (s .args .accounts) (omega arith)) (le-of-eq (sym (s .pre .2))),
+      le-trans (within-eight (s .args .width) (l .a) (s .args .rows) (omega arith)) (le-of-eq (sym (s .pre .2))),
       l .inv .2 .size,
     )
 

@@ -8,7 +8,7 @@ use native.Mathlib.Omega.{arith}
 use lib.Dec.{leb, ltb}
 use lib.Bits.{bitOr, or-lt, or-add-and, and-le-r, or-comm}
 use borrow.Author.Tests.{lt-ltb, le-ltb, le-leb, lt-leb, leb-true, leb-false}
-use Rattle.sound.specs.Totals.{top}
+use Rattle.totals.specs.Totals.{top}
 
 le-or-left : (a b : ℕ) → a ≤ bitOr a b
 le-or-left a b = add-le-add-iff-right b .0 (le-trans (le-of-eq (sym (or-add-and a b))) (add-le-add (le-refl (bitOr a b)) (and-le-r a b)))

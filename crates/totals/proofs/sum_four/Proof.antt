@@ -1,8 +1,8 @@
--- `sound::sum_four` meets its contract: sums that wrapped on the way are the whole sum, wrapped.
+-- `totals::sum_four` meets its contract: sums that wrapped on the way are the whole sum, wrapped.
 use borrow.Author.Needs.{needs}
 use native.Mathlib.Omega.{arith}
-use Rattle.sound.proofs.sum_four.Statement.{statement}
-use Rattle.sound.proofs.sum_four.Tie as tie
+use Rattle.totals.proofs.sum_four.Statement.{statement}
+use Rattle.totals.proofs.sum_four.Tie as tie
 
 wrapping-add-u64-requires : tie.Need-wrapping-add-u64-requires
 wrapping-add-u64-requires c κs = search needs

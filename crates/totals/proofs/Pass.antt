@@ -11,8 +11,8 @@ use lib.ListN.{length, getD, set, length-set}
 use lib.Seq.{getD-set-same, getD-set-other}
 use borrow.Author.Count.{below-more}
 use Rattle.lists.specs.Below.{anyBelow, any-more}
-use Rattle.sound.specs.Totals.{widest, top, quickMost, eightAt, reaches}
-use Rattle.sound.proofs.Top.{below-top, or-zero-left, or-zero-right}
+use Rattle.totals.specs.Totals.{widest, top, quickMost, eightAt, reaches}
+use Rattle.totals.proofs.Top.{below-top, or-zero-left, or-zero-right}
 
 -- the totals t₀ became t: those below j of the w are F, wrapped, and the others as they were
 pub record Pass (t₀ : List ℕ) (F : ℕ → ℕ) (w j : ℕ) (t : List ℕ) : Type 0 where
@@ -60,7 +60,7 @@ seen-end F j h w s l m =
     let e : j ≡ w = le-antisymm l m in
     below-top h _ (rw e at s)
 
--- The or h of a pass that adds the eight stretches from `from` on: where it is 0, they add up, at each place below j, to at most what
+-- The or h of a pass that adds the eight rows from `from` on: where it is 0, they add up, at each place below j, to at most what
 -- eight numbers below 2^56 do.
 abbrev pub Small : (b : List ℕ) (from w j h : ℕ) → Type 0
 Small b from w j h = h ≡ 0 → (k : ℕ) → k < j → eightAt b from w k ≤ 8 * quickMost

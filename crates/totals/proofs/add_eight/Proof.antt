@@ -1,4 +1,4 @@
--- `sound::add_eight` meets its contract. The loop's invariant: `Pass`, with the places below `j` done, and `Small`: where the or is 0, the
+-- `totals::add_eight` meets its contract. The loop's invariant: `Pass`, with the places below `j` done, and `Small`: where the or is 0, the
 -- eight numbers of each of these places add up to at most what eight below 2^56 do.
 use borrow.Author.Needs.{needs}
 use mathlib.Core.Path.{_≡_, ap, _∙_}
@@ -6,18 +6,18 @@ use Prim.Native.Nat.{ℕ, _+_, _-_, _%_, _^_}
 use native.Mathlib.Nat.{le-refl, not-suc-le-zero}
 use native.Mathlib.Omega.{arith}
 use lib.ListN.{getD}
-use Rattle.sound.specs.Totals.{plusEight, eightAt}
-use Rattle.sound.proofs.Top.{add-wrapped}
-use Rattle.sound.proofs.Rows.{Pass, Small, pass-none, pass-more, pass-end, small-more}
-use Rattle.sound.proofs.add_eight.Statement.{statement}
-use Rattle.sound.proofs.add_eight.Tie as tie
+use Rattle.totals.specs.Totals.{plusEight, eightAt}
+use Rattle.totals.proofs.Top.{add-wrapped}
+use Rattle.totals.proofs.Pass.{Pass, Small, pass-none, pass-more, pass-end, small-more}
+use Rattle.totals.proofs.add_eight.Statement.{statement}
+use Rattle.totals.proofs.add_eight.Tie as tie
 
 abbrev Inv-loop : tie.InvT-loop
-Inv-loop totals₀ book from width second third fourth fifth sixth seventh eighth high₀ j₀ totals high j =
-    Pass totals₀ (plusEight totals₀ book from width) width j totals × Small book from width j high
+Inv-loop totals₀ run from width second third fourth fifth sixth seventh eighth high₀ j₀ totals high j =
+    Pass totals₀ (plusEight totals₀ run from width) width j totals × Small run from width j high
 
 abbrev μ-loop : tie.MeasureT-loop
-μ-loop totals₀ book from width second third fourth fifth sixth seventh eighth high₀ j₀ totals high j =
+μ-loop totals₀ run from width second third fourth fifth sixth seventh eighth high₀ j₀ totals high j =
     width - j
 
 add-second : tie.Need-add-second Inv-loop μ-loop
@@ -148,7 +148,7 @@ unfolding plusEight eightAt
 loop-again c =
     let s = c .before .before .before .before .before .before .before .before .before .before .before .before .before .before .before in
     let l = c .before .before .before .before .before .before .before .before .before .before .before .before .before .loop in
-    let eight : ℕ = eightAt (s .args .book .now) (s .args .from) (s .args .width) (l .j) in
+    let eight : ℕ = eightAt (s .args .run .now) (s .args .from) (s .args .width) (l .j) in
     let sum : ℕ = c .before .before .before .sum-eight .result in
     let t : c .before .wrapping-add-u64 .result ≡ (getD (s .args .totals .now) (l .j) 0 + eight) % 2 ^ 64 =
     c .before .wrapping-add-u64 .ensures
@@ -156,7 +156,7 @@ loop-again c =
     ∙ add-wrapped (getD (s .args .totals .now) (l .j) 0) eight sum (c .before .before .before .sum-eight .ensures)
     in (
       pass-more (l .inv .0) _ (c .before .before .before .before .before .before .before .before .before .before .before .before .loop-test .taken) (s .pre .0) t,
-      small-more (s .args .book .now) (s .args .from) (s .args .width) (l .j) (l .high) (c .high-bits .result) (l .inv .1) (c .high-bits .ensures),
+      small-more (s .args .run .now) (s .args .from) (s .args .width) (l .j) (l .high) (c .high-bits .result) (l .inv .1) (c .high-bits .ensures),
     )
 
 returns : tie.Need-returns Inv-loop μ-loop

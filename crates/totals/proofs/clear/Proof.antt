@@ -1,12 +1,12 @@
--- `sound::clear` meets its contract. The loop's invariant: `Pass`, with zeros at the places below `j`.
+-- `totals::clear` meets its contract. The loop's invariant: `Pass`, with zeros at the places below `j`.
 use mathlib.Core.Path.{refl}
 use Prim.Native.Nat.{_-_}
 use native.Mathlib.Nat.{le-refl}
 use native.Mathlib.Omega.{arith}
-use Rattle.sound.specs.Totals.{widest}
-use Rattle.sound.proofs.Rows.{Pass, pass-none, pass-more, pass-end}
-use Rattle.sound.proofs.clear.Statement.{statement}
-use Rattle.sound.proofs.clear.Tie as tie
+use Rattle.totals.specs.Totals.{widest}
+use Rattle.totals.proofs.Pass.{Pass, pass-none, pass-more, pass-end}
+use Rattle.totals.proofs.clear.Statement.{statement}
+use Rattle.totals.proofs.clear.Tie as tie
 
 abbrev Inv-loop : tie.InvT-loop
 Inv-loop totals₀ j₀ totals j = Pass totals₀ (λ _. 0) widest j totals

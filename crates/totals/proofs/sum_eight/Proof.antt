@@ -1,8 +1,8 @@
--- `sound::sum_eight` meets its contract: the two halves, each wrapped, add up to the whole sum, wrapped.
+-- `totals::sum_eight` meets its contract: the two halves, each wrapped, add up to the whole sum, wrapped.
 use borrow.Author.Needs.{needs}
 use native.Mathlib.Omega.{arith}
-use Rattle.sound.proofs.sum_eight.Statement.{statement}
-use Rattle.sound.proofs.sum_eight.Tie as tie
+use Rattle.totals.proofs.sum_eight.Statement.{statement}
+use Rattle.totals.proofs.sum_eight.Tie as tie
 
 sum-four-requires : tie.Need-sum-four-requires
 sum-four-requires c κs = search needs

@@ -1,17 +1,17 @@
--- The totals over the accounts: those of the first a accounts, each below 2^62, and what one or eight stretches more make of them.
+-- The totals over the rows: those of the first a rows, each below 2^62, and what one or eight rows more make of them.
 use mathlib.Core.Path.{_≡_, refl, sym, ap, _∙_, subst}
 use mathlib.Core.Bool.{Bool, true, false, not, _||_, false≢true}
 use mathlib.Core.List.{List}
 use mathlib.Core.Logic.{⊎-elim}
-use Prim.Native.Nat.{ℕ, zero, suc, _+_, _-_, _*_, _%_, _^_, _≤_, _<_}
+use Prim.Native.Nat.{ℕ, zero, suc, _+_, _-_, _*_, _%_, _^_, _≤_, _<_, min}
 use native.Mathlib.Nat.{le-trans, le-of-eq, le-step, lt-suc-self, add-mul, mul-le-mul-right, not-suc-le-zero, eq-or-lt-of-le, le-of-suc-le-suc, add-zero}
 use native.Mathlib.Omega.{arith}
 use lib.Bits.{bitOr}
 use lib.ListN.{length, getD}
 use borrow.Author.Tests.{lt-leb, leb-false, not-true}
 use Rattle.lists.specs.Below.{sumBelow, sum-none, sum-more, anyBelow}
-use Rattle.sound.specs.Totals.{widest, top, quickMost, plusOne, eightAt, plusEight, reaches, placeAt, total, Low}
-use Rattle.sound.proofs.Top.{or-zero-left, or-zero-right}
+use Rattle.totals.specs.Totals.{widest, top, quickMost, plusOne, eightAt, plusEight, reaches, placeAt, total, cappedTotal, Low}
+use Rattle.totals.proofs.Top.{or-zero-left, or-zero-right}
 
 or-left : (a b : Bool) → (a || b) ≡ false → a ≡ false
 or-left true b e = e
@@ -53,7 +53,7 @@ module _ (f : ℕ → ℕ) (w : ℕ) where
   pub some-reaches : anyBelow (reaches f) w ≡ true → ((k : ℕ) → k < w → f k < top) → ⊥
   some-reaches e low = false≢true (sym (reaches-none low) ∙ e)
 
--- Sums over more accounts.
+-- Sums over more rows.
 
 sum-grows : (f : ℕ → ℕ) (m d : ℕ) → sumBelow f m ≤ sumBelow f (m + d)
 sum-grows f m zero = le-of-eq (ap (sumBelow f) (sym (add-zero m)))
@@ -75,14 +75,7 @@ total-grows b w a n k h =
     let e : a + (n - a) ≡ n = omega (arith, h) in
     subst (λ (m : ℕ). sumBelow (placeAt b w k) a ≤ sumBelow (placeAt b w k) m) e (sum-grows (placeAt b w k) a (n - a))
 
--- a sum s over the first a accounts with one account more: the next total, at most the whole
-pub total-step : (b : List ℕ) (w a n k s : ℕ) → s ≡ total b w a k → a < n
-    → (s + getD b (a * w + k) 0 ≡ total b w (a + 1) k) × (s + getD b (a * w + k) 0 ≤ total b w n k)
-total-step b w a n k s e h =
-    let m = total-more b w a k in
-    (omega arith, omega (arith, total-grows b w (a + 1) n k (omega arith)))
-
--- eight stretches lie within the first n of them
+-- eight rows lie within the first n of them
 pub within-eight : (w a n : ℕ) → a + 8 ≤ n → a * w + 8 * w ≤ n * w
 within-eight w a n h = le-trans (le-of-eq (sym (add-mul a 8 w))) (mul-le-mul-right w h)
 
@@ -90,13 +83,13 @@ plus-one : (t b : List ℕ) (w a k : ℕ) → getD t k 0 ≡ total b w a k → p
 unfolding plusOne
 plus-one t b w a k e = ap (λ (n : ℕ). n + getD b (a * w + k) 0) e ∙ sym (total-more b w a k)
 
--- one account more: c, the i-th after a, with its number at p
+-- one row more: c, the i-th after a, with its number at p
 more-at : (b : List ℕ) (w a i k c d p : ℕ) → c ≡ a + i → d ≡ c + 1 → p ≡ a * w + i * w + k → total b w d k ≡ total b w c k + getD b p 0
 more-at b w a i k c d p e f g =
     let q : c * w + k ≡ p = omega (arith, g, add-mul a i w, ap (λ (n : ℕ). n * w) e) in
     ap (λ (n : ℕ). total b w n k) f ∙ total-more b w c k ∙ ap (λ (n : ℕ). total b w c k + getD b n 0) q
 
--- eight accounts more
+-- eight rows more
 pub total-eight : (b : List ℕ) (w a k : ℕ) → total b w (a + 8) k ≡ total b w a k + eightAt b (a * w) w k
 unfolding eightAt
 total-eight b w a k =
@@ -112,7 +105,7 @@ total-eight b w a k =
       more-at b w a 7 k (a + 7) (a + 8) (a * w + w + w + w + w + w + w + w + k) (omega arith) (omega arith) (omega arith),
     )
 
--- t holds the totals of the first a accounts, each below 2^62
+-- t holds the totals of the first a rows, each below 2^62
 pub record Counted (t b : List ℕ) (w a : ℕ) : Type 0 where
   pub same : (k : ℕ) → k < w → getD t k 0 ≡ total b w a k
   pub low : (k : ℕ) → k < w → total b w a k < top
@@ -133,7 +126,7 @@ counted-low q k h = omega (arith, q .same k h, q .low k h)
 pub counted-fine : {t b : List ℕ} {w a : ℕ} → Counted t b w a → anyBelow (reaches (total b w a)) w ≡ false
 counted-fine {t} {b} {w} {a} q = reaches-none (total b w a) w (q .low)
 
--- F are the totals of the first c accounts
+-- F are the totals of the first c rows
 module _ (b : List ℕ) (w c : ℕ) (F : ℕ → ℕ) (same : (k : ℕ) → k < w → F k ≡ total b w c k) where
   -- t became F, wrapped
   counted-next : (t : List ℕ) → anyBelow (reaches F) w ≡ false → length t ≡ widest → ((k : ℕ) → k < w → getD t k 0 ≡ F k % 2 ^ 64) → Counted t b w c
@@ -145,7 +138,7 @@ module _ (b : List ℕ) (w c : ℕ) (F : ℕ → ℕ) (same : (k : ℕ) → k < 
         size = e;
       }
 
-  -- one reaches 2^62: so does one of more accounts
+  -- one reaches 2^62: so does one of more rows
   reached : (n : ℕ) → c ≤ n → anyBelow (reaches F) w ≡ true → anyBelow (reaches (total b w n)) w ≡ true
   reached n le on = pick (anyBelow (reaches (total b w n)) w) refl
     where
@@ -156,7 +149,7 @@ module _ (b : List ℕ) (w c : ℕ) (F : ℕ → ℕ) (same : (k : ℕ) → k < 
       pick true q = refl
       pick false q = absurd (some-reaches F w on (low q))
 
--- one stretch more
+-- one row more
 module _ {t b : List ℕ} {w a : ℕ} (q : Counted t b w a) where
   pub counted-one : (t′ : List ℕ) → anyBelow (reaches (plusOne t b (a * w))) w ≡ false → length t′ ≡ widest
       → ((k : ℕ) → k < w → getD t′ k 0 ≡ plusOne t b (a * w) k % 2 ^ 64) → Counted t′ b w (a + 1)
@@ -165,7 +158,7 @@ module _ {t b : List ℕ} {w a : ℕ} (q : Counted t b w a) where
   pub reached-one : (n : ℕ) → a + 1 ≤ n → anyBelow (reaches (plusOne t b (a * w))) w ≡ true → anyBelow (reaches (total b w n)) w ≡ true
   reached-one = reached b w (a + 1) (plusOne t b (a * w)) (λ k h. plus-one t b w a k (q .same k h))
 
--- t holds the totals of the first a accounts, wrapped; where h is 0, each is at most that of a numbers below 2^56
+-- t holds the totals of the first a rows, wrapped; where h is 0, each is at most that of a numbers below 2^56
 pub record Quick (t b : List ℕ) (w a h : ℕ) : Type 0 where
   pub same : (k : ℕ) → k < w → getD t k 0 ≡ total b w a k % 2 ^ 64
   pub small : h ≡ 0 → (k : ℕ) → k < w → total b w a k ≤ a * quickMost
@@ -180,7 +173,7 @@ quick-none t b w z e =
     }
 
 module _ {t b : List ℕ} {w a h : ℕ} (q : Quick t b w a h) where
-  -- eight stretches more, whose high bits are g
+  -- eight rows more, whose high bits are g
   pub quick-eight : (t′ : List ℕ) (g : ℕ) → (g ≡ 0 → (k : ℕ) → k < w → eightAt b (a * w) w k ≤ 8 * quickMost) → length t′ ≡ widest
       → ((k : ℕ) → k < w → getD t′ k 0 ≡ plusEight t b (a * w) w k % 2 ^ 64) → Quick t′ b w (a + 8) (bitOr h g)
   unfolding plusEight
@@ -191,7 +184,7 @@ module _ {t b : List ℕ} {w a h : ℕ} (q : Quick t b w a h) where
         size = e;
       }
 
-  -- of at most 64 accounts: no total reached 2^62, so none wrapped
+  -- of at most 64 rows: no total reached 2^62, so none wrapped
   pub quick-end : h ≡ 0 → a ≤ 64 → Counted t b w a
   quick-end z l =
       let low : (k : ℕ) → k < w → total b w a k < top = λ k i. omega (arith, q .small z k i, l) in
@@ -201,7 +194,7 @@ module _ {t b : List ℕ} {w a h : ℕ} (q : Quick t b w a h) where
         size = q .size;
       }
 
--- What the code answers of the totals t of the first n accounts: r, false where one reaches 2^62.
+-- What the code answers of the totals t of the first n rows: r, false where one reaches 2^62.
 abbrev pub Answer : Bool → List ℕ → List ℕ → ℕ → ℕ → Type 0
 Answer r t b w n =
     (r ≡ not (anyBelow (reaches (total b w n)) w)) × ((length t ≡ widest) × (r ≡ true → (k : ℕ) → k < w → getD t k 0 ≡ total b w n k))
@@ -221,7 +214,7 @@ answered r t b w n q e =
       size = q .1 .0;
     }
 
--- What the quick way answers of the totals t of the first r of m accounts.
+-- What the quick way answers of the totals t of the first r of m rows.
 abbrev pub Start : ℕ → List ℕ → List ℕ → ℕ → ℕ → Type 0
 Start r t b w m = (r ≤ m) × ((length t ≡ widest) × (((k : ℕ) → k < w → getD t k 0 ≡ total b w r k) × Low w t))
 
@@ -236,3 +229,29 @@ started r t b w m q =
       low = λ k h. omega (arith, q .1 .1 .0 k h, q .1 .1 .1 k h);
       size = q .1 .0;
     }
+
+-- Totals as far as 2^62.
+
+pub capped-none : (b : List ℕ) (w k : ℕ) → cappedTotal b w 0 k ≡ 0
+unfolding cappedTotal
+capped-none b w k = omega (arith, total-none b w k)
+
+pub capped-more : (b : List ℕ) (w a k : ℕ) → cappedTotal b w (a + 1) k ≡ min (cappedTotal b w a k + getD b (a * w + k) 0) top
+unfolding cappedTotal
+capped-more b w a k = omega (arith, total-more b w a k)
+
+pub capped-le : (b : List ℕ) (w a k : ℕ) → cappedTotal b w a k ≤ top
+unfolding cappedTotal
+capped-le b w a k = omega arith
+
+pub capped-whole : (b : List ℕ) (w a k : ℕ) → cappedTotal b w a k ≡ cappedTotal b w a k % 2 ^ 64
+capped-whole b w a k = omega (arith, capped-le b w a k)
+
+pub capped-is : (b : List ℕ) (w a k : ℕ) → cappedTotal b w a k ≡ min (total b w a k) top
+unfolding cappedTotal
+capped-is b w a k = refl
+
+-- totals that do not reach 2^62 are what they are as far as that
+pub counted-capped : {t b : List ℕ} {w a : ℕ} → Counted t b w a → (k : ℕ) → k < w → getD t k 0 ≡ cappedTotal b w a k
+unfolding cappedTotal
+counted-capped q k h = omega (arith, q .same k h, q .low k h)

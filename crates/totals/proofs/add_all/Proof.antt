@@ -1,20 +1,20 @@
--- `sound::add_all` meets its contract. The loop's invariant: the totals are those of the first `a` accounts, each below 2^62. It holds at
--- the start by `add_eights`, and a total over some accounts that reaches 2^62 does so over all.
+-- `totals::add_all` meets its contract. The loop's invariant: the totals are those of the first `a` rows, each below 2^62. It holds at
+-- the start by `add_eights`, and a total over some rows that reaches 2^62 does so over all.
 use mathlib.Core.Path.{sym, _∙_}
 use Prim.Native.Nat.{_+_, _-_, _*_, _≤_}
 use native.Mathlib.Nat.{le-trans, le-of-eq}
 use native.Mathlib.Omega.{arith}
 use borrow.Author.Tests.{not-true, not-false}
 use Rattle.lists.specs.Stretch.{within}
-use Rattle.sound.proofs.Accounts.{Counted, counted-low, counted-one, reached-one, answer-true, answer-false, started}
-use Rattle.sound.proofs.add_all.Statement.{statement}
-use Rattle.sound.proofs.add_all.Tie as tie
+use Rattle.totals.proofs.Rows.{Counted, counted-low, counted-one, reached-one, answer-true, answer-false, started}
+use Rattle.totals.proofs.add_all.Statement.{statement}
+use Rattle.totals.proofs.add_all.Tie as tie
 
 abbrev Inv-loop : tie.InvT-loop
-Inv-loop totals₀ book accounts width a₀ totals a = (a ≤ accounts) × Counted totals book width a
+Inv-loop totals₀ run rows width a₀ totals a = (a ≤ rows) × Counted totals run width a
 
 abbrev μ-loop : tie.MeasureT-loop
-μ-loop totals₀ book accounts width a₀ totals a = accounts - a
+μ-loop totals₀ run rows width a₀ totals a = rows - a
 
 add-eights-requires : tie.Need-add-eights-requires Inv-loop μ-loop
 add-eights-requires c κs = c .before .before .pre
@@ -22,8 +22,8 @@ add-eights-requires c κs = c .before .before .pre
 loop-holds : tie.Need-loop-holds Inv-loop μ-loop
 loop-holds c = (c .add-eights .ensures .0, started _ _ _ _ _ (c .add-eights .ensures))
 
--- the stretch that is added lies in the book
-inside : (c : tie.After-add-one-arg Inv-loop μ-loop) → c .before .before .loop .a * c .before .before .before .before .before .before .args .width + c .before .before .before .before .before .before .args .width ≤ c .before .before .before .before .before .before .args .accounts * c .before .before .before .before .before .before .args .width
+-- the row that is added lies in the run
+inside : (c : tie.After-add-one-arg Inv-loop μ-loop) → let s = c .before .before .before .before .before .before .args in c .before .before .loop .a * s .width + s .width ≤ s .rows * s .width
 inside c = within _ _ _ (c .before .loop-test .taken)
 
 mul-add-one : tie.Need-mul-add-one Inv-loop μ-loop
@@ -54,7 +54,8 @@ loop-less c = omega arith
 loop-again : tie.Need-loop-again Inv-loop μ-loop
 loop-again c = (
   omega arith,
-  counted-one (c .before .before .before .before .loop .inv .1) _ (not-true _ (sym (c .before .add-one .ensures .0) ∙ not-false _ (c .if1 .left))) (c .before .add-one .ensures .1 .0) (c .before .add-one .ensures .1 .1),
+  counted-one (c .before .before .before .before .loop .inv .1) _
+      (not-true _ (sym (c .before .add-one .ensures .0) ∙ not-false _ (c .if1 .left))) (c .before .add-one .ensures .1 .0) (c .before .add-one .ensures .1 .1),
 )
 
 returns-2 : tie.Need-returns-2 Inv-loop μ-loop

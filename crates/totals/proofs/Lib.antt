@@ -1,0 +1,3 @@
+pub mod Top
+pub mod Pass
+pub mod Rows
