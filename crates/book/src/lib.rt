@@ -12,8 +12,8 @@ ghost use Rattle.rules.specs.Orders.{creation};
 ghost use Rattle.rules.specs.Kinds.{stockLots, fundLots, unitLots, accountCash, fundCash, orderMoves};
 ghost use Rattle.book.specs.Moved.{movedOf, lineMoves, stockMoves, restOf, restMoves};
 ghost use Rattle.book.specs.Ready.{Tradable, LineReady, StockReady, FundReady, RestReady, OrderReady};
-use layout::DayHead;
 use layout::Component;
+use layout::DayHead;
 use lots::Lots;
 use units::Money;
 

@@ -83,14 +83,19 @@ pub const BASKET_FROM: usize = FUND_FROM + FUND_WIDTH;
 
 pub const DAY_WIDTH: usize = BASKET_FROM + BASKET_WIDTH;
 
-// An account's stretch: cash, a counter for each kind of order, and then the lots of each line.
+// An account's stretch: cash, units created, units redeemed, and then the lots of each line.
 pub const CASH: usize = 0;
 
-pub const COUNTERS: usize = 1;
+pub const CREATED: usize = 1;
 
-const LINES_FROM: usize = 3;
+pub const REDEEMED: usize = 2;
 
-const LINE_WIDTH: usize = 3;
+pub const LINES_FROM: usize = 3;
+
+pub const LINE_WIDTH: usize = 3;
+
+// The first counter: they stand in the order of the kinds of order.
+pub const COUNTERS: usize = CREATED;
 
 // The widest stretch, that of a fund with as many components as there is room for.
 pub const MOST_WIDTH: usize = LINES_FROM + LINE_WIDTH * (MOST_COMPONENTS + 1);

@@ -75,14 +75,7 @@ fn cash_refusal(kind: usize, n: usize) -> Refusal
 }
 
 // The tests 10 or 17 at cash, and 16.
-fn last_answer(
-    kind: usize,
-    n: usize,
-    held: u64,
-    due: u64,
-    room: usize,
-    count: usize,
-) -> OrderAnswer
+fn last_answer(kind: usize, n: usize, held: u64, due: u64, room: usize, count: usize) -> OrderAnswer
     ensures { λ r. ⌜ orderReply r ≡ answered (lastTests (cashNumber kind) (cashPlace kind n) held due room count) count ⌝ }
 {
     if held < due {

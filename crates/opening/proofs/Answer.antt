@@ -1,33 +1,36 @@
 -- Opening's answer, stage by stage.
 use mathlib.Core.Path.{_≡_, sym, ap, _∙_}
-use mathlib.Core.Bool.{true, false, not}
+use mathlib.Core.Bool.{true, false, not, false≢true}
 use mathlib.Core.List.{List, [], _∷_}
 use Prim.Native.Nat.{ℕ, _+_, _≤_, _<_}
 use native.Mathlib.Omega.{arith}
 use lib.Dec.{ltb}
+use lib.IntN.{natAbs}
 use lib.ListN.{length, replicate}
 use borrow.Author.Tests.{lt-ltb, le-ltb}
 use Rattle.lists.specs.Below.{joinBelow}
 use Rattle.lists.specs.Checks.{Check, check, reply, answered, isAccepted}
-use Rattle.layout.specs.declared.Component.{Component}
+use Rattle.digits.specs.Digits.{cap}
 use Rattle.fund.specs.Fund.{fundInRange}
+use Rattle.fund.proofs.Laws.{fund-sound, cash-size}
 use Rattle.fund.specs.Components.{componentFault}
 use Rattle.layout.specs.Components.{componentAt, placesOf}
-use Rattle.layout.specs.Day.{Day, blankDay}
+use Rattle.layout.specs.Places.{limitCount}
+use Rattle.layout.specs.Day.{dayAt, dayNumbers}
 use Rattle.rules.specs.declared.Refusal.{Refusal}
 use Rattle.rules.specs.declared.Answer.{Answer}
 use Rattle.rules.specs.declared.Answer.the-variants.{Done, Refused}
 use Rattle.rules.specs.Replies.{answerReply}
-use Rattle.rules.specs.Opening.{Opening, holdingsOf, openedTotal, openedCash, sizeChecks, fundChecks, totalFault, totalChecks, dayChecks, componentsOpened, openingSizesFit, openingReply, openedDay, openedStretch, openedBook, openedPrices}
+use Rattle.rules.specs.Opening.{Opening, holdingsOf, openedTotal, openedCash, sizeChecks, fundChecks, totalFault, totalChecks, dayChecks, componentsOpened, openingSizesFit, openingReply, openedRun, openedStretch, openedBook, openedPrices}
 use Rattle.rules.proofs.Replies.{refused}
-use Rattle.rules.proofs.OpenedDay.{opened-opens, opened-day, opened-book, opened-prices}
+use Rattle.rules.proofs.OpenedDay.{opened-opens, opened-book, opened-prices, opened-run}
 use Rattle.opening.specs.Given.{Outcome, totalsOf}
 use Rattle.opening.proofs.Sizes.{LentSizes, lent-facts}
 
 module _ (o : Opening) where
   -- refusal 1's facts, and the places that refusals 3 and 4 name
   abbrev pub Sizes : Type 0
-  Sizes = LentSizes (o .accounts) (o .count) (length (o .components)) (length (o .holdings)) (length (o .book)) (length (o .prices))
+  Sizes = LentSizes (o .accounts) (o .count) (length (o .components)) (length (o .holdings)) (length (o .book)) (length (o .prices)) (length (o .day))
 
   abbrev pub componentPlace : ℕ
   componentPlace = componentFault (o .fund .«first_code») (componentsOpened o) (o .count)
@@ -83,7 +86,7 @@ module _ (o : Opening) where
 
   -- what an accepted opening says of the lent lengths
   accepted-sizes : isAccepted (openingReply o) ≡ true → Sizes
-  accepted-sizes e = lent-facts _ _ _ _ _ _ (opened-opens o e .sizes)
+  accepted-sizes e = lent-facts _ _ _ _ _ _ _ (opened-opens o e .sizes)
 
   module _ (answer : Answer) (said : answerReply answer ≡ openingReply o) where
     done : answer ≡ Done → isAccepted (openingReply o) ≡ true
@@ -93,27 +96,35 @@ module _ (o : Opening) where
     pub done-sizes : answer ≡ Done → Sizes
     done-sizes e = accepted-sizes (done e)
 
+    -- the estimated cash is stored as it is
+    pub done-fund : answer ≡ Done → natAbs (o .fund .«estimated_cash») ≤ cap
+    done-fund e = cash-size (o .fund .«estimated_cash») (fund-sound (o .fund) (opened-opens o (done e) .fund-fields) .cash)
+
     -- an accepted opening
-    pub outcome-done : (places : List Component) (book prices : List ℕ) → answer ≡ Done → places ≡ placesOf (componentAt (o .components)) (o .count)
+    pub outcome-done : (book prices day : List ℕ) → answer ≡ Done → length (o .fund .limits) ≡ limitCount
         → book ≡ joinBelow (λ a. openedStretch (o .count) (holdingsOf o a)) (o .accounts) → prices ≡ replicate (length (o .prices)) 0
-        → Outcome o (record { day = record { accounts = o .accounts; count = o .count; fund = o .fund; components = places }; answer = answer }) book prices
-    unfolding componentsOpened
-    outcome-done places book prices e p b q =
+        → day ≡ dayNumbers (o .accounts) (o .count) (o .fund) (o .components) → Outcome o answer book prices day
+    unfolding openedRun
+    outcome-done book prices day e limits b q d =
+        let accepted = done e in
+        let run : day ≡ openedRun o = d ∙ rw accepted in
         record {
           answer-is = said;
-          day-is = rw p (sym (opened-day o (done e)));
-          book-is = b ∙ sym (opened-book o (done e));
-          prices-is = q ∙ ap (λ (n : ℕ). replicate n 0) (done-sizes e .day .prices-size) ∙ sym (opened-prices o (done e));
+          book-is = b ∙ sym (opened-book o accepted);
+          prices-is = q ∙ ap (λ (n : ℕ). replicate n 0) (done-sizes e .own .prices-size) ∙ sym (opened-prices o accepted);
+          day-is = run;
+          day-says = λ _. ap dayAt run ∙ opened-run o accepted limits;
         }
 
     -- a refused one
-    pub outcome-refused : (why : Refusal) (day : Day) → answer ≡ Refused why → day ≡ blankDay → Outcome o (record { day = day; answer = answer }) (o .book) (o .prices)
-    unfolding openedDay openedBook openedPrices
-    outcome-refused why day e d =
+    pub outcome-refused : (why : Refusal) → answer ≡ Refused why → Outcome o answer (o .book) (o .prices) (o .day)
+    unfolding openedRun openedBook openedPrices
+    outcome-refused why e =
         let no : isAccepted (openingReply o) ≡ false = rw (← said, e) (refused why) in
         record {
           answer-is = said;
-          day-is = rw no d;
           book-is = rw no;
           prices-is = rw no;
+          day-is = rw no;
+          day-says = λ yes. absurd (false≢true (sym no ∙ yes));
         }

@@ -2,5 +2,4 @@ pub mod Totals
 pub mod Sizes
 pub mod Front
 pub mod Answer
-pub mod Blank
 pub mod Filled

@@ -9,15 +9,10 @@ ghost use Rattle.layout.specs.Book.{widthOf};
 ghost use Rattle.rules.specs.Replies.{answerReply};
 ghost use Rattle.totals.specs.Totals.{widest, mostRows};
 ghost use Rattle.rules.specs.Opening.{overAt, totalFault, lentSizesFit, openingReply, openedStretch};
-ghost use Rattle.layout.specs.Fund.{blankFund};
-ghost use Rattle.layout.specs.Day.{blankDay};
 ghost use Rattle.opening.specs.Given.{given, Outcome, totalsIn, totalsOf, putThree};
 use layout::Fund;
 use rules::Answer;
-use rules::Day;
-use rules::Opened;
 use rules::Refusal;
-use units::Rate;
 
 // Refusal 4 at a place, by the totals of the holdings' rows and the fund's units: a line, of which `count` is the unit, or one past it for cash.
 fn over_at(totals: &[u64; totals::WIDEST], units: u64, count: usize, place: usize) -> bool
@@ -69,8 +64,9 @@ fn sizes_fit(
     holdings: usize,
     book: usize,
     prices: usize,
+    day: usize,
 ) -> bool
-    ensures { λ r. ⌜ r ≡ lentSizesFit accounts count components holdings book prices ⌝ }
+    ensures { λ r. ⌜ r ≡ lentSizesFit accounts count components holdings book prices day ⌝ }
 {
     if !sound::sizes_fit(accounts, count, book, prices) {
         return false;
@@ -78,7 +74,10 @@ fn sizes_fit(
     if components != layout::COMPONENT_WIDTH * count {
         return false;
     }
-    holdings == accounts * (count + 2)
+    if holdings != accounts * (count + 2) {
+        return false;
+    }
+    day == layout::DAY_WIDTH
 }
 
 // The answer, which changes nothing.
@@ -90,8 +89,9 @@ fn opening_answer(
     holdings: &[u64],
     book: &[u64],
     prices: &[u64],
+    day: &[u64],
 ) -> Answer
-    ensures { λ r. ⌜ answerReply r ≡ openingReply (given accounts count fund (now (components .entry)) (now (holdings .entry)) (now (book .entry)) (now (prices .entry))) ⌝ }
+    ensures { λ r. ⌜ answerReply r ≡ openingReply (given accounts count fund (now (components .entry)) (now (holdings .entry)) (now (book .entry)) (now (prices .entry)) (now (day .entry))) ⌝ }
 {
     if !sizes_fit(
         accounts,
@@ -100,6 +100,7 @@ fn opening_answer(
         holdings.len(),
         book.len(),
         prices.len(),
+        day.len(),
     ) {
         return Answer::Refused(Refusal::Sizes);
     }
@@ -133,21 +134,27 @@ fn open_account(stretch: &mut [u64], held: &[u64], count: usize)
     requires { ⌜ length (now held) ≡ count + 2 ⌝ }
     ensures { λ _. ⌜ now (stretch .exit) ≡ openedStretch count (now (held .entry)) ⌝ }
 {
-    put_three(stretch, 0, held[0], 0, 0);
+    put_three(stretch, layout::CASH, held[0], 0, 0);
     let mut l = 0;
     while l < count + 1 {
-        put_three(stretch, 3 + 3 * l, held[1 + l], 0, 0);
+        put_three(
+            stretch,
+            layout::LINES_FROM + layout::LINE_WIDTH * l,
+            held[1 + l],
+            0,
+            0,
+        );
         l += 1;
     }
 }
 
 // Account a's stretch of the book, from its part of the holdings.
 fn open_part(book: &mut [u64], holdings: &[u64], count: usize, a: usize)
-    requires { ⌜ a * widthOf count + widthOf count ≤ length (now book) ⌝ }
+    requires { ⌜ (count ≤ mostComponents) × (a * widthOf count + widthOf count ≤ length (now book)) ⌝ }
     requires { ⌜ a * (count + 2) + (count + 2) ≤ length (now holdings) ⌝ }
     ensures { λ _. ⌜ now (book .exit) ≡ putStretch (widthOf count) (now (book .entry)) a (openedStretch count (stretchOf (count + 2) (now (holdings .entry)) a)) ⌝ }
 {
-    let w = 3 + 3 * (count + 1);
+    let w = layout::width_of(count);
     let h = count + 2;
     let start = a * w;
     let end = start + w;
@@ -158,7 +165,7 @@ fn open_part(book: &mut [u64], holdings: &[u64], count: usize, a: usize)
 
 // Every account's stretch.
 fn open_book(book: &mut [u64], holdings: &[u64], accounts: usize, count: usize)
-    requires { ⌜ length (now book) ≡ accounts * widthOf count ⌝ }
+    requires { ⌜ (count ≤ mostComponents) × (length (now book) ≡ accounts * widthOf count) ⌝ }
     requires { ⌜ length (now holdings) ≡ accounts * (count + 2) ⌝ }
     ensures { λ _. ⌜ now (book .exit) ≡ joinBelow (λ a. openedStretch count (stretchOf (count + 2) (now (holdings .entry)) a)) accounts ⌝ }
 {
@@ -180,36 +187,7 @@ fn clear(prices: &mut [u64])
     }
 }
 
-// The fund of the blank day.
-fn blank_fund() -> Fund
-    ensures { λ r. ⌜ r ≡ blankFund ⌝ }
-{
-    Fund {
-        first_code: 0,
-        basket_size: 0,
-        max_cash_ratio: Rate(0),
-        switch: 0,
-        estimated_cash: 0,
-        limits: [0; 8],
-    }
-}
-
-// The day that a refused opening hands back.
-pub fn blank_day() -> Day
-    ensures { λ r. ⌜ r ≡ blankDay ⌝ }
-{
-    let blank = layout::blank_component();
-    let fund = blank_fund();
-    let components = [blank; 300];
-    Day {
-        accounts: 0,
-        count: 0,
-        fund,
-        components,
-    }
-}
-
-// Opening: the answer and the day, with the book and the prices filled. A refused opening changes nothing, and its day is blank.
+// Opening: the book, the prices and the day are filled. A refused opening changes nothing.
 pub fn open(
     accounts: usize,
     count: usize,
@@ -218,26 +196,27 @@ pub fn open(
     holdings: &[u64],
     book: &mut [u64],
     prices: &mut [u64],
-) -> Opened
-    ensures { λ r. ⌜ Outcome (given accounts count fund (now (components .entry)) (now (holdings .entry)) (now (book .entry)) (now (prices .entry))) r (now (book .exit)) (now (prices .exit)) ⌝ }
+    day: &mut [u64],
+) -> Answer
+    ensures { λ r. ⌜ Outcome (given accounts count fund (now (components .entry)) (now (holdings .entry)) (now (book .entry)) (now (prices .entry)) (now (day .entry))) r (now (book .exit)) (now (prices .exit)) (now (day .exit)) ⌝ }
 {
-    let answer = opening_answer(accounts, count, fund, components, holdings, book, prices);
+    let answer = opening_answer(
+        accounts,
+        count,
+        fund,
+        components,
+        holdings,
+        book,
+        prices,
+        day,
+    );
     match answer {
         Answer::Done => {
             open_book(book, holdings, accounts, count);
             clear(prices);
-            let places = fund::components_of(components, count);
-            let day = Day {
-                accounts,
-                count,
-                fund,
-                components: places,
-            };
-            Opened { day, answer }
+            layout::put_day(day, accounts, count, fund, components);
+            answer
         }
-        Answer::Refused(_) => {
-            let day = blank_day();
-            Opened { day, answer }
-        }
+        Answer::Refused(_) => answer,
     }
 }

@@ -8,11 +8,11 @@ ghost use Rattle.rules.specs.Creation.{creationReply, creationRecords, creation
 ghost use Rattle.rules.specs.Redemption.{redemptionReply, redemptionRecords, redemptionMoves, redeemedBook};
 ghost use Rattle.order_list.specs.Plan.{madeCount, carried, Carriable, Planned};
 ghost use Rattle.order_list.specs.Made.{createdRecords, redeemedRecords};
+use layout::Record;
 use means::Tested;
 use record_list::Order;
 use rules::Day;
 use rules::OrderAnswer;
-use layout::Record;
 use rules::Refusal;
 use units::Money;
 

@@ -14,13 +14,13 @@ ghost use Rattle.record_list.specs.Ready.{Ready, Fillable, Found};
 ghost use Rattle.record_list.specs.Stored.{pushed, withFirst};
 use book::lots_of;
 use book::stock_moved;
-use layout::width_of;
 use layout::Component;
+use layout::Record;
+use layout::width_of;
 use records::record_of;
 use records::rest_side;
 use records::stock_side;
 use rules::Day;
-use layout::Record;
 use units::Money;
 
 // Codes of the fund's group, as steps from its first, which is the unit's.

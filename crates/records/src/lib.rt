@@ -6,8 +6,8 @@ ghost use lib.ListN.{length};
 ghost use Rattle.rules.specs.Records.{recordOf, cashRecords};
 ghost use Rattle.rules.specs.Kinds.{stockSide, restSide};
 ghost use Rattle.records.specs.Written.{Fits, Wrote, lineRecord, recordsAfterStock};
-use rules::CashByMarket;
 use layout::Record;
+use rules::CashByMarket;
 use units::Money;
 
 // A record whose amount is its quantity times its price.

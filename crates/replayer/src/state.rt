@@ -1,10 +1,10 @@
 // The day, book and prices that calls are made on, and the items that give them: an opening, or a state written out.
 use crate::replies;
-use layout::Component;
-use layout::Fund;
 use items::input::Cursor;
 use items::output;
 use items::runs;
+use layout::Component;
+use layout::Fund;
 use rules::Answer;
 use rules::Day;
 use rules::Opened;

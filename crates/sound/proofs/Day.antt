@@ -71,7 +71,7 @@ module _ {d : Day} {b ps : List ℕ} (s : SoundDay d b ps) where
       record {
         created-none = sym (fund-place d b created (omega arith)) ∙ s .book .fund-created;
         redeemed-none = sym (fund-place d b redeemed (omega arith)) ∙ s .book .fund-redeemed;
-        no-units = sym (fund-place d b (lineFrom d .count) (omega arith)) ∙ s .book .fund-units;
+        no-units = sym (fund-place d b (lineFrom (d .count)) (omega arith)) ∙ s .book .fund-units;
         lines = λ l h. line-still b l (sym (fund-place d b (lineFrom l + 1) (omega arith)) ∙ s .book .fund-bought l h) (sym (fund-place d b (lineFrom l + 2) (omega arith)) ∙ s .book .fund-got l h);
       }
 
@@ -118,7 +118,7 @@ day-sound {d} {b} {ps} sizes fund components prices still fits =
             money = omega (arith, fits .money, head-total d b cash (omega arith));
             created-most = omega (arith, fits .created-most, head-total d b created (omega arith));
             redeemed-most = omega (arith, fits .redeemed-most, head-total d b redeemed (omega arith));
-            fund-units = fund-place d b (lineFrom d .count) (omega arith) ∙ still .no-units;
+            fund-units = fund-place d b (lineFrom (d .count)) (omega arith) ∙ still .no-units;
             fund-created = fund-place d b created (omega arith) ∙ still .created-none;
             fund-redeemed = fund-place d b redeemed (omega arith) ∙ still .redeemed-none;
             fund-bought = λ l h. fund-place d b (lineFrom l + 1) (omega arith) ∙ still-line b l (still .lines l h) .0;

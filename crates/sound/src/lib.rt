@@ -13,14 +13,6 @@ ghost use Rattle.rules.specs.Sound.{isSound, isKept};
 ghost use Rattle.sound.specs.Parts.{mostOf, lineFits, totalsFit, lineStill, stretchStill, priceFits, roomLeft};
 use layout::DayHead;
 
-// The width of an account's stretch.
-pub fn width_of(n: usize) -> usize
-    requires { ⌜ n ≤ mostComponents ⌝ }
-    ensures { λ r. ⌜ r ≡ widthOf n ⌝ }
-{
-    3 + 3 * (n + 1)
-}
-
 // The most that a line may total. Line `n` is the unit.
 fn most_of(n: usize, line: usize) -> u64
     ensures { λ r. ⌜ r ≡ mostOf n line ⌝ }
@@ -35,7 +27,7 @@ fn line_fits(totals: &[u64; totals::WIDEST], n: usize, line: usize) -> bool
     requires { ⌜ (n ≤ mostComponents) × (line ≤ n) × Capped (widthOf n) (now totals) × (length (now totals) ≡ widest) ⌝ }
     ensures { λ r. ⌜ r ≡ lineFits n (numberAt (now (totals .entry))) line ⌝ }
 {
-    let at = 3 + 3 * line;
+    let at = layout::LINES_FROM + layout::LINE_WIDTH * line;
     totals[at] + totals[at + 1] + totals[at + 2] <= most_of(n, line)
 }
 
@@ -44,13 +36,13 @@ fn totals_fit(totals: &[u64; totals::WIDEST], n: usize) -> bool
     requires { ⌜ (n ≤ mostComponents) × Capped (widthOf n) (now totals) × (length (now totals) ≡ widest) ⌝ }
     ensures { λ r. ⌜ r ≡ totalsFit n (numberAt (now (totals .entry))) ⌝ }
 {
-    if rules::MOST_CASH < totals[0] {
+    if rules::MOST_CASH < totals[layout::CASH] {
         return false;
     }
-    if fund::CEILING < totals[1] {
+    if fund::CEILING < totals[layout::CREATED] {
         return false;
     }
-    if fund::CEILING < totals[2] {
+    if fund::CEILING < totals[layout::REDEEMED] {
         return false;
     }
     let mut line = 0;
@@ -69,7 +61,7 @@ fn book_fits(book: &[u64], accounts: usize, n: usize) -> bool
     ensures { λ r. ⌜ r ≡ totalsFit n (total (now (book .entry)) (widthOf n) accounts) ⌝ }
 {
     let mut totals = [0u64; totals::WIDEST];
-    totals::fill(&mut totals, book, accounts, width_of(n));
+    totals::fill(&mut totals, book, accounts, layout::width_of(n));
     totals_fit(&totals, n)
 }
 
@@ -77,7 +69,7 @@ fn line_still(book: &[u64], line: usize) -> bool
     requires { ⌜ (line ≤ mostComponents) × (behindLine line ≤ length (now book)) ⌝ }
     ensures { λ r. ⌜ r ≡ lineStill (now (book .entry)) line ⌝ }
 {
-    let at = 3 + 3 * line;
+    let at = layout::LINES_FROM + layout::LINE_WIDTH * line;
     if book[at + 1] != 0 {
         return false;
     }
@@ -89,13 +81,13 @@ fn fund_still(book: &[u64], n: usize) -> bool
     requires { ⌜ (n ≤ mostComponents) × (widthOf n ≤ length (now book)) ⌝ }
     ensures { λ r. ⌜ r ≡ stretchStill n (now (book .entry)) ⌝ }
 {
-    if book[1] != 0 {
+    if book[layout::CREATED] != 0 {
         return false;
     }
-    if book[2] != 0 {
+    if book[layout::REDEEMED] != 0 {
         return false;
     }
-    if book[3 + 3 * n] != 0 {
+    if book[layout::LINES_FROM + layout::LINE_WIDTH * n] != 0 {
         return false;
     }
     let mut line = 0;
@@ -135,10 +127,10 @@ pub fn sizes_fit(accounts: usize, n: usize, book: usize, prices: usize) -> bool
     if n < 1 {
         return false;
     }
-    if 300 < n {
+    if layout::MOST_COMPONENTS < n {
         return false;
     }
-    if book != accounts * width_of(n) {
+    if book != accounts * layout::width_of(n) {
         return false;
     }
     prices == n
@@ -175,8 +167,8 @@ fn room_left(book: &[u64], accounts: usize, n: usize) -> bool
     requires { ⌜ (n ≤ mostComponents) × (length (now book) ≡ accounts * widthOf n) × (totalsFit n (total (now book) (widthOf n) accounts) ≡ true) ⌝ }
     ensures { λ r. ⌜ r ≡ roomLeft n (total (now (book .entry)) (widthOf n) accounts) ⌝ }
 {
-    let width = width_of(n);
-    let at = 3 + 3 * n;
+    let width = layout::width_of(n);
+    let at = layout::LINES_FROM + layout::LINE_WIDTH * n;
     let old = totals::total_at(book, accounts, width, at);
     let bought = totals::total_at(book, accounts, width, at + 1);
     let got = totals::total_at(book, accounts, width, at + 2);

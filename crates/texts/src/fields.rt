@@ -4,8 +4,8 @@
 ghost use mathlib.Core.Path.{_≡_};
 ghost use mathlib.Core.Bool.{true};
 ghost use Rattle.fund.specs.Fund.{cashInRange};
-use layout::Fund;
 use items::runs;
+use layout::Fund;
 use list_rules::ListFields;
 use units::Rate;
 

@@ -5,10 +5,12 @@ use Prim.Native.Nat.{ℕ, _+_, _*_, _≤_, _<_, min}
 use lib.Dec.{leb}
 use lib.ListN.{getD}
 use Rattle.lists.specs.Below.{sumBelow}
+use Rattle.layout.specs.Places.{mostComponents}
+use Rattle.layout.specs.Book.{widthOf}
 
--- the widest row: an account's stretch on a day of 300 components
+-- the widest row: an account's stretch on a day of the most components
 abbrev pub widest : ℕ
-widest = 906
+widest = widthOf mostComponents
 
 -- the most rows: so many accounts has a day
 abbrev pub mostRows : ℕ

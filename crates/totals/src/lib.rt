@@ -7,7 +7,7 @@ ghost use Rattle.lists.specs.Below.{anyBelow};
 ghost use Rattle.totals.specs.Totals.{widest, mostRows, top, quickMost, total, cappedTotal, plusOne, eightAt, plusEight, reaches, Low};
 
 // The widest row: an account's stretch on a day of 300 components.
-pub const WIDEST: usize = 906;
+pub const WIDEST: usize = layout::MOST_WIDTH;
 
 // 2^62: above every limit of a day, and four numbers below it add up without wrapping.
 pub const TOP: u64 = 4_611_686_018_427_387_904;

@@ -14,13 +14,13 @@ abbrev μ-loop : tie.MeasureT-loop
 μ-loop book₀ holdings accounts count a₀ book a = accounts - a
 
 loop-holds : tie.Need-loop-holds Inv-loop μ-loop
-loop-holds c = (omega arith, filled-none _ _ _ _ (c .before .before .pre .0))
+loop-holds c = (omega arith, filled-none _ _ _ _ (c .before .before .pre .0 .1))
 
 open-part-requires : tie.Need-open-part-requires Inv-loop μ-loop
 open-part-requires c κs =
     let a = c .before .before .before .before .before .args in
     let l = c .before .before .loop in
-    (filled-in _ _ _ _ _ (c .before .loop-test .taken) (l .inv .1), omega (arith, within (a .count + 2) (l .a) (a .accounts) (c .before .loop-test .taken)))
+    ((c .before .before .before .before .before .pre .0 .0, filled-in _ _ _ _ _ (c .before .loop-test .taken) (l .inv .1)), omega (arith, within (a .count + 2) (l .a) (a .accounts) (c .before .loop-test .taken)))
 
 add-a : tie.Need-add-a Inv-loop μ-loop
 add-a c = omega arith
@@ -32,7 +32,7 @@ loop-again : tie.Need-loop-again Inv-loop μ-loop
 loop-again c = (omega arith, filled-more _ _ _ _ _ _ (omega arith) (c .before .before .open-part .ensures) (c .before .before .before .before .before .loop .inv .1))
 
 same-length : tie.Need-same-length Inv-loop μ-loop
-same-length c = c .before .loop .inv .1 .size ∙ sym (c .before .before .before .before .pre .0)
+same-length c = c .before .loop .inv .1 .size ∙ sym (c .before .before .before .before .pre .0 .1)
 
 returns : tie.Need-returns Inv-loop μ-loop
 returns c = filled-all _ _ _ _ _ (omega arith) (c .before .loop .inv .1)

@@ -21,30 +21,33 @@ sizes-fit-requires : tie.Need-sizes-fit-requires
 sizes-fit-requires c κs = search needs
 
 returns : tie.Need-returns
-returns c = sym (lent-false _ _ _ _ _ _ (λ s. true≢false (sym (sizes-true _ _ _ _ (s .day)) ∙ sym (c .before .sizes-fit .ensures) ∙ not-true _ (c .if1 .taken))))
+returns c = sym (lent-false _ _ _ _ _ _ _ (λ s. true≢false (sym (sizes-true _ _ _ _ (s .own)) ∙ sym (c .before .sizes-fit .ensures) ∙ not-true _ (c .if1 .taken))))
 
 mul-if2 : tie.Need-mul-if2
 mul-if2 c = omega (arith, day c .count-high)
 
 returns-2 : tie.Need-returns-2
-returns-2 c = sym (lent-false _ _ _ _ _ _ (λ s. c .if2 .taken (s .components-size)))
+returns-2 c = sym (lent-false _ _ _ _ _ _ _ (λ s. c .if2 .taken (s .components-size)))
 
-add-result : tie.Need-add-result
-add-result c = search needs
+add-if3 : tie.Need-add-if3
+add-if3 c = search needs
 
-mul-result : tie.Need-mul-result
-mul-result c =
+mul-if3 : tie.Need-mul-if3
+mul-if3 c =
     let a = c .before .before .before .args in
     let s = day (c .before) in
     omega (arith, under 64 302 {a = a .accounts} {b = a .count + 2} (s .accounts-high) (omega (arith, s .count-high)))
 
 returns-3 : tie.Need-returns-3
-returns-3 c =
+returns-3 c = sym (lent-false _ _ _ _ _ _ _ (λ s. c .if3 .taken (s .holdings-size)))
+
+returns-4 : tie.Need-returns-4
+returns-4 c =
     same-test _ _
-    (λ e. lent-true _ _ _ _ _ _ (record { day = day (c .before); components-size = c .if2 .left; holdings-size = eqb-true _ _ e }))
-    (λ e. eq-eqb _ _ (lent-facts _ _ _ _ _ _ e .holdings-size))
+    (λ e. lent-true _ _ _ _ _ _ _ (record { own = day (c .before .before); components-size = c .before .if2 .left; holdings-size = c .if3 .left; day-size = eqb-true _ _ e }))
+    (λ e. eq-eqb _ _ (lent-facts _ _ _ _ _ _ _ e .day-size))
 
 pub sizes-fit-spec : {M : Type 1} → statement M
 sizes-fit-spec =
     tie.close
-    (tie.spec sizes-fit-requires returns mul-if2 returns-2 add-result mul-result returns-3)
+    (tie.spec sizes-fit-requires returns mul-if2 returns-2 add-if3 mul-if3 returns-3 returns-4)

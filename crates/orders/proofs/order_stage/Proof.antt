@@ -7,12 +7,12 @@ use Rattle.orders.proofs.order_stage.Tie as tie
 part-of-requires : tie.Need-part-of-requires
 part-of-requires c κs =
     let f = c .before .before .before .pre .0 in
-    (sound _ _ _ _ f .count-high, inside _ _ _ _ f _ (order _ _ _ _ f .account-in))
+    (sound _ _ _ _ f .own .count-high, inside _ _ _ _ f _ (order _ _ _ _ f .account-in))
 
 part-of-requires-2 : tie.Need-part-of-requires-2
 part-of-requires-2 c κs =
     let f = c .before .before .before .before .pre .0 in
-    (sound _ _ _ _ f .count-high, inside _ _ _ _ f 0 (first _ _ _ _ f))
+    (sound _ _ _ _ f .own .count-high, inside _ _ _ _ f 0 (first _ _ _ _ f))
 
 order-means-requires : tie.Need-order-means-requires
 order-means-requires c κs =

@@ -9,7 +9,7 @@ use Rattle.orders.proofs.order_tested.Statement.{statement}
 use Rattle.orders.proofs.order_tested.Tie as tie
 
 div-m : tie.Need-div-m
-div-m c = omega (arith, fund-sound _ (sound-facts _ _ _ (c .before .before .before .before .before .pre .0) .fund-fields) .size-low)
+div-m c = omega (arith, fund-sound _ (sound-facts _ _ _ (c .before .before .before .before .before .pre .0) .own .fund-fields) .size-low)
 
 tested-in-requires : tie.Need-tested-in-requires
 unfolding baskets

@@ -10,7 +10,7 @@ use Rattle.sound.proofs.line_fits.Statement.{statement}
 use Rattle.sound.proofs.line_fits.Tie as tie
 
 -- the three lots
-lots : (c : tie.Start) → let t = c .args .totals .now in let at = lineFrom c .args .line in (getD t at 0 ≤ top) × (getD t (at + 1) 0 ≤ top) × (getD t (at + 2) 0 ≤ top)
+lots : (c : tie.Start) → let t = c .args .totals .now in let at = lineFrom (c .args .line) in (getD t at 0 ≤ top) × (getD t (at + 1) 0 ≤ top) × (getD t (at + 2) 0 ≤ top)
 lots c = (c .pre .2 _ (omega arith), c .pre .2 _ (omega arith), c .pre .2 _ (omega arith))
 
 mul-at : tie.Need-mul-at
