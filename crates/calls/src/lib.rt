@@ -3,61 +3,75 @@
 ghost use mathlib.Core.Path.{_≡_};
 ghost use Prim.Native.Nat.{_/_, _<_};
 ghost use mathlib.Core.Bool.{true};
-ghost use lib.ListN.{length};
-ghost use Rattle.layout.specs.Day.{dayOf};
+ghost use Rattle.layout.specs.Places.{recordWidth};
+ghost use Rattle.layout.specs.Day.{dayAt};
+ghost use Rattle.layout.specs.Records.{roomIn};
 ghost use Rattle.rules.specs.Replies.{answerReply, orderReply, valueReply};
 ghost use Rattle.rules.specs.Price.{priceReply, pricedPrices};
 ghost use Rattle.rules.specs.Trade.{tradeReply, tradedBook};
 ghost use Rattle.rules.specs.Value.{worthReply};
-ghost use Rattle.layout.specs.Places.{recordWidth, basketWidth};
-ghost use Rattle.layout.specs.Records.{roomIn};
 ghost use Rattle.rules.specs.Kinds.{askedReply, askedBook, askedList};
-ghost use Rattle.rules.specs.Sound.{isSound};
-use layout::DayHead;
+ghost use Rattle.rules.specs.Sound.{isSound, isKept};
 use rules::Answer;
 use rules::Ask;
 use rules::OrderAnswer;
 use rules::Refusal;
 use rules::ValueAnswer;
 
+// Refusal 5's test. A run of another length than a day's is the blank day, which is not sound.
+fn is_sound(day: &[u64], book: &[u64], prices: &[u64]) -> bool
+    ensures { λ r. ⌜ r ≡ isSound (dayAt (now (day .entry))) (now (book .entry)) (now (prices .entry)) ⌝ }
+{
+    if day.len() != layout::DAY_WIDTH {
+        return false;
+    }
+    sound::is_sound(layout::head_of(day), layout::basket_of(day), book, prices)
+}
+
+// Whether the day has what every call keeps.
+pub fn is_kept(day: &[u64], book: &[u64], prices: &[u64]) -> bool
+    ensures { λ r. ⌜ r ≡ isKept (dayAt (now (day .entry))) (now (book .entry)) (now (prices .entry)) ⌝ }
+{
+    if day.len() != layout::DAY_WIDTH {
+        return false;
+    }
+    sound::is_kept(layout::head_of(day), layout::basket_of(day), book, prices)
+}
+
 // Whether the day is sound: known, or tested.
-fn sound_day(known: bool, d: DayHead, basket: &[u64], book: &[u64], prices: &[u64]) -> bool
-    requires { ⌜ (known ≡ true → isSound (dayOf d (now basket)) (now book) (now prices) ≡ true) ⌝ }
-    requires { ⌜ length (now basket) ≡ basketWidth ⌝ }
-    ensures { λ r. ⌜ r ≡ isSound (dayOf d (now (basket .entry))) (now (book .entry)) (now (prices .entry)) ⌝ }
+fn sound_day(known: bool, day: &[u64], book: &[u64], prices: &[u64]) -> bool
+    requires { ⌜ (known ≡ true → isSound (dayAt (now day)) (now book) (now prices) ≡ true) ⌝ }
+    ensures { λ r. ⌜ r ≡ isSound (dayAt (now (day .entry))) (now (book .entry)) (now (prices .entry)) ⌝ }
 {
     if known {
         return true;
     }
-    sound::is_sound(d, basket, book, prices)
+    is_sound(day, book, prices)
 }
 
 // Sets a component's price.
 pub fn price(
     known: bool,
-    d: DayHead,
-    basket: &[u64],
+    day: &[u64],
     book: &[u64],
     prices: &mut [u64],
     line: usize,
     price: u64,
 ) -> Answer
-    requires { ⌜ (known ≡ true → isSound (dayOf d (now basket)) (now book) (now prices) ≡ true) ⌝ }
-    requires { ⌜ length (now basket) ≡ basketWidth ⌝ }
-    ensures { λ r. ⌜ answerReply r ≡ priceReply (dayOf d (now (basket .entry))) (now (book .entry)) (now (prices .entry)) line price ⌝ }
-    ensures prices { λ r. ⌜ now (prices .exit) ≡ pricedPrices (dayOf d (now (basket .entry))) (now (book .entry)) (now (prices .entry)) line price ⌝ }
+    requires { ⌜ (known ≡ true → isSound (dayAt (now day)) (now book) (now prices) ≡ true) ⌝ }
+    ensures { λ r. ⌜ answerReply r ≡ priceReply (dayAt (now (day .entry))) (now (book .entry)) (now (prices .entry)) line price ⌝ }
+    ensures prices { λ r. ⌜ now (prices .exit) ≡ pricedPrices (dayAt (now (day .entry))) (now (book .entry)) (now (prices .entry)) line price ⌝ }
 {
-    if !sound_day(known, d, basket, book, prices) {
+    if !sound_day(known, day, book, prices) {
         return Answer::Refused(Refusal::UnsoundDay);
     }
-    trades::set_price(d.count, prices, line, price)
+    trades::set_price(layout::count_of(day), prices, line, price)
 }
 
 // Trades a quantity of a line at a price.
 pub fn trade(
     known: bool,
-    d: DayHead,
-    basket: &[u64],
+    day: &[u64],
     book: &mut [u64],
     prices: &[u64],
     line: usize,
@@ -66,73 +80,67 @@ pub fn trade(
     seller: usize,
     buyer: usize,
 ) -> Answer
-    requires { ⌜ (known ≡ true → isSound (dayOf d (now basket)) (now book) (now prices) ≡ true) ⌝ }
-    requires { ⌜ length (now basket) ≡ basketWidth ⌝ }
-    ensures { λ r. ⌜ answerReply r ≡ tradeReply (dayOf d (now (basket .entry))) (now (book .entry)) (now (prices .entry)) line q price seller buyer ⌝ }
-    ensures book { λ r. ⌜ now (book .exit) ≡ tradedBook (dayOf d (now (basket .entry))) (now (book .entry)) (now (prices .entry)) line q price seller buyer ⌝ }
+    requires { ⌜ (known ≡ true → isSound (dayAt (now day)) (now book) (now prices) ≡ true) ⌝ }
+    ensures { λ r. ⌜ answerReply r ≡ tradeReply (dayAt (now (day .entry))) (now (book .entry)) (now (prices .entry)) line q price seller buyer ⌝ }
+    ensures book { λ r. ⌜ now (book .exit) ≡ tradedBook (dayAt (now (day .entry))) (now (book .entry)) (now (prices .entry)) line q price seller buyer ⌝ }
 {
-    if !sound_day(known, d, basket, book, prices) {
+    if !sound_day(known, day, book, prices) {
         return Answer::Refused(Refusal::UnsoundDay);
     }
-    trades::trade(d.accounts, d.count, book, line, q, price, seller, buyer)
+    let accounts = layout::accounts_of(day);
+    let count = layout::count_of(day);
+    trades::trade(accounts, count, book, line, q, price, seller, buyer)
 }
 
 // The reference value at this moment.
-pub fn reference_value(
-    known: bool,
-    d: DayHead,
-    basket: &[u64],
-    book: &[u64],
-    prices: &[u64],
-) -> ValueAnswer
-    requires { ⌜ (known ≡ true → isSound (dayOf d (now basket)) (now book) (now prices) ≡ true) ⌝ }
-    requires { ⌜ length (now basket) ≡ basketWidth ⌝ }
-    ensures { λ r. ⌜ valueReply r ≡ worthReply (dayOf d (now (basket .entry))) (now (book .entry)) (now (prices .entry)) ⌝ }
+pub fn reference_value(known: bool, day: &[u64], book: &[u64], prices: &[u64]) -> ValueAnswer
+    requires { ⌜ (known ≡ true → isSound (dayAt (now day)) (now book) (now prices) ≡ true) ⌝ }
+    ensures { λ r. ⌜ valueReply r ≡ worthReply (dayAt (now (day .entry))) (now (book .entry)) (now (prices .entry)) ⌝ }
 {
-    if !sound_day(known, d, basket, book, prices) {
+    if !sound_day(known, day, book, prices) {
         return ValueAnswer::Refused(Refusal::UnsoundDay);
     }
-    value::reference_value(d, basket, prices)
+    value::reference_value(layout::head_of(day), layout::basket_of(day), prices)
 }
 
-// An order; the records go to the lent list.
+// Creates or redeems units of an account; the records go to the lent list.
 pub fn order(
     known: bool,
-    d: DayHead,
-    basket: &[u64],
+    day: &[u64],
     book: &mut [u64],
     prices: &[u64],
     ask: Ask,
     list: &mut [u64],
 ) -> OrderAnswer
-    requires { ⌜ (known ≡ true → isSound (dayOf d (now basket)) (now book) (now prices) ≡ true) ⌝ }
-    requires { ⌜ (ask .kind < 2) × (length (now basket) ≡ basketWidth) ⌝ }
-    ensures { λ r. ⌜ orderReply r ≡ askedReply (dayOf d (now (basket .entry))) (now (book .entry)) (now (prices .entry)) ask (roomIn (now (list .entry))) ⌝ }
-    ensures book { λ r. ⌜ now (book .exit) ≡ askedBook (dayOf d (now (basket .entry))) (now (book .entry)) (now (prices .entry)) ask (roomIn (now (list .entry))) ⌝ }
-    ensures list { λ r. ⌜ now (list .exit) ≡ askedList (dayOf d (now (basket .entry))) (now (book .entry)) (now (prices .entry)) ask (now (list .entry)) ⌝ }
+    requires { ⌜ (known ≡ true → isSound (dayAt (now day)) (now book) (now prices) ≡ true) ⌝ }
+    requires { ⌜ ask .kind < 2 ⌝ }
+    ensures { λ r. ⌜ orderReply r ≡ askedReply (dayAt (now (day .entry))) (now (book .entry)) (now (prices .entry)) ask (roomIn (now (list .entry))) ⌝ }
+    ensures book { λ r. ⌜ now (book .exit) ≡ askedBook (dayAt (now (day .entry))) (now (book .entry)) (now (prices .entry)) ask (roomIn (now (list .entry))) ⌝ }
+    ensures list { λ r. ⌜ now (list .exit) ≡ askedList (dayAt (now (day .entry))) (now (book .entry)) (now (prices .entry)) ask (now (list .entry)) ⌝ }
 {
-    if !sound_day(known, d, basket, book, prices) {
+    if !sound_day(known, day, book, prices) {
         return OrderAnswer::Refused(Refusal::UnsoundDay);
     }
-    orders::order(d, basket, book, prices, ask, list)
+    let head = layout::head_of(day);
+    orders::order(head, layout::basket_of(day), book, prices, ask, list)
 }
 
 // The tests of an order alone, with the length of the list: the answer that the order would give.
 pub fn order_test(
-    d: DayHead,
-    basket: &[u64],
+    day: &[u64],
     book: &[u64],
     prices: &[u64],
     ask: Ask,
     list_length: usize,
 ) -> OrderAnswer
-    requires { ⌜ (ask .kind < 2) × (length (now basket) ≡ basketWidth) ⌝ }
-    ensures { λ r. ⌜ orderReply r ≡ askedReply (dayOf d (now (basket .entry))) (now (book .entry)) (now (prices .entry)) ask («list_length» / recordWidth) ⌝ }
+    requires { ⌜ ask .kind < 2 ⌝ }
+    ensures { λ r. ⌜ orderReply r ≡ askedReply (dayAt (now (day .entry))) (now (book .entry)) (now (prices .entry)) ask («list_length» / recordWidth) ⌝ }
 {
-    if !sound::is_sound(d, basket, book, prices) {
+    if !is_sound(day, book, prices) {
         return OrderAnswer::Refused(Refusal::UnsoundDay);
     }
     let room = list_length / layout::RECORD_WIDTH;
-    let t = orders::order_tested(d, basket, book, prices, ask, room);
+    let head = layout::head_of(day);
+    let t = orders::order_tested(head, layout::basket_of(day), book, prices, ask, room);
     t.answer
 }

@@ -1,6 +1,6 @@
 -- Head numbers and their sums as the code reads them, and what a sound day gives.
 use mathlib.Core.Path.{_≡_, refl, ap, _∙_}
-use mathlib.Core.Bool.{Bool, true, false, not, _&&_, and-true}
+use mathlib.Core.Bool.{Bool, true, false, _&&_, and-true}
 use mathlib.Core.List.{List, [], _∷_, _++_}
 use Prim.Native.Nat.{ℕ, _+_, _-_, _*_, _/_, _%_, _≤_, _<_}
 use native.Mathlib.Nat.{div-add-mod, mul-le-mul}
@@ -18,9 +18,9 @@ use Rattle.fund.specs.Fund.{ceiling, limitOf, cumulativeLimit, cumulativeLimitE
 use Rattle.fund.proofs.Laws.{fund-sound}
 use Rattle.layout.specs.Day.{Day}
 use Rattle.rules.specs.declared.Ask.{Ask}
-use Rattle.layout.specs.Book.{widthOf, created, redeemed, headAt, headTotal, counter}
+use Rattle.layout.specs.Book.{widthOf, headAt, headTotal, counter}
 use Rattle.rules.specs.Trade.{isInvestor}
-use Rattle.rules.specs.Orders.{mostBaskets, baskets, wholeBaskets, formChecks, switchAllows, withinLimit, countOf, fundCount, withinLimits, permissionChecks}
+use Rattle.rules.specs.Orders.{mostBaskets, baskets, wholeBaskets, formChecks, switchAllows, countOf, fundCount, withinLimits, permissionChecks}
 use Rattle.rules.proofs.SoundDay.{SoundDay}
 use Rattle.rules.proofs.Asked.{by-kind}
 use Rattle.permission.specs.declared.Counts.{Counts}

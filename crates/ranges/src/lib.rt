@@ -61,25 +61,6 @@ pub fn within_limit(limit: u64, units: u64) -> bool
     units <= limit
 }
 
-// Whether five tests all pass.
-pub fn all_of(a: bool, b: bool, c: bool, d: bool, e: bool) -> bool
-    ensures { λ r. ⌜ r ≡ every (a ∷ b ∷ c ∷ d ∷ e ∷ []) ⌝ }
-{
-    if !a {
-        return false;
-    }
-    if !b {
-        return false;
-    }
-    if !c {
-        return false;
-    }
-    if !d {
-        return false;
-    }
-    e
-}
-
 // x less y, 0 where y is more.
 pub fn excess(x: u64, y: u64) -> u64
     ensures { λ r. ⌜ r ≡ x - y ⌝ }

@@ -1,7 +1,7 @@
 -- Creation and redemption by one text, for the code that serves both kinds of order: what an ask comes to, from the definitions of
 -- its kind.
 use Prim.Native.Nat.{ℕ, _+_, _-_}
-use mathlib.Core.Bool.{Bool, cond}
+use mathlib.Core.Bool.{cond}
 use mathlib.Core.List.{List}
 use lib.Dec.{eqb}
 use lib.ListN.{length}

@@ -1,43 +1,75 @@
 -- `calls::order` meets its contract: 5 where the day is not sound, and else what the core answers and leaves.
-use mathlib.Core.Path.{sym, _∙_}
+use mathlib.Core.Path.{_≡_, sym, ap, _∙_}
+use mathlib.Core.Bool.{true}
 use borrow.Author.Needs.{needs}
 use borrow.Author.Tests.{not-true, not-false}
+use Prim.Native.Nat.{ℕ}
+use mathlib.Core.List.{List}
+use Rattle.layout.specs.Day.{Day, dayAt}
+use Rattle.layout.specs.Book.{account}
+use Rattle.layout.specs.Records.{roomIn, withRecords}
+use Rattle.rules.specs.declared.Ask.{Ask}
+use Rattle.rules.specs.Replies.{ifAccepted}
+use Rattle.rules.specs.Kinds.{askedRecords}
+use Rattle.orders.specs.Orders.{askedAnswer}
+use Rattle.rules.specs.Sound.{isSound}
 use Rattle.calls.proofs.Laws.{stays-five, order-own, leaves-own}
+use Rattle.calls.proofs.Run.{sound-width, run-parts, basket-wide}
 use Rattle.calls.proofs.order.Statement.{statement}
 use Rattle.calls.proofs.order.Tie as tie
 
-sound-day-requires : tie.Need-sound-day-requires
-sound-day-requires c κs = search needs
-
-same-length : tie.Need-same-length
-same-length c = search needs
+sound : (c : tie.Else1) → let a = c .before .before .before .before .before .before .before .args in isSound (dayAt (a .day .now)) (a .book .now) (a .prices .now) ≡ true
+sound c = sym (c .before .sound-day .ensures) ∙ not-false _ (c .if1 .left)
 
 returns : tie.Need-returns
 returns c = stays-five _ _ _ (sym (c .before .sound-day .ensures) ∙ not-true _ (c .if1 .taken)) _ _
 
+head-of-requires : tie.Need-head-of-requires
+head-of-requires c κs = sound-width _ _ _ (sound c)
+
+basket-of-requires : tie.Need-basket-of-requires
+basket-of-requires c κs = sound-width _ _ _ (sound (c .before))
+
 order-requires : tie.Need-order-requires
-order-requires c κs = (sym (c .before .before .before .sound-day .ensures) ∙ not-false _ (c .before .before .if1 .left), search needs)
+order-requires c κs =
+    let head = c .before .before .before in
+    let s = sound (head .before) in
+    let full = sound-width _ _ _ s in
+    let start = head .before .before .before .before .before .before .before .before in
+    let a = start .args in
+    (rw (run-parts (a .day .now) _ _ (head .head-of .ensures) (c .before .before .basket-of .ensures) full) s, (start .pre .1, basket-wide (a .day .now) _ (c .before .before .basket-of .ensures) full))
 
-same-length-2 : tie.Need-same-length-2
-same-length-2 c = search needs
-
-same-length-3 : tie.Need-same-length-3
-same-length-3 c = search needs
+-- the list that the core leaves
+abbrev listLeft : Day → List ℕ → List ℕ → Ask → List ℕ → List ℕ
+listLeft d b ps ask list =
+    ifAccepted (askedAnswer d b ps ask (roomIn list)) (withRecords (askedRecords d (account d b (ask .account)) ps ask) list) list
 
 returns-2 : tie.Need-returns-2
 returns-2 c =
-    let sound = (sym (c .before .before .before .before .before .before .before .before .sound-day .ensures) ∙ not-false _ (c .before .before .before .before .before .before .before .if1 .left)) in
-    let left = leaves-own _ _ _ sound _ _ in
-    (c .before .before .before .before .order .ensures .0 ∙ order-own _ _ _ sound _ _, (c .before .before .before .before .order .ensures .1 .0 ∙ left .0, c .before .before .before .before .order .ensures .1 .1 ∙ left .1))
+    let basket = c .before .before .before .before .before .before .before in
+    let head = basket .before in
+    let s = sound (head .before) in
+    let a = head .before .before .before .before .before .before .before .before .args in
+    let same = run-parts (a .day .now) _ _ (head .head-of .ensures) (basket .basket-of .ensures) (sound-width _ _ _ s) in
+    let made = c .before .before .before .before .order .ensures in
+    let left = leaves-own _ _ _ s (a .ask) (a .list .now) in (
+      (rw same at (made .0)) ∙ order-own _ _ _ s (a .ask) _,
+      (
+        (rw same at (made .1 .0)) ∙ left .0,
+        made .1 .1 ∙ ap (λ (d : Day). listLeft d (a .book .now) (a .prices .now) (a .ask) (a .list .now)) same ∙ left .1,
+      ),
+    )
 
 pub order-spec : {M : Type 1} → statement M
 order-spec =
     tie.close
     (tie.spec
-    sound-day-requires
-    same-length
+    (λ c κs. search needs)
+    (λ c. search needs)
     returns
+    head-of-requires
+    basket-of-requires
     order-requires
-    same-length-2
-    same-length-3
+    (λ c. search needs)
+    (λ c. search needs)
     returns-2)

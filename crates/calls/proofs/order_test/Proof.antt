@@ -1,24 +1,43 @@
 -- `calls::order_test` meets its contract: 5 where the day is not sound, and else what the core answers.
-use mathlib.Core.Path.{sym, _∙_}
+use mathlib.Core.Path.{_≡_, sym, ap, _∙_}
+use mathlib.Core.Bool.{true}
 use borrow.Author.Needs.{needs}
 use borrow.Author.Tests.{not-true, not-false}
+use Rattle.layout.specs.Day.{dayAt}
+use Rattle.rules.specs.Sound.{isSound}
 use Rattle.calls.proofs.Laws.{order-five, order-own}
+use Rattle.calls.proofs.Run.{sound-width, run-parts, basket-wide}
 use Rattle.calls.proofs.order_test.Statement.{statement}
 use Rattle.calls.proofs.order_test.Tie as tie
 
-is-sound-requires : tie.Need-is-sound-requires
-is-sound-requires c κs = search needs
+sound : (c : tie.Else1) → let a = c .before .before .before .before .before .args in isSound (dayAt (a .day .now)) (a .book .now) (a .prices .now) ≡ true
+sound c = sym (c .before .is-sound .ensures) ∙ not-false _ (c .if1 .left)
 
 returns : tie.Need-returns
 returns c = order-five _ _ _ (sym (c .before .is-sound .ensures) ∙ not-true _ (c .if1 .taken)) _ _
 
+head-of-requires : tie.Need-head-of-requires
+head-of-requires c κs = sound-width _ _ _ (sound c)
+
+basket-of-requires : tie.Need-basket-of-requires
+basket-of-requires c κs = sound-width _ _ _ (sound (c .before))
+
 order-tested-requires : tie.Need-order-tested-requires
-order-tested-requires c κs = (sym (c .before .is-sound .ensures) ∙ not-false _ (c .if1 .left), search needs)
+order-tested-requires c κs =
+    let s = sound (c .before .before) in
+    let full = sound-width _ _ _ s in
+    let start = c .before .before .before .before .before .before .before in
+    let a = start .args in
+    (rw (run-parts (a .day .now) _ _ (c .before .head-of .ensures) (c .basket-of .ensures) full) s, (start .pre, basket-wide (a .day .now) _ (c .basket-of .ensures) full))
 
 returns-2 : tie.Need-returns-2
 returns-2 c =
-    let sound = sym (c .before .before .is-sound .ensures) ∙ not-false _ (c .before .if1 .left) in
-    c .order-tested .ensures .0 ∙ order-own _ _ _ sound _ _
+    let head = c .before .before in
+    let s = sound (head .before) in
+    let a = head .before .before .before .before .before .before .args in
+    let tested = rw (run-parts (a .day .now) _ _ (head .head-of .ensures) (c .before .basket-of .ensures) (sound-width _ _ _ s)) at (c .order-tested .ensures) in
+    tested .0 ∙ order-own _ _ _ s _ _
 
 pub order-test-spec : {M : Type 1} → statement M
-order-test-spec = tie.close (tie.spec is-sound-requires returns order-tested-requires returns-2)
+order-test-spec =
+    tie.close (tie.spec (λ c κs. search needs) returns head-of-requires basket-of-requires order-tested-requires returns-2)

@@ -5,7 +5,7 @@ use Rattle.calls.proofs.sound_day.Statement.{statement}
 use Rattle.calls.proofs.sound_day.Tie as tie
 
 returns : tie.Need-returns
-returns c = sym (c .before .before .before .before .pre .0 (c .if1 .taken))
+returns c = sym (c .before .before .before .before .pre (c .if1 .taken))
 
 is-sound-requires : tie.Need-is-sound-requires
 is-sound-requires c κs = search needs

@@ -1,6 +1,4 @@
 -- `means::stock_answer` meets its contract: on each side the tests come in the definition's order.
-use mathlib.Core.Path.{_≡_}
-use Prim.Native.Nat.{_≤_, _<_}
 use borrow.Author.Needs.{needs}
 use Rattle.means.proofs.Laws.{hands-short, hands-all, units-short, fund-short, fund-delivers}
 use Rattle.means.proofs.stock_answer.Statement.{statement}

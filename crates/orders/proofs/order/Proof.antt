@@ -18,7 +18,9 @@ div-m c = omega (arith, fund-sound _ (sound-facts _ _ _ (c .before .before .befo
 
 tested-in-requires : tie.Need-tested-in-requires
 unfolding baskets
-tested-in-requires c κs = (c .before .before .before .before .before .before .before .pre .0, (c .before .before .before .before .before .before .before .pre .1 .0, refl, c .before .before .before .before .before .before .before .pre .1 .1))
+tested-in-requires c κs =
+    let p = c .before .before .before .before .before .before .before .pre in
+    (p .0, (p .1 .0, refl, p .1 .1))
 
 enum-known-answer : tie.Need-enum-known-answer
 enum-known-answer c = search needs
@@ -44,10 +46,13 @@ same-length-2 c = search needs
 returns : tie.Need-returns
 unfolding roomIn baskets
 returns c =
-    let p = c .before .before .before .before .before .before .before .before .before .before .before .before .before .before .before .before .before .before .before .pre in
-    let made = ap orderReply (sym (c .before .before .before .before .before .before .before .before .answer .given .1)) ∙ c .before .before .before .before .before .before .before .before .before .before .before .tested-in .ensures .0 in
-    let paid = c .before .before .before .before .before .before .before .before .before .before .before .tested-in .ensures .1 ∙ sym (leaves-after _ _ _ _ made) in
-    let done = order-made _ _ _ _ (now (c .before .before .before .before .before .before .before .before .before .before .before .before .before .before .before .before .before .before .before .args .list)) (p .1 .0) (p .0) _ made _ refl _ paid _ _ (c .before .before .before .before .settle .ensures .0) (c .before .before .before .before .settle .ensures .1) in
+    let tests = c .before .before .before .before .before .before .before .before .before .before .before in
+    let start = tests .before .before .before .before .before .before .before .before in
+    let p = start .pre in
+    let made = ap orderReply (sym (c .before .before .before .before .before .before .before .before .answer .given .1)) ∙ tests .tested-in .ensures .0 in
+    let paid = tests .tested-in .ensures .1 ∙ sym (leaves-after _ _ _ _ made) in
+    let settled = c .before .before .before .before .settle .ensures in
+    let done = order-made _ _ _ _ (now (start .args .list)) (p .1 .0) (p .0) _ made _ refl _ paid _ _ (settled .0) (settled .1) in
     (made, (done .0 ∙ leaves-after _ _ _ _ made, done .1 ∙ leaves-after _ _ _ _ made))
 
 same-length-3 : tie.Need-same-length-3

@@ -1,5 +1,4 @@
 -- `orders::order_stage` meets its contract: the parts are the account's stretch and the fund's.
-use mathlib.Core.Path.{refl}
 use Rattle.orders.proofs.Laws.{sound, order, fund, inside, first, stage-asks, prices-ask, units-ask}
 use Rattle.orders.proofs.order_stage.Statement.{statement}
 use Rattle.orders.proofs.order_stage.Tie as tie

@@ -1,6 +1,6 @@
 -- `permission::limits_held` meets its contract: the limits of all accounts, then those of the account, then the ceiling, which bounds
 -- each sum.
-use mathlib.Core.Path.{_≡_, refl, ap}
+use mathlib.Core.Path.{refl, ap}
 use Prim.Native.Nat.{_+_, _-_, _≤_}
 use native.Mathlib.Omega.{arith}
 use borrow.Author.Needs.{needs}
@@ -34,7 +34,9 @@ within-both-requires : tie.Need-within-both-requires
 within-both-requires c κs = omega (arith, all-most (c .before .before))
 
 returns : tie.Need-returns
-returns c = over-all _ _ _ _ _ _ _ _ _ (c .before .before .before .before .counts-of-all .ensures) (c .before .before .before .limit-of .ensures) (c .before .before .limit-of2 .ensures) (c .before .within-both .ensures) (not-true _ (c .if1 .taken))
+returns c =
+    over-all _ _ _ _ _ _ _ _ _ (c .before .before .before .before .counts-of-all .ensures) (c .before .before .before .limit-of .ensures) (c .before .before .limit-of2 .ensures)
+    (c .before .within-both .ensures) (not-true _ (c .if1 .taken))
 
 counts-of-requires : tie.Need-counts-of-requires
 counts-of-requires c κs =
@@ -61,7 +63,8 @@ within-both-requires-2 c κs =
 
 returns-2 : tie.Need-returns-2
 returns-2 c =
-    over-own _ _ _ _ _ _ _ _ _ (c .before .before .before .before .before .before .before .before .before .counts-of-all .ensures) (c .before .before .before .before .before .before .before .before .limit-of .ensures) (c .before .before .before .before .before .before .before .limit-of2 .ensures) (c .before .before .before .before .before .before .within-both .ensures)
+    let all = c .before .before .before .before .before .before in
+    over-own _ _ _ _ _ _ _ _ _ (all .before .before .before .counts-of-all .ensures) (all .before .before .limit-of .ensures) (all .before .limit-of2 .ensures) (all .within-both .ensures)
     _ _ _ _ (c .before .before .before .before .counts-of .ensures) (c .before .before .before .limit-of3 .ensures) (c .before .before .limit-of4 .ensures) (c .before .within-both2 .ensures)
     (not-false _ (c .before .before .before .before .before .if1 .left)) (not-true _ (c .if2 .taken))
 
@@ -70,9 +73,11 @@ add-result c = omega (arith, all-most (c .before .before .before .before .before
 
 returns-3 : tie.Need-returns-3
 returns-3 c =
-    limits-below _ _ _ _ _ _ _ _ _ (c .before .before .before .before .before .before .before .before .before .before .before .counts-of-all .ensures) (c .before .before .before .before .before .before .before .before .before .before .limit-of .ensures) (c .before .before .before .before .before .before .before .before .before .limit-of2 .ensures) (c .before .before .before .before .before .before .before .before .within-both .ensures)
-    _ _ _ _ (c .before .before .before .before .before .before .counts-of .ensures) (c .before .before .before .before .before .limit-of3 .ensures) (c .before .before .before .before .limit-of4 .ensures) (c .before .before .before .within-both2 .ensures)
-    (not-false _ (c .before .before .before .before .before .before .before .if1 .left)) (not-false _ (c .before .before .if2 .left))
+    let all = c .before .before .before .before .before .before .before .before in
+    let own = c .before .before .before in
+    limits-below _ _ _ _ _ _ _ _ _ (all .before .before .before .counts-of-all .ensures) (all .before .before .limit-of .ensures) (all .before .limit-of2 .ensures) (all .within-both .ensures)
+    _ _ _ _ (own .before .before .before .counts-of .ensures) (own .before .before .limit-of3 .ensures) (own .before .limit-of4 .ensures) (own .within-both2 .ensures)
+    (not-false _ (own .before .before .before .before .if1 .left)) (not-false _ (c .before .before .if2 .left))
 
 pub limits-held-spec : {M : Type 1} → statement M
 limits-held-spec =
