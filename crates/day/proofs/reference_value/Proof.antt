@@ -1,41 +1,11 @@
--- `day::reference_value` meets its contract: the call on the day taken apart, with nothing known of it.
-use mathlib.Core.Path.{_≡_, ap, _∙_}
+-- `day::reference_value` meets its contract: the call with nothing known of the day.
 use mathlib.Core.Bool.{false≢true}
-use lib.ListN.{length}
 use borrow.Author.Needs.{needs}
-use Rattle.day_parts.proofs.Laws.{basket-length, parts-make, unmapped}
 use Rattle.day.proofs.reference_value.Statement.{statement}
 use Rattle.day.proofs.reference_value.Tie as tie
 
--- the day has its 300 places
-full : (c : tie.Start) → length (c .args .d .components) ≡ 300
-full c = search (needs, unmapped)
-
-slice-aggregate-put-basket : tie.Need-slice-aggregate-put-basket
-slice-aggregate-put-basket c = search needs
-
-put-basket-requires : tie.Need-put-basket-requires
-put-basket-requires c κs = search needs
-
-head-of-requires : tie.Need-head-of-requires
-head-of-requires c κs = search needs
-
-slice-aggregate-reference-value : tie.Need-slice-aggregate-reference-value
-slice-aggregate-reference-value c = search needs
-
 reference-value-requires : tie.Need-reference-value-requires
-reference-value-requires c κs = (λ q. absurd (false≢true q), ap length (c .before .before .before .put-basket .ensures) ∙ basket-length (c .before .before .before .before .before .before .before .args .d))
-
-returns : tie.Need-returns
-returns c = rw (parts-make (c .before .before .before .before .before .before .before .before .args .d) (full (c .before .before .before .before .before .before .before .before)) _ _ (c .before .before .head-of .ensures) (c .before .before .before .before .put-basket .ensures)) at (c .reference-value .ensures)
+reference-value-requires c κs q = absurd (false≢true q)
 
 pub reference-value-spec : {M : Type 1} → statement M
-reference-value-spec =
-    tie.close
-    (tie.spec
-    slice-aggregate-put-basket
-    put-basket-requires
-    head-of-requires
-    slice-aggregate-reference-value
-    reference-value-requires
-    returns)
+reference-value-spec = tie.close (tie.spec reference-value-requires (λ c. search needs))

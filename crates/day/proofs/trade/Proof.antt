@@ -1,45 +1,11 @@
--- `day::trade` meets its contract: the call on the day taken apart, with nothing known of it.
-use mathlib.Core.Path.{_≡_, ap, _∙_}
+-- `day::trade` meets its contract: the call with nothing known of the day.
 use mathlib.Core.Bool.{false≢true}
-use lib.ListN.{length}
 use borrow.Author.Needs.{needs}
-use Rattle.day_parts.proofs.Laws.{basket-length, parts-make, unmapped}
 use Rattle.day.proofs.trade.Statement.{statement}
 use Rattle.day.proofs.trade.Tie as tie
 
--- the day has its 300 places
-full : (c : tie.Start) → length (c .args .d .components) ≡ 300
-full c = search (needs, unmapped)
-
-slice-aggregate-put-basket : tie.Need-slice-aggregate-put-basket
-slice-aggregate-put-basket c = search needs
-
-put-basket-requires : tie.Need-put-basket-requires
-put-basket-requires c κs = search needs
-
-head-of-requires : tie.Need-head-of-requires
-head-of-requires c κs = search needs
-
-slice-aggregate-trade : tie.Need-slice-aggregate-trade
-slice-aggregate-trade c = search needs
-
 trade-requires : tie.Need-trade-requires
-trade-requires c κs = (λ q. absurd (false≢true q), ap length (c .before .before .before .before .put-basket .ensures) ∙ basket-length (c .before .before .before .before .before .before .before .before .args .d))
-
-same-length : tie.Need-same-length
-same-length c = search needs
-
-returns : tie.Need-returns
-returns c = rw (parts-make (c .before .before .before .before .before .before .before .before .before .before .before .args .d) (full (c .before .before .before .before .before .before .before .before .before .before .before)) _ _ (c .before .before .before .before .before .head-of .ensures) (c .before .before .before .before .before .before .before .put-basket .ensures)) at (c .before .before .trade .ensures)
+trade-requires c κs q = absurd (false≢true q)
 
 pub trade-spec : {M : Type 1} → statement M
-trade-spec =
-    tie.close
-    (tie.spec
-    slice-aggregate-put-basket
-    put-basket-requires
-    head-of-requires
-    slice-aggregate-trade
-    trade-requires
-    same-length
-    returns)
+trade-spec = tie.close (tie.spec trade-requires (λ c. search needs) (λ c. search needs))
