@@ -99,12 +99,7 @@ pub extern "C" fn roffelaine_price(
     ensures { λ r. ⌜ Told (priceReply (dayAt (now (day .entry))) (now (book .entry)) (now (prices .entry)) line price) r (now (place .exit)) (now (value .exit)) ⌝ }
     ensures prices { λ r. ⌜ now (prices .exit) ≡ pricedPrices (dayAt (now (day .entry))) (now (book .entry)) (now (prices .entry)) line price ⌝ }
 {
-    if day.len() != layout::DAY_WIDTH {
-        return tell(numbers::of_refusal(Refusal::UnsoundDay), place, value);
-    }
-    let head = flat::head_of(day);
-    let basket = &day[layout::BASKET_FROM..];
-    let answer = calls::price(false, head, basket, book, prices, line, price);
+    let answer = day::price(day, book, prices, line, price);
     tell(numbers::of_answer(answer), place, value)
 }
 
@@ -125,16 +120,7 @@ pub extern "C" fn roffelaine_trade(
     ensures { λ r. ⌜ Told (tradeReply (dayAt (now (day .entry))) (now (book .entry)) (now (prices .entry)) line quantity price seller buyer) r (now (place .exit)) (now (value .exit)) ⌝ }
     ensures book { λ r. ⌜ now (book .exit) ≡ tradedBook (dayAt (now (day .entry))) (now (book .entry)) (now (prices .entry)) line quantity price seller buyer ⌝ }
 {
-    if day.len() != layout::DAY_WIDTH {
-        return tell(numbers::of_refusal(Refusal::UnsoundDay), place, value);
-    }
-    let head = flat::head_of(day);
-    let basket = &day[layout::BASKET_FROM..];
-    let answer = calls::trade(
-        false,
-        head,
-        basket,
-        book,
+    let answer = day::trade(day, book,
         prices,
         line,
         quantity,
@@ -156,12 +142,7 @@ pub extern "C" fn roffelaine_reference_value(
 ) -> u64
     ensures { λ r. ⌜ Told (worthReply (dayAt (now (day .entry))) (now (book .entry)) (now (prices .entry))) r (now (place .exit)) (now (value .exit)) ⌝ }
 {
-    if day.len() != layout::DAY_WIDTH {
-        return tell(numbers::of_refusal(Refusal::UnsoundDay), place, value);
-    }
-    let head = flat::head_of(day);
-    let basket = &day[layout::BASKET_FROM..];
-    let answer = calls::reference_value(false, head, basket, book, prices);
+    let answer = day::reference_value(day, book, prices);
     tell(numbers::of_value(answer), place, value)
 }
 
@@ -181,12 +162,7 @@ pub extern "C" fn roffelaine_create(
     ensures book { λ r. ⌜ now (book .exit) ≡ createdBook (dayAt (now (day .entry))) (now (book .entry)) (now (prices .entry)) account units (roomIn (now (list .entry))) ⌝ }
     ensures list { λ r. ⌜ now (list .exit) ≡ createdList (dayAt (now (day .entry))) (now (book .entry)) (now (prices .entry)) account units (now (list .entry)) ⌝ }
 {
-    if day.len() != layout::DAY_WIDTH {
-        return tell(numbers::of_refusal(Refusal::UnsoundDay), place, value);
-    }
-    let head = flat::head_of(day);
-    let basket = &day[layout::BASKET_FROM..];
-    let answer = calls::create(false, head, basket, book, prices, account, units, list);
+    let answer = day::create(day, book, prices, account, units, list);
     tell(numbers::of_order(answer), place, value)
 }
 
@@ -206,12 +182,7 @@ pub extern "C" fn roffelaine_redeem(
     ensures book { λ r. ⌜ now (book .exit) ≡ redeemedBook (dayAt (now (day .entry))) (now (book .entry)) (now (prices .entry)) account units (roomIn (now (list .entry))) ⌝ }
     ensures list { λ r. ⌜ now (list .exit) ≡ redeemedList (dayAt (now (day .entry))) (now (book .entry)) (now (prices .entry)) account units (now (list .entry)) ⌝ }
 {
-    if day.len() != layout::DAY_WIDTH {
-        return tell(numbers::of_refusal(Refusal::UnsoundDay), place, value);
-    }
-    let head = flat::head_of(day);
-    let basket = &day[layout::BASKET_FROM..];
-    let answer = calls::redeem(false, head, basket, book, prices, account, units, list);
+    let answer = day::redeem(day, book, prices, account, units, list);
     tell(numbers::of_order(answer), place, value)
 }
 
@@ -229,12 +200,7 @@ pub extern "C" fn roffelaine_creation_test(
 ) -> u64
     ensures { λ r. ⌜ Told (creationReply (dayAt (now (day .entry))) (now (book .entry)) (now (prices .entry)) account units (length / recordWidth)) r (now (place .exit)) (now (value .exit)) ⌝ }
 {
-    if day.len() != layout::DAY_WIDTH {
-        return tell(numbers::of_refusal(Refusal::UnsoundDay), place, value);
-    }
-    let head = flat::head_of(day);
-    let basket = &day[layout::BASKET_FROM..];
-    let answer = calls::creation_test(head, basket, book, prices, account, units, length);
+    let answer = day::creation_test(day, book, prices, account, units, length);
     tell(numbers::of_order(answer), place, value)
 }
 
@@ -252,12 +218,7 @@ pub extern "C" fn roffelaine_redemption_test(
 ) -> u64
     ensures { λ r. ⌜ Told (redemptionReply (dayAt (now (day .entry))) (now (book .entry)) (now (prices .entry)) account units (length / recordWidth)) r (now (place .exit)) (now (value .exit)) ⌝ }
 {
-    if day.len() != layout::DAY_WIDTH {
-        return tell(numbers::of_refusal(Refusal::UnsoundDay), place, value);
-    }
-    let head = flat::head_of(day);
-    let basket = &day[layout::BASKET_FROM..];
-    let answer = calls::redemption_test(head, basket, book, prices, account, units, length);
+    let answer = day::redemption_test(day, book, prices, account, units, length);
     tell(numbers::of_order(answer), place, value)
 }
 
@@ -277,8 +238,7 @@ pub extern "C" fn roffelaine_run(
     ensures left { λ r. ⌜ batchOf (dayAt (now (day .entry))) (now (book .exit)) (now (prices .exit)) (now (records .exit)) (now (answers .exit)) ≡ ran (now (rows .entry)) (batchOf (dayAt (now (day .entry))) (now (book .entry)) (now (prices .entry)) (now (records .entry)) (now (answers .entry))) ⌝ }
     ensures demand { λ r. ⌜ Demand3 (stateOf (dayAt (now (day .entry))) (now (book .entry)) (now (prices .entry))) (eventsOf (now (rows .entry)) (batchOf (dayAt (now (day .entry))) (now (book .entry)) (now (prices .entry)) (now (records .entry)) (now (answers .entry)))) (stateOf (dayAt (now (day .entry))) (now (book .exit)) (now (prices .exit))) ⌝ }
 {
-    let d = flat::day_of(day);
-    let answer = run::run(d, book, prices, rows, records, answers);
+    let answer = run::run(day, book, prices, rows, records, answers);
     tell(numbers::of_answer(answer), place, value)
 }
 
@@ -298,8 +258,7 @@ pub extern "C" fn roffelaine_run_public(
     ensures left { λ r. ⌜ batchOf (dayAt (now (day .entry))) (now (book .exit)) (now (prices .exit)) (now (records .exit)) (now (answers .exit)) ≡ ran (now (rows .entry)) (batchOf (dayAt (now (day .entry))) (now (book .entry)) (now (prices .entry)) (now (records .entry)) (now (answers .entry))) ⌝ }
     ensures demand { λ r. ⌜ Demand3 (stateOf (dayAt (now (day .entry))) (now (book .entry)) (now (prices .entry))) (eventsOf (now (rows .entry)) (batchOf (dayAt (now (day .entry))) (now (book .entry)) (now (prices .entry)) (now (records .entry)) (now (answers .entry)))) (stateOf (dayAt (now (day .entry))) (now (book .exit)) (now (prices .exit))) ⌝ }
 {
-    let d = flat::day_of(day);
-    let answer = run::run_public(d, book, prices, rows, records, answers);
+    let answer = run::run_public(day, book, prices, rows, records, answers);
     tell(numbers::of_answer(answer), place, value)
 }
 

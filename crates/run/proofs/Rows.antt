@@ -1,7 +1,7 @@
 -- What a row names, and that a call made for it gives what the definitions say of it.
 use mathlib.Core.Path.{_≡_, refl}
 use mathlib.Core.List.{List}
-use Prim.Native.Nat.{ℕ, zero-le}
+use Prim.Native.Nat.{ℕ, _<_, zero-le}
 use lib.ListN.{length}
 use borrow.Author.Tests.{le-leb, ne-eqb}
 use Rattle.lists.specs.Checks.{Reply, reply}
@@ -9,8 +9,14 @@ use Rattle.layout.specs.Day.{Day}
 use Rattle.rules.specs.Price.{priceReply, pricedPrices}
 use Rattle.rules.specs.Trade.{tradeReply, tradedBook}
 use Rattle.rules.specs.Value.{worthReply}
-use Rattle.balance.specs.Calls.{Call, price, trade, create, redeem, value, step}
-use Rattle.run.specs.Rows.{Row, call, none, rowOf, Work, resultOf, rowReply, rowLeaves}
+use Rattle.layout.specs.Records.{roomIn}
+use Rattle.rules.specs.declared.Ask.{Ask}
+use Rattle.rules.specs.Creation.{creationReply, createdBook, createdList}
+use Rattle.rules.specs.Redemption.{redemptionReply, redeemedBook, redeemedList}
+use Rattle.rules.specs.Kinds.{askedRecords, askedChecks, askedReply, askedMoves, askedBook, askedList}
+use Rattle.rules.proofs.Asked.{by-ask}
+use Rattle.balance.specs.Calls.{State, Lent, Call, price, trade, create, redeem, value, step}
+use Rattle.run.specs.Rows.{Row, call, none, orderOf, rowOf, Work, resultOf, rowReply, rowLeaves}
 use Rattle.run.specs.Batch.{workOf}
 
 -- the row of each kind
@@ -64,3 +70,20 @@ module _ (d : Day) (b ps rs : List ℕ) (row : Row) (r : Reply) where
   pub value-meets : row ≡ call value 0 0 → r ≡ worthReply d b ps → Meets (workOf d b ps rs) row r (workOf d b ps rs)
   unfolding step rowReply rowLeaves
   value-meets q e = rw (q, e, le-leb 0 (length rs) zero-le) (refl, refl)
+
+-- an order's step, by what its ask comes to
+pub order-step : (s : State) (lent : Lent) (ask : Ask) → ask .kind < 2
+    → step s (orderOf ask) lent ≡ record {
+      reply = askedReply (s .day) (s .book) (s .prices) ask (roomIn (lent .records));
+      after = record { day = s .day; book = askedBook (s .day) (s .book) (s .prices) ask (roomIn (lent .records)); prices = s .prices };
+      lent = record { records = askedList (s .day) (s .book) (s .prices) ask (lent .records) };
+    }
+unfolding step askedReply askedChecks askedRecords askedMoves askedBook askedList creationReply createdBook createdList redemptionReply redeemedBook redeemedList
+order-step s lent =
+    by-ask (λ ask. step s (orderOf ask) lent ≡ record {
+      reply = askedReply (s .day) (s .book) (s .prices) ask (roomIn (lent .records));
+      after = record { day = s .day; book = askedBook (s .day) (s .book) (s .prices) ask (roomIn (lent .records)); prices = s .prices };
+      lent = record { records = askedList (s .day) (s .book) (s .prices) ask (lent .records) };
+    })
+    (λ a units. refl)
+    (λ a units. refl)

@@ -5,6 +5,7 @@ use mathlib.Core.List.{List}
 use Prim.Native.Nat.{ℕ, _*_, _/_}
 use lib.Dec.{eqb}
 use borrow.Author.Tests.{eq-eqb, ne-eqb, eqb-true}
+use Rattle.layout.specs.Places.{rowWidth, answerWidth}
 use Rattle.lists.specs.Checks.{reply, answered}
 use Rattle.lists.specs.Every.{every, every-at}
 use Rattle.run.specs.Batch.{Batch, runFrom, rowsIn, rowsFit, fits, runReply, ran}
@@ -13,17 +14,17 @@ and-true : (b : Bool) → b ≡ b && true
 and-true true = refl
 and-true false = refl
 
-pub rows-broken : (rows answers : ℕ) → (rows ≡ 6 * (rows / 6) → ⊥) → false ≡ rowsFit rows answers
+pub rows-broken : (rows answers : ℕ) → (rows ≡ rowWidth * (rows / rowWidth) → ⊥) → false ≡ rowsFit rows answers
 unfolding rowsFit every
-rows-broken rows answers n = rw (ne-eqb rows (6 * (rows / 6)) n) refl
+rows-broken rows answers n = rw (ne-eqb rows (rowWidth * (rows / rowWidth)) n) refl
 
-pub rows-whole : (rows answers : ℕ) → rows ≡ 6 * (rows / 6) → eqb answers (3 * (rows / 6)) ≡ rowsFit rows answers
+pub rows-whole : (rows answers : ℕ) → rows ≡ rowWidth * (rows / rowWidth) → eqb answers (answerWidth * (rows / rowWidth)) ≡ rowsFit rows answers
 unfolding rowsFit every
-rows-whole rows answers e = rw (eq-eqb rows (6 * (rows / 6)) e) (and-true _)
+rows-whole rows answers e = rw (eq-eqb rows (rowWidth * (rows / rowWidth)) e) (and-true _)
 
-pub fit-facts : (rows answers : ℕ) → rowsFit rows answers ≡ true → (rows ≡ 6 * (rows / 6)) × (answers ≡ 3 * (rows / 6))
+pub fit-facts : (rows answers : ℕ) → rowsFit rows answers ≡ true → (rows ≡ rowWidth * (rows / rowWidth)) × (answers ≡ answerWidth * (rows / rowWidth))
 unfolding rowsFit
-fit-facts rows answers e = (eqb-true rows (6 * (rows / 6)) (every-at _ e 0), eqb-true answers (3 * (rows / 6)) (every-at _ e 1))
+fit-facts rows answers e = (eqb-true rows (rowWidth * (rows / rowWidth)) (every-at _ e 0), eqb-true answers (answerWidth * (rows / rowWidth)) (every-at _ e 1))
 
 pub run-refused : (rows : List ℕ) (b : Batch) → fits rows b ≡ false → (reply 1 0 0 ≡ runReply rows b) × (b ≡ ran rows b)
 unfolding runReply ran answered

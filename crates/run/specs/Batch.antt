@@ -7,6 +7,7 @@ use lib.Dec.{eqb}
 use lib.ListN.{length}
 use Rattle.lists.specs.Checks.{Reply, reply, check, answered, isAccepted}
 use Rattle.lists.specs.Every.{every}
+use Rattle.layout.specs.Places.{rowWidth, answerWidth}
 use Rattle.layout.specs.Day.{Day}
 use Rattle.rules.specs.Opening.{Opening, openingReply}
 use Rattle.balance.specs.Calls.{State, Event, Happened}
@@ -49,10 +50,10 @@ eventsFrom rows i (suc n) b = withEvent (b .work) (rowAt rows i) (eventsFrom row
 
 -- so many rows, and refusal 1: the rows are not whole, or have not an answer each
 abbrev pub rowsIn : List ℕ → ℕ
-rowsIn rows = length rows / 6
+rowsIn rows = length rows / rowWidth
 
 unfoldable pub rowsFit : ℕ → ℕ → Bool
-rowsFit rows answers = every (eqb rows (6 * (rows / 6)) ∷ eqb answers (3 * (rows / 6)) ∷ [])
+rowsFit rows answers = every (eqb rows (rowWidth * (rows / rowWidth)) ∷ eqb answers (answerWidth * (rows / rowWidth)) ∷ [])
 
 abbrev pub fits : List ℕ → Batch → Bool
 fits rows b = rowsFit (length rows) (length (b .answers))

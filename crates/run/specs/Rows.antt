@@ -3,14 +3,21 @@ use Prim.Native.Nat.{ℕ, _+_, _*_}
 use mathlib.Core.Bool.{cond}
 use mathlib.Core.List.{List, _++_}
 use lib.Dec.{eqb, leb}
-use lib.ListN.{length, getD, take, drop, set}
+use lib.ListN.{length, getD, take, drop}
 use Rattle.lists.specs.Checks.{Reply, reply}
+use Rattle.layout.specs.Places.{rowWidth}
+use Rattle.rules.specs.declared.Ask.{Ask}
+use Rattle.rules.specs.Kinds.{byKind}
 use Rattle.balance.specs.Calls.{State, Lent, Call, Result, price, trade, create, redeem, value, step}
 
 -- a call with the part of the record run that is its list, or none
 pub data Row : Type 0 where
   call : Call → ℕ → ℕ → Row
   none : Row
+
+-- the call of an order of either kind
+abbrev pub orderOf : Ask → Call
+orderOf ask = byKind (ask .kind) (create (ask .account) (ask .units)) (redeem (ask .account) (ask .units))
 
 -- kind 1 price: line, price; 2 trade: line, quantity, price, seller, buyer; 3 create and 4 redeem: account, units, start and
 -- length of its part; 5 value. Any other kind names no call.
@@ -22,10 +29,10 @@ rowOf kind x1 x2 x3 x4 x5 =
     (cond (eqb kind 4) (call (redeem x1 x2) x3 x4)
     (cond (eqb kind 5) (call value 0 0) none))))
 
--- the i-th row of six numbers
+-- the i-th row
 unfoldable pub rowAt : List ℕ → ℕ → Row
 rowAt rows i =
-    rowOf (getD rows (6 * i) 0) (getD rows (6 * i + 1) 0) (getD rows (6 * i + 2) 0) (getD rows (6 * i + 3) 0) (getD rows (6 * i + 4) 0) (getD rows (6 * i + 5) 0)
+    rowOf (getD rows (rowWidth * i) 0) (getD rows (rowWidth * i + 1) 0) (getD rows (rowWidth * i + 2) 0) (getD rows (rowWidth * i + 3) 0) (getD rows (rowWidth * i + 4) 0) (getD rows (rowWidth * i + 5) 0)
 
 -- the part of a run of n numbers that is lent: the empty one at the front, where the part named lies outside the run
 abbrev pub partStart : ℕ → ℕ → ℕ → ℕ
@@ -67,7 +74,3 @@ rowLeaves w (call c start len) =
       records = putPart (partStart (length (w .records)) start len) (partLength (length (w .records)) start len) (w .records) (resultOf w c start len .lent .records);
     }
 rowLeaves w none = w
-
--- the i-th answer, three numbers, put into the answers
-unfoldable pub putReply : List ℕ → ℕ → Reply → List ℕ
-putReply answers i r = set (set (set answers (3 * i) (r .number)) (3 * i + 1) (r .place)) (3 * i + 2) (r .value)

@@ -2,6 +2,7 @@
 use Rattle.run.specs.Rows.{rowAt}
 use Rattle.run.proofs.Going.{row-is-done}
 use borrow.Author.Needs.{needs}
+use native.Mathlib.Omega.{arith}
 use Rattle.run.proofs.do_row.Statement.{statement}
 use Rattle.run.proofs.do_row.Tie as tie
 
@@ -62,8 +63,8 @@ shared-slice-read-row-call-6 c = search needs
 row-call-requires : tie.Need-row-call-requires
 row-call-requires c κs = search needs
 
-put-reply-requires : tie.Need-put-reply-requires
-put-reply-requires c κs = search needs
+put-answer-requires : tie.Need-put-answer-requires
+put-answer-requires c κs = search needs
 
 same-length : tie.Need-same-length
 same-length c = search needs
@@ -79,7 +80,9 @@ same-length-4 c = search needs
 
 returns : tie.Need-returns
 unfolding rowAt
-returns c = row-is-done _ _ _ _ _ _ _ (c .before .before .before .before .before .before .before .before .before .before .row-call .ensures .0) (c .before .before .before .before .before .before .before .before .before .before .row-call .ensures .1) (c .before .before .put-reply .ensures)
+returns c =
+    let called = c .before .before .before .before .before .before .before .before .before .before .row-call .ensures in
+    row-is-done _ _ _ _ _ _ _ (called .0) (called .1) (c .before .before .put-answer .ensures)
 
 pub do-row-spec : {M : Type 1} → statement M
 do-row-spec =
@@ -104,7 +107,7 @@ do-row-spec =
     mul-row-call-6
     shared-slice-read-row-call-6
     row-call-requires
-    put-reply-requires
+    put-answer-requires
     same-length
     same-length-2
     same-length-3

@@ -1,7 +1,7 @@
 -- `run::do_rows` meets its contract. The loop's invariant: the rows to come, on what is there, give what all give from the start.
 use Prim.Native.Nat.{_-_}
 use native.Mathlib.Omega.{arith}
-use Rattle.layout.specs.Day.{dayOf}
+use Rattle.layout.specs.Day.{dayAt}
 use Rattle.run.specs.Batch.{batchOf}
 use Rattle.run.proofs.Going.{Going, going-starts, going-sound, going-on, going-done}
 use borrow.Author.Needs.{needs}
@@ -9,16 +9,18 @@ use Rattle.run.proofs.do_rows.Statement.{statement}
 use Rattle.run.proofs.do_rows.Tie as tie
 
 abbrev Inv-loop : tie.InvT-loop
-Inv-loop known d basket book₀ prices₀ rows records₀ answers₀ n i₀ book prices records answers i = Going known rows n (batchOf (dayOf d basket) book₀ prices₀ records₀ answers₀) i (batchOf (dayOf d basket) book prices records answers)
+Inv-loop known day book₀ prices₀ rows records₀ answers₀ n i₀ book prices records answers i = Going known rows n (batchOf (dayAt day) book₀ prices₀ records₀ answers₀) i (batchOf (dayAt day) book prices records answers)
 
 abbrev μ-loop : tie.MeasureT-loop
-μ-loop known d basket book₀ prices₀ rows records₀ answers₀ n i₀ book prices records answers i = n - i
+μ-loop known day book₀ prices₀ rows records₀ answers₀ n i₀ book prices records answers i = n - i
 
 loop-holds : tie.Need-loop-holds Inv-loop μ-loop
 loop-holds c = going-starts _ _ _ _ (c .before .before .before .before .before .before .pre .0)
 
 do-row-requires : tie.Need-do-row-requires Inv-loop μ-loop
-do-row-requires c κs = (going-sound (c .before .before .before .before .before .loop .inv), (omega (arith, c .before .before .before .before .before .loop .inv .within), (omega (arith, c .before .before .before .before .before .loop .inv .lengths .answers), c .before .before .before .before .before .before .before .before .before .before .before .before .pre .1 .1 .1)))
+do-row-requires c κs =
+    let inv = c .before .before .before .before .before .loop .inv in
+    (going-sound inv, (omega (arith, inv .within), omega (arith, inv .lengths .answers)))
 
 add-i : tie.Need-add-i Inv-loop μ-loop
 add-i c = omega arith

@@ -1,8 +1,8 @@
 -- `run::row_call` meets its contract: the call that the kind names, and 1 for any other kind.
 use mathlib.Core.Path.{_∙_}
-use native.Mathlib.Omega.{arith}
 use Rattle.run.proofs.Rows.{row-price, row-trade, row-create, row-redeem, row-value, row-none, call-meets, none-meets, price-meets, trade-meets, value-meets}
 use borrow.Author.Needs.{needs}
+use native.Mathlib.Omega.{arith}
 use Rattle.run.proofs.row_call.Statement.{statement}
 use Rattle.run.proofs.row_call.Tie as tie
 
@@ -36,8 +36,11 @@ same-length-4 c = search needs
 returns-2 : tie.Need-returns-2
 returns-2 c = trade-meets _ _ _ _ _ _ _ _ _ _ _ _ (row-trade _ _ _ _ _ _ (omega arith)) (c .of-answer2 .ensures ∙ c .before .before .before .trade .ensures .0) (c .before .before .before .trade .ensures .1)
 
-create-row-requires : tie.Need-create-row-requires
-create-row-requires c κs = search needs
+asked-requires : tie.Need-asked-requires
+asked-requires c κs = search needs
+
+order-row-requires : tie.Need-order-row-requires
+order-row-requires c κs = (search needs, rw (c .before .before .before .asked .ensures) (omega arith))
 
 same-length-5 : tie.Need-same-length-5
 same-length-5 c = search needs
@@ -49,10 +52,15 @@ same-length-7 : tie.Need-same-length-7
 same-length-7 c = search needs
 
 returns-3 : tie.Need-returns-3
-returns-3 c = call-meets _ _ _ _ _ _ _ (row-create _ _ _ _ _ _ (omega arith)) (c .before .before .before .before .create-row .ensures .0) (c .before .before .before .before .create-row .ensures .1)
+returns-3 c =
+    let made = rw (c .before .before .before .before .before .before .before .before .asked .ensures) at (c .before .before .before .before .order-row .ensures) in
+    call-meets _ _ _ _ _ _ _ (row-create _ _ _ _ _ _ (omega arith)) (made .0) (made .1)
 
-redeem-row-requires : tie.Need-redeem-row-requires
-redeem-row-requires c κs = search needs
+asked-requires-2 : tie.Need-asked-requires-2
+asked-requires-2 c κs = search needs
+
+order-row-requires-2 : tie.Need-order-row-requires-2
+order-row-requires-2 c κs = (search needs, rw (c .before .before .before .asked2 .ensures) (omega arith))
 
 same-length-8 : tie.Need-same-length-8
 same-length-8 c = search needs
@@ -64,7 +72,9 @@ same-length-10 : tie.Need-same-length-10
 same-length-10 c = search needs
 
 returns-4 : tie.Need-returns-4
-returns-4 c = call-meets _ _ _ _ _ _ _ (row-redeem _ _ _ _ _ _ (omega arith)) (c .before .before .before .before .redeem-row .ensures .0) (c .before .before .before .before .redeem-row .ensures .1)
+returns-4 c =
+    let made = rw (c .before .before .before .before .before .before .before .before .asked2 .ensures) at (c .before .before .before .before .order-row2 .ensures) in
+    call-meets _ _ _ _ _ _ _ (row-redeem _ _ _ _ _ _ (omega arith)) (made .0) (made .1)
 
 reference-value-requires : tie.Need-reference-value-requires
 reference-value-requires c κs = search needs
@@ -101,12 +111,14 @@ row-call-spec =
     same-length-3
     same-length-4
     returns-2
-    create-row-requires
+    asked-requires
+    order-row-requires
     same-length-5
     same-length-6
     same-length-7
     returns-3
-    redeem-row-requires
+    asked-requires-2
+    order-row-requires-2
     same-length-8
     same-length-9
     same-length-10

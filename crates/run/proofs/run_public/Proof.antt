@@ -1,31 +1,12 @@
--- `run::run_public` meets its contract: the rows on the day taken apart, with nothing known of it, and demand 3 of what they leave.
-use mathlib.Core.Path.{_≡_, ap, _∙_}
+-- `run::run_public` meets its contract: the rows with nothing known of the day, and demand 3 of what they leave.
 use mathlib.Core.Bool.{false≢true}
-use lib.ListN.{length}
-use Rattle.day_parts.proofs.Laws.{basket-length, parts-make, unmapped}
 use Rattle.run.proofs.Whole.{run-meets}
 use borrow.Author.Needs.{needs}
 use Rattle.run.proofs.run_public.Statement.{statement}
 use Rattle.run.proofs.run_public.Tie as tie
 
--- the day has its 300 places
-full : (c : tie.Start) → length (c .args .d .components) ≡ 300
-full c = search (needs, unmapped)
-
-slice-aggregate-put-basket : tie.Need-slice-aggregate-put-basket
-slice-aggregate-put-basket c = search needs
-
-put-basket-requires : tie.Need-put-basket-requires
-put-basket-requires c κs = search needs
-
-head-of-requires : tie.Need-head-of-requires
-head-of-requires c κs = search needs
-
-slice-aggregate-run-rows : tie.Need-slice-aggregate-run-rows
-slice-aggregate-run-rows c = search needs
-
 run-rows-requires : tie.Need-run-rows-requires
-run-rows-requires c κs = (λ e. absurd (false≢true e), ap length (c .before .before .before .before .before .before .before .put-basket .ensures) ∙ basket-length (c .before .before .before .before .before .before .before .before .before .before .before .before .before .before .args .d))
+run-rows-requires c κs q = absurd (false≢true q)
 
 same-length : tie.Need-same-length
 same-length c = search needs
@@ -41,22 +22,10 @@ same-length-4 c = search needs
 
 returns : tie.Need-returns
 returns c =
-    let start = c .before .before .before .before .before .before .before .before .before .before .before .before .before .before .before .before .before .before .before .before .before .before .before in
-    let same = parts-make (start .args .d) (full start) _ _ (c .before .before .before .before .before .before .before .before .before .before .before .before .before .before .head-of .ensures) (c .before .before .before .before .before .before .before .before .before .before .before .before .before .before .before .before .put-basket .ensures) in
-    let done = rw same at (c .before .before .before .before .before .before .before .before .run-rows .ensures) in
+    let done = c .before .before .before .before .before .before .before .before .run-rows .ensures in
     (done .0, (done .1, run-meets _ _ _ (done .1)))
 
 pub run-public-spec : {M : Type 1} → statement M
 run-public-spec =
     tie.close
-    (tie.spec
-    slice-aggregate-put-basket
-    put-basket-requires
-    head-of-requires
-    slice-aggregate-run-rows
-    run-rows-requires
-    same-length
-    same-length-2
-    same-length-3
-    same-length-4
-    returns)
+    (tie.spec run-rows-requires same-length same-length-2 same-length-3 same-length-4 returns)

@@ -16,7 +16,7 @@ returns c = run-refused _ _ (sym (c .before .rows-fit .ensures) ∙ not-true _ (
 do-rows-requires : tie.Need-do-rows-requires
 do-rows-requires c κs =
     let facts = fit-facts _ _ (sym (c .before .before .before .before .before .rows-fit .ensures) ∙ not-false _ (c .before .before .before .before .if1 .left)) in
-    (c .before .before .before .before .before .before .before .before .before .before .before .before .pre .0, (omega (arith, facts .0), (omega (arith, facts .1), c .before .before .before .before .before .before .before .before .before .before .before .before .pre .1)))
+    (c .before .before .before .before .before .before .before .before .before .before .before .before .pre, (omega (arith, facts .0), omega (arith, facts .1)))
 
 same-length : tie.Need-same-length
 same-length c = search needs
