@@ -1,11 +1,12 @@
 // The day book for other languages: each call over numbers and runs of numbers. A call returns the refusal's number, 0 where it is
 // accepted, and puts its place and its value where the caller points; include/roffelaine.h says it in C.
 ghost use mathlib.Core.Path.{_≡_};
-ghost use mathlib.Core.Bool.{true, cond};
+ghost use mathlib.Core.Bool.{cond};
 ghost use lib.Dec.{eqb};
+ghost use lib.IntN.{natAbs};
 ghost use lib.ListN.{length};
-ghost use Prim.Native.Nat.{_/_};
-ghost use Rattle.fund.specs.Fund.{cashInRange};
+ghost use Prim.Native.Nat.{_/_, _≤_};
+ghost use Rattle.digits.specs.Digits.{cap};
 ghost use Rattle.rules.specs.Price.{priceReply, pricedPrices};
 ghost use Rattle.rules.specs.Trade.{tradeReply, tradedBook};
 ghost use Rattle.rules.specs.Value.{worthReply};
@@ -17,14 +18,13 @@ ghost use Rattle.numbers.specs.Numbers.{replyOf, Told};
 ghost use Rattle.run.specs.Batch.{stateOf, batchOf, runReply, ran, eventsOf, Demand3};
 ghost use Rattle.list_rules.specs.Replies.{listReply};
 ghost use Rattle.list_rules.specs.Writing.{listing};
-ghost use Rattle.layout.specs.Day.{dayAt, dayNumbers};
-ghost use Rattle.list_layout.specs.Run.{fieldsAt, fieldsNumbers};
-ghost use Rattle.c_interface.specs.Opening.{lent, widthsFit, flatGiven, FlatOutcome};
+ghost use Rattle.layout.specs.Day.{dayAt};
+ghost use Rattle.list_layout.specs.Run.{fieldsWidth, fieldsAt, fieldsNumbers};
+ghost use Rattle.c_interface.specs.Opening.{flatGiven, FlatOutcome};
 ghost use Rattle.c_interface.specs.Text.{taking, TextRead, TextWritten};
 use list_rules::ListAnswer;
 use list_rules::ListFields;
 use numbers::Numbers;
-use rules::Day;
 use rules::Refusal;
 
 // An answer's three numbers: the place and the value where the caller points, and the number handed back.
@@ -34,27 +34,6 @@ fn tell(answer: Numbers, place: &mut u64, value: &mut u64) -> u64
     *place = answer.place;
     *value = answer.value;
     answer.number
-}
-
-// Refusal 1's test of the lengths of a fund and of a day.
-fn widths_fit(fund: usize, day: usize) -> bool
-    ensures { λ r. ⌜ r ≡ widthsFit fund day ⌝ }
-{
-    if fund != layout::FUND_WIDTH {
-        return false;
-    }
-    day == layout::DAY_WIDTH
-}
-
-// Stores a day where the number of opening's answer is 0.
-fn keep_day(run: &mut [u64], number: u64, d: Day)
-    requires { ⌜ length (now run) ≡ 1516 ⌝ }
-    requires { ⌜ (number ≡ 0 → cashInRange (d .fund .«estimated_cash») ≡ true) ⌝ }
-    ensures { λ _. ⌜ now (run .exit) ≡ cond (eqb number 0) (dayNumbers d) (now (run .entry)) ⌝ }
-{
-    if number == 0 {
-        flat::put_day(run, d);
-    }
 }
 
 // Opens a day: the book, the prices and the day are filled.
@@ -71,18 +50,14 @@ pub extern "C" fn roffelaine_open(
     place: &mut u64,
     value: &mut u64,
 ) -> u64
-    ensures { λ r. ⌜ FlatOutcome (lent (now (fund .entry)) (now (day .entry))) (flatGiven accounts count (lent (now (fund .entry)) (now (day .entry))) (now (components .entry)) (now (holdings .entry)) (now (book .entry)) (now (prices .entry))) r (now (place .exit)) (now (value .exit)) (now (book .exit)) (now (prices .exit)) (now (day .exit)) ⌝ }
+    ensures { λ r. ⌜ FlatOutcome (now (fund .entry)) (flatGiven accounts count (now (fund .entry)) (now (components .entry)) (now (holdings .entry)) (now (book .entry)) (now (prices .entry)) (now (day .entry))) r (now (place .exit)) (now (value .exit)) (now (book .exit)) (now (prices .exit)) (now (day .exit)) ⌝ }
 {
-    if !widths_fit(fund.len(), day.len()) {
+    if fund.len() != layout::FUND_WIDTH {
         return tell(numbers::of_refusal(Refusal::Sizes), place, value);
     }
     let f = layout::fund_of(fund, 0);
-    let opened = day::open(accounts, count, f, components, holdings, book, prices);
-    let answer = opened.answer;
-    let told = numbers::of_answer(answer);
-    let d = opened.day;
-    keep_day(day, told.number, d);
-    tell(told, place, value)
+    let answer = day::open(accounts, count, f, components, holdings, book, prices, day);
+    tell(numbers::of_answer(answer), place, value)
 }
 
 // Sets a component's price.
@@ -120,14 +95,7 @@ pub extern "C" fn roffelaine_trade(
     ensures { λ r. ⌜ Told (tradeReply (dayAt (now (day .entry))) (now (book .entry)) (now (prices .entry)) line quantity price seller buyer) r (now (place .exit)) (now (value .exit)) ⌝ }
     ensures book { λ r. ⌜ now (book .exit) ≡ tradedBook (dayAt (now (day .entry))) (now (book .entry)) (now (prices .entry)) line quantity price seller buyer ⌝ }
 {
-    let answer = day::trade(day, book,
-        prices,
-        line,
-        quantity,
-        price,
-        seller,
-        buyer,
-    );
+    let answer = day::trade(day, book, prices, line, quantity, price, seller, buyer);
     tell(numbers::of_answer(answer), place, value)
 }
 
@@ -278,12 +246,12 @@ fn of_list(answer: ListAnswer) -> Numbers
 
 // Stores the fields where the number of reading's answer is 0.
 fn keep_fields(run: &mut [u64], number: u64, l: ListFields)
-    requires { ⌜ length (now run) ≡ 22 ⌝ }
-    requires { ⌜ (number ≡ 0 → (cashInRange (l .fund .«estimated_cash») ≡ true) × (cashInRange (l .«cash_component») ≡ true)) ⌝ }
+    requires { ⌜ length (now run) ≡ fieldsWidth ⌝ }
+    requires { ⌜ (number ≡ 0 → (natAbs (l .fund .«estimated_cash») ≤ cap) × (natAbs (l .«cash_component») ≤ cap)) ⌝ }
     ensures { λ _. ⌜ now (run .exit) ≡ cond (eqb number 0) (fieldsNumbers l) (now (run .entry)) ⌝ }
 {
     if number == 0 {
-        flat::put_fields(run, l);
+        list_layout::put_fields(run, l);
     }
 }
 
@@ -308,7 +276,7 @@ pub extern "C" fn roffelaine_read(
 ) -> u64
     ensures { λ r. ⌜ TextRead (now (text .entry)) (taking (now (run .entry)) (now (fields .entry)) (now («first_row» .entry))) r (now (place .exit)) (now (value .exit)) (taking (now (run .exit)) (now (fields .exit)) (now («first_row» .exit))) ⌝ }
 {
-    if fields.len() != flat::FIELDS_WIDTH {
+    if fields.len() != list_layout::FIELDS_WIDTH {
         return tell(numbers::of_refusal(Refusal::Sizes), place, value);
     }
     let read = list_reading::read(text, run);
@@ -333,10 +301,10 @@ pub extern "C" fn roffelaine_write(
 ) -> u64
     ensures { λ r. ⌜ TextWritten (now (fields .entry)) (listing (fieldsAt (now (fields .entry))) (now (run .entry)) (now (names .entry)) (now (letters .entry))) (now (output .entry)) r (now (place .exit)) (now (value .exit)) (now (output .exit)) ⌝ }
 {
-    if fields.len() != flat::FIELDS_WIDTH {
+    if fields.len() != list_layout::FIELDS_WIDTH {
         return tell(numbers::of_refusal(Refusal::Sizes), place, value);
     }
-    let l = flat::fields_of(fields);
+    let l = list_layout::fields_at(fields);
     let answer = list_writing::write(l, run, names, letters, output);
     tell(of_list(answer), place, value)
 }

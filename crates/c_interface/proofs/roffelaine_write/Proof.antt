@@ -15,7 +15,7 @@ returns-2 c =
     let answer = c .before .before .before in
     let called = answer .before .before .before in
     let read = called .before .before in
-    rw (← read .fields-of .ensures)
+    rw (← read .fields-at .ensures)
     (write-done _ _ _ (read .before .if1 .left) _ _ _ (answer .of-list .ensures) (called .write .ensures) _ _ _ (c .tell2 .ensures))
 
 pub roffelaine-write-spec : {M : Type 1} → statement M
