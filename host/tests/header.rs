@@ -1,10 +1,16 @@
-//! The declarations of `src/archive/lent.rs` and the layouts are those of the
-//! C header, `../include/roffelaine.h`.
+//! The declarations of `src/archive/lent.rs`, the widths and the refusals are
+//! those of the C header, `../include/roffelaine.h`, and of the Rattle crates.
+
+#[path = "support/rattle.rs"]
+mod rattle;
 
 use host::flat::{DAY_NUMBERS, FIELD_NUMBERS, FUND_NUMBERS};
 use host::model::list::NAME_BYTES;
-use host::model::{ANSWER_NUMBERS, COMPONENT_NUMBERS, MAX_COMPONENTS, RECORD_NUMBERS, ROW_NUMBERS};
-use std::collections::BTreeMap;
+use host::model::{
+    stretch_width, ANSWER_NUMBERS, COMPONENT_NUMBERS, MAX_COMPONENTS, RECORD_NUMBERS, ROW_NUMBERS,
+};
+use rattle::{block, constants, numbered, variants};
+use std::collections::{BTreeMap, BTreeSet};
 use std::path::Path;
 
 fn file(path: &str) -> String {
@@ -67,22 +73,88 @@ fn functions_are_declared_as_in_the_header() {
     }
 }
 
+/// The widths that the header has too, with the crate that has each.
+const WIDTHS: [(&str, &str, usize); 9] = [
+    ("FUND_WIDTH", "layout", FUND_NUMBERS),
+    ("DAY_WIDTH", "layout", DAY_NUMBERS),
+    ("FIELDS_WIDTH", "list_layout", FIELD_NUMBERS),
+    ("COMPONENT_WIDTH", "layout", COMPONENT_NUMBERS),
+    ("RECORD_WIDTH", "layout", RECORD_NUMBERS),
+    ("ROW_WIDTH", "layout", ROW_NUMBERS),
+    ("ANSWER_WIDTH", "layout", ANSWER_NUMBERS),
+    ("MOST_COMPONENTS", "layout", MAX_COMPONENTS),
+    ("NAME_WIDTH", "list_rules", NAME_BYTES),
+];
+
 #[test]
 fn widths_are_those_of_the_header() {
     let header = header();
-    let widths = [
-        ("FUND_WIDTH", FUND_NUMBERS),
-        ("DAY_WIDTH", DAY_NUMBERS),
-        ("FIELDS_WIDTH", FIELD_NUMBERS),
-        ("COMPONENT_WIDTH", COMPONENT_NUMBERS),
-        ("RECORD_WIDTH", RECORD_NUMBERS),
-        ("ROW_WIDTH", ROW_NUMBERS),
-        ("ANSWER_WIDTH", ANSWER_NUMBERS),
-        ("MOST_COMPONENTS", MAX_COMPONENTS),
-        ("NAME_WIDTH", NAME_BYTES),
-    ];
-    for (name, width) in widths {
+    for (name, _, width) in WIDTHS {
         let line = format!("#define ROFFELAINE_{name} {width}");
         assert!(header.lines().any(|each| each == line), "no {line}");
     }
+}
+
+/// The constants of a crate that uses those of `layout`.
+fn constants_of(name: &str) -> BTreeMap<String, usize> {
+    let none = BTreeMap::new();
+    let layout = constants(&file("../crates/layout/src/lib.rt"), &none);
+    match name {
+        "layout" => layout,
+        _ => constants(&file(&format!("../crates/{name}/src/lib.rt")), &layout),
+    }
+}
+
+#[test]
+fn widths_are_those_of_the_crates() {
+    for (name, place, width) in WIDTHS {
+        assert_eq!(constants_of(place)[name], width, "{name} of {place}");
+    }
+    let widest = stretch_width(MAX_COMPONENTS);
+    assert_eq!(constants_of("layout")["MOST_WIDTH"], widest);
+}
+
+/// The names and numbers of lines that have a `start`, a name, `equals` and a
+/// number.
+fn refusals(lines: &[&str], start: &str, equals: &str) -> BTreeMap<String, u64> {
+    let lines = lines.iter().map(|line| line.trim());
+    let pairs = lines.filter_map(|line| line.strip_prefix(start)?.split_once(equals));
+    pairs
+        .map(|(name, rest)| {
+            let end = rest.find(|each: char| !each.is_ascii_digit());
+            let number = &rest[..end.unwrap_or(rest.len())];
+            (name.to_string(), number.parse().expect("a number"))
+        })
+        .collect()
+}
+
+#[test]
+fn refusals_are_the_same_everywhere() {
+    let rules = file("../crates/rules/specs/Replies.antt");
+    let rules = numbered(&rules, "refusalReply ", " = reply ");
+    let numbers = file("../crates/numbers/src/lib.rt");
+    let numbers = numbered(&numbers, "Refusal::", " => refused_at(");
+    assert_eq!(numbers, rules, "crate numbers");
+    let places: BTreeMap<_, _> = rules
+        .iter()
+        .map(|(name, of)| (name.clone(), of.1))
+        .collect();
+    assert_eq!(
+        variants(&file("../crates/rules/src/lib.rt")),
+        places,
+        "crate rules"
+    );
+    let mut expected: BTreeMap<_, _> = rules
+        .iter()
+        .map(|(name, of)| (name.clone(), of.0))
+        .collect();
+    let distinct: BTreeSet<u64> = expected.values().copied().collect();
+    assert_eq!(distinct.len(), expected.len());
+    let host = file("src/model/refusal.rs");
+    let host: Vec<&str> = host.lines().collect();
+    assert_eq!(refusals(&host, "pub const ", ": u64 = "), expected, "host");
+    let header = header();
+    let header = block(&header, "enum roffelaine_refusal {", "};");
+    expected.insert("ACCEPTED".to_string(), 0);
+    assert_eq!(refusals(&header, "ROFFELAINE_", " = "), expected, "header");
 }

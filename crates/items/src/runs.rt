@@ -28,6 +28,15 @@ pub fn fill(run: &mut [u64]) {
     }
 }
 
+// Makes every number of a run 0.
+pub fn clear(run: &mut [u64]) {
+    let mut i = 0;
+    while i < run.len() {
+        run[i] = 0;
+        i += 1;
+    }
+}
+
 // The first place that no longer has what `fill` left, and the length where there is none.
 pub fn first_marred(run: &[u64]) -> usize {
     let mut i = 0;

@@ -1,42 +1,55 @@
 // Lines that are calls: each is made and its answer printed.
-use crate::command::Command;
-use crate::layout;
-use crate::printing;
-use crate::session;
-use crate::session::Session;
+use commands::command;
+use commands::command::Command;
 use items::runs;
-use rules::Opened;
+use numbers::Numbers;
+use rehearsal_state::places;
+use rehearsal_state::printing;
+use rehearsal_state::session;
+use rehearsal_state::session::Session;
+use rules::Answer;
+use rules::OrderAnswer;
+
+// How long the longest list is that is lent to an order.
+const MOST_LIST: usize = layout::RECORD_WIDTH * command::MOST_ROOM;
 
 // Opens a day for the accounts that are given.
 fn open_on(
     s: Session,
     components: &[u64],
     held: &[u64],
+    day: &mut [u64],
     book: &mut [u64],
     prices: &mut [u64],
-) -> Opened {
+) -> Answer {
     let fund = s.fund;
-    day::open(s.accounts, s.count, fund, components, held, book, prices)
+    day::open(
+        s.accounts,
+        s.count,
+        fund,
+        components,
+        held,
+        book,
+        prices,
+        day,
+    )
 }
 
 // Prints an opening's answer. A refused opening leaves the day that was.
-fn after_opening(s: Session, opened: Opened, book_length: usize, prices_length: usize) -> Session {
-    let answer = opened.answer;
-    let day = opened.day;
-    let r = numbers::of_answer(answer);
+fn after_opening(s: Session, r: Numbers, book_length: usize, prices_length: usize) -> Session {
     let after = printing::answer(s, b"open", r);
     if r.number != 0 {
         return after;
     }
-    session::on_day(after, day, book_length, prices_length)
+    session::on_day(after, book_length, prices_length)
 }
 
 fn holdings_length(s: Session) -> usize {
-    layout::place(s.accounts, layout::holdings_width(s.count), 0)
+    places::place(s.accounts, places::holdings_width(s.count), 0)
 }
 
 fn book_length(s: Session) -> usize {
-    layout::place(s.accounts, layout::book_width(s.count), 0)
+    places::place(s.accounts, places::book_width(s.count), 0)
 }
 
 // Opens a day on as much of the runs as the accounts and the components need.
@@ -44,19 +57,33 @@ pub fn open(
     s: Session,
     components: &[u64],
     held: &[u64],
+    day: &mut [u64],
     book: &mut [u64],
     prices: &mut [u64],
 ) -> Session {
     let h = runs::cut(holdings_length(s), held);
     let b = runs::cut(book_length(s), book);
     let p = runs::cut(s.count, prices);
-    let opened = open_on(s, components, &held[..h], &mut book[..b], &mut prices[..p]);
-    after_opening(s, opened, b, p)
+    let answer = open_on(
+        s,
+        components,
+        &held[..h],
+        day,
+        &mut book[..b],
+        &mut prices[..p],
+    );
+    after_opening(s, numbers::of_answer(answer), b, p)
 }
 
-fn price(s: Session, line: usize, price: u64, book: &[u64], prices: &mut [u64]) -> Session {
-    let d = s.day;
-    let answer = day::price(d, book, prices, line, price);
+fn price(
+    s: Session,
+    line: usize,
+    price: u64,
+    day: &[u64],
+    book: &[u64],
+    prices: &mut [u64],
+) -> Session {
+    let answer = day::price(day, book, prices, line, price);
     printing::answer(s, b"price", numbers::of_answer(answer))
 }
 
@@ -65,59 +92,76 @@ fn trade(
     line: usize,
     quantity: u64,
     price: u64,
-    seller: usize,
-    buyer: usize,
+    seller: u64,
+    buyer: u64,
+    day: &[u64],
     book: &mut [u64],
     prices: &[u64],
 ) -> Session {
-    let d = s.day;
-    let answer = day::trade(d, book, prices, line, quantity, price, seller, buyer);
+    let from = seller as usize;
+    let to = buyer as usize;
+    let answer = day::trade(day, book, prices, line, quantity, price, from, to);
     printing::answer(s, b"trade", numbers::of_answer(answer))
 }
 
-fn value(s: Session, book: &[u64], prices: &[u64]) -> Session {
-    let d = s.day;
-    let answer = day::reference_value(d, book, prices);
+fn value(s: Session, day: &[u64], book: &[u64], prices: &[u64]) -> Session {
+    let answer = day::reference_value(day, book, prices);
     printing::value(s, numbers::of_value(answer))
 }
 
 // How many numbers of a list have room for so many records. More than any order has are as good as these.
 fn lent_length(room: u64) -> usize {
     let n = room as usize;
-    if layout::MOST_RECORDS < n {
-        return layout::RECORD_WIDTH * layout::MOST_RECORDS;
+    if command::MOST_ROOM < n {
+        return MOST_LIST;
     }
     layout::RECORD_WIDTH * n
 }
 
-fn create(
-    s: Session,
+// Makes an order, with as much of a list as has room for so many records.
+fn order_answer(
+    is_creation: bool,
     account: usize,
     units: u64,
+    room: u64,
+    day: &[u64],
     book: &mut [u64],
     prices: &[u64],
     list: &mut [u64],
-) -> Session {
-    let d = s.day;
-    let answer = day::create(d, book, prices, account, units, list);
-    printing::order(s, b"create", numbers::of_order(answer), list)
+) -> OrderAnswer {
+    let n = runs::cut(lent_length(room), list);
+    if is_creation {
+        return day::create(day, book, prices, account, units, &mut list[..n]);
+    }
+    day::redeem(day, book, prices, account, units, &mut list[..n])
 }
 
-fn redeem(
+fn print_order(s: Session, is_creation: bool, r: Numbers, list: &[u64]) -> Session {
+    if is_creation {
+        return printing::order(s, b"create", r, list);
+    }
+    printing::order(s, b"redeem", r, list)
+}
+
+// An order, and its records.
+fn order(
     s: Session,
-    account: usize,
+    is_creation: bool,
+    account: u64,
     units: u64,
+    room: u64,
+    day: &[u64],
     book: &mut [u64],
     prices: &[u64],
-    list: &mut [u64],
 ) -> Session {
-    let d = s.day;
-    let answer = day::redeem(d, book, prices, account, units, list);
-    printing::order(s, b"redeem", numbers::of_order(answer), list)
+    let mut list = [0u64; MOST_LIST];
+    let a = account as usize;
+    let answer = order_answer(is_creation, a, units, room, day, book, prices, &mut list);
+    print_order(s, is_creation, numbers::of_order(answer), &list)
 }
 
 // The line that a call names by its code.
-fn line_named(s: Session, c: Command, components: &[u64]) -> usize {
+pub fn line_named(s: Session, c: Command, components: &[u64]) -> usize {
     let fund = s.fund;
     let code = match c {
         Command::Price { code: x, price: _ } => x,
@@ -130,24 +174,7 @@ fn line_named(s: Session, c: Command, components: &[u64]) -> usize {
         } => x,
         _ => 0,
     };
-    layout::line_of(components, s.count, fund.first_code, code)
-}
-
-// The room for records that a call names.
-fn room_named(c: Command) -> u64 {
-    match c {
-        Command::Create {
-            account: _,
-            units: _,
-            room,
-        } => room,
-        Command::Redeem {
-            account: _,
-            units: _,
-            room,
-        } => room,
-        _ => 0,
-    }
+    places::line_of(components, s.count, fund.first_code, code)
 }
 
 // Makes the call on what is lent to it.
@@ -155,45 +182,43 @@ fn make(
     s: Session,
     c: Command,
     line: usize,
+    day: &[u64],
     book: &mut [u64],
     prices: &mut [u64],
-    list: &mut [u64],
 ) -> Session {
     match c {
-        Command::Price { code: _, price: x } => price(s, line, x, book, prices),
+        Command::Price { code: _, price: x } => price(s, line, x, day, book, prices),
         Command::Trade {
             code: _,
             quantity: q,
             price: x,
             seller,
             buyer,
-        } => trade(s, line, q, x, seller as usize, buyer as usize, book, prices),
+        } => trade(s, line, q, x, seller, buyer, day, book, prices),
         Command::Create {
             account,
             units,
-            room: _,
-        } => create(s, account as usize, units, book, prices, list),
+            room,
+        } => order(s, true, account, units, room, day, book, prices),
         Command::Redeem {
             account,
             units,
-            room: _,
-        } => redeem(s, account as usize, units, book, prices, list),
-        _ => value(s, book, prices),
+            room,
+        } => order(s, false, account, units, room, day, book, prices),
+        _ => value(s, day, book, prices),
     }
 }
 
-// Makes a call on the day, with as much of the book, the prices and the list as it is lent.
+// Makes a call on the day, with as much of the book and the prices as it is lent.
 pub fn call(
     s: Session,
     c: Command,
-    components: &[u64],
+    line: usize,
+    day: &[u64],
     book: &mut [u64],
     prices: &mut [u64],
-    list: &mut [u64],
 ) -> Session {
-    let line = line_named(s, c, components);
     let b = runs::cut(s.book_length, book);
     let p = runs::cut(s.prices_length, prices);
-    let n = runs::cut(lent_length(room_named(c)), list);
-    make(s, c, line, &mut book[..b], &mut prices[..p], &mut list[..n])
+    make(s, c, line, day, &mut book[..b], &mut prices[..p])
 }

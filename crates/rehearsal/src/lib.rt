@@ -2,24 +2,29 @@
 // each call. It only parses and prints; `list_reading` and `day` do the rest.
 ghost use Prim.Native.Nat.{_<_};
 
-mod command;
 mod day_calls;
-mod fields;
-mod given;
-mod layout;
-mod printing;
-mod reading;
-mod session;
-mod shown;
-mod words;
 
-use command::Command;
+use commands::command;
+use commands::command::Command;
+use commands::reading;
 use items::input::Cursor;
 use items::output;
 use items::runs;
 use list_rules::ListAnswer;
 use list_rules::ListFields;
-use session::Session;
+use rehearsal_state::given;
+use rehearsal_state::places;
+use rehearsal_state::printing;
+use rehearsal_state::session;
+use rehearsal_state::session::Session;
+use rehearsal_state::shown;
+
+// Room for the longest line, and for the holdings and the book of the most accounts.
+const MOST_LINE: usize = 4096;
+
+const MOST_HELD: usize = places::MOST_ACCOUNTS * (layout::MOST_COMPONENTS + 2);
+
+const MOST_BOOK: usize = places::MOST_ACCOUNTS * layout::MOST_WIDTH;
 
 // A line of the input.
 struct Heard {
@@ -29,15 +34,28 @@ struct Heard {
     cursor: Cursor,
 }
 
+// Does what a line says that is a call of an opened day.
+fn call(
+    s: Session,
+    c: Command,
+    components: &[u64],
+    day: &[u64],
+    book: &mut [u64],
+    prices: &mut [u64],
+) -> Session {
+    let line = day_calls::line_named(s, c, components);
+    day_calls::call(s, c, line, day, book, prices)
+}
+
 // Does what a line says.
 fn obey(
     s: Session,
     c: Command,
     components: &[u64],
     held: &mut [u64],
+    day: &mut [u64],
     book: &mut [u64],
     prices: &mut [u64],
-    list: &mut [u64],
 ) -> Session {
     match c {
         Command::Nothing => s,
@@ -49,17 +67,18 @@ fn obey(
             code,
             quantity,
         } => { given::hold(s, account as usize, code, quantity, components, held) }
-        Command::Open => day_calls::open(s, components, held, book, prices),
+        Command::Open => day_calls::open(s, components, held, day, book, prices),
         Command::Show(a) => shown::show(s, a, components, book),
-        _ => day_calls::call(s, c, components, book, prices, list),
+        _ => call(s, c, components, day, book, prices),
     }
 }
 
 // Reads one line.
-fn hear(piece: &mut [u8], buffer: &mut [u8], before: Cursor) -> Heard {
-    let t = reading::line(piece, buffer, before);
+fn hear(piece: &mut [u8], before: Cursor) -> Heard {
+    let mut buffer = [0u8; MOST_LINE];
+    let t = reading::line(piece, &mut buffer, before);
     let cursor = t.cursor;
-    let n = reading::cut(reading::bare_length(buffer, t.length), buffer);
+    let n = reading::cut(reading::bare_length(&buffer, t.length), &buffer);
     let command = command::of(&buffer[..n], t.is_long);
     Heard {
         command,
@@ -74,9 +93,9 @@ fn follow(
     heard: Heard,
     components: &[u64],
     held: &mut [u64],
+    day: &mut [u64],
     book: &mut [u64],
     prices: &mut [u64],
-    list: &mut [u64],
 ) -> Session {
     let cursor = heard.cursor;
     let command = heard.command;
@@ -84,23 +103,22 @@ fn follow(
         return session::stopped(s);
     }
     let here = session::at_next_line(s, cursor);
-    obey(here, command, components, held, book, prices, list)
+    obey(here, command, components, held, day, book, prices)
 }
 
 // Reads one line and does what it says.
 fn turn(
     s: Session,
     piece: &mut [u8],
-    buffer: &mut [u8],
     components: &[u64],
     held: &mut [u64],
+    day: &mut [u64],
     book: &mut [u64],
     prices: &mut [u64],
-    list: &mut [u64],
 ) -> Session {
     let before = s.cursor;
-    let heard = hear(piece, buffer, before);
-    follow(s, heard, components, held, book, prices, list)
+    let heard = hear(piece, before);
+    follow(s, heard, components, held, day, book, prices)
 }
 
 // One turn fewer, or none where the session stops.
@@ -118,56 +136,50 @@ fn turns_after(turns: u64, s: Session) -> u64
 fn play(
     start: Session,
     piece: &mut [u8],
-    buffer: &mut [u8],
     components: &[u64],
     held: &mut [u64],
+    day: &mut [u64],
     book: &mut [u64],
     prices: &mut [u64],
-    list: &mut [u64],
 ) -> Session {
     let mut s = start;
     let mut turns = u64::MAX;
     while turns > 0 {
-        s = turn(s, piece, buffer, components, held, book, prices, list);
+        s = turn(s, piece, components, held, day, book, prices);
         turns = turns_after(turns, s);
     }
     s
 }
 
-// Plays the lines behind an accepted list. The runs have room for 64 accounts and 300 components. Opening no accounts is refused,
-// and gives the day that is not sound.
+// Plays the lines behind an accepted list, from the blank day on, which is not sound.
 fn rehearse(l: ListFields, piece: &mut [u8], cursor: Cursor, components: &[u64]) {
-    let mut buffer = [0u8; 4096];
-    let mut held = [0u64; 19328];
-    let mut book = [0u64; 57984];
-    let mut prices = [0u64; 300];
-    let mut list = [0u64; 1600];
+    let mut held = [0u64; MOST_HELD];
+    let mut day = [0u64; layout::DAY_WIDTH];
+    let mut book = [0u64; MOST_BOOK];
+    let mut prices = [0u64; layout::MOST_COMPONENTS];
     let fund = l.fund;
-    let unopened = day::open(0, l.count, fund, components, &held, &mut book, &mut prices);
-    let day = unopened.day;
-    let start = session::start(fund, l.count, day, cursor);
+    let start = session::start(fund, l.count, cursor);
     let end = play(
         start,
         piece,
-        &mut buffer,
         components,
         &mut held,
+        &mut day,
         &mut book,
         &mut prices,
-        &mut list,
     );
     printing::total(end);
 }
 
 // Reads the list, and goes on where it is accepted.
 fn rehearse_list(text: &[u8], piece: &mut [u8], cursor: Cursor) {
-    let mut run = [0u64; 1500];
+    let mut run = [0u64; layout::BASKET_WIDTH];
     let read = list_reading::read(text, &mut run);
     let answer = read.answer;
     let l = read.fields;
     match answer {
         ListAnswer::Done(count) => {
-            let n = runs::cut(layout::components_length(count), &run);
+            let n = runs::cut(places::components_length(count), &run);
             rehearse(l, piece, cursor, &run[..n]);
         }
         ListAnswer::Refused(why) => {

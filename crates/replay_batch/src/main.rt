@@ -1,14 +1,15 @@
 // Plays days through the driver: a day's calls are one list of rows, made by `run::run` and once more, from the same book,
 // prices, records and answers, by `run::run_public`. `scripts/batch_text.py` writes the items, and what is to be printed.
+use day_items::replies;
+use day_items::state;
+use day_items::state::Session;
 use items::input;
 use items::input::Item;
 use items::input::Stage;
 use items::output;
 use items::runs;
-use replayer::replies;
-use replayer::state;
-use replayer::state::Session;
-use rules::Day;
+use numbers::Numbers;
+use rules::Answer;
 
 // Tags of items.
 const OPENING: u64 = 1;
@@ -24,226 +25,248 @@ const RECORDS_LENGTH: usize = 0;
 
 const ANSWERS_LENGTH: usize = 1;
 
+// For how many numbers there is room in an item, a book, prices, records and answers.
+const MOST_ITEM: usize = 12_000;
+
+const MOST_BOOK: usize = 12_000;
+
+const MOST_PRICES: usize = 400;
+
+const MOST_RECORDS: usize = 10_000;
+
+const MOST_ANSWERS: usize = 400;
+
 // Where each run starts in a copy of all four. The book stands first.
-const PRICES_AT: usize = 12_000;
+const PRICES_AT: usize = MOST_BOOK;
 
-const RECORDS_AT: usize = 12_400;
+const RECORDS_AT: usize = PRICES_AT + MOST_PRICES;
 
-const ANSWERS_AT: usize = 22_400;
+const ANSWERS_AT: usize = RECORDS_AT + MOST_RECORDS;
+
+const ALL: usize = ANSWERS_AT + MOST_ANSWERS;
+
+// How long the four runs are that are lent to the driver.
+struct Lengths {
+    book: usize,
+    prices: usize,
+    records: usize,
+    answers: usize,
+}
 
 // Copies a run to a place of a longer one.
-fn copy_in(from: &[u64], kept: &mut [u64], at: usize) {
-    let start = runs::cut(at, kept);
-    runs::copy(from, &mut kept[start..]);
+fn copy_in(from: &[u64], all: &mut [u64], at: usize) {
+    let start = runs::cut(at, all);
+    runs::copy(from, &mut all[start..]);
 }
 
-// Copies from a place of a longer run, as far as the shorter one goes.
-fn copy_out(kept: &[u64], at: usize, to: &mut [u64]) {
-    let start = runs::cut(at, kept);
-    runs::copy(&kept[start..], to);
-}
-
-// Copies all four runs.
-fn keep(book: &[u64], prices: &[u64], records: &[u64], answers: &[u64], kept: &mut [u64]) {
-    copy_in(book, kept, 0);
-    copy_in(prices, kept, PRICES_AT);
-    copy_in(records, kept, RECORDS_AT);
-    copy_in(answers, kept, ANSWERS_AT);
-}
-
-fn put_back(
+// The driver, or the same with a test in each call.
+fn answer_of(
+    is_public: bool,
+    day: &[u64],
+    rows: &[u64],
     book: &mut [u64],
     prices: &mut [u64],
     records: &mut [u64],
     answers: &mut [u64],
-    kept: &[u64],
-) {
-    copy_out(kept, 0, book);
-    copy_out(kept, PRICES_AT, prices);
-    copy_out(kept, RECORDS_AT, records);
-    copy_out(kept, ANSWERS_AT, answers);
+) -> Answer {
+    if is_public {
+        return run::run_public(day, book, prices, rows, records, answers);
+    }
+    run::run(day, book, prices, rows, records, answers)
 }
 
-// Whether a run is as its copy; if not, the first place that differs is printed.
-fn is_same(word: &[u8], run: &[u64], kept: &[u64], at: usize) -> bool {
-    let start = runs::cut(at, kept);
-    let i = runs::first_difference(run, &kept[start..]);
-    if i < run.len() {
+// Makes the calls on as much of the records and the answers as is lent to them.
+fn drive(
+    is_public: bool,
+    l: Lengths,
+    day: &[u64],
+    rows: &[u64],
+    book: &mut [u64],
+    prices: &mut [u64],
+    records: &mut [u64],
+    answers: &mut [u64],
+) -> Numbers {
+    let n = runs::cut(l.records, records);
+    let m = runs::cut(l.answers, answers);
+    let answer = answer_of(
+        is_public,
+        day,
+        rows,
+        book,
+        prices,
+        &mut records[..n],
+        &mut answers[..m],
+    );
+    numbers::of_answer(answer)
+}
+
+// Makes the calls with records and answers that hold other numbers, and copies all that is left.
+fn make(
+    is_public: bool,
+    l: Lengths,
+    day: &[u64],
+    rows: &[u64],
+    book: &mut [u64],
+    prices: &mut [u64],
+    left: &mut [u64],
+) -> Numbers {
+    let mut records = [0u64; MOST_RECORDS];
+    let mut answers = [0u64; MOST_ANSWERS];
+    runs::fill(&mut records);
+    runs::fill(&mut answers);
+    let r = drive(
+        is_public,
+        l,
+        day,
+        rows,
+        book,
+        prices,
+        &mut records,
+        &mut answers,
+    );
+    copy_in(book, left, 0);
+    copy_in(prices, left, PRICES_AT);
+    copy_in(&records, left, RECORDS_AT);
+    copy_in(&answers, left, ANSWERS_AT);
+    r
+}
+
+// Makes the calls with a test each, on a copy of the book and the prices.
+fn make_public(
+    l: Lengths,
+    day: &[u64],
+    rows: &[u64],
+    book: &[u64],
+    prices: &[u64],
+    left: &mut [u64],
+) -> Numbers {
+    let mut other_book = [0u64; MOST_BOOK];
+    let mut other_prices = [0u64; MOST_PRICES];
+    runs::copy(book, &mut other_book);
+    runs::copy(prices, &mut other_prices);
+    let b = runs::cut(l.book, &other_book);
+    let p = runs::cut(l.prices, &other_prices);
+    make(
+        true,
+        l,
+        day,
+        rows,
+        &mut other_book[..b],
+        &mut other_prices[..p],
+        left,
+    )
+}
+
+// So many numbers of a copy, from a place on.
+fn part(all: &[u64], at: usize, length: usize) -> &[u64] {
+    let start = runs::cut(at, all);
+    let rest = &all[start..];
+    let n = runs::cut(length, rest);
+    &rest[..n]
+}
+
+// All that the driver left.
+fn print_left(l: Lengths, left: &[u64]) {
+    output::run(b"answers", part(left, ANSWERS_AT, l.answers));
+    output::run(b"records", part(left, RECORDS_AT, l.records));
+    output::run(b"book", part(left, 0, l.book));
+    output::run(b"prices", part(left, PRICES_AT, l.prices));
+}
+
+// Whether a run is the same in two copies; if not, the first place that differs is printed.
+fn is_same(word: &[u8], at: usize, length: usize, left: &[u64], other: &[u64]) -> bool {
+    let i = runs::first_difference(part(left, at, length), part(other, at, length));
+    if i < length {
         output::place(word, i);
         return false;
     }
     true
 }
 
-// `same`, or for each run that differs from its copy the first such place.
-fn print_same(book: &[u64], prices: &[u64], records: &[u64], answers: &[u64], kept: &[u64]) {
-    let is_book = is_same(b"book", book, kept, 0);
-    let is_prices = is_same(b"prices", prices, kept, PRICES_AT);
-    let is_records = is_same(b"records", records, kept, RECORDS_AT);
-    let is_answers = is_same(b"answers", answers, kept, ANSWERS_AT);
+// `same`, or for each run that differs the first such place.
+fn print_same(l: Lengths, left: &[u64], other: &[u64]) {
+    let is_book = is_same(b"book", 0, l.book, left, other);
+    let is_prices = is_same(b"prices", PRICES_AT, l.prices, left, other);
+    let is_records = is_same(b"records", RECORDS_AT, l.records, left, other);
+    let is_answers = is_same(b"answers", ANSWERS_AT, l.answers, left, other);
     if is_book && is_prices && is_records && is_answers {
         output::text(b"same\n");
     }
 }
 
-// The driver, and all that it leaves.
-fn run_once(
-    d: Day,
-    rows: &[u64],
-    book: &mut [u64],
-    prices: &mut [u64],
-    records: &mut [u64],
-    answers: &mut [u64],
-) {
-    let answer = run::run(d, book, prices, rows, records, answers);
-    replies::print(b"run", replies::of_answer(answer));
-    output::run(b"answers", answers);
-    output::run(b"records", records);
-    output::run(b"book", book);
-    output::run(b"prices", prices);
-}
-
-// Fills the records and the answers with other numbers, and keeps all four runs.
-fn mark(
-    book: &[u64],
-    prices: &[u64],
-    records: &mut [u64],
-    answers: &mut [u64],
-    before: &mut [u64],
-) {
-    runs::fill(records);
-    runs::fill(answers);
-    keep(book, prices, records, answers, before);
-}
-
-// Keeps what the driver left, and puts back what it started from.
-fn restart(
-    book: &mut [u64],
-    prices: &mut [u64],
-    records: &mut [u64],
-    answers: &mut [u64],
-    before: &[u64],
-    after: &mut [u64],
-) {
-    keep(book, prices, records, answers, after);
-    put_back(book, prices, records, answers, before);
-}
-
-// The calls with a test each, and whether they leave what the driver left.
-fn run_again(
-    d: Day,
-    rows: &[u64],
-    book: &mut [u64],
-    prices: &mut [u64],
-    records: &mut [u64],
-    answers: &mut [u64],
-    after: &[u64],
-) {
-    let answer = run::run_public(d, book, prices, rows, records, answers);
-    replies::print(b"public", replies::of_answer(answer));
-    print_same(book, prices, records, answers, after);
-}
-
-fn run_first(
-    d: Day,
-    rows: &[u64],
-    book: &mut [u64],
-    prices: &mut [u64],
-    records: &mut [u64],
-    answers: &mut [u64],
-    before: &mut [u64],
-) {
-    mark(book, prices, records, answers, before);
-    run_once(d, rows, book, prices, records, answers);
-}
-
-fn run_second(
-    d: Day,
-    rows: &[u64],
-    book: &mut [u64],
-    prices: &mut [u64],
-    records: &mut [u64],
-    answers: &mut [u64],
-    before: &[u64],
-    after: &mut [u64],
-) {
-    restart(book, prices, records, answers, before, after);
-    run_again(d, rows, book, prices, records, answers, after);
-}
-
-// The driver, and from the same start the calls with a test each.
-fn run_both(
-    d: Day,
-    rows: &[u64],
-    book: &mut [u64],
-    prices: &mut [u64],
-    records: &mut [u64],
-    answers: &mut [u64],
-) {
-    let mut before = [0u64; 22800];
-    let mut after = [0u64; 22800];
-    run_first(d, rows, book, prices, records, answers, &mut before);
-    run_second(d, rows, book, prices, records, answers, &before, &mut after);
+// The calls with a test each and, from the same start, the driver; whether they leave the same.
+fn run_both(l: Lengths, day: &[u64], rows: &[u64], book: &mut [u64], prices: &mut [u64]) {
+    let mut left = [0u64; ALL];
+    let mut other = [0u64; ALL];
+    let public = make_public(l, day, rows, book, prices, &mut other);
+    let r = make(false, l, day, rows, book, prices, &mut left);
+    replies::print(b"run", r);
+    print_left(l, &left);
+    replies::print(b"public", public);
+    print_same(l, &left, &other);
 }
 
 // Whether an item has the two lengths of a batch, and there is room for them.
-fn is_batch(item: &[u64], records: usize, answers: usize) -> bool {
+fn is_batch(item: &[u64]) -> bool {
     if item.len() < HEAD {
         return false;
     }
-    state::size_at(item, RECORDS_LENGTH) <= records
-        && state::size_at(item, ANSWERS_LENGTH) <= answers
+    state::size_at(item, RECORDS_LENGTH) <= MOST_RECORDS
+        && state::size_at(item, ANSWERS_LENGTH) <= MOST_ANSWERS
 }
 
-fn batch_on(
+fn batch_item(
     s: Session,
     item: &[u64],
+    day: &[u64],
     book: &mut [u64],
     prices: &mut [u64],
-    records: &mut [u64],
-    answers: &mut [u64],
 ) -> Session {
-    if !is_batch(item, records.len(), answers.len()) {
+    if !is_batch(item) {
         return state::bad(s);
     }
     let from = runs::cut(HEAD, item);
     let b = runs::cut(s.book_length, book);
     let p = runs::cut(s.prices_length, prices);
-    let n = runs::cut(state::size_at(item, RECORDS_LENGTH), records);
-    let m = runs::cut(state::size_at(item, ANSWERS_LENGTH), answers);
-    let d = s.day;
-    run_both(
-        d,
-        &item[from..],
-        &mut book[..b],
-        &mut prices[..p],
-        &mut records[..n],
-        &mut answers[..m],
-    );
+    let l = Lengths {
+        book: b,
+        prices: p,
+        records: state::size_at(item, RECORDS_LENGTH),
+        answers: state::size_at(item, ANSWERS_LENGTH),
+    };
+    run_both(l, day, &item[from..], &mut book[..b], &mut prices[..p]);
     s
 }
 
-fn batch_item(s: Session, item: &[u64], book: &mut [u64], prices: &mut [u64]) -> Session {
-    let mut records = [0u64; 10000];
-    let mut answers = [0u64; 400];
-    batch_on(s, item, book, prices, &mut records, &mut answers)
-}
-
-fn obey(s: Session, tag: u64, item: &[u64], book: &mut [u64], prices: &mut [u64]) -> Session {
+fn obey(
+    s: Session,
+    tag: u64,
+    item: &[u64],
+    day: &mut [u64],
+    book: &mut [u64],
+    prices: &mut [u64],
+) -> Session {
     match tag {
-        OPENING => state::opening_item(s, item, book, prices),
-        STATE => state::state_item(s, item, false, book, prices),
-        BATCH => batch_item(s, item, book, prices),
+        OPENING => state::opening_item(s, item, day, book, prices),
+        STATE => state::state_item(s, item, false, day, book, prices),
+        BATCH => batch_item(s, item, day, book, prices),
         _ => state::bad(s),
     }
 }
 
 // Does what an item says. Its numbers stand at the start of a run.
-fn follow(s: Session, got: Item, run: &[u64], book: &mut [u64], prices: &mut [u64]) -> Session {
+fn follow(
+    s: Session,
+    got: Item,
+    run: &[u64],
+    day: &mut [u64],
+    book: &mut [u64],
+    prices: &mut [u64],
+) -> Session {
     let n = runs::cut(got.length, run);
     let stage = got.stage;
     match stage {
-        Stage::Whole => obey(s, got.tag, &run[..n], book, prices),
+        Stage::Whole => obey(s, got.tag, &run[..n], day, book, prices),
         Stage::End => state::stopped(s),
         _ => state::bad(s),
     }
@@ -254,6 +277,7 @@ fn turn(
     s: Session,
     buffer: &mut [u8],
     run: &mut [u64],
+    day: &mut [u64],
     book: &mut [u64],
     prices: &mut [u64],
 ) -> Session {
@@ -262,24 +286,25 @@ fn turn(
     let cursor = got.cursor;
     let mut here = s;
     here.cursor = cursor;
-    follow(here, got, run, book, prices)
+    follow(here, got, run, day, book, prices)
 }
 
 // Items to the end of the input, or to the first that is malformed.
-fn play(buffer: &mut [u8], run: &mut [u64], book: &mut [u64], prices: &mut [u64]) {
+fn play(buffer: &mut [u8], run: &mut [u64], day: &mut [u64], book: &mut [u64], prices: &mut [u64]) {
     let mut s = state::start();
     let mut turns = u64::MAX;
     while turns > 0 {
-        s = turn(s, buffer, run, book, prices);
-        turns = replayer::turns_after(turns, s);
+        s = turn(s, buffer, run, day, book, prices);
+        turns = state::turns_after(turns, s);
     }
 }
 
-// Plays standard input. The runs have room for 64 accounts and 60 components, and for 133 rows.
+// Plays standard input, from the blank day on.
 fn main() {
     let mut buffer = [0u8; 65536];
-    let mut item = [0u64; 12000];
-    let mut book = [0u64; 12000];
-    let mut prices = [0u64; 400];
-    play(&mut buffer, &mut item, &mut book, &mut prices);
+    let mut item = [0u64; MOST_ITEM];
+    let mut day = [0u64; layout::DAY_WIDTH];
+    let mut book = [0u64; MOST_BOOK];
+    let mut prices = [0u64; MOST_PRICES];
+    play(&mut buffer, &mut item, &mut day, &mut book, &mut prices);
 }

@@ -1,10 +1,11 @@
 // Items that are calls: each is made, its reply printed, and where it is refused what was lent is compared with what it was.
-use crate::replies;
-use crate::replies::Reply;
-use crate::state;
-use crate::state::Session;
+use day_items::replies;
+use day_items::state;
+use day_items::state::Session;
 use items::output;
 use items::runs;
+use numbers::Numbers;
+use rules::OrderAnswer;
 
 const PRICE: u64 = 4;
 
@@ -21,29 +22,39 @@ const ROOM: usize = 2;
 
 const SHOWN: usize = 3;
 
-// Whether an item has as many numbers as a call of its tag takes, and its list has room.
-fn is_call(tag: u64, item: &[u64], room: usize) -> bool {
+// How long a list may be lent.
+const MOST_LIST: usize = 2048;
+
+// Room for a copy of the book and the prices.
+const MOST_KEPT: usize = crate::MOST_BOOK + crate::MOST_PRICES;
+
+// Whether an item has as many numbers as a call of its tag takes, and there is room for its list.
+fn is_call(tag: u64, item: &[u64]) -> bool {
     match tag {
         PRICE => item.len() == 2,
         TRADE => item.len() == 5,
-        CREATE | REDEEM => item.len() == 4 && state::size_at(item, ROOM) <= room,
+        CREATE | REDEEM => item.len() == 4 && state::size_at(item, ROOM) <= MOST_LIST,
         VALUE => item.len() == 0,
         _ => false,
     }
 }
 
-fn price(s: Session, item: &[u64], book: &[u64], prices: &mut [u64]) -> Reply {
-    let d = s.day;
-    let answer = day::price(d, book, prices, state::size_at(item, 0), state::at(item, 1));
-    let r = replies::of_answer(answer);
+fn price(item: &[u64], day: &[u64], book: &[u64], prices: &mut [u64]) -> Numbers {
+    let answer = day::price(
+        day,
+        book,
+        prices,
+        state::size_at(item, 0),
+        state::at(item, 1),
+    );
+    let r = numbers::of_answer(answer);
     replies::print(b"price", r);
     r
 }
 
-fn trade(s: Session, item: &[u64], book: &mut [u64], prices: &[u64]) -> Reply {
-    let d = s.day;
+fn trade(item: &[u64], day: &[u64], book: &mut [u64], prices: &[u64]) -> Numbers {
     let answer = day::trade(
-        d,
+        day,
         book,
         prices,
         state::size_at(item, 0),
@@ -52,25 +63,24 @@ fn trade(s: Session, item: &[u64], book: &mut [u64], prices: &[u64]) -> Reply {
         state::size_at(item, 3),
         state::size_at(item, 4),
     );
-    let r = replies::of_answer(answer);
+    let r = numbers::of_answer(answer);
     replies::print(b"trade", r);
     r
 }
 
-fn value(s: Session, book: &[u64], prices: &[u64]) -> Reply {
-    let d = s.day;
-    let r = replies::of_value(day::reference_value(d, book, prices));
+fn value(day: &[u64], book: &[u64], prices: &[u64]) -> Numbers {
+    let r = numbers::of_value(day::reference_value(day, book, prices));
     replies::print(b"value", r);
     r
 }
 
 // The list after an order: whole where the item says so, else only where it was refused, and then whether it is the same.
-fn print_list(list: &[u64], is_whole: bool, r: Reply) {
+fn print_list(list: &[u64], is_whole: bool, number: u64) {
     if is_whole {
         output::run(b"list", list);
         return;
     }
-    if r.number == 0 {
+    if number == 0 {
         return;
     }
     let i = runs::first_marred(list);
@@ -81,50 +91,79 @@ fn print_list(list: &[u64], is_whole: bool, r: Reply) {
     output::text(b"list same\n");
 }
 
-// The test alone, and then the order.
-fn create(s: Session, item: &[u64], book: &mut [u64], prices: &[u64], list: &mut [u64]) -> Reply {
-    let d = s.day;
-    let a = state::size_at(item, 0);
-    let units = state::at(item, 1);
-    runs::fill(list);
-    let test = day::creation_test(d, book, prices, a, units, list.len());
-    replies::print(b"test", replies::of_order(test));
-    let answer = day::create(d, book, prices, a, units, list);
-    let r = replies::of_order(answer);
-    replies::print(b"create", r);
-    print_list(list, state::at(item, SHOWN) == 1, r);
-    r
-}
-
-fn redeem(s: Session, item: &[u64], book: &mut [u64], prices: &[u64], list: &mut [u64]) -> Reply {
-    let d = s.day;
-    let a = state::size_at(item, 0);
-    let units = state::at(item, 1);
-    runs::fill(list);
-    let test = day::redemption_test(d, book, prices, a, units, list.len());
-    replies::print(b"test", replies::of_order(test));
-    let answer = day::redeem(d, book, prices, a, units, list);
-    let r = replies::of_order(answer);
-    replies::print(b"redeem", r);
-    print_list(list, state::at(item, SHOWN) == 1, r);
-    r
-}
-
-fn make(
-    s: Session,
+// The test of an order alone, with the length of its list.
+fn print_test(
     tag: u64,
-    item: &[u64],
+    a: usize,
+    units: u64,
+    day: &[u64],
+    book: &[u64],
+    prices: &[u64],
+    length: usize,
+) {
+    let answer = match tag {
+        CREATE => day::creation_test(day, book, prices, a, units, length),
+        _ => day::redemption_test(day, book, prices, a, units, length),
+    };
+    replies::print(b"test", numbers::of_order(answer));
+}
+
+fn answer_of(
+    tag: u64,
+    a: usize,
+    units: u64,
+    day: &[u64],
     book: &mut [u64],
-    prices: &mut [u64],
+    prices: &[u64],
     list: &mut [u64],
-) -> Reply {
-    let n = runs::cut(state::size_at(item, ROOM), list);
+) -> OrderAnswer {
     match tag {
-        PRICE => price(s, item, book, prices),
-        TRADE => trade(s, item, book, prices),
-        CREATE => create(s, item, book, prices, &mut list[..n]),
-        REDEEM => redeem(s, item, book, prices, &mut list[..n]),
-        _ => value(s, book, prices),
+        CREATE => day::create(day, book, prices, a, units, list),
+        _ => day::redeem(day, book, prices, a, units, list),
+    }
+}
+
+fn print_order(tag: u64, r: Numbers) {
+    match tag {
+        CREATE => replies::print(b"create", r),
+        _ => replies::print(b"redeem", r),
+    }
+}
+
+// The test alone, and then the order, with a list that holds other numbers.
+fn order_with(
+    tag: u64,
+    a: usize,
+    units: u64,
+    is_whole: bool,
+    day: &[u64],
+    book: &mut [u64],
+    prices: &[u64],
+    list: &mut [u64],
+) -> Numbers {
+    runs::fill(list);
+    print_test(tag, a, units, day, book, prices, list.len());
+    let r = numbers::of_order(answer_of(tag, a, units, day, book, prices, list));
+    print_order(tag, r);
+    print_list(list, is_whole, r.number);
+    r
+}
+
+fn order(tag: u64, item: &[u64], day: &[u64], book: &mut [u64], prices: &[u64]) -> Numbers {
+    let mut list = [0u64; MOST_LIST];
+    let n = runs::cut(state::size_at(item, ROOM), &list);
+    let a = state::size_at(item, 0);
+    let units = state::at(item, 1);
+    let is_whole = state::at(item, SHOWN) == 1;
+    order_with(tag, a, units, is_whole, day, book, prices, &mut list[..n])
+}
+
+fn make(tag: u64, item: &[u64], day: &[u64], book: &mut [u64], prices: &mut [u64]) -> Numbers {
+    match tag {
+        PRICE => price(item, day, book, prices),
+        TRADE => trade(item, day, book, prices),
+        VALUE => value(day, book, prices),
+        _ => order(tag, item, day, book, prices),
     }
 }
 
@@ -157,41 +196,45 @@ fn print_kept(book: &[u64], prices: &[u64], kept: &[u64]) {
     output::text(b"same\n");
 }
 
-// Makes the call on the runs that are lent to it, and puts them back where calls are made on the state anew.
-fn make_on(
-    s: Session,
-    tag: u64,
-    item: &[u64],
-    book: &mut [u64],
-    prices: &mut [u64],
-    kept: &mut [u64],
-    list: &mut [u64],
-) {
-    keep(book, prices, kept);
-    let r = make(s, tag, item, book, prices, list);
-    if r.number != 0 {
+// What is left of a call: printed where it was refused, and put back where calls are made on the state anew.
+fn after_call(number: u64, is_anew: bool, book: &mut [u64], prices: &mut [u64], kept: &[u64]) {
+    if number != 0 {
         print_kept(book, prices, kept);
     }
-    if s.is_anew {
+    if is_anew {
         put_back(book, prices, kept);
     }
+}
+
+// Makes the call on the runs that are lent to it.
+fn make_on(
+    tag: u64,
+    is_anew: bool,
+    item: &[u64],
+    day: &[u64],
+    book: &mut [u64],
+    prices: &mut [u64],
+) {
+    let mut kept = [0u64; MOST_KEPT];
+    keep(book, prices, &mut kept);
+    let r = make(tag, item, day, book, prices);
+    after_call(r.number, is_anew, book, prices, &kept);
 }
 
 pub fn call_item(
     s: Session,
     tag: u64,
     item: &[u64],
+    day: &[u64],
     book: &mut [u64],
     prices: &mut [u64],
-    kept: &mut [u64],
-    list: &mut [u64],
 ) -> Session {
-    if !is_call(tag, item, list.len()) {
+    if !is_call(tag, item) {
         return state::bad(s);
     }
     let b = runs::cut(s.book_length, book);
     let p = runs::cut(s.prices_length, prices);
-    make_on(s, tag, item, &mut book[..b], &mut prices[..p], kept, list);
+    make_on(tag, s.is_anew, item, day, &mut book[..b], &mut prices[..p]);
     s
 }
 

@@ -1,16 +1,13 @@
 // Plays test vectors: items from standard input (openings, states, calls), and on standard output what the day book answers and
 // leaves. `scripts/vector_text.py` writes the items, and what is to be printed.
-ghost use Prim.Native.Nat.{_<_};
-
 mod call_items;
-pub mod replies;
-pub mod state;
 
+use day_items::state;
+use day_items::state::Session;
 use items::input;
 use items::input::Item;
 use items::input::Stage;
 use items::runs;
-use state::Session;
 
 // Tags of items that are no calls. In a state of the first kind each call is made on the given state anew.
 const OPENING: u64 = 1;
@@ -21,21 +18,29 @@ const STATE: u64 = 3;
 
 const SHOW: u64 = 9;
 
+// Room for the book of the most accounts, for more prices than a day has, and for an item that gives them.
+const MOST_ACCOUNTS: usize = 64;
+
+const MOST_BOOK: usize = MOST_ACCOUNTS * layout::MOST_WIDTH;
+
+const MOST_PRICES: usize = layout::MOST_COMPONENTS + 100;
+
+const MOST_ITEM: usize = state::HEAD + layout::BASKET_WIDTH + MOST_BOOK + MOST_PRICES;
+
 fn obey(
     s: Session,
     tag: u64,
     item: &[u64],
+    day: &mut [u64],
     book: &mut [u64],
     prices: &mut [u64],
-    kept: &mut [u64],
-    list: &mut [u64],
 ) -> Session {
     match tag {
-        OPENING => state::opening_item(s, item, book, prices),
-        STATE_ANEW => state::state_item(s, item, true, book, prices),
-        STATE => state::state_item(s, item, false, book, prices),
+        OPENING => state::opening_item(s, item, day, book, prices),
+        STATE_ANEW => state::state_item(s, item, true, day, book, prices),
+        STATE => state::state_item(s, item, false, day, book, prices),
         SHOW => call_items::show_item(s, book, prices),
-        _ => call_items::call_item(s, tag, item, book, prices, kept, list),
+        _ => call_items::call_item(s, tag, item, day, book, prices),
     }
 }
 
@@ -44,15 +49,14 @@ fn follow(
     s: Session,
     got: Item,
     run: &[u64],
+    day: &mut [u64],
     book: &mut [u64],
     prices: &mut [u64],
-    kept: &mut [u64],
-    list: &mut [u64],
 ) -> Session {
     let n = runs::cut(got.length, run);
     let stage = got.stage;
     match stage {
-        Stage::Whole => obey(s, got.tag, &run[..n], book, prices, kept, list),
+        Stage::Whole => obey(s, got.tag, &run[..n], day, book, prices),
         Stage::End => state::stopped(s),
         _ => state::bad(s),
     }
@@ -63,62 +67,35 @@ fn turn(
     s: Session,
     buffer: &mut [u8],
     run: &mut [u64],
+    day: &mut [u64],
     book: &mut [u64],
     prices: &mut [u64],
-    kept: &mut [u64],
-    list: &mut [u64],
 ) -> Session {
     let before = s.cursor;
     let got = input::read_item(buffer, before, run);
     let cursor = got.cursor;
     let mut here = s;
     here.cursor = cursor;
-    follow(here, got, run, book, prices, kept, list)
-}
-
-// One turn fewer, or none where the session stops.
-pub fn turns_after(turns: u64, s: Session) -> u64
-    requires { ⌜ 0 < turns ⌝ }
-    ensures { λ r. ⌜ r < turns ⌝ }
-{
-    if s.goes_on {
-        return turns - 1;
-    }
-    0
+    follow(here, got, run, day, book, prices)
 }
 
 // Items to the end of the input, or to the first that is malformed. Nothing says that the input ends, so turns are counted
 // down from a number that no run uses up.
-fn play(
-    buffer: &mut [u8],
-    run: &mut [u64],
-    book: &mut [u64],
-    prices: &mut [u64],
-    kept: &mut [u64],
-    list: &mut [u64],
-) {
+fn play(buffer: &mut [u8], run: &mut [u64], day: &mut [u64], book: &mut [u64], prices: &mut [u64]) {
     let mut s = state::start();
     let mut turns = u64::MAX;
     while turns > 0 {
-        s = turn(s, buffer, run, book, prices, kept, list);
-        turns = turns_after(turns, s);
+        s = turn(s, buffer, run, day, book, prices);
+        turns = state::turns_after(turns, s);
     }
 }
 
-// Plays standard input. The runs have room for 64 accounts and 300 components.
+// Plays standard input, from the blank day on.
 pub fn run() {
     let mut buffer = [0u8; 65536];
-    let mut item = [0u64; 60000];
-    let mut book = [0u64; 58000];
-    let mut prices = [0u64; 400];
-    let mut kept = [0u64; 58400];
-    let mut list = [0u64; 2048];
-    play(
-        &mut buffer,
-        &mut item,
-        &mut book,
-        &mut prices,
-        &mut kept,
-        &mut list,
-    );
+    let mut item = [0u64; MOST_ITEM];
+    let mut day = [0u64; layout::DAY_WIDTH];
+    let mut book = [0u64; MOST_BOOK];
+    let mut prices = [0u64; MOST_PRICES];
+    play(&mut buffer, &mut item, &mut day, &mut book, &mut prices);
 }

@@ -1,7 +1,6 @@
 // What the day is given: holdings and prices, by the codes of its components.
 use items::runs;
 use rules::Answer;
-use rules::Day;
 
 // Ample cash, in thousandths of a yuan, and ample stock.
 const CASH: u64 = 1_000_000_000_000_000_000;
@@ -72,11 +71,11 @@ pub fn hold(components: &[u64], held: &mut [u64]) {
     hold_one(components, false, &mut held[w..]);
 }
 
-fn set_price(d: Day, line: usize, price: u64, book: &[u64], prices: &mut [u64]) -> Answer {
+fn set_price(day: &[u64], line: usize, price: u64, book: &[u64], prices: &mut [u64]) -> Answer {
     if price == 0 {
         return Answer::Done;
     }
-    day::price(d, book, prices, line, price)
+    day::price(day, book, prices, line, price)
 }
 
 fn is_done(answer: Answer) -> bool {
@@ -87,12 +86,12 @@ fn is_done(answer: Answer) -> bool {
 }
 
 // Sets the prices of those components that have one, to the first that is refused.
-pub fn set_prices(d: Day, components: &[u64], book: &[u64], prices: &mut [u64]) -> Answer {
+pub fn set_prices(day: &[u64], components: &[u64], book: &[u64], prices: &mut [u64]) -> Answer {
     let mut answer = Answer::Done;
     let mut line = 0;
     while line < prices.len() && is_done(answer) {
         let price = price_of(code_of(components, line));
-        answer = set_price(d, line, price, book, prices);
+        answer = set_price(day, line, price, book, prices);
         line += 1;
     }
     answer

@@ -8,7 +8,6 @@ use items::runs;
 use list_rules::ListAnswer;
 use list_rules::ListFields;
 use rules::Answer;
-use rules::Day;
 use rules::OrderAnswer;
 
 // The fund, and the account that creates.
@@ -16,10 +15,15 @@ const ACCOUNTS: usize = 2;
 
 const ACCOUNT: usize = 1;
 
+// Room for the holdings and the book of both.
+const MOST_HELD: usize = ACCOUNTS * (layout::MOST_COMPONENTS + 2);
+
+const MOST_BOOK: usize = ACCOUNTS * layout::MOST_WIDTH;
+
 // Creates one basket.
-fn create(d: Day, units: u64, book: &mut [u64], prices: &[u64]) {
-    let mut list = [0u64; 1530];
-    let answer = day::create(d, book, prices, ACCOUNT, units, &mut list);
+fn create(day: &[u64], units: u64, book: &mut [u64], prices: &[u64]) {
+    let mut list = [0u64; printed::MOST_LIST];
+    let answer = day::create(day, book, prices, ACCOUNT, units, &mut list);
     match answer {
         OrderAnswer::Made(count) => printed::records(&list, count),
         OrderAnswer::Refused(why) => printed::refusal(why),
@@ -27,22 +31,30 @@ fn create(d: Day, units: u64, book: &mut [u64], prices: &[u64]) {
 }
 
 // Sets the prices, and creates.
-fn trade(d: Day, units: u64, components: &[u64], book: &mut [u64], prices: &mut [u64]) {
-    let answer = given::set_prices(d, components, book, prices);
+fn trade(day: &[u64], units: u64, components: &[u64], book: &mut [u64], prices: &mut [u64]) {
+    let answer = given::set_prices(day, components, book, prices);
     match answer {
-        Answer::Done => create(d, units, book, prices),
+        Answer::Done => create(day, units, book, prices),
         Answer::Refused(why) => printed::refusal(why),
     }
 }
 
 // Opens the day, and goes on.
 fn open(l: ListFields, components: &[u64], held: &[u64], book: &mut [u64], prices: &mut [u64]) {
+    let mut day = [0u64; layout::DAY_WIDTH];
     let f = l.fund;
-    let opened = day::open(ACCOUNTS, l.count, f, components, held, book, prices);
-    let d = opened.day;
-    let answer = opened.answer;
+    let answer = day::open(
+        ACCOUNTS,
+        l.count,
+        f,
+        components,
+        held,
+        book,
+        prices,
+        &mut day,
+    );
     match answer {
-        Answer::Done => trade(d, f.basket_size, components, book, prices),
+        Answer::Done => trade(&day, f.basket_size, components, book, prices),
         Answer::Refused(why) => printed::refusal(why),
     }
 }
@@ -53,17 +65,29 @@ fn hold(l: ListFields, components: &[u64], held: &mut [u64], book: &mut [u64], p
     open(l, components, held, book, prices);
 }
 
+// How long the book is.
+fn book_length(count: usize) -> usize {
+    if layout::MOST_COMPONENTS < count {
+        return 0;
+    }
+    let w = layout::width_of(count);
+    if layout::MOST_WIDTH < w {
+        return 0;
+    }
+    ACCOUNTS * w
+}
+
 // The day of a list: the runs that opening is lent are as long as two accounts and its components need.
 fn play(l: ListFields, count: usize, run: &[u64]) {
-    let mut held = [0u64; 604];
-    let mut book = [0u64; 1812];
-    let mut prices = [0u64; 300];
+    let mut held = [0u64; MOST_HELD];
+    let mut book = [0u64; MOST_BOOK];
+    let mut prices = [0u64; layout::MOST_COMPONENTS];
     if layout::MOST_COMPONENTS < count {
         return;
     }
     let c = runs::cut(layout::COMPONENT_WIDTH * count, run);
     let h = runs::cut(ACCOUNTS * (count + 2), &held);
-    let b = runs::cut(ACCOUNTS * (3 + 3 * (count + 1)), &book);
+    let b = runs::cut(book_length(count), &book);
     let p = runs::cut(count, &prices);
     hold(
         l,
@@ -75,7 +99,7 @@ fn play(l: ListFields, count: usize, run: &[u64]) {
 }
 
 fn read(text: &[u8]) {
-    let mut run = [0u64; 1500];
+    let mut run = [0u64; layout::BASKET_WIDTH];
     let r = list_reading::read(text, &mut run);
     let answer = r.answer;
     let l = r.fields;

@@ -3,7 +3,10 @@ use items::output;
 use rules::Refusal;
 
 // The units twice, a record of each component, and of the cash of each kind two.
-const MOST_RECORDS: usize = 306;
+const MOST_RECORDS: usize = layout::MOST_COMPONENTS + 6;
+
+// So many numbers are room for all of them.
+pub const MOST_LIST: usize = layout::RECORD_WIDTH * MOST_RECORDS;
 
 // The last digit of a number.
 fn digit(x: u64) -> u8 {
@@ -38,25 +41,20 @@ fn money(x: u64) {
     output::text(&decimals);
 }
 
-// The number at a place of a list, 0 behind its end.
-fn number_at(list: &[u64], at: usize) -> u64 {
-    if list.len() <= at {
-        return 0;
-    }
-    list[at]
-}
-
 // The k-th record of a flat list.
 fn record(list: &[u64], k: usize) {
     if MOST_RECORDS <= k {
         return;
     }
-    let at = layout::RECORD_WIDTH * k;
-    code(number_at(list, at));
-    side(number_at(list, at + 1));
-    output::number(number_at(list, at + 2));
-    money(number_at(list, at + 3));
-    money(number_at(list, at + 4));
+    if list.len() < layout::RECORD_WIDTH * k + layout::RECORD_WIDTH {
+        return;
+    }
+    let r = layout::record_at(list, k);
+    code(r.code);
+    side(r.side);
+    output::number(r.quantity);
+    money(r.price.0);
+    money(r.amount.0);
     output::end_line();
 }
 

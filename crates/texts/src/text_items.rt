@@ -1,16 +1,16 @@
 // Items that are texts: each is read, what reading answers and leaves is printed, and a list that was read is written again.
-use crate::bytes;
-use crate::fields;
-use crate::made;
-use crate::names;
-use crate::replies;
-use crate::session;
-use crate::session::Session;
 use items::output;
 use items::runs;
 use list_rules::ListAnswer;
 use list_rules::ListFields;
 use list_rules::ListRead;
+use text_parts::bytes;
+use text_parts::fields;
+use text_parts::made;
+use text_parts::names;
+use text_parts::replies;
+use text_parts::session;
+use text_parts::session::Session;
 
 // A text starts with its row and the length of the lent component run. Behind them stand the bytes of one that is given whole.
 const HEAD: usize = 2;
@@ -22,12 +22,6 @@ const COMPONENT: usize = 1;
 
 // The bytes of a written text are printed up to this length.
 const SHOWN: usize = 2000;
-
-pub fn print_row(item: &[u64]) {
-    output::text(b"row");
-    output::number(fields::at(item, 0));
-    output::end_line();
-}
 
 // How many numbers so many components take.
 fn width_of(count: usize) -> usize {
@@ -58,7 +52,7 @@ fn print_refused(l: ListFields, first: usize, run: &[u64]) {
 
 // Whether the run past the last component has what it had.
 fn print_rest(run: &[u64], from: usize) {
-    let mut before = [0u64; 2100];
+    let mut before = [0u64; crate::MOST_RUN];
     runs::fill(&mut before);
     let n = runs::cut(from, run);
     let m = runs::cut(from, &before);
@@ -87,9 +81,10 @@ fn print_written(text: &[u8], written: &[u8]) {
     bytes::print(b"text", written);
 }
 
-// Writes the list that was read, into an output of the text's own length.
-fn write_again(l: ListFields, components: &[u64], joined: &[u8], text: &[u8], output: &mut [u8]) {
+// Writes the list that was read, into an output that holds other bytes.
+fn write_on(l: ListFields, components: &[u64], joined: &[u8], text: &[u8], output: &mut [u8]) {
     let letters = list_reading::letters(text);
+    bytes::fill(output);
     let answer = list_writing::write(l, components, joined, letters, output);
     replies::print(b"written", replies::of_answer(answer));
     match answer {
@@ -101,8 +96,15 @@ fn write_again(l: ListFields, components: &[u64], joined: &[u8], text: &[u8], ou
     }
 }
 
+// The same, into an output of the text's own length.
+fn write_again(l: ListFields, components: &[u64], joined: &[u8], text: &[u8]) {
+    let mut output = [0u8; crate::MOST_BYTES];
+    let o = bytes::cut(text.len(), &output);
+    write_on(l, components, joined, text, &mut output[..o]);
+}
+
 // The list that was read, with room for just its names.
-fn print_list(r: ListRead, components: &[u64], joined: &mut [u8], text: &[u8], output: &mut [u8]) {
+fn print_list(r: ListRead, components: &[u64], joined: &mut [u8], text: &[u8]) {
     let l = r.fields;
     let numbers = fields::numbers_of(l);
     output::run(b"fields", &numbers);
@@ -110,95 +112,73 @@ fn print_list(r: ListRead, components: &[u64], joined: &mut [u8], text: &[u8], o
     output::run(b"components", components);
     bytes::print(b"letters", list_reading::letters(text));
     print_names(text, r.first_row, l.count, joined);
-    let o = bytes::cut(text.len(), output);
-    write_again(l, components, joined, text, &mut output[..o]);
+    write_again(l, components, joined, text);
 }
 
 // What an accepted reading leaves and hands back.
-fn print_done(r: ListRead, count: usize, text: &[u8], run: &[u64], output: &mut [u8]) {
-    let mut joined = [0u8; 2400];
+fn print_done(r: ListRead, count: usize, text: &[u8], run: &[u64]) {
+    let mut joined = [0u8; names::MOST];
     let n = runs::cut(width_of(count), run);
     let m = bytes::cut(
         list_rules::NAME_WIDTH * (n / layout::COMPONENT_WIDTH),
         &joined,
     );
     print_rest(run, n);
-    print_list(r, &run[..n], &mut joined[..m], text, output);
+    print_list(r, &run[..n], &mut joined[..m], text);
 }
 
 // Reads a text into a run that holds other numbers.
-fn read_text(text: &[u8], run: &mut [u64], output: &mut [u8]) {
+fn read_on(text: &[u8], run: &mut [u64]) {
     runs::fill(run);
-    bytes::fill(output);
     let r = list_reading::read(text, run);
     let answer = r.answer;
     replies::print(b"read", replies::of_answer(answer));
     match answer {
-        ListAnswer::Done(count) => print_done(r, count, text, run, output),
+        ListAnswer::Done(count) => print_done(r, count, text, run),
         ListAnswer::Refused(_) => print_refused(r.fields, r.first_row, run),
     }
 }
 
-// Reads a text of so many bytes into as much of the run as the item says.
-fn read_item(
-    s: Session,
-    item: &[u64],
-    text: &[u8],
-    length: usize,
-    run: &mut [u64],
-    output: &mut [u8],
-) -> Session {
+// Reads a text into a run of so many numbers.
+fn read_text(text: &[u8], room: usize) {
+    let mut run = [0u64; crate::MOST_RUN];
+    let m = runs::cut(room, &run);
+    read_on(text, &mut run[..m]);
+}
+
+// Reads a text of so many bytes into a run of as many numbers as the item says.
+fn read_item(s: Session, item: &[u64], text: &[u8], length: usize) -> Session {
     let room = fields::size_at(item, ROOM);
-    if text.len() < length || run.len() < room {
+    if text.len() < length || crate::MOST_RUN < room {
         return session::bad(s);
     }
     let n = bytes::cut(length, text);
-    let m = runs::cut(room, run);
-    print_row(item);
-    read_text(&text[..n], &mut run[..m], output);
+    replies::print_row(item);
+    read_text(&text[..n], room);
     s
 }
 
 // A text that is given whole.
-pub fn text_item(
-    s: Session,
-    item: &[u64],
-    base: &mut [u8],
-    run: &mut [u64],
-    output: &mut [u8],
-) -> Session {
+pub fn text_item(s: Session, item: &[u64], base: &mut [u8]) -> Session {
     if item.len() < HEAD {
         return session::bad(s);
     }
     let length = item.len() - HEAD;
     bytes::put(&item[HEAD..], base);
     let after = session::with_length(s, length);
-    read_item(after, item, base, length, run, output)
+    read_item(after, item, base, length)
 }
 
 // A change of the last text that was given whole.
-pub fn changed_item(
-    s: Session,
-    item: &[u64],
-    base: &[u8],
-    text: &mut [u8],
-    run: &mut [u64],
-    output: &mut [u8],
-) -> Session {
+pub fn changed_item(s: Session, item: &[u64], base: &[u8], text: &mut [u8]) -> Session {
     let n = bytes::cut(s.length, base);
     let length = made::change(&base[..n], item, text);
-    read_item(s, item, text, length, run, output)
+    read_item(s, item, text, length)
 }
 
-pub fn grown_item(
-    s: Session,
-    item: &[u64],
-    text: &mut [u8],
-    run: &mut [u64],
-    output: &mut [u8],
-) -> Session {
+pub fn grown_item(s: Session, item: &[u64], text: &mut [u8]) -> Session {
     let length = made::grow(item, text);
-    read_item(s, item, text, length, run, output)
+    read_item(s, item, text, length)
 }
 
 // A change of the last text that was given whole, of which only the letters and one component's name are asked for.
@@ -209,7 +189,7 @@ pub fn parts_item(s: Session, item: &[u64], base: &[u8], text: &mut [u8]) -> Ses
         return session::bad(s);
     }
     let m = bytes::cut(length, text);
-    print_row(item);
+    replies::print_row(item);
     bytes::print(b"letters", list_reading::letters(&text[..m]));
     bytes::print(
         b"name",

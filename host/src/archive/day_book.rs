@@ -3,7 +3,7 @@
 use super::lent;
 use super::{Batch, Book, Component, Fund, Order, Outcome, RecordList, Refusal, Trade};
 use crate::flat::{fund_numbers, DAY_NUMBERS};
-use crate::model::refusal::LENGTHS;
+use crate::model::refusal::SIZES;
 use crate::model::{book_length, range, MAX_COMPONENTS, RECORD_NUMBERS};
 
 /// What an account opens with.
@@ -40,7 +40,7 @@ impl DayBook {
         let count = components.len();
         // All runs together may have their length where single ones have not.
         if accounts.iter().any(|held| held.lines.len() != count + 1) {
-            return Err(Refusal::new(LENGTHS));
+            return Err(Refusal::new(SIZES));
         }
         let holdings: Vec<u64> = accounts.iter().flat_map(Holdings::numbers).collect();
         let components: Vec<u64> = components.iter().flat_map(Component::numbers).collect();

@@ -4,7 +4,7 @@ use super::lent;
 use crate::engine::{Engine, Lent, LentList};
 use crate::flat::{day_numbers, day_of, field_numbers, fund_numbers};
 use crate::model::list::Writing;
-use crate::model::refusal::LINE;
+use crate::model::refusal::NO_SUCH_LINE;
 use crate::model::{Call, Opening, Reply};
 
 /// The proved library.
@@ -103,7 +103,7 @@ pub fn call(
 fn test_day(day: &[u64], book: &[u64], prices: &mut [u64]) -> Reply {
     match lent::price(day, book, prices, u64::MAX, 0) {
         Reply {
-            number: LINE,
+            number: NO_SUCH_LINE,
             place: 0,
             value: 0,
         } => Reply::accepted(0),

@@ -5,7 +5,7 @@ use super::book::{
 };
 use super::orders::{test_order, with_premium, Kind, Terms};
 use super::records::{RecordWriter, BUY, SELL};
-use super::refusal::{Refusal, Reply, CASH_SHORT, RATIO, SHORT};
+use super::refusal::{Refusal, Reply, CASH_RATIO, SHORT_OF_CASH, SHORT_OF_STOCK};
 use super::soundness::test_day;
 use super::types::{Component, Day};
 use super::value::value_on_sound_day;
@@ -101,11 +101,11 @@ pub(super) fn test_on_sound_day(
     if let Some(worth) = substituted {
         let value = value_on_sound_day(day, prices)?;
         if passes_ratio(worth, units, value, day.fund.max_cash_ratio) {
-            return Err(Refusal::new(RATIO));
+            return Err(Refusal::new(CASH_RATIO));
         }
     }
     if own[CASH] < terms.cash() {
-        return Err(Refusal::new(CASH_SHORT));
+        return Err(Refusal::new(SHORT_OF_CASH));
     }
     terms.test_room(room)?;
     Ok(terms)
@@ -132,7 +132,7 @@ fn add_up(
         terms.stock_records += u64::from(need.min(there) > 0);
         if there < need {
             if !row.shortage_in_cash {
-                return Err(Refusal::at(SHORT, line));
+                return Err(Refusal::at(SHORT_OF_STOCK, line));
             }
             let worth = (need - there) * price;
             terms.add_cash(row.shanghai, with_premium(worth, component.rate));

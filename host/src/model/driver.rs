@@ -4,7 +4,7 @@ use super::calls::{call_with_list, Call, Order};
 use super::creation::create_on_sound_day;
 use super::price::set_price_on_sound_day;
 use super::redemption::redeem_on_sound_day;
-use super::refusal::{Refusal, Reply, LENGTHS};
+use super::refusal::{Refusal, Reply, SIZES};
 use super::soundness::stays_sound;
 use super::trade::{trade_on_sound_day, Trade};
 use super::types::Day;
@@ -53,11 +53,11 @@ fn run_rows(
 ) -> Reply {
     let count = rows.len() / ROW_NUMBERS;
     if rows.len() != ROW_NUMBERS * count || answers.len() != ANSWER_NUMBERS * count {
-        return Refusal::new(LENGTHS).into();
+        return Refusal::new(SIZES).into();
     }
     let answers = answers.chunks_exact_mut(ANSWER_NUMBERS);
     for (numbers, answer) in rows.chunks_exact(ROW_NUMBERS).zip(answers) {
-        let reply = Row::of(numbers).map_or(Refusal::new(LENGTHS).into(), |row| make(work, &row));
+        let reply = Row::of(numbers).map_or(Refusal::new(SIZES).into(), |row| make(work, &row));
         answer.copy_from_slice(&reply.numbers());
     }
     Reply::accepted(0)

@@ -2,7 +2,7 @@
 
 use super::book::{book_length, holdings_length, stretch_width, LOTS, STRETCH_HEAD};
 use super::range;
-use super::refusal::{Refusal, COMPONENT, FUND_FIELD, LENGTHS, TOTAL};
+use super::refusal::{Refusal, COMPONENT, FUND_FIELD, SIZES, TOTAL};
 use super::types::{
     first_faulty_component, Component, Day, Fund, COMPONENT_NUMBERS, MAX_COMPONENTS,
 };
@@ -71,7 +71,7 @@ fn test_lengths(opening: &Opening<'_>, book: usize, prices: usize) -> Result<(),
     if fit {
         Ok(())
     } else {
-        Err(Refusal::new(LENGTHS))
+        Err(Refusal::new(SIZES))
     }
 }
 

@@ -3,7 +3,7 @@
 use super::book::{self, CREATED, REDEEMED};
 use super::range;
 use super::records::{cash_record_count, RECORD_NUMBERS};
-use super::refusal::{Refusal, ACCOUNT, LIMIT, ROOM, SWITCH, UNITS};
+use super::refusal::{Refusal, ACCOUNT, LIMIT, LIST_TOO_SHORT, NOT_WHOLE_BASKETS, SWITCH};
 use super::types::Day;
 
 /// The rate one.
@@ -56,7 +56,7 @@ impl Terms {
     /// Refusal 16: `room` is the length of the lent list in numbers.
     pub(super) fn test_room(&self, room: u64) -> Result<(), Refusal> {
         if room / (RECORD_NUMBERS as u64) < self.record_count() {
-            return Err(Refusal::new(ROOM));
+            return Err(Refusal::new(LIST_TOO_SHORT));
         }
         Ok(())
     }
@@ -75,7 +75,7 @@ pub(super) fn test_order(
     }
     let baskets = units / day.fund.basket_size;
     if !units.is_multiple_of(day.fund.basket_size) || !range::BASKETS.contains(&baskets) {
-        return Err(Refusal::new(UNITS));
+        return Err(Refusal::new(NOT_WHOLE_BASKETS));
     }
     let allowed = match kind {
         Kind::Creation => day.fund.creation_allowed(),

@@ -1,7 +1,7 @@
 //! Setting a price.
 
 use super::range;
-use super::refusal::{Refusal, Reply, LINE, QUANTITY_OR_PRICE};
+use super::refusal::{Refusal, Reply, NO_SUCH_LINE, QUANTITY_OR_PRICE};
 use super::soundness::test_day;
 use super::types::Day;
 
@@ -19,7 +19,7 @@ pub(super) fn set_price_on_sound_day(
     price: u64,
 ) -> Result<u64, Refusal> {
     if line >= day.count {
-        return Err(Refusal::new(LINE));
+        return Err(Refusal::new(NO_SUCH_LINE));
     }
     if !range::PRICE.contains(&price) {
         return Err(Refusal::new(QUANTITY_OR_PRICE));

@@ -5,7 +5,7 @@ use super::book::{
 };
 use super::orders::{less_premium, test_order, Kind, Terms};
 use super::records::{RecordWriter, BUY, SELL};
-use super::refusal::{Refusal, Reply, FUND_SHORT, SHORT};
+use super::refusal::{Refusal, Reply, FUND_SHORT, SHORT_OF_STOCK};
 use super::soundness::test_day;
 use super::types::{Component, Day};
 
@@ -91,7 +91,7 @@ pub(super) fn test_on_sound_day(
     let width = book::stretch_width(day.count as usize);
     let unit_lots = lots(stretch(book, width, account), day.count as usize);
     if handable(unit_lots) < units {
-        return Err(Refusal::new(SHORT));
+        return Err(Refusal::new(SHORT_OF_STOCK));
     }
     let fund = stretch(book, width, 0);
     let terms = add_up(day, fund, baskets)?;

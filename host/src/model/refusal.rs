@@ -3,7 +3,7 @@
 use std::fmt;
 
 /// A or N out of range, or a lent length that does not fit them.
-pub const LENGTHS: u64 = 1;
+pub const SIZES: u64 = 1;
 /// A field of the fund, or of the list's head, out of range.
 pub const FUND_FIELD: u64 = 2;
 /// A component out of range, order or flag use.
@@ -13,27 +13,27 @@ pub const TOTAL: u64 = 4;
 /// The day is not sound.
 pub const UNSOUND_DAY: u64 = 5;
 /// No such line.
-pub const LINE: u64 = 6;
+pub const NO_SUCH_LINE: u64 = 6;
 /// Quantity or price out of range.
 pub const QUANTITY_OR_PRICE: u64 = 7;
 /// No such account for this call.
 pub const ACCOUNT: u64 = 8;
 /// The account is short of stock or units.
-pub const SHORT: u64 = 9;
+pub const SHORT_OF_STOCK: u64 = 9;
 /// The account is short of cash.
-pub const CASH_SHORT: u64 = 10;
+pub const SHORT_OF_CASH: u64 = 10;
 /// Not a whole number of baskets from 1 to 20.
-pub const UNITS: u64 = 11;
+pub const NOT_WHOLE_BASKETS: u64 = 11;
 /// The switch forbids the order.
 pub const SWITCH: u64 = 12;
 /// A limit or the ceiling would be passed.
 pub const LIMIT: u64 = 13;
 /// There is no reference value.
-pub const NO_VALUE: u64 = 14;
+pub const NO_REFERENCE_VALUE: u64 = 14;
 /// The maximum cash ratio would be passed.
-pub const RATIO: u64 = 15;
+pub const CASH_RATIO: u64 = 15;
 /// The lent record list, component list or output is too short.
-pub const ROOM: u64 = 16;
+pub const LIST_TOO_SHORT: u64 = 16;
 /// The fund is short of stock or cash.
 pub const FUND_SHORT: u64 = 17;
 /// A line of the list text does not stand as it must.

@@ -2,7 +2,9 @@
 
 use super::book::{self, lots, lots_mut, sellable, stretch, stretch_mut, BOUGHT, CASH};
 use super::range;
-use super::refusal::{Refusal, Reply, ACCOUNT, CASH_SHORT, LINE, QUANTITY_OR_PRICE, SHORT};
+use super::refusal::{
+    Refusal, Reply, ACCOUNT, NO_SUCH_LINE, QUANTITY_OR_PRICE, SHORT_OF_CASH, SHORT_OF_STOCK,
+};
 use super::soundness::test_day;
 use super::types::Day;
 
@@ -30,7 +32,7 @@ pub(super) fn trade_on_sound_day(
 ) -> Result<u64, Refusal> {
     let refuse = |number| Err(Refusal::new(number));
     if trade.line > day.count {
-        return refuse(LINE);
+        return refuse(NO_SUCH_LINE);
     }
     if !range::TRADE_QUANTITY.contains(&trade.quantity) || !range::PRICE.contains(&trade.price) {
         return refuse(QUANTITY_OR_PRICE);
@@ -43,11 +45,11 @@ pub(super) fn trade_on_sound_day(
     let width = book::stretch_width(day.count as usize);
     let line = trade.line as usize;
     if trade.quantity > sellable(lots(stretch(book, width, trade.seller), line)) {
-        return refuse(SHORT);
+        return refuse(SHORT_OF_STOCK);
     }
     let cost = trade.quantity * trade.price;
     if stretch(book, width, trade.buyer)[CASH] < cost {
-        return refuse(CASH_SHORT);
+        return refuse(SHORT_OF_CASH);
     }
     let seller = stretch_mut(book, width, trade.seller);
     seller[CASH] += cost;

@@ -1,7 +1,7 @@
 //! The reference value of a unit, in ten-thousandths of a yuan.
 
 use super::range;
-use super::refusal::{Refusal, Reply, NO_VALUE};
+use super::refusal::{Refusal, Reply, NO_REFERENCE_VALUE};
 use super::soundness::test_day;
 use super::types::Day;
 
@@ -13,7 +13,7 @@ pub fn reference_value(day: &Day, book: &[u64], prices: &[u64]) -> Reply {
 }
 
 pub(super) fn value_on_sound_day(day: &Day, prices: &[u64]) -> Result<u64, Refusal> {
-    unit_value(day, prices).ok_or(Refusal::new(NO_VALUE))
+    unit_value(day, prices).ok_or(Refusal::new(NO_REFERENCE_VALUE))
 }
 
 fn unit_value(day: &Day, prices: &[u64]) -> Option<u64> {

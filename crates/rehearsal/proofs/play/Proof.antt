@@ -7,16 +7,15 @@ use Rattle.rehearsal.proofs.play.Statement.{statement}
 use Rattle.rehearsal.proofs.play.Tie as tie
 
 abbrev Inv-loop : tie.InvT-loop
-Inv-loop piece₀ buffer₀ components held₀ book₀ prices₀ list₀ s₀ turns₀ piece buffer held book prices list s turns =
+Inv-loop piece₀ components held₀ day₀ book₀ prices₀ s₀ turns₀ piece held day book prices s turns =
     (length piece ≡ length piece₀)
-    × (length buffer ≡ length buffer₀)
     × (length held ≡ length held₀)
+    × (length day ≡ length day₀)
     × (length book ≡ length book₀)
     × (length prices ≡ length prices₀)
-    × (length list ≡ length list₀)
 
 abbrev μ-loop : tie.MeasureT-loop
-μ-loop piece₀ buffer₀ components held₀ book₀ prices₀ list₀ s₀ turns₀ piece buffer held book prices list s turns = turns
+μ-loop piece₀ components held₀ day₀ book₀ prices₀ s₀ turns₀ piece held day book prices s turns = turns
 
 loop-holds : tie.Need-loop-holds Inv-loop μ-loop
 loop-holds c = search needs
@@ -48,9 +47,6 @@ same-length-4 c = search needs
 same-length-5 : tie.Need-same-length-5 Inv-loop μ-loop
 same-length-5 c = search needs
 
-same-length-6 : tie.Need-same-length-6 Inv-loop μ-loop
-same-length-6 c = search needs
-
 returns : tie.Need-returns Inv-loop μ-loop
 returns c = search needs
 
@@ -70,5 +66,4 @@ play-spec =
     same-length-3
     same-length-4
     same-length-5
-    same-length-6
     returns)

@@ -6,16 +6,14 @@ use Rattle.texts.proofs.play.Statement.{statement}
 use Rattle.texts.proofs.play.Tie as tie
 
 abbrev Inv-loop : tie.InvT-loop
-Inv-loop buffer₀ item₀ base₀ text₀ run₀ output₀ s₀ turns₀ buffer item base text run output s turns =
+Inv-loop buffer₀ item₀ base₀ text₀ s₀ turns₀ buffer item base text s turns =
     (length buffer ≡ length buffer₀)
     × (length item ≡ length item₀)
     × (length base ≡ length base₀)
     × (length text ≡ length text₀)
-    × (length run ≡ length run₀)
-    × (length output ≡ length output₀)
 
 abbrev μ-loop : tie.MeasureT-loop
-μ-loop buffer₀ item₀ base₀ text₀ run₀ output₀ s₀ turns₀ buffer item base text run output s turns = turns
+μ-loop buffer₀ item₀ base₀ text₀ s₀ turns₀ buffer item base text s turns = turns
 
 start-requires : tie.Need-start-requires Inv-loop μ-loop
 start-requires c κs = search needs
@@ -47,12 +45,6 @@ same-length-3 c = search needs
 same-length-4 : tie.Need-same-length-4 Inv-loop μ-loop
 same-length-4 c = search needs
 
-same-length-5 : tie.Need-same-length-5 Inv-loop μ-loop
-same-length-5 c = search needs
-
-same-length-6 : tie.Need-same-length-6 Inv-loop μ-loop
-same-length-6 c = search needs
-
 returns : tie.Need-returns Inv-loop μ-loop
 returns c = search needs
 
@@ -72,6 +64,4 @@ play-spec =
     same-length-2
     same-length-3
     same-length-4
-    same-length-5
-    same-length-6
     returns)

@@ -1,7 +1,9 @@
 //! Reading the list text (refusals 18, 19, 20, 2, 3, 16).
 
 use super::super::range;
-use super::super::refusal::{Refusal, COMPONENT, FUND_FIELD, RECORD_COUNT, ROOM, TEXT_FIELD};
+use super::super::refusal::{
+    Refusal, COMPONENT, FUND_FIELD, LIST_TOO_SHORT, RECORD_COUNT, TEXT_FIELD,
+};
 use super::super::types::{first_faulty_component, Component, COMPONENT_NUMBERS, MAX_COMPONENTS};
 use super::component_line::read_component;
 use super::head::{read_head, Head};
@@ -45,7 +47,7 @@ pub fn read<'t>(text: &'t [u8], components: &mut [u64]) -> Result<List<'t>, Refu
         return Err(Refusal::at(COMPONENT, place));
     }
     if components.len() < COMPONENT_NUMBERS * count {
-        return Err(Refusal::new(ROOM));
+        return Err(Refusal::new(LIST_TOO_SHORT));
     }
     for (place, component) in components.chunks_exact_mut(COMPONENT_NUMBERS).zip(found) {
         place.copy_from_slice(&component.numbers());

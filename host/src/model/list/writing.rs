@@ -1,7 +1,7 @@
 //! Writing the list text (refusals 1, 2, 3, 16).
 
 use super::super::range;
-use super::super::refusal::{Refusal, Reply, COMPONENT, FUND_FIELD, LENGTHS, ROOM};
+use super::super::refusal::{Refusal, Reply, COMPONENT, FUND_FIELD, LIST_TOO_SHORT, SIZES};
 use super::super::types::{first_faulty_component, Component, COMPONENT_NUMBERS};
 use super::component_line::{name_fits, put_component};
 use super::head::Head;
@@ -36,7 +36,7 @@ fn write_list(list: &Writing<'_>, output: &mut [u8]) -> Result<usize, Refusal> {
     let components_end = head.len() + COMPONENT_STRIDE * list.count as usize;
     let length = components_end + COMPONENTS_AFTER.len();
     let Some(output) = output.get_mut(..length) else {
-        return Err(Refusal::new(ROOM));
+        return Err(Refusal::new(LIST_TOO_SHORT));
     };
     output[..head.len()].copy_from_slice(head);
     let lines = output[head.len()..components_end].chunks_exact_mut(COMPONENT_STRIDE);
@@ -65,7 +65,7 @@ fn test_list(list: &Writing<'_>) -> Result<(), Refusal> {
         && list.components.len() == COMPONENT_NUMBERS * list.count as usize
         && list.names.len() == NAME_BYTES * list.count as usize;
     if !sizes_fit {
-        return Err(Refusal::new(LENGTHS));
+        return Err(Refusal::new(SIZES));
     }
     if !list.head.in_range() || !letters_fit(list.letters) {
         return Err(Refusal::new(FUND_FIELD));

@@ -7,10 +7,10 @@ use Rattle.slips.proofs.given.set_prices.Statement.{statement}
 use Rattle.slips.proofs.given.set_prices.Tie as tie
 
 abbrev Inv-loop : tie.InvT-loop
-Inv-loop d components book prices₀ answer₀ line₀ prices answer line = length prices ≡ length prices₀
+Inv-loop day components book prices₀ answer₀ line₀ prices answer line = length prices ≡ length prices₀
 
 abbrev μ-loop : tie.MeasureT-loop
-μ-loop d components book prices₀ answer₀ line₀ prices answer line = length prices₀ - line
+μ-loop day components book prices₀ answer₀ line₀ prices answer line = length prices₀ - line
 
 loop-holds : tie.Need-loop-holds Inv-loop μ-loop
 loop-holds c = search needs
