@@ -4,16 +4,14 @@ ghost use Prim.Native.Nat.{_+_, _*_, _≤_, _<_, _^_};
 ghost use lib.ListN.{length};
 ghost use Rattle.lists.specs.Stretch.{stretchOf, onStretch};
 ghost use Rattle.lots.specs.Lots.{sellable, handable};
-ghost use Rattle.layout.specs.Places.{basketWidth, linesFrom};
-ghost use Rattle.layout.specs.Day.{dayOf};
-ghost use Rattle.layout.specs.Book.{behindLine, cash, counter, width, account, headAt, putHead, lotsAt, putLots, onLine};
+ghost use Rattle.layout.specs.Places.{linesFrom};
+ghost use Rattle.layout.specs.Book.{behindLine, cash, counter, headAt, putHead, lotsAt, putLots, onLine};
 ghost use Rattle.rules.specs.Trade.{sellSide, buySide, tradeMoves};
 ghost use Rattle.rules.specs.Orders.{creation};
-ghost use Rattle.rules.specs.Kinds.{stockLots, fundLots, unitLots, accountCash, fundCash, orderMoves};
-ghost use Rattle.book.specs.Moved.{movedOf, lineMoves, stockMoves, restOf, restMoves};
-ghost use Rattle.book.specs.Ready.{Tradable, LineReady, StockReady, FundReady, RestReady, OrderReady};
+ghost use Rattle.rules.specs.Kinds.{stockLots, fundLots, unitLots, accountCash, fundCash};
+ghost use Rattle.book.specs.Moved.{movedOf, lineMoves, restOf, restMoves};
+ghost use Rattle.book.specs.Ready.{Tradable, LineReady, RestReady};
 use layout::Component;
-use layout::DayHead;
 use lots::Lots;
 use units::Money;
 
@@ -123,7 +121,7 @@ pub fn move_trade(
 }
 
 // The stock of component `c` that an order of `m` baskets moves, for an account with the lots `x` of it.
-pub fn stock_moved(kind: usize, c: Component, m: u64, x: Lots) -> u64
+fn stock_moved(kind: usize, c: Component, m: u64, x: Lots) -> u64
     requires { ⌜ m * c .quantity < 2 ^ 62 ⌝ }
     requires { ⌜ handable x < 2 ^ 62 ⌝ }
     ensures { λ r. ⌜ r ≡ movedOf kind c m x ⌝ }
@@ -315,23 +313,6 @@ pub fn move_line(
     q
 }
 
-// The stock of every component.
-fn move_stock(kind: usize, d: DayHead, basket: &[u64], book: &mut [u64], a: usize, m: u64)
-    requires { ⌜ (0 < a) × (a * width (dayOf d (now basket)) + width (dayOf d (now basket)) ≤ length (now book)) ⌝ }
-    requires { ⌜ StockReady (dayOf d (now basket)) (account (dayOf d (now basket)) (now book) a) m ⌝ }
-    requires { ⌜ FundReady kind (dayOf d (now basket)) (account (dayOf d (now basket)) (now book) a) (account (dayOf d (now basket)) (now book) 0) m ⌝ }
-    requires { ⌜ length (now basket) ≡ basketWidth ⌝ }
-    ensures { λ _. ⌜ now (book .exit) ≡ stockMoves kind (dayOf d (now (basket .entry))) a m (d .count) (now (book .entry)) ⌝ }
-{
-    let w = layout::width_of(d.count);
-    let mut i: usize = 0;
-    while i < d.count {
-        let c = layout::component_of(basket, i);
-        move_line(kind, c, book, w, a, m, i);
-        i += 1;
-    }
-}
-
 // An order beside its stock, in a fund of `count` components: the fund's cash, and the account's units, cash and counter.
 pub fn move_rest(kind: usize, count: usize, book: &mut [u64], a: usize, units: u64, c: Money)
     requires { ⌜ RestReady kind count (now book) a units (c .0) ⌝ }
@@ -340,24 +321,4 @@ pub fn move_rest(kind: usize, count: usize, book: &mut [u64], a: usize, units: u
     let w = layout::width_of(count);
     fund_head_of(kind, book, w, FUND, c);
     account_rest_of(kind, book, w, a, count, units, c);
-}
-
-// Both sides of an order of account `a` for `units` in `m` baskets, with the cash `c`.
-pub fn move_order(
-    kind: usize,
-    d: DayHead,
-    basket: &[u64],
-    book: &mut [u64],
-    a: usize,
-    units: u64,
-    m: u64,
-    c: Money,
-)
-    requires { ⌜ OrderReady kind (dayOf d (now basket)) (now book) a units m (c .0) ⌝ }
-    requires { ⌜ length (now basket) ≡ basketWidth ⌝ }
-    ensures { λ _. ⌜ now (book .exit) ≡ orderMoves kind (dayOf d (now (basket .entry))) a units m (c .0) (now (book .entry)) ⌝ }
-{
-    let count = d.count;
-    move_stock(kind, d, basket, book, a, m);
-    move_rest(kind, count, book, a, units, c);
 }

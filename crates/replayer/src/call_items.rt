@@ -1,11 +1,11 @@
 // Items that are calls: each is made, its reply printed, and where it is refused what was lent is compared with what it was.
+use crate::structs;
 use day_items::replies;
 use day_items::state;
 use day_items::state::Session;
 use items::output;
 use items::runs;
 use numbers::Numbers;
-use rules::OrderAnswer;
 
 const PRICE: u64 = 4;
 
@@ -108,18 +108,10 @@ fn print_test(
     replies::print(b"test", numbers::of_order(answer));
 }
 
-fn answer_of(
-    tag: u64,
-    a: usize,
-    units: u64,
-    day: &[u64],
-    book: &mut [u64],
-    prices: &[u64],
-    list: &mut [u64],
-) -> OrderAnswer {
+fn kind_of(tag: u64) -> usize {
     match tag {
-        CREATE => day::create(day, book, prices, a, units, list),
-        _ => day::redeem(day, book, prices, a, units, list),
+        CREATE => rules::CREATION,
+        _ => rules::REDEMPTION,
     }
 }
 
@@ -143,7 +135,7 @@ fn order_with(
 ) -> Numbers {
     runs::fill(list);
     print_test(tag, a, units, day, book, prices, list.len());
-    let r = numbers::of_order(answer_of(tag, a, units, day, book, prices, list));
+    let r = numbers::of_order(structs::order(day, book, prices, kind_of(tag), a, units, list));
     print_order(tag, r);
     print_list(list, is_whole, r.number);
     r

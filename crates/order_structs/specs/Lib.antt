@@ -1,0 +1,3 @@
+pub mod Made
+pub mod Stored
+pub mod Settling

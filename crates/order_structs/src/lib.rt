@@ -1,0 +1,209 @@
+// Creation and redemption, by the kind of order, whose records go to a lent list of structs. The order is made into a flat run,
+// and a writer over the list takes the records of that run.
+ghost use mathlib.Core.Path.{_≡_};
+ghost use Prim.Native.Nat.{_*_, _≤_, _<_};
+ghost use mathlib.Core.List.{_++_};
+ghost use lib.ListN.{length, take, drop};
+ghost use Rattle.layout.specs.Places.{recordWidth};
+ghost use Rattle.layout.specs.Day.{dayAt};
+ghost use Rattle.rules.specs.Replies.{orderReply};
+ghost use Rattle.rules.specs.Kinds.{askedReply, askedBook};
+ghost use Rattle.order_structs.specs.Made.{askOf, madeRecords};
+ghost use Rattle.order_structs.specs.Stored.{pushed, withFirst};
+ghost use Rattle.order_structs.specs.Settling.{madeCount, mostRecords, lentRecords, Settling};
+use layout::Record;
+use rules::Ask;
+use rules::OrderAnswer;
+
+// The most records of an order: one for each component, two of units, and two for each of the two kinds of cash.
+pub const MOST_RECORDS: usize = layout::MOST_COMPONENTS + 6;
+
+// How many numbers they take in a flat run.
+const FLAT_LENGTH: usize = layout::RECORD_WIDTH * MOST_RECORDS;
+
+// An order that is made: its answer, and how many records stand in the flat run.
+pub struct Settled {
+    pub answer: OrderAnswer,
+    pub count: usize,
+}
+
+// What an order of a kind asks. Every kind other than creation is redemption.
+fn ask_of(kind: usize, account: usize, units: u64) -> Ask
+    ensures { λ r. ⌜ r ≡ askOf kind account units ⌝ }
+{
+    if kind == rules::CREATION {
+        return Ask {
+            kind: rules::CREATION,
+            account,
+            units,
+        };
+    }
+    Ask {
+        kind: rules::REDEMPTION,
+        account,
+        units,
+    }
+}
+
+// The count of records in an answer.
+fn made_count(answer: OrderAnswer) -> usize
+    ensures { λ r. ⌜ r ≡ madeCount answer ⌝ }
+{
+    match answer {
+        OrderAnswer::Made(count) => count,
+        OrderAnswer::Refused(_) => 0,
+    }
+}
+
+// The fewer of a list's room and the most records of an order.
+fn records_lent(room: usize) -> usize
+    ensures { λ r. ⌜ r ≡ lentRecords room ⌝ }
+{
+    if room < MOST_RECORDS {
+        return room;
+    }
+    MOST_RECORDS
+}
+
+// Makes an order into a flat run, of which it lends no more records than the list has room for.
+fn settle(
+    day: &[u64],
+    book: &mut [u64],
+    prices: &[u64],
+    kind: usize,
+    account: usize,
+    units: u64,
+    room: usize,
+    flat: &mut [u64],
+) -> Settled
+    requires { ⌜ length (now flat) ≡ recordWidth * mostRecords ⌝ }
+    ensures { λ r. ⌜ Settling (dayAt (now (day .entry))) (now (book .entry)) (now (prices .entry)) (askOf kind account units) room r (now (book .exit)) (now (flat .exit)) ⌝ }
+{
+    let lent = layout::RECORD_WIDTH * records_lent(room);
+    let ask = ask_of(kind, account, units);
+    let answer = calls::order(false, day, book, prices, ask, &mut flat[..lent]);
+    let count = made_count(answer);
+    Settled { answer, count }
+}
+
+// A writer over a lent list: it holds the place of the next record.
+pub struct Writer<'a> {
+    pub list: &'a mut [Record],
+    pub at: usize,
+}
+
+// The borrow goes into the writer, and the place is the start.
+fn new<'a>(list: &'a mut [Record]) -> Writer<'a>
+    ensures { λ r. ⌜ (r .list ≡ list .entry) × (r .at ≡ 0) ⌝ }
+{
+    Writer { list: list, at: 0 }
+}
+
+// One record more: the writer is handed back with the borrow and the next place.
+fn push<'a>(w: Writer<'a>, r: Record) -> Writer<'a>
+    requires { ⌜ w .at < length (now (w .list)) ⌝ }
+    ensures { λ n. ⌜ n ≡ pushed (w .entry) r ⌝ }
+{
+    let at = w.at;
+    w.list[at] = r;
+    Writer {
+        list: w.list,
+        at: at + 1,
+    }
+}
+
+// How many records were written. The list is as it was.
+fn finish<'a>(w: Writer<'a>) -> usize
+    ensures { λ n. ⌜ (n ≡ w .entry .at) × (now (w .exit .0) ≡ now (w .entry .list)) ⌝ }
+{
+    w.at
+}
+
+// The first `count` records of a flat run go to the list, and it gives how many.
+fn fill(list: &mut [Record], flat: &[u64], count: usize) -> usize
+    requires { ⌜ (count ≤ length (now list)) × (recordWidth * count ≤ length (now flat)) ⌝ }
+    ensures { λ r. ⌜ (r ≡ count) × (now (list .exit) ≡ withFirst count (now (flat .entry)) (now (list .entry))) ⌝ }
+{
+    let mut w = new(list);
+    let mut i: usize = 0;
+    while i < count {
+        let r = layout::record_at(flat, i);
+        w = push(w, r);
+        i += 1;
+    }
+    finish(w)
+}
+
+// Creates or redeems units, by the kind of order; the records go to the lent list.
+pub fn order(
+    day: &[u64],
+    book: &mut [u64],
+    prices: &[u64],
+    kind: usize,
+    account: usize,
+    units: u64,
+    list: &mut [Record],
+) -> OrderAnswer
+    ensures { λ r. ⌜ (orderReply r ≡ askedReply (dayAt (now (day .entry))) (now (book .entry)) (now (prices .entry)) (askOf kind account units) (length (now (list .entry)))) × (now (book .exit) ≡ askedBook (dayAt (now (day .entry))) (now (book .entry)) (now (prices .entry)) (askOf kind account units) (length (now (list .entry)))) × (now (list .exit) ≡ madeRecords (dayAt (now (day .entry))) (now (book .entry)) (now (prices .entry)) (askOf kind account units) (now (list .entry))) ⌝ }
+{
+    let mut flat = [0u64; FLAT_LENGTH];
+    let s = settle(
+        day,
+        book,
+        prices,
+        kind,
+        account,
+        units,
+        list.len(),
+        &mut flat,
+    );
+    fill(list, &flat, s.count);
+    s.answer
+}
+
+// An order that is made with its list by value: its answer, and the list that it leaves.
+pub struct Listed {
+    pub answer: OrderAnswer,
+    pub records: [Record; MOST_RECORDS],
+}
+
+// The same order on the first `room` records of a list by value.
+fn order_in_room(
+    day: &[u64],
+    book: &mut [u64],
+    prices: &[u64],
+    kind: usize,
+    account: usize,
+    units: u64,
+    room: usize,
+    records: [Record; MOST_RECORDS],
+) -> Listed
+    requires { ⌜ room ≤ mostRecords ⌝ }
+    ensures { λ r. ⌜ (orderReply (r .answer) ≡ askedReply (dayAt (now (day .entry))) (now (book .entry)) (now (prices .entry)) (askOf kind account units) room) × (now (book .exit) ≡ askedBook (dayAt (now (day .entry))) (now (book .entry)) (now (prices .entry)) (askOf kind account units) room) × (r .records ≡ madeRecords (dayAt (now (day .entry))) (now (book .entry)) (now (prices .entry)) (askOf kind account units) (take room records) ++ drop room records) ⌝ }
+{
+    let mut list = records;
+    let answer = order(day, book, prices, kind, account, units, &mut list[..room]);
+    Listed {
+        answer,
+        records: list,
+    }
+}
+
+// The same order for a caller that lends no structs: the list has room for as many records as it says, and no more than the most.
+pub fn order_by_value(
+    day: &[u64],
+    book: &mut [u64],
+    prices: &[u64],
+    kind: usize,
+    account: usize,
+    units: u64,
+    room: usize,
+    records: [Record; MOST_RECORDS],
+) -> Listed
+    ensures { λ r. ⌜ orderReply (r .answer) ≡ askedReply (dayAt (now (day .entry))) (now (book .entry)) (now (prices .entry)) (askOf kind account units) (lentRecords room) ⌝ }
+    ensures { λ r. ⌜ r .records ≡ madeRecords (dayAt (now (day .entry))) (now (book .entry)) (now (prices .entry)) (askOf kind account units) (take (lentRecords room) records) ++ drop (lentRecords room) records ⌝ }
+    ensures book { λ r. ⌜ now (book .exit) ≡ askedBook (dayAt (now (day .entry))) (now (book .entry)) (now (prices .entry)) (askOf kind account units) (lentRecords room) ⌝ }
+{
+    let n = records_lent(room);
+    order_in_room(day, book, prices, kind, account, units, n, records)
+}

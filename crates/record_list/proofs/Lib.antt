@@ -1,4 +1,0 @@
-pub mod Laws
-pub mod Held
-pub mod Filled
-pub mod Called
