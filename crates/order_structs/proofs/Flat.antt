@@ -15,12 +15,13 @@ use Rattle.layout.specs.declared.Record.{Record}
 use Rattle.layout.specs.Records.{flatten, recordNumbers, roomIn, withRecords}
 use Rattle.layout.proofs.Records.{flatten-append, flatten-length}
 use Rattle.rules.specs.declared.Ask.{Ask}
-use Rattle.rules.specs.Orders.{creation}
+use Rattle.rules.specs.Orders.{creation, redemption}
 use Rattle.rules.specs.Creation.{creationReply, createdBook, createdList}
 use Rattle.rules.specs.Redemption.{redemptionReply, redeemedBook, redeemedList}
-use Rattle.rules.specs.Kinds.{byKind, creationOf, redemptionOf, askedRecords, askedChecks, askedReply, askedMoves, askedBook, askedList}
+use Rattle.rules.specs.Kinds.{byKind, askedRecords, askedChecks, askedReply, askedMoves, askedBook, askedList}
 use Rattle.balance.specs.Calls.{State, Call, Result, step, create, redeem}
-use Rattle.order_structs.specs.Made.{askOf, recordsOf, atFront, madeRecords}
+use Rattle.order_structs.specs.Made.{knownKind, recordsOf, atFront, madeRecords}
+use Rattle.order_structs.proofs.Laws.{known-reply, known-book, known-list}
 
 -- flattened, a list of records has room for as many as it holds
 pub rooms-agree : (list : List Record) → roomIn (flatten list) ≡ length list
@@ -45,8 +46,8 @@ unfolding madeRecords askedList recordsOf
 made-flat d b ps ask list = rw (rooms-agree list) (either-flat (isAccepted (askedReply d b ps ask (length list))) (recordsOf d b ps ask) list)
 
 -- the call of an order
-abbrev callBy : ℕ → ℕ → ℕ → Call
-callBy kind a units = byKind kind (create a units) (redeem a units)
+abbrev callOf : Ask → Call
+callOf ask = byKind (ask .kind) (create (ask .account) (ask .units)) (redeem (ask .account) (ask .units))
 
 -- what an ask on a state answers and leaves, with a flat list lent that has room for so many records
 abbrev resultOf : State → Ask → ℕ → List ℕ → Result
@@ -58,21 +59,25 @@ resultOf s ask room left =
     }
 
 -- the step of a call with a flat list lent, by the kind
-flat-step : (kind : ℕ) (s : State) (a units : ℕ) (list : List ℕ)
-    → step s (callBy kind a units) (record { records = list }) ≡ resultOf s (askOf kind a units) (roomIn list) (askedList (s .day) (s .book) (s .prices) (askOf kind a units) list)
-unfolding step askOf askedList askedBook askedMoves askedReply askedChecks askedRecords creationReply createdBook createdList redemptionReply redeemedBook redeemedList
-flat-step kind s a units list = go (eqb kind creation)
+flat-step : (s : State) (ask : Ask) (list : List ℕ)
+    → step s (callOf ask) (record { records = list }) ≡ resultOf s (knownKind ask) (roomIn list) (askedList (s .day) (s .book) (s .prices) (knownKind ask) list)
+unfolding step knownKind askedList askedBook askedMoves askedReply askedChecks askedRecords creationReply createdBook createdList redemptionReply redeemedBook redeemedList
+flat-step s ask list = go (eqb (ask .kind) creation)
   where
     go : (x : Bool)
-        → let ask = cond x (creationOf a units) (redemptionOf a units) in
-        step s (cond x (create a units) (redeem a units)) (record { records = list }) ≡ resultOf s ask (roomIn list) (askedList (s .day) (s .book) (s .prices) ask list)
+        → let known : Ask = record { kind = cond x creation redemption; account = ask .account; units = ask .units } in
+        step s (cond x (create (ask .account) (ask .units)) (redeem (ask .account) (ask .units))) (record { records = list })
+        ≡ resultOf s known (roomIn list) (askedList (s .day) (s .book) (s .prices) known list)
     go true = refl
     go false = refl
 
 -- what an order in the struct form answers and leaves is the step of its call, with the list flattened: an event with that result is one of `Happened`
-pub order-step : (kind : ℕ) (s : State) (a units : ℕ) (list : List Record)
-    → step s (callBy kind a units) (record { records = flatten list })
-    ≡ resultOf s (askOf kind a units) (length list) (flatten (madeRecords (s .day) (s .book) (s .prices) (askOf kind a units) list))
-order-step kind s a units list =
-    flat-step kind s a units (flatten list)
-    ∙ (λ i. resultOf s (askOf kind a units) (rooms-agree list i) (sym (made-flat (s .day) (s .book) (s .prices) (askOf kind a units) list) i))
+pub order-step : (s : State) (ask : Ask) (list : List Record)
+    → step s (callOf ask) (record { records = flatten list }) ≡ resultOf s ask (length list) (flatten (madeRecords (s .day) (s .book) (s .prices) ask list))
+order-step s ask list =
+    let d = s .day in
+    let b = s .book in
+    let ps = s .prices in
+    flat-step s ask (flatten list)
+    ∙ rw (known-reply d b ps ask (roomIn (flatten list)), known-book d b ps ask (roomIn (flatten list)), known-list d b ps ask (flatten list))
+    (λ i. resultOf s ask (rooms-agree list i) (sym (made-flat d b ps ask list) i))

@@ -20,24 +20,46 @@ use Rattle.rules.specs.declared.OrderAnswer.{OrderAnswer}
 use Rattle.rules.specs.declared.OrderAnswer.the-variants.{Made, Refused}
 use Rattle.rules.specs.Records.{recordOf}
 use Rattle.rules.specs.Replies.{orderReply, ifAccepted}
-use Rattle.rules.specs.Orders.{creation}
+use Rattle.rules.specs.Orders.{creation, redemption}
 use Rattle.rules.specs.Sound.{onSoundDay}
 use Rattle.rules.specs.Creation.{creationRecords, creationChecks, creationReply}
 use Rattle.rules.specs.Redemption.{redemptionRecords, redemptionChecks, redemptionReply}
-use Rattle.rules.specs.Kinds.{creationOf, redemptionOf, askedRecords, askedChecks, askedReply, askedBook, askedList}
+use Rattle.rules.specs.Kinds.{byKind, askedRecords, askedChecks, askedReply, askedMoves, askedBook, askedList}
 use Rattle.rules.proofs.Accepted.{creation-facts, creation-value, redemption-facts, redemption-value}
 use Rattle.rules.proofs.Asked.{either-kind}
 use Rattle.rules.proofs.Replies.{is-accepted, is-refused}
 use Rattle.order_structs.specs.declared.Settled.{Settled}
-use Rattle.order_structs.specs.Made.{askOf, recordsOf, atFront, madeRecords}
+use Rattle.order_structs.specs.Made.{knownKind, recordsOf, atFront, madeRecords}
 use Rattle.order_structs.specs.Settling.{mostRecords, lentRecords, madeCount, Settling}
 use Rattle.order_structs.specs.Stored.{withFirst}
 use Rattle.order_structs.proofs.Room.{lent-most, lent-bound, lent-fits, reply-room, book-room}
 
--- an order of any number is of one of the two kinds
-pub of-kind : (kind a units : ℕ) → askOf kind a units .kind < 2
-unfolding askOf
-of-kind kind a units = either-kind (λ (ask : Ask). ask .kind < 2) (creationOf a units) (redemptionOf a units) (lit< tt) (lit< tt) kind
+-- The kind of an ask.
+
+same-kind : {A : Type 0} (kind : ℕ) (x y : A) → byKind (byKind kind creation redemption) x y ≡ byKind kind x y
+same-kind kind x y = go (eqb kind creation)
+  where
+    go : (b : Bool) → cond (eqb (cond b creation redemption) creation) x y ≡ cond b x y
+    go true = refl
+    go false = refl
+
+-- an ask comes to what it does with the kind that it is taken for
+module _ (d : Day) (b ps : List ℕ) (ask : Ask) where
+  pub known-reply : (room : ℕ) → askedReply d b ps (knownKind ask) room ≡ askedReply d b ps ask room
+  unfolding knownKind askedReply askedChecks askedRecords
+  known-reply room = simp same-kind
+
+  pub known-book : (room : ℕ) → askedBook d b ps (knownKind ask) room ≡ askedBook d b ps ask room
+  unfolding knownKind askedBook askedMoves askedReply askedChecks askedRecords
+  known-book room = simp same-kind
+
+  pub known-list : (list : List ℕ) → askedList d b ps (knownKind ask) list ≡ askedList d b ps ask list
+  unfolding knownKind askedList askedReply askedChecks askedRecords
+  known-list list = simp same-kind
+
+pub known : (ask : Ask) → knownKind ask .kind < 2
+unfolding knownKind
+known ask = either-kind (λ kind. kind < 2) creation redemption (lit< tt) (lit< tt) (ask .kind)
 
 -- Records read off a flat run.
 

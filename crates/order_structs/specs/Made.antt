@@ -7,11 +7,12 @@ use Rattle.layout.specs.Book.{account}
 use Rattle.layout.specs.declared.Record.{Record}
 use Rattle.rules.specs.declared.Ask.{Ask}
 use Rattle.rules.specs.Replies.{ifAccepted}
-use Rattle.rules.specs.Kinds.{byKind, creationOf, redemptionOf, askedRecords, askedReply}
+use Rattle.rules.specs.Orders.{creation, redemption}
+use Rattle.rules.specs.Kinds.{byKind, askedRecords, askedReply}
 
--- every kind other than creation is redemption
-unfoldable pub askOf : ℕ → ℕ → ℕ → Ask
-askOf kind a units = byKind kind (creationOf a units) (redemptionOf a units)
+-- the ask of one of the two kinds: every kind other than creation is redemption
+unfoldable pub knownKind : Ask → Ask
+knownKind ask = record { kind = byKind (ask .kind) creation redemption; account = ask .account; units = ask .units }
 
 -- the records of an order of the account's
 unfoldable pub recordsOf : Day → List ℕ → List ℕ → Ask → List Record

@@ -8,7 +8,7 @@ ghost use Rattle.layout.specs.Places.{recordWidth};
 ghost use Rattle.layout.specs.Day.{dayAt};
 ghost use Rattle.rules.specs.Replies.{orderReply};
 ghost use Rattle.rules.specs.Kinds.{askedReply, askedBook};
-ghost use Rattle.order_structs.specs.Made.{askOf, madeRecords};
+ghost use Rattle.order_structs.specs.Made.{knownKind, madeRecords};
 ghost use Rattle.order_structs.specs.Stored.{pushed, withFirst};
 ghost use Rattle.order_structs.specs.Settling.{madeCount, mostRecords, lentRecords, Settling};
 use layout::Record;
@@ -27,21 +27,17 @@ pub struct Settled {
     pub count: usize,
 }
 
-// What an order of a kind asks. Every kind other than creation is redemption.
-fn ask_of(kind: usize, account: usize, units: u64) -> Ask
-    ensures { λ r. ⌜ r ≡ askOf kind account units ⌝ }
+// The ask of one of the two kinds: every kind other than creation is redemption.
+fn known_kind(ask: Ask) -> Ask
+    ensures { λ r. ⌜ r ≡ knownKind ask ⌝ }
 {
-    if kind == rules::CREATION {
-        return Ask {
-            kind: rules::CREATION,
-            account,
-            units,
-        };
+    if ask.kind == rules::CREATION {
+        return ask;
     }
     Ask {
         kind: rules::REDEMPTION,
-        account,
-        units,
+        account: ask.account,
+        units: ask.units,
     }
 }
 
@@ -70,18 +66,16 @@ fn settle(
     day: &[u64],
     book: &mut [u64],
     prices: &[u64],
-    kind: usize,
-    account: usize,
-    units: u64,
+    ask: Ask,
     room: usize,
     flat: &mut [u64],
 ) -> Settled
     requires { ⌜ length (now flat) ≡ recordWidth * mostRecords ⌝ }
-    ensures { λ r. ⌜ Settling (dayAt (now (day .entry))) (now (book .entry)) (now (prices .entry)) (askOf kind account units) room r (now (book .exit)) (now (flat .exit)) ⌝ }
+    ensures { λ r. ⌜ Settling (dayAt (now (day .entry))) (now (book .entry)) (now (prices .entry)) ask room r (now (book .exit)) (now (flat .exit)) ⌝ }
 {
     let lent = layout::RECORD_WIDTH * records_lent(room);
-    let ask = ask_of(kind, account, units);
-    let answer = calls::order(false, day, book, prices, ask, &mut flat[..lent]);
+    let known = known_kind(ask);
+    let answer = calls::order(false, day, book, prices, known, &mut flat[..lent]);
     let count = made_count(answer);
     Settled { answer, count }
 }
@@ -139,24 +133,13 @@ pub fn order(
     day: &[u64],
     book: &mut [u64],
     prices: &[u64],
-    kind: usize,
-    account: usize,
-    units: u64,
+    ask: Ask,
     list: &mut [Record],
 ) -> OrderAnswer
-    ensures { λ r. ⌜ (orderReply r ≡ askedReply (dayAt (now (day .entry))) (now (book .entry)) (now (prices .entry)) (askOf kind account units) (length (now (list .entry)))) × (now (book .exit) ≡ askedBook (dayAt (now (day .entry))) (now (book .entry)) (now (prices .entry)) (askOf kind account units) (length (now (list .entry)))) × (now (list .exit) ≡ madeRecords (dayAt (now (day .entry))) (now (book .entry)) (now (prices .entry)) (askOf kind account units) (now (list .entry))) ⌝ }
+    ensures { λ r. ⌜ (orderReply r ≡ askedReply (dayAt (now (day .entry))) (now (book .entry)) (now (prices .entry)) ask (length (now (list .entry)))) × (now (book .exit) ≡ askedBook (dayAt (now (day .entry))) (now (book .entry)) (now (prices .entry)) ask (length (now (list .entry)))) × (now (list .exit) ≡ madeRecords (dayAt (now (day .entry))) (now (book .entry)) (now (prices .entry)) ask (now (list .entry))) ⌝ }
 {
     let mut flat = [0u64; FLAT_LENGTH];
-    let s = settle(
-        day,
-        book,
-        prices,
-        kind,
-        account,
-        units,
-        list.len(),
-        &mut flat,
-    );
+    let s = settle(day, book, prices, ask, list.len(), &mut flat);
     fill(list, &flat, s.count);
     s.answer
 }
@@ -172,17 +155,15 @@ fn order_in_room(
     day: &[u64],
     book: &mut [u64],
     prices: &[u64],
-    kind: usize,
-    account: usize,
-    units: u64,
+    ask: Ask,
     room: usize,
     records: [Record; MOST_RECORDS],
 ) -> Listed
     requires { ⌜ room ≤ mostRecords ⌝ }
-    ensures { λ r. ⌜ (orderReply (r .answer) ≡ askedReply (dayAt (now (day .entry))) (now (book .entry)) (now (prices .entry)) (askOf kind account units) room) × (now (book .exit) ≡ askedBook (dayAt (now (day .entry))) (now (book .entry)) (now (prices .entry)) (askOf kind account units) room) × (r .records ≡ madeRecords (dayAt (now (day .entry))) (now (book .entry)) (now (prices .entry)) (askOf kind account units) (take room records) ++ drop room records) ⌝ }
+    ensures { λ r. ⌜ (orderReply (r .answer) ≡ askedReply (dayAt (now (day .entry))) (now (book .entry)) (now (prices .entry)) ask room) × (now (book .exit) ≡ askedBook (dayAt (now (day .entry))) (now (book .entry)) (now (prices .entry)) ask room) × (r .records ≡ madeRecords (dayAt (now (day .entry))) (now (book .entry)) (now (prices .entry)) ask (take room records) ++ drop room records) ⌝ }
 {
     let mut list = records;
-    let answer = order(day, book, prices, kind, account, units, &mut list[..room]);
+    let answer = order(day, book, prices, ask, &mut list[..room]);
     Listed {
         answer,
         records: list,
@@ -194,16 +175,14 @@ pub fn order_by_value(
     day: &[u64],
     book: &mut [u64],
     prices: &[u64],
-    kind: usize,
-    account: usize,
-    units: u64,
+    ask: Ask,
     room: usize,
     records: [Record; MOST_RECORDS],
 ) -> Listed
-    ensures { λ r. ⌜ orderReply (r .answer) ≡ askedReply (dayAt (now (day .entry))) (now (book .entry)) (now (prices .entry)) (askOf kind account units) (lentRecords room) ⌝ }
-    ensures { λ r. ⌜ r .records ≡ madeRecords (dayAt (now (day .entry))) (now (book .entry)) (now (prices .entry)) (askOf kind account units) (take (lentRecords room) records) ++ drop (lentRecords room) records ⌝ }
-    ensures book { λ r. ⌜ now (book .exit) ≡ askedBook (dayAt (now (day .entry))) (now (book .entry)) (now (prices .entry)) (askOf kind account units) (lentRecords room) ⌝ }
+    ensures { λ r. ⌜ orderReply (r .answer) ≡ askedReply (dayAt (now (day .entry))) (now (book .entry)) (now (prices .entry)) ask (lentRecords room) ⌝ }
+    ensures { λ r. ⌜ r .records ≡ madeRecords (dayAt (now (day .entry))) (now (book .entry)) (now (prices .entry)) ask (take (lentRecords room) records) ++ drop (lentRecords room) records ⌝ }
+    ensures book { λ r. ⌜ now (book .exit) ≡ askedBook (dayAt (now (day .entry))) (now (book .entry)) (now (prices .entry)) ask (lentRecords room) ⌝ }
 {
     let n = records_lent(room);
-    order_in_room(day, book, prices, kind, account, units, n, records)
+    order_in_room(day, book, prices, ask, n, records)
 }

@@ -6,6 +6,7 @@ use day_items::state::Session;
 use items::output;
 use items::runs;
 use numbers::Numbers;
+use rules::Ask;
 
 const PRICE: u64 = 4;
 
@@ -108,10 +109,15 @@ fn print_test(
     replies::print(b"test", numbers::of_order(answer));
 }
 
-fn kind_of(tag: u64) -> usize {
-    match tag {
+fn ask_of(tag: u64, account: usize, units: u64) -> Ask {
+    let kind = match tag {
         CREATE => rules::CREATION,
         _ => rules::REDEMPTION,
+    };
+    Ask {
+        kind,
+        account,
+        units,
     }
 }
 
@@ -135,7 +141,7 @@ fn order_with(
 ) -> Numbers {
     runs::fill(list);
     print_test(tag, a, units, day, book, prices, list.len());
-    let r = numbers::of_order(structs::order(day, book, prices, kind_of(tag), a, units, list));
+    let r = numbers::of_order(structs::order(day, book, prices, ask_of(tag, a, units), list));
     print_order(tag, r);
     print_list(list, is_whole, r.number);
     r

@@ -1,5 +1,6 @@
 // Orders in the struct form: the lent list is unpacked to records, and packed again when the order is made.
 use layout::Record;
+use rules::Ask;
 use rules::OrderAnswer;
 use units::Money;
 
@@ -49,28 +50,17 @@ fn pack(list: &mut [u64], records: [Record; order_structs::MOST_RECORDS]) {
     }
 }
 
-// An order of a kind whose list, a flat run, is unpacked to structs before it and packed again behind it.
+// An order whose list, a flat run, is unpacked to structs before it and packed again behind it.
 pub fn order(
     day: &[u64],
     book: &mut [u64],
     prices: &[u64],
-    kind: usize,
-    account: usize,
-    units: u64,
+    ask: Ask,
     list: &mut [u64],
 ) -> OrderAnswer {
     let records = unpacked(list);
     let room = list.len() / layout::RECORD_WIDTH;
-    let left = order_structs::order_by_value(
-        day,
-        book,
-        prices,
-        kind,
-        account,
-        units,
-        room,
-        records,
-    );
+    let left = order_structs::order_by_value(day, book, prices, ask, room, records);
     let after = left.records;
     let answer = left.answer;
     pack(list, after);

@@ -1,7 +1,7 @@
 -- `order_structs::order` meets its contract: a walk of its MIR, by hand. Two calls: `settle` has the book for good and fills the local flat run, and `fill` has the list for good and reads that run.
 -- Assumes nothing.
 use mathlib.Core.Path.{_≡_, refl, ap, subst, _∙_}
-use Prim.Native.Nat.{ℕ, _<_, _≤_, _^_, _*_}
+use Prim.Native.Nat.{ℕ, _≤_, _*_}
 use mathlib.Core.List.{[], _∷_, List}
 use lib.Dec.{lit<}
 use lib.ListN.{length, replicate, length-replicate}
@@ -25,7 +25,7 @@ use types.Tokens.{lft-new, lft-end}
 use sound.WpLaws.{fmOf, WpFn-mono}
 use denote.RattleType.{owns}
 use denote.Laws.{Is, shows}
-use denote.Plain.{uint-makes, uint-vals, uint-tells, uint-lawful, uint-copy}
+use denote.Plain.{uint-makes, uint-lawful, uint-copy}
 use denote.Builtin.{u64, usize}
 use denote.Array.{Array, arrayVal, array-repeat, array-lawful}
 use denote.Lend.{Held, slice-back}
@@ -48,10 +48,12 @@ use Rattle.layout.specs.Day.{dayAt}
 use Rattle.layout.specs.declared.Record.{Record}
 use Rattle.layout.specs.Places.{recordWidth}
 use Rattle.layout.proofs.Record as T
+use Rattle.rules.specs.declared.Ask.{Ask}
+use Rattle.rules.proofs.Ask as As
+use Rattle.rules.proofs.Ask.Laws as As′
 use Rattle.rules.proofs.OrderAnswer as OA
 use Rattle.rules.proofs.OrderAnswer.Laws as OA′
 use Rattle.order_structs.specs.declared.Settled.{Settled}
-use Rattle.order_structs.specs.Made.{askOf}
 use Rattle.order_structs.specs.Settling.{mostRecords, Settling}
 use Rattle.order_structs.specs.Stored.{withFirst}
 use Rattle.order_structs.proofs.Settled as Se
@@ -79,7 +81,7 @@ stayed = (
     gave-slice (1 ∷ []) tt (plain (λ _. u64)),
     (
       stay-none-slice (2 ∷ []) tt (plain (λ _. u64)) yes,
-      (stay-none (λ _. usize) yes, (stay-none (λ _. usize) yes, (stay-none (λ _. u64) yes, (gave-slice (3 ∷ []) tt (plain (λ _. T.the-row)), tt)))),
+      (stay-none (λ _. As.the-row) yes, (gave-slice (3 ∷ []) tt (plain (λ _. T.the-row)), tt)),
     ),
   ),
 )
@@ -91,14 +93,17 @@ module _ {M : Type 1} (𝓤 : URA M) (H : Heap 𝓤) (A : Atoms 𝓤) (mem : Mem
   abbrev Fill : Contract 𝓤
   Fill = tripleOf 𝓤 H A fill.signature (fill.spec 𝓤 H A mem run)
 
+-- the machine value of an ask
+abbrev askVal : Ask → Val
+askVal ask = LL.val As.the-type As′.the-laws ask
+
 -- the length of the flat run
 abbrev N : ℕ
 N = recordWidth * mostRecords
 
 module _ {M : Type 1} (𝓤 : URA M) (H : Heap 𝓤) (A : Atoms 𝓤) (W : Given 𝓤 H A) (mem : Memory → SProp 𝓤) (run : Routine → Fun 𝓤) (κ₀ κ₁ κ₂ κ₃ : Lft) (q₀ q₁ q₂ q₃ : Share)
-    (y : RefT (List ℕ)) (b₁ o₁ : ℕ) (γ₁ : GName) (ys₁ : List ℕ) (z : RefT (List ℕ)) (k a u : ℕ) (b₃ o₃ : ℕ) (γ₃ : GName) (ys₃ : List Record)
-    (k-fits : k < 2 ^ 64) (a-fits : a < 2 ^ 64) (u-fits : u < 2 ^ 64) (room₀ : Room u64 (length (y .now))) (room₁ : Room u64 (length ys₁)) (room₂ : Room u64 (length (z .now)))
-    (room₃ : Room T.the-row (length ys₃)) where
+    (y : RefT (List ℕ)) (b₁ o₁ : ℕ) (γ₁ : GName) (ys₁ : List ℕ) (z : RefT (List ℕ)) (ask : Ask) (b₃ o₃ : ℕ) (γ₃ : GName) (ys₃ : List Record)
+    (is-ask : Is As.the-row ask (askVal ask ∷ [])) (room₀ : Room u64 (length (y .now))) (room₁ : Room u64 (length ys₁)) (room₂ : Room u64 (length (z .now))) (room₃ : Room T.the-row (length ys₃)) where
   -- the book and the list
   abbrev x₁ : RefT (List ℕ)
   x₁ = record { ptr = (b₁, o₁); name = γ₁; now = ys₁ }
@@ -141,28 +146,28 @@ module _ {M : Type 1} (𝓤 : URA M) (H : Heap 𝓤) (A : Atoms 𝓤) (W : Given
   Lent = MutSlice (named 3) κ₃ T.the-row .own x₃ (s₃ ∷ [])
 
   abbrev Arg : Type 0
-  Arg = RefT (List ℕ) × (RefT (List ℕ) × (RefT (List ℕ) × (ℕ × (ℕ × (ℕ × (RefT (List Record) × Unit {0}))))))
+  Arg = RefT (List ℕ) × (RefT (List ℕ) × (RefT (List ℕ) × (Ask × (RefT (List Record) × Unit {0}))))
 
   abbrev arg : Arg
-  arg = (y, (x₁, (z, (k, (a, (u, (x₃, tt)))))))
+  arg = (y, (x₁, (z, (ask, (x₃, tt)))))
 
-  abbrev vals : List Val × (List Val × (List Val × (List Val × (List Val × (List Val × (List Val × Unit {0}))))))
-  vals = (s₀ ∷ [], (s₁ ∷ [], (s₂ ∷ [], (vint w64 k ∷ [], (vint w64 a ∷ [], (vint w64 u ∷ [], (s₃ ∷ [], tt)))))))
+  abbrev vals : List Val × (List Val × (List Val × (List Val × (List Val × Unit {0}))))
+  vals = (s₀ ∷ [], (s₁ ∷ [], (s₂ ∷ [], (askVal ask ∷ [], (s₃ ∷ [], tt)))))
 
   abbrev Post : Val → SProp 𝓤
   Post = walkOf 𝓤 H A order′.ended stayed (order′.clauses 𝓤 H A mem run) .post (((κ₀, (κ₁, (κ₂, (κ₃, tt)))), (q₀, (q₁, (q₂, (q₃, tt)))), tt, arg, vals), tt)
 
   -- what `settle` says
   abbrev Made : Settled → List ℕ → List ℕ → Type 0
-  Made s zs fs = Settling (dayAt (y .now)) ys₁ (z .now) (askOf k a u) (length ys₃) s zs fs
+  Made s zs fs = Settling (dayAt (y .now)) ys₁ (z .now) ask (length ys₃) s zs fs
 
   -- a settled order's fields, at their machine values
   fields : (s : Settled) → Is Se.the-row s (sv s ∷ []) → Is OA.the-row (s .answer) (EL.val OA.the-type OA′.the-laws (s .answer) ∷ []) × (Is usize (s .count) (vint w64 (s .count) ∷ []) × Unit {0})
   fields s is = LL.owed Se.the-type Se′.the-laws s _ is
 
   -- `settle`: the book for good, the flat run lent for the lifetime μ
-  abbrev settle-arg : ℕ → GName → List ℕ → RefT (List ℕ) × (RefT (List ℕ) × (RefT (List ℕ) × (ℕ × (ℕ × (ℕ × (ℕ × (RefT (List ℕ) × Unit {0})))))))
-  settle-arg l γ xs = (y, (x₁, (z, (k, (a, (u, (length ys₃, (xf l γ xs, tt))))))))
+  abbrev settle-arg : ℕ → GName → List ℕ → RefT (List ℕ) × (RefT (List ℕ) × (RefT (List ℕ) × (Ask × (ℕ × (RefT (List ℕ) × Unit {0})))))
+  settle-arg l γ xs = (y, (x₁, (z, (ask, (length ys₃, (xf l γ xs, tt))))))
 
   abbrev to-settle : ℕ → ℕ → GName → List ℕ → Settle 𝓤 H A mem run .Ghost
   to-settle l μ γ xs = (
@@ -171,7 +176,7 @@ module _ {M : Type 1} (𝓤 : URA M) (H : Heap 𝓤) (A : Atoms 𝓤) (W : Given
       (q₀, (q₁, (q₂, (fullShare, tt)))),
       tt,
       settle-arg l γ xs,
-      (s₀ ∷ [], (s₁ ∷ [], (s₂ ∷ [], (vint w64 k ∷ [], (vint w64 a ∷ [], (vint w64 u ∷ [], (vint w64 (length ys₃) ∷ [], (flatVal l ∷ [], tt)))))))),
+      (s₀ ∷ [], (s₁ ∷ [], (s₂ ∷ [], (askVal ask ∷ [], (vint w64 (length ys₃) ∷ [], (flatVal l ∷ [], tt)))))),
     ),
     tt,
   )
@@ -190,8 +195,7 @@ module _ {M : Type 1} (𝓤 : URA M) (H : Heap 𝓤) (A : Atoms 𝓤) (W : Given
       fsplit ! $ move ! (1 ∷ []) $ fsplit ! $ move ! (1 ∷ []) $ fsplit ! $
       -- [prices; flat; book; day]
       nothing ! $ move ! (2 ∷ 0 ∷ []) $ fjoin ! $ owned ! usize (Is usize) (uint-makes 𝓤 H A W w64) (length ys₃) _ (refl, room₃ .0) $ fjoin ! $
-      owned ! u64 (Is u64) (uint-makes 𝓤 H A W w64) u _ (refl, u-fits) $ fjoin ! $ owned ! usize (Is usize) (uint-makes 𝓤 H A W w64) a _ (refl, a-fits) $ fjoin ! $
-      owned ! usize (Is usize) (uint-makes 𝓤 H A W w64) k _ (refl, k-fits) $ fjoin ! $
+      owned ! As.the-row (Is As.the-row) (LL.makes As.the-type As′.the-plain 𝓤 H A) ask _ is-ask $ fjoin ! $
       move ! (1 ∷ 0 ∷ []) $ fjoin ! $ move ! (1 ∷ 0 ∷ []) $ fjoin ! $ move ! (1 ∷ 0 ∷ []) $ fjoin ! $ done !
 
   -- `fill`: the list for good, the flat run lent as `&`
@@ -220,13 +224,12 @@ module _ {M : Type 1} (𝓤 : URA M) (H : Heap 𝓤) (A : Atoms 𝓤) (W : Given
       qed W (‵ (flft κ₀ q₀) ∷ ‵ (flft κ₁ q₁) ∷ ‵ (flft κ₂ q₂) ∷ ‵ (flft κ₃ q₃) ∷ ‵ (finally u64 γ₁ zs) ∷ ‵ Days ∷ ‵ Prices ∷ ‵ (finally T.the-row γ₃ ws) ∷ []) ∵
       suffices ! _ (ends-at 𝓤 H A order′.ended stayed (order′.clauses 𝓤 H A mem run) W (((κ₀, (κ₁, (κ₂, (κ₃, tt)))), (q₀, (q₁, (q₂, (q₃, tt)))), tt, arg, vals), tt)
       (EL.val OA.the-type OA′.the-laws (s .answer)) (s .answer)
-      (tt, (zs, (tt, (tt, (tt, (tt, (ws, tt))))))) (tt, (n₁, (tt, (tt, (tt, (tt, (n₃, tt)))))))) $
-      says ! (order-leaves (dayAt (y .now)) ys₁ (z .now) (askOf k a u) ys₃ s zs fs ws t e) $
+      (tt, (zs, (tt, (tt, (ws, tt))))) (tt, (n₁, (tt, (tt, (n₃, tt)))))) $
+      says ! (order-leaves (dayAt (y .now)) ys₁ (z .now) ask ys₃ s zs fs ws t e) $
       nothing ! $ move ! (4 ∷ 0 ∷ []) $ join ! $ move ! (3 ∷ 0 ∷ []) $ join ! $ move ! (2 ∷ 0 ∷ []) $ join ! $ move ! (1 ∷ 0 ∷ []) $ join ! $ frame ! $
       -- [what says the last book; what day owns; what prices owns; what says the last list]
-      nothing ! $ move ! (4 ∷ 0 ∷ []) $ fjoin ! $ owned ! u64 (Is u64) (uint-makes 𝓤 H A W w64) u _ (refl, u-fits) $ fjoin ! $
-      owned ! usize (Is usize) (uint-makes 𝓤 H A W w64) a _ (refl, a-fits) $ fjoin ! $
-      owned ! usize (Is usize) (uint-makes 𝓤 H A W w64) k _ (refl, k-fits) $ fjoin ! $ move ! (3 ∷ 0 ∷ []) $ fjoin ! $ move ! (1 ∷ 0 ∷ []) $ fjoin ! $ move ! (1 ∷ 0 ∷ []) $ fjoin ! $ frame ! $
+      nothing ! $ move ! (4 ∷ 0 ∷ []) $ fjoin ! $ owned ! As.the-row (Is As.the-row) (LL.makes As.the-type As′.the-plain 𝓤 H A) ask _ is-ask $ fjoin ! $ move ! (3 ∷ 0 ∷ []) $ fjoin ! $
+      move ! (1 ∷ 0 ∷ []) $ fjoin ! $ move ! (1 ∷ 0 ∷ []) $ fjoin ! $ frame ! $
       owned ! OA.the-row (Is OA.the-row) (EL.makes OA.the-type OA′.the-plain 𝓤 H A) (s .answer) _ (fields s is .0) $ done !
 
   abbrev word : Ty
@@ -267,7 +270,7 @@ module _ {M : Type 1} (𝓤 : URA M) (H : Heap 𝓤) (A : Atoms 𝓤) (W : Given
   flat-room = (lit< tt, lit< tt)
 
   module _ (𝓣 : Tables 𝓤 H) (known-settle : Triple 𝓤 (𝓣 .C #order_structs·settle) (Settle 𝓤 H A mem run)) (known-fill : Triple 𝓤 (𝓣 .C #order_structs·fill) (Fill 𝓤 H A mem run))
-      (l₀ l₁ l₂ l₃ l₄ l₅ l₆ l₇ l₈ l₉ m₀ m₁ m₂ m₃ m₄ m₅ m₆ m₇ m₈ : ℕ) where
+      (l₀ l₁ l₂ l₃ l₄ l₅ l₆ l₇ l₈ l₉ m₀ m₁ m₂ m₃ m₄ m₅ m₆ : ℕ) where
     abbrev C : Calls 𝓤 H
     C = 𝓣 .C
 
@@ -275,23 +278,23 @@ module _ {M : Type 1} (𝓤 : URA M) (H : Heap 𝓤) (A : Atoms 𝓤) (W : Given
     Λ = 𝓣 .Λ
 
     abbrev En : Env 𝓤 H
-    En = (OA′.mir, l₀) ∷ (dl, l₁) ∷ (bl, l₂) ∷ (pl, l₃) ∷ (word, l₄) ∷ (word, l₅) ∷ (word, l₆) ∷ (sl, l₇) ∷ (ar, l₈) ∷ (Se′.mir, l₉) ∷ (bm, m₀) ∷ (sliceTy bm, m₁) ∷ (word, m₂) ∷ (am, m₃)
-        ∷ (sliceTy bm, m₄) ∷ (rf, m₅) ∷ (sliceTy rf, m₆) ∷ (ai, m₇) ∷ (sliceTy br, m₈) ∷ []
+    En = (OA′.mir, l₀) ∷ (dl, l₁) ∷ (bl, l₂) ∷ (pl, l₃) ∷ (As′.mir, l₄) ∷ (sl, l₅) ∷ (ar, l₆) ∷ (Se′.mir, l₇) ∷ (bm, l₈) ∷ (sliceTy bm, l₉) ∷ (word, m₀) ∷ (am, m₁) ∷ (sliceTy bm, m₂) ∷ (rf, m₃)
+        ∷ (sliceTy rf, m₄) ∷ (ai, m₅) ∷ (sliceTy br, m₆) ∷ []
 
     -- the flat run's slice
     abbrev sf : Val
-    sf = flatVal l₈
+    sf = flatVal l₆
 
     -- when the order is settled: the list is left
     abbrev Listing : Settled → List ℕ → List ℕ → List (Item 𝓤)
     Listing s zs fs =
-        ‵ (Elements u64 N l₈ fs) ∷ ‵ (flft κ₀ q₀) ∷ ‵ (flft κ₁ q₁) ∷ ‵ (flft κ₂ q₂) ∷ ‵ (flft κ₃ q₃) ∷ ‵ (finally u64 γ₁ zs) ∷ ‵ Days ∷ ‵ Prices ∷ ‵ Lent
-        ∷ ‵ (froom (sliceTy br) m₈ 0) ∷ ‵ (fdies (sliceTy br) m₈) ∷ ‵ (froom ai m₇ 0) ∷ ‵ (fdies ai m₇) ∷ ‵ (froom (sliceTy rf) m₆ 0) ∷ ‵ (fdies (sliceTy rf) m₆)
-        ∷ ‵ (froom rf m₅ 0) ∷ ‵ (fdies rf m₅) ∷ ‵ (fat fullShare (sliceTy bm) m₄ 0 sf) ∷ ‵ (fdies (sliceTy bm) m₄) ∷ ‵ (fat fullShare am m₃ 0 (vptr l₈ 0)) ∷ ‵ (fdies am m₃)
-        ∷ ‵ (fat fullShare word m₂ 0 (vint w64 (length ys₃))) ∷ ‵ (fdies word m₂) ∷ ‵ (fat fullShare (sliceTy bm) m₁ 0 s₁) ∷ ‵ (fdies (sliceTy bm) m₁) ∷ ‵ (fat fullShare bm m₀ 0 (vptr b₁ o₁))
-        ∷ ‵ (fdies bm m₀)
-        ∷ ‵ (fat fullShare Se′.mir l₉ 0 (sv s)) ∷ ‵ (fdies Se′.mir l₉) ∷ ‵ (fdies ar l₈) ∷ ‵ (fat fullShare sl l₇ 0 s₃) ∷ ‵ (fdies sl l₇)
-        ∷ ‵ (fat fullShare word l₆ 0 (vint w64 u)) ∷ ‵ (fdies word l₆) ∷ ‵ (fat fullShare word l₅ 0 (vint w64 a)) ∷ ‵ (fdies word l₅) ∷ ‵ (fat fullShare word l₄ 0 (vint w64 k)) ∷ ‵ (fdies word l₄)
+        ‵ (Elements u64 N l₆ fs) ∷ ‵ (flft κ₀ q₀) ∷ ‵ (flft κ₁ q₁) ∷ ‵ (flft κ₂ q₂) ∷ ‵ (flft κ₃ q₃) ∷ ‵ (finally u64 γ₁ zs) ∷ ‵ Days ∷ ‵ Prices ∷ ‵ Lent
+        ∷ ‵ (froom (sliceTy br) m₆ 0) ∷ ‵ (fdies (sliceTy br) m₆) ∷ ‵ (froom ai m₅ 0) ∷ ‵ (fdies ai m₅) ∷ ‵ (froom (sliceTy rf) m₄ 0) ∷ ‵ (fdies (sliceTy rf) m₄)
+        ∷ ‵ (froom rf m₃ 0) ∷ ‵ (fdies rf m₃) ∷ ‵ (fat fullShare (sliceTy bm) m₂ 0 sf) ∷ ‵ (fdies (sliceTy bm) m₂) ∷ ‵ (fat fullShare am m₁ 0 (vptr l₆ 0)) ∷ ‵ (fdies am m₁)
+        ∷ ‵ (fat fullShare word m₀ 0 (vint w64 (length ys₃))) ∷ ‵ (fdies word m₀) ∷ ‵ (fat fullShare (sliceTy bm) l₉ 0 s₁) ∷ ‵ (fdies (sliceTy bm) l₉) ∷ ‵ (fat fullShare bm l₈ 0 (vptr b₁ o₁))
+        ∷ ‵ (fdies bm l₈)
+        ∷ ‵ (fat fullShare Se′.mir l₇ 0 (sv s)) ∷ ‵ (fdies Se′.mir l₇) ∷ ‵ (fdies ar l₆) ∷ ‵ (fat fullShare sl l₅ 0 s₃) ∷ ‵ (fdies sl l₅)
+        ∷ ‵ (fat fullShare As′.mir l₄ 0 (askVal ask)) ∷ ‵ (fdies As′.mir l₄)
         ∷ ‵ (fat fullShare pl l₃ 0 s₂) ∷ ‵ (fdies pl l₃) ∷ ‵ (fat fullShare bl l₂ 0 s₁) ∷ ‵ (fdies bl l₂) ∷ ‵ (fat fullShare dl l₁ 0 s₀) ∷ ‵ (fdies dl l₁)
         ∷ ‵ (froom OA′.mir l₀ 0) ∷ ‵ (fdies OA′.mir l₀) ∷ []
 
@@ -304,35 +307,34 @@ module _ {M : Type 1} (𝓤 : URA M) (H : Heap 𝓤) (A : Atoms 𝓤) (W : Given
         assigns ! (agg ! (and-then ! (load ! (from ! (stop !)) (look ! 11 refl)) (and-then ! (big-lit ! (record { fits = flat-room .0 })) (no-more !)))) (from ! (stop !))
         (init ! 9 refl (tt, (tt, (record { fits = flat-room .0 }, tt)))) $
         lft-new ! tt (λ μ. move ! (1 ∷ []) $
-        use1 W (later (some (λ (γ : GName). ‵ (ShrSlice (named 1) (μ ∷ []) u64 .own (xf l₈ γ fs) (sf ∷ [])) ⊛ ‵ (flent (μ ∷ []) (Parts u64 l₈ fs)))))
-        (lends-array-shared 𝓤 H A W u64 tt N l₈ fs flat-room (named 1) (μ ∷ [])) $ await ! tt $ pick ! (λ γ. split ! $
+        use1 W (later (some (λ (γ : GName). ‵ (ShrSlice (named 1) (μ ∷ []) u64 .own (xf l₆ γ fs) (sf ∷ [])) ⊛ ‵ (flent (μ ∷ []) (Parts u64 l₆ fs)))))
+        (lends-array-shared 𝓤 H A W u64 tt N l₆ fs flat-room (named 1) (μ ∷ [])) $ await ! tt $ pick ! (λ γ. split ! $
         -- [flat as `&`; the loan; μ; κ₀; κ₁; κ₂; κ₃; the last book; day; prices; list; the locals]
         move ! (10 ∷ 0 ∷ []) $ fjoin ! $ move ! (6 ∷ 2 ∷ 0 ∷ []) $
-        use3 W (raw (Fill 𝓤 H A mem run .pre (to-fill l₈ μ γ fs (s .count))))
-        (goes-fill l₈ μ γ fs (s .count) (fillable (dayAt (y .now)) ys₁ (z .now) (askOf k a u) (length ys₃) s zs fs t nf) (fields s is .1 .0)) $
-        calls-at ! (fmOf 𝓤 H (W .laws) 𝓣) (Fill 𝓤 H A mem run) known-fill (to-fill l₈ μ γ fs (s .count))
+        use3 W (raw (Fill 𝓤 H A mem run .pre (to-fill l₆ μ γ fs (s .count))))
+        (goes-fill l₆ μ γ fs (s .count) (fillable (dayAt (y .now)) ys₁ (z .now) ask (length ys₃) s zs fs t nf) (fields s is .1 .0)) $
+        calls-at ! (fmOf 𝓤 H (W .laws) 𝓣) (Fill 𝓤 H A mem run) known-fill (to-fill l₆ μ γ fs (s .count))
         (and-then ! (load ! (from ! (stop !)) (look ! 12 refl))
         (and-then ! (load ! (from ! (stop !)) (look ! 8 refl)) (and-then ! (load ! (from ! (fld ! refl (stop !))) (look-in ! 26 (sub ! 1 refl (whole !)))) (no-more !)))) (λ w.
         use1 W (later (some (λ (m : ℕ). ((‵ (flft κ₃ q₃) ⊛ ‵ (flft (μ ∷ []) fullShare) ⊛ ‵ ftrue) ⊛ ‵ (usize .own m (w ∷ [])))
-        ⊛ raw (ensured 𝓤 H A fill.ended (fill.clauses 𝓤 H A mem run) (κ₃, (μ ∷ [], tt)) (fill-arg l₈ γ fs (s .count)) tt m)))) (id⊢ 𝓤 _) $ await ! tt $ pick ! (λ m.
+        ⊛ raw (ensured 𝓤 H A fill.ended (fill.clauses 𝓤 H A mem run) (κ₃, (μ ∷ [], tt)) (fill-arg l₆ γ fs (s .count)) tt m)))) (id⊢ 𝓤 _) $ await ! tt $ pick ! (λ m.
         split ! $ move ! (1 ∷ []) $
-        use1 W (some (λ (ws : List Record × (Unit {0} × (Unit {0} × Unit {0}))). ‵ (lasts fill.ended (κ₃, (μ ∷ [], tt)) (fill-arg l₈ γ fs (s .count)) ws)
+        use1 W (some (λ (ws : List Record × (Unit {0} × (Unit {0} × Unit {0}))). ‵ (lasts fill.ended (κ₃, (μ ∷ [], tt)) (fill-arg l₆ γ fs (s .count)) ws)
         ⊛ raw (fact 𝓤 (Filled fs (s .count) m (ws .0))))) (id⊢ 𝓤 _) $ pick ! (λ ws.
         split ! $ move ! (1 ∷ []) $ heard ! (Filled fs (s .count) m (ws .0)) (λ e. fsplit ! $ fsplit ! $ move ! (1 ∷ []) $ feqL ! (λ n₃.
         -- [the last list; true; the tokens and the result; the loan; κ₀; κ₁; κ₂; the last book; day; prices; the locals]
         move ! (2 ∷ []) $ split ! $ move ! (1 ∷ []) $ peeks ! usize (Is usize) (shows 𝓤 H A usize) m (w ∷ []) (λ isₘ.
         land ! (from ! (stop !)) (store ! 23 refl (uint-lawful 𝓤 H A W w64 .typed m _ isₘ .0)) $
         drop ! $ split ! $ move ! (1 ∷ []) $ split ! $ lft-end ! tt $ move ! (0 ∷ 5 ∷ []) $
-        use2 W (later (‵ (Elements u64 N l₈ fs))) (shared-array-back 𝓤 H A W u64 tt N l₈ fs nf (μ ∷ [])) $ await ! tt $
+        use2 W (later (‵ (Elements u64 N l₆ fs))) (shared-array-back 𝓤 H A W u64 tt N l₆ fs nf (μ ∷ [])) $ await ! tt $
         -- [flat; true; κ₃; the last list; true; κ₀; κ₁; κ₂; the last book; day; prices; the locals]
         assigns ! (of-opd ! (load ! (from ! (fld ! refl (stop !))) (look-in ! 29 (sub ! 0 refl (whole !))))) (from ! (stop !))
-        (init ! 46 refl (EL.lawful OA.the-type OA′.the-laws 𝓤 H A W tt .typed (s .answer) _ (fields s is .0) .0)) $
-        use1 W (some (λ (v : Val). ‵ (fat fullShare ar l₈ 0 v) ⊛ ‵ (Array u64 N .own fs (v ∷ [])))) (array-out 𝓤 H A W u64 tt N l₈ fs) $ pick ! (λ v. split ! $
-        returns ! (look ! 47 refl) $ forget ! 0 refl $ forget ! 12 refl $ forget ! 14 refl $ forget ! 16 refl $ forget ! 18 refl $ forget ! 20 refl $ forget ! 22 refl $ forget ! 24 refl $
+        (init ! 42 refl (EL.lawful OA.the-type OA′.the-laws 𝓤 H A W tt .typed (s .answer) _ (fields s is .0) .0)) $
+        use1 W (some (λ (v : Val). ‵ (fat fullShare ar l₆ 0 v) ⊛ ‵ (Array u64 N .own fs (v ∷ [])))) (array-out 𝓤 H A W u64 tt N l₆ fs) $ pick ! (λ v. split ! $
+        returns ! (look ! 43 refl) $ forget ! 0 refl $ forget ! 12 refl $ forget ! 14 refl $ forget ! 16 refl $ forget ! 18 refl $ forget ! 20 refl $ forget ! 22 refl $ forget ! 24 refl $
         forget ! 26 refl $ forget ! 28 refl $
-        forget ! 30 refl $ forget ! 33 refl $ forget ! 35 refl $ forget ! 37 refl $ forget ! 39 refl $ forget ! 41 refl $ forget ! 43 refl $ forget ! 45 refl $ forget ! 47 refl $
-        move ! (47 ∷ 48 ∷ []) $ free1 ! $ move ! (45 ∷ 46 ∷ []) $ free1 ! $ move ! (43 ∷ 44 ∷ []) $ free1 ! $ move ! (41 ∷ 42 ∷ []) $ free1 ! $ move ! (39 ∷ 40 ∷ []) $ free1 ! $
-        move ! (37 ∷ 38 ∷ []) $ free1 ! $
+        forget ! 30 refl $ forget ! 33 refl $ forget ! 35 refl $ forget ! 37 refl $ forget ! 39 refl $ forget ! 41 refl $ forget ! 43 refl $
+        move ! (43 ∷ 44 ∷ []) $ free1 ! $ move ! (41 ∷ 42 ∷ []) $ free1 ! $ move ! (39 ∷ 40 ∷ []) $ free1 ! $ move ! (37 ∷ 38 ∷ []) $ free1 ! $
         move ! (35 ∷ 36 ∷ []) $ free1 ! $ move ! (33 ∷ 34 ∷ []) $ free1 ! $ move ! (0 ∷ 32 ∷ []) $ free1 ! $ move ! (29 ∷ 30 ∷ []) $ free1 ! $ move ! (27 ∷ 28 ∷ []) $ free1 ! $
         move ! (25 ∷ 26 ∷ []) $ free1 ! $
         move ! (23 ∷ 24 ∷ []) $ free1 ! $ move ! (21 ∷ 22 ∷ []) $ free1 ! $ move ! (19 ∷ 20 ∷ []) $ free1 ! $ move ! (17 ∷ 18 ∷ []) $ free1 ! $ move ! (15 ∷ 16 ∷ []) $ free1 ! $
@@ -344,103 +346,94 @@ module _ {M : Type 1} (𝓤 : URA M) (H : Heap 𝓤) (A : Atoms 𝓤) (W : Given
     -- when the flat run is made: the order is left
     abbrev Settling-on : List ℕ → List (Item 𝓤)
     Settling-on xs =
-        ‵ (Elements u64 N l₈ xs) ∷ ‵ (flft κ₀ q₀) ∷ ‵ (flft κ₁ q₁) ∷ ‵ (flft κ₂ q₂) ∷ ‵ (flft κ₃ q₃) ∷ ‵ Days ∷ ‵ Book ∷ ‵ Prices ∷ ‵ Lent
-        ∷ ‵ (froom (sliceTy br) m₈ 0) ∷ ‵ (fdies (sliceTy br) m₈) ∷ ‵ (froom ai m₇ 0) ∷ ‵ (fdies ai m₇) ∷ ‵ (froom (sliceTy rf) m₆ 0) ∷ ‵ (fdies (sliceTy rf) m₆)
-        ∷ ‵ (froom rf m₅ 0) ∷ ‵ (fdies rf m₅) ∷ ‵ (froom (sliceTy bm) m₄ 0) ∷ ‵ (fdies (sliceTy bm) m₄) ∷ ‵ (froom am m₃ 0) ∷ ‵ (fdies am m₃)
-        ∷ ‵ (froom word m₂ 0) ∷ ‵ (fdies word m₂) ∷ ‵ (froom (sliceTy bm) m₁ 0) ∷ ‵ (fdies (sliceTy bm) m₁) ∷ ‵ (froom bm m₀ 0) ∷ ‵ (fdies bm m₀)
-        ∷ ‵ (froom Se′.mir l₉ 0) ∷ ‵ (fdies Se′.mir l₉) ∷ ‵ (fdies ar l₈) ∷ ‵ (fat fullShare sl l₇ 0 s₃) ∷ ‵ (fdies sl l₇)
-        ∷ ‵ (fat fullShare word l₆ 0 (vint w64 u)) ∷ ‵ (fdies word l₆) ∷ ‵ (fat fullShare word l₅ 0 (vint w64 a)) ∷ ‵ (fdies word l₅) ∷ ‵ (fat fullShare word l₄ 0 (vint w64 k)) ∷ ‵ (fdies word l₄)
+        ‵ (Elements u64 N l₆ xs) ∷ ‵ (flft κ₀ q₀) ∷ ‵ (flft κ₁ q₁) ∷ ‵ (flft κ₂ q₂) ∷ ‵ (flft κ₃ q₃) ∷ ‵ Days ∷ ‵ Book ∷ ‵ Prices ∷ ‵ Lent
+        ∷ ‵ (froom (sliceTy br) m₆ 0) ∷ ‵ (fdies (sliceTy br) m₆) ∷ ‵ (froom ai m₅ 0) ∷ ‵ (fdies ai m₅) ∷ ‵ (froom (sliceTy rf) m₄ 0) ∷ ‵ (fdies (sliceTy rf) m₄)
+        ∷ ‵ (froom rf m₃ 0) ∷ ‵ (fdies rf m₃) ∷ ‵ (froom (sliceTy bm) m₂ 0) ∷ ‵ (fdies (sliceTy bm) m₂) ∷ ‵ (froom am m₁ 0) ∷ ‵ (fdies am m₁)
+        ∷ ‵ (froom word m₀ 0) ∷ ‵ (fdies word m₀) ∷ ‵ (froom (sliceTy bm) l₉ 0) ∷ ‵ (fdies (sliceTy bm) l₉) ∷ ‵ (froom bm l₈ 0) ∷ ‵ (fdies bm l₈)
+        ∷ ‵ (froom Se′.mir l₇ 0) ∷ ‵ (fdies Se′.mir l₇) ∷ ‵ (fdies ar l₆) ∷ ‵ (fat fullShare sl l₅ 0 s₃) ∷ ‵ (fdies sl l₅)
+        ∷ ‵ (fat fullShare As′.mir l₄ 0 (askVal ask)) ∷ ‵ (fdies As′.mir l₄)
         ∷ ‵ (fat fullShare pl l₃ 0 s₂) ∷ ‵ (fdies pl l₃) ∷ ‵ (fat fullShare bl l₂ 0 s₁) ∷ ‵ (fdies bl l₂) ∷ ‵ (fat fullShare dl l₁ 0 s₀) ∷ ‵ (fdies dl l₁)
         ∷ ‵ (froom OA′.mir l₀ 0) ∷ ‵ (fdies OA′.mir l₀) ∷ []
 
     settles : (xs : List ℕ) → length xs ≡ N → Sq W (Settling-on xs) (runs C Λ En part.t-2 (atRet En Post))
     settles xs ex =
-        assigns ! (addr ! (from ! (fld ! refl (hop ! (look-in ! 40 (sub ! 0 refl (whole !))) (stop !))))) (from ! (stop !)) (init ! 25 refl (tt, tt)) $
-        assigns ! (agg ! (and-then ! (load ! (from ! (stop !)) (look ! 25 refl)) (and-then ! (load ! (from ! (fld ! refl (stop !))) (look-in ! 40 (sub ! 1 refl (whole !)))) (no-more !))))
+        assigns ! (addr ! (from ! (fld ! refl (hop ! (look-in ! 36 (sub ! 0 refl (whole !))) (stop !))))) (from ! (stop !)) (init ! 25 refl (tt, tt)) $
+        assigns ! (agg ! (and-then ! (load ! (from ! (stop !)) (look ! 25 refl)) (and-then ! (load ! (from ! (fld ! refl (stop !))) (look-in ! 36 (sub ! 1 refl (whole !)))) (no-more !))))
         (from ! (stop !)) (init ! 23 refl (tt, (tt, (record { fits = room₁ .0 }, tt)))) $
         assigns ! (of-opd ! (load ! (from ! (fld ! refl (stop !))) (look-in ! 30 (sub ! 1 refl (whole !))))) (from ! (stop !)) (init ! 21 refl (tt, record { fits = room₃ .0 })) $
         assigns ! (addr ! (from ! (stop !))) (from ! (stop !)) (init ! 19 refl (tt, tt)) $
         assigns ! (agg ! (and-then ! (load ! (from ! (stop !)) (look ! 19 refl)) (and-then ! (big-lit ! (record { fits = flat-room .0 })) (no-more !)))) (from ! (stop !))
         (init ! 17 refl (tt, (tt, (record { fits = flat-room .0 }, tt)))) $
         lft-new ! tt (λ μ. move ! (1 ∷ []) $
-        use1 W (later (some (λ (γ : GName). ‵ (MutSlice (named 3) (μ ∷ []) u64 .own (xf l₈ γ xs) (sf ∷ [])) ⊛ ‵ (flent (μ ∷ []) (Held u64 N l₈ 0 γ)))))
-        (lends-array 𝓤 H A W u64 tt N l₈ xs flat-room (named 3) (μ ∷ [])) $ await ! tt $ pick ! (λ γ. split ! $
+        use1 W (later (some (λ (γ : GName). ‵ (MutSlice (named 3) (μ ∷ []) u64 .own (xf l₆ γ xs) (sf ∷ [])) ⊛ ‵ (flent (μ ∷ []) (Held u64 N l₆ 0 γ)))))
+        (lends-array 𝓤 H A W u64 tt N l₆ xs flat-room (named 3) (μ ∷ [])) $ await ! tt $ pick ! (λ γ. split ! $
         -- [flat; the loan; μ; κ₀; κ₁; κ₂; κ₃; day; book; prices; list; the locals]
         move ! (7 ∷ []) $ use1 W (‵ Days ⊛ ‵ Days) (shr-slice-copy 𝓤 H A W (named 0) κ₀ u64 .twice y (s₀ ∷ [])) $ split ! $ move ! (10 ∷ []) $
         use1 W (‵ Prices ⊛ ‵ Prices) (shr-slice-copy 𝓤 H A W (named 2) κ₂ u64 .twice z (s₂ ∷ [])) $ split ! $
         -- [prices; prices; day; day; flat; the loan; μ; κ₀; κ₁; κ₂; κ₃; book; list; the locals]
         move ! (0 ∷ 4 ∷ []) $ fjoin ! $ move ! (10 ∷ 0 ∷ []) $ fjoin ! $ move ! (2 ∷ 0 ∷ []) $ fjoin ! $ move ! (7 ∷ 4 ∷ []) $ fjoin ! $ move ! (6 ∷ 0 ∷ []) $ fjoin ! $ move ! (5 ∷ 0 ∷ []) $ fjoin ! $
-        use2 W (raw (Settle 𝓤 H A mem run .pre (to-settle l₈ μ γ xs))) (goes-settle l₈ μ γ xs ex) $
+        use2 W (raw (Settle 𝓤 H A mem run .pre (to-settle l₆ μ γ xs))) (goes-settle l₆ μ γ xs ex) $
         -- [what `settle` asks; prices; day; the loan; κ₃; list; the locals]
-        calls-at ! (fmOf 𝓤 H (W .laws) 𝓣) (Settle 𝓤 H A mem run) known-settle (to-settle l₈ μ γ xs)
-        (and-then ! (load ! (from ! (stop !)) (look ! 39 refl))
-        (and-then ! (load ! (from ! (stop !)) (look ! 20 refl))
-        (and-then ! (load ! (from ! (stop !)) (look ! 35 refl)) (and-then ! (load ! (from ! (stop !)) (look ! 33 refl)) (and-then ! (load ! (from ! (stop !)) (look ! 31 refl))
-        (and-then ! (load ! (from ! (stop !)) (look ! 29 refl)) (and-then ! (load ! (from ! (stop !)) (look ! 18 refl)) (and-then ! (load ! (from ! (stop !)) (look ! 14 refl)) (no-more !)))))))))
-        (λ w.
+        calls-at ! (fmOf 𝓤 H (W .laws) 𝓣) (Settle 𝓤 H A mem run) known-settle (to-settle l₆ μ γ xs)
+        (and-then ! (load ! (from ! (stop !)) (look ! 35 refl)) (and-then ! (load ! (from ! (stop !)) (look ! 20 refl)) (and-then ! (load ! (from ! (stop !)) (look ! 31 refl))
+        (and-then ! (load ! (from ! (stop !)) (look ! 29 refl)) (and-then ! (load ! (from ! (stop !)) (look ! 18 refl)) (and-then ! (load ! (from ! (stop !)) (look ! 14 refl)) (no-more !))))))) (λ w.
         use1 W (later (some (λ (s : Settled). ((‵ (flft κ₀ q₀) ⊛ ‵ (flft κ₁ q₁) ⊛ ‵ (flft κ₂ q₂) ⊛ ‵ (flft (μ ∷ []) fullShare) ⊛ ‵ ftrue) ⊛ ‵ (Se.the-row .own s (w ∷ [])))
-        ⊛ raw (ensured 𝓤 H A settle.ended (settle.clauses 𝓤 H A mem run) (κ₀, (κ₁, (κ₂, (μ ∷ [], tt)))) (settle-arg l₈ γ xs) tt s)))) (id⊢ 𝓤 _) $ await ! tt $ pick ! (λ s.
+        ⊛ raw (ensured 𝓤 H A settle.ended (settle.clauses 𝓤 H A mem run) (κ₀, (κ₁, (κ₂, (μ ∷ [], tt)))) (settle-arg l₆ γ xs) tt s)))) (id⊢ 𝓤 _) $ await ! tt $ pick ! (λ s.
         split ! $ move ! (1 ∷ []) $
-        use1 W (some (λ (zs : Unit {0} × (List ℕ × (Unit {0} × (Unit {0} × (Unit {0} × (Unit {0} × (Unit {0} × (List ℕ × Unit {0})))))))). ‵ (lasts settle.ended (κ₀, (κ₁, (κ₂, (μ ∷ [], tt))))
-        (settle-arg l₈ γ xs) zs) ⊛ raw (fact 𝓤 (Made s (zs .1 .0) (zs .1 .1 .1 .1 .1 .1 .1 .0))))) (id⊢ 𝓤 _) $ pick ! (λ zs.
-        split ! $ move ! (1 ∷ []) $ heard ! (Made s (zs .1 .0) (zs .1 .1 .1 .1 .1 .1 .1 .0)) (λ t.
-        fsplit ! $ drop ! $ fsplit ! $ fsplit ! $ move ! (1 ∷ []) $ feqL ! (λ n₁. move ! (1 ∷ []) $ fsplit ! $ drop ! $ fsplit ! $ drop ! $ fsplit ! $ drop ! $ fsplit ! $ drop ! $ fsplit ! $
-        drop ! $ fsplit ! $ fsplit ! $ move ! (1 ∷ []) $ feqL ! (λ nf.
+        use1 W (some (λ (zs : Unit {0} × (List ℕ × (Unit {0} × (Unit {0} × (Unit {0} × (List ℕ × Unit {0})))))). ‵ (lasts settle.ended (κ₀, (κ₁, (κ₂, (μ ∷ [], tt)))) (settle-arg l₆ γ xs) zs)
+        ⊛ raw (fact 𝓤 (Made s (zs .1 .0) (zs .1 .1 .1 .1 .1 .0))))) (id⊢ 𝓤 _) $ pick ! (λ zs.
+        split ! $ move ! (1 ∷ []) $ heard ! (Made s (zs .1 .0) (zs .1 .1 .1 .1 .1 .0)) (λ t.
+        fsplit ! $ drop ! $ fsplit ! $ fsplit ! $ move ! (1 ∷ []) $ feqL ! (λ n₁. move ! (1 ∷ []) $ fsplit ! $ drop ! $ fsplit ! $ drop ! $ fsplit ! $ drop ! $ fsplit ! $ fsplit ! $
+        move ! (1 ∷ []) $ feqL ! (λ nf.
         -- [the last flat; true; the last book; the tokens and the result; prices; day; the loan; κ₃; list; the locals]
         move ! (3 ∷ []) $ split ! $ move ! (1 ∷ []) $ peeks ! Se.the-row (Is Se.the-row) (shows 𝓤 H A Se.the-row) s (w ∷ []) (λ is.
         land ! (from ! (stop !)) (init ! 28 refl (LL.lawful Se.the-type Se′.the-laws 𝓤 H A W .typed s _ is .0)) $
-        rewrite ! 28 (λ (v : Val). ‵ (fat fullShare Se′.mir l₉ 0 v)) (ap only (LL.tells Se.the-type Se′.the-laws s _ is)) refl $
+        rewrite ! 28 (λ (v : Val). ‵ (fat fullShare Se′.mir l₇ 0 v)) (ap only (LL.tells Se.the-type Se′.the-laws s _ is)) refl $
         drop ! $ split ! $ move ! (1 ∷ []) $ split ! $ move ! (1 ∷ []) $ split ! $ move ! (1 ∷ []) $ split ! $ lft-end ! tt $
         -- [μ is over; true; κ₂; κ₁; κ₀; the last flat; true; the last book; prices; day; the loan; κ₃; list; the locals]
-        move ! (0 ∷ 10 ∷ 5 ∷ []) $ use3 W (later (‵ (Elements u64 N l₈ (zs .1 .1 .1 .1 .1 .1 .1 .0)))) (slice-back 𝓤 H A W u64 (μ ∷ []) γ (zs .1 .1 .1 .1 .1 .1 .1 .0) N l₈ 0) $ await ! tt $
+        move ! (0 ∷ 10 ∷ 5 ∷ []) $ use3 W (later (‵ (Elements u64 N l₆ (zs .1 .1 .1 .1 .1 .0)))) (slice-back 𝓤 H A W u64 (μ ∷ []) γ (zs .1 .1 .1 .1 .1 .0) N l₆ 0) $ await ! tt $
         keep ! (0 ∷ 4 ∷ 3 ∷ 2 ∷ 9 ∷ 6 ∷ 8 ∷ 7 ∷ 10 ∷ 11 ∷ 12 ∷ 13 ∷ 14 ∷ 15 ∷ 16 ∷ 17 ∷ 18 ∷ 19 ∷ 20 ∷ 21 ∷ 22 ∷ 23 ∷ 24 ∷ 25 ∷ 26 ∷ 27 ∷ 28 ∷ 29 ∷ 30 ∷ 31 ∷ 32 ∷ 33 ∷ 34 ∷ 35 ∷ 36 ∷ 37 ∷ 38 ∷ 39
-        ∷ 40 ∷ 41 ∷ 42 ∷ 43 ∷ 44 ∷ 45 ∷ 46 ∷ 47 ∷ []) $
-        lists s (zs .1 .0) (zs .1 .1 .1 .1 .1 .1 .1 .0) (subst (Is Se.the-row s) (LL.tells Se.the-type Se′.the-laws s _ is) is) t n₁ (nf ∙ ex))))))))))
+        ∷ 40 ∷ 41 ∷ 42 ∷ 43 ∷ []) $
+        lists s (zs .1 .0) (zs .1 .1 .1 .1 .1 .0) (subst (Is Se.the-row s) (LL.tells Se.the-type Se′.the-laws s _ is) is) t n₁ (nf ∙ ex))))))))))
 
   walk : (𝓣 : Tables 𝓤 H) → Triple 𝓤 (𝓣 .C #order_structs·settle) (Settle 𝓤 H A mem run) → Triple 𝓤 (𝓣 .C #order_structs·fill) (Fill 𝓤 H A mem run)
-      → ent 𝓤 (onEntry 𝓤 H A order′.signature (κ₀, (κ₁, (κ₂, (κ₃, tt)))) (q₀, (q₁, (q₂, (q₃, tt)))) arg vals)
-      (WpFn 𝓤 H (𝓣 .C) (𝓣 .Λ) code.function (s₀ ∷ s₁ ∷ s₂ ∷ vint w64 k ∷ vint w64 a ∷ vint w64 u ∷ s₃ ∷ []) Post)
+      → ent 𝓤 (onEntry 𝓤 H A order′.signature (κ₀, (κ₁, (κ₂, (κ₃, tt)))) (q₀, (q₁, (q₂, (q₃, tt)))) arg vals) (WpFn 𝓤 H (𝓣 .C) (𝓣 .Λ) code.function (s₀ ∷ s₁ ∷ s₂ ∷ askVal ask ∷ s₃ ∷ []) Post)
   walk 𝓣 known-settle known-fill =
       qed W ((‵ (flft κ₀ q₀) ⊛ ‵ (flft κ₁ q₁) ⊛ ‵ (flft κ₂ q₂) ⊛ ‵ (flft κ₃ q₃) ⊛ ‵ ftrue)
-      ∷ ‵ (owns (ShrSlice (named 0) κ₀ u64 ∷ MutSlice (named 1) κ₁ u64 ∷ ShrSlice (named 2) κ₂ u64 ∷ usize ∷ usize ∷ u64 ∷ MutSlice (named 3) κ₃ T.the-row ∷ []) arg vals) ∷ []) ∵
-      enter ! (𝓣 .C) (𝓣 .Λ) code.function (s₀ ∷ s₁ ∷ s₂ ∷ vint w64 k ∷ vint w64 a ∷ vint w64 u ∷ s₃ ∷ []) _ $
+      ∷ ‵ (owns (ShrSlice (named 0) κ₀ u64 ∷ MutSlice (named 1) κ₁ u64 ∷ ShrSlice (named 2) κ₂ u64 ∷ As.the-row ∷ MutSlice (named 3) κ₃ T.the-row ∷ []) arg vals) ∷ []) ∵
+      enter ! (𝓣 .C) (𝓣 .Λ) code.function (s₀ ∷ s₁ ∷ s₂ ∷ askVal ask ∷ s₃ ∷ []) _ $
       alloc1 ! (λ l₀. alloc1 ! (λ l₁. alloc1 ! (λ l₂. alloc1 ! (λ l₃. alloc1 ! (λ l₄. alloc1 ! (λ l₅. alloc1 ! (λ l₆. alloc1 ! (λ l₇. alloc1 ! (λ l₈. alloc1 ! (λ l₉. alloc1 ! (λ m₀.
-      alloc1 ! (λ m₁. alloc1 ! (λ m₂. alloc1 ! (λ m₃. alloc1 ! (λ m₄. alloc1 ! (λ m₅. alloc1 ! (λ m₆. alloc1 ! (λ m₇. alloc1 ! (λ m₈. alloc0 ! $ params1 ! $
-      pass1 ! (init ! 34 refl (tt, (tt, (record { fits = room₀ .0 }, tt)))) $ pass1 ! (init ! 32 refl (tt, (tt, (record { fits = room₁ .0 }, tt)))) $
-      pass1 ! (init ! 30 refl (tt, (tt, (record { fits = room₂ .0 }, tt)))) $
-      pass1 ! (init ! 28 refl (tt, record { fits = k-fits })) $ pass1 ! (init ! 26 refl (tt, record { fits = a-fits })) $ pass1 ! (init ! 24 refl (tt, record { fits = u-fits })) $
-      pass1 ! (init ! 22 refl (tt, (tt, (record { fits = room₃ .0 }, tt)))) $ pass0 ! $
-      move ! (39 ∷ []) $ fsplit ! $ move ! (1 ∷ []) $ fsplit ! $ move ! (1 ∷ []) $ fsplit ! $ move ! (1 ∷ []) $ fsplit ! $ move ! (1 ∷ []) $ fsplit ! $ move ! (1 ∷ []) $ fsplit ! $
-      move ! (1 ∷ []) $ fsplit ! $
-      move ! (46 ∷ []) $ split ! $ move ! (1 ∷ []) $ split ! $ move ! (1 ∷ []) $ split ! $ move ! (1 ∷ []) $ split ! $
-      -- [κ₃; true; κ₂; κ₁; κ₀; list; true; units; account; kind; prices; book; day; the locals]
-      keep ! (4 ∷ 3 ∷ 2 ∷ 0 ∷ 12 ∷ 11 ∷ 10 ∷ 5 ∷ 13 ∷ 14 ∷ 15 ∷ 16 ∷ 17 ∷ 18 ∷ 19 ∷ 20 ∷ 21 ∷ 22 ∷ 23 ∷ 24 ∷ 25 ∷ 26 ∷ 27 ∷ 28 ∷ 29 ∷ 30 ∷ 31 ∷ 32 ∷ 33 ∷ 34 ∷ 35 ∷ 36 ∷ 37 ∷ 38 ∷ 39 ∷ 40 ∷ 41
-      ∷ 42 ∷ 43 ∷ 44 ∷ 45 ∷ 46 ∷ 47 ∷ 48 ∷ 49 ∷ 50 ∷ []) $
+      alloc1 ! (λ m₁. alloc1 ! (λ m₂. alloc1 ! (λ m₃. alloc1 ! (λ m₄. alloc1 ! (λ m₅. alloc1 ! (λ m₆. alloc0 ! $ params1 ! $
+      pass1 ! (init ! 30 refl (tt, (tt, (record { fits = room₀ .0 }, tt)))) $ pass1 ! (init ! 28 refl (tt, (tt, (record { fits = room₁ .0 }, tt)))) $
+      pass1 ! (init ! 26 refl (tt, (tt, (record { fits = room₂ .0 }, tt)))) $
+      pass1 ! (init ! 24 refl (LL.lawful As.the-type As′.the-laws 𝓤 H A W .typed ask _ is-ask .0)) $ pass1 ! (init ! 22 refl (tt, (tt, (record { fits = room₃ .0 }, tt)))) $ pass0 ! $
+      move ! (35 ∷ []) $ fsplit ! $ move ! (1 ∷ []) $ fsplit ! $ move ! (1 ∷ []) $ fsplit ! $ move ! (1 ∷ []) $ fsplit ! $ move ! (1 ∷ []) $ fsplit ! $
+      move ! (40 ∷ []) $ split ! $ move ! (1 ∷ []) $ split ! $ move ! (1 ∷ []) $ split ! $ move ! (1 ∷ []) $ split ! $
+      -- [κ₃; true; κ₂; κ₁; κ₀; list; true; ask; prices; book; day; the locals]
+      keep ! (4 ∷ 3 ∷ 2 ∷ 0 ∷ 10 ∷ 9 ∷ 8 ∷ 5 ∷ 11 ∷ 12 ∷ 13 ∷ 14 ∷ 15 ∷ 16 ∷ 17 ∷ 18 ∷ 19 ∷ 20 ∷ 21 ∷ 22 ∷ 23 ∷ 24 ∷ 25 ∷ 26 ∷ 27 ∷ 28 ∷ 29 ∷ 30 ∷ 31 ∷ 32 ∷ 33 ∷ 34 ∷ 35 ∷ 36 ∷ 37 ∷ 38 ∷ 39 ∷ 40
+      ∷ 41 ∷ 42 ∷ 43 ∷ 44 ∷ []) $
       -- the flat run is made
       owned ! u64 (Is u64) (uint-makes 𝓤 H A W w64) 0 _ (refl, lit< tt) $
       use1 W (‵ (Array u64 N .own (replicate N 0) (arrayVal (replicate N (vint w64 0)) ∷ []))) (array-repeat 𝓤 H A W u64 (uint-copy 𝓤 H A W w64) N 0 (vint w64 0)) $
       peeks ! (Array u64 N) (Is (Array u64 N)) (shows 𝓤 H A (Array u64 N)) (replicate N 0) (arrayVal (replicate N (vint w64 0)) ∷ []) (λ is.
       assigns ! (rep ! N (lit ! tt)) (from ! (stop !)) (init ! 29 refl (array-lawful 𝓤 H A W u64 (uint-lawful 𝓤 H A W w64) N .typed (replicate N 0) _ is .0)) $
-      move ! (29 ∷ 0 ∷ []) $ use2 W (‵ (Elements u64 N l₈ (replicate N 0))) (array-in 𝓤 H A W u64 tt N l₈ (replicate N 0) (arrayVal (replicate N (vint w64 0)))) $
-      settles 𝓣 known-settle known-fill l₀ l₁ l₂ l₃ l₄ l₅ l₆ l₇ l₈ l₉ m₀ m₁ m₂ m₃ m₄ m₅ m₆ m₇ m₈ (replicate N 0) (length-replicate {A = ℕ} N 0)))))))))))))))))))))
+      move ! (29 ∷ 0 ∷ []) $ use2 W (‵ (Elements u64 N l₆ (replicate N 0))) (array-in 𝓤 H A W u64 tt N l₆ (replicate N 0) (arrayVal (replicate N (vint w64 0)))) $
+      settles 𝓣 known-settle known-fill l₀ l₁ l₂ l₃ l₄ l₅ l₆ l₇ l₈ l₉ m₀ m₁ m₂ m₃ m₄ m₅ m₆ (replicate N 0) (length-replicate {A = ℕ} N 0)))))))))))))))))))
 
 module _ {M : Type 1} (𝓤 : URA M) (H : Heap 𝓤) (A : Atoms 𝓤) (W : Given 𝓤 H A) (mem : Memory → SProp 𝓤) (run : Routine → Fun 𝓤) where
   order-walks : (𝓣 : Tables 𝓤 H) → Triple 𝓤 (𝓣 .C #order_structs·settle) (Settle 𝓤 H A mem run) → Triple 𝓤 (𝓣 .C #order_structs·fill) (Fill 𝓤 H A mem run)
       → Walks 𝓤 H A order′.ended stayed (WpFn 𝓤 H (𝓣 .C) (𝓣 .Λ) code.function) (order′.clauses 𝓤 H A mem run)
   order-walks 𝓣 k₀ k₁ = walked 𝓤 H A order′.ended stayed (order′.clauses 𝓤 H A mem run) (WpFn 𝓤 H (𝓣 .C) (𝓣 .Λ) code.function)
-      (λ κs. (slice-vals, (slice-vals, (slice-vals, (uint-vals w64, (uint-vals w64, (uint-vals w64, (slice-vals, tt))))))))
+      (λ κs. (slice-vals, (slice-vals, (slice-vals, (LL.vals As.the-type As′.the-laws, (slice-vals, tt))))))
       (λ κs. (
         shr-slice-tells (named 0) (κs .0) u64,
-        (
-          mut-slice-tells (named 1) (κs .1 .0) u64,
-          (shr-slice-tells (named 2) (κs .1 .1 .0) u64, (uint-tells w64, (uint-tells w64, (uint-tells w64, (mut-slice-tells (named 3) (κs .1 .1 .1 .0) T.the-row, tt))))),
-        ),
+        (mut-slice-tells (named 1) (κs .1 .0) u64, (shr-slice-tells (named 2) (κs .1 .1 .0) u64, (LL.tells As.the-type As′.the-laws, (mut-slice-tells (named 3) (κs .1 .1 .1 .0) T.the-row, tt)))),
       ))
       (λ κs qs bounds a g are. via 𝓤 _ (fst∗ 𝓤 _ (emp 𝓤))
       (walk 𝓤 H A W mem run (κs .0) (κs .1 .0) (κs .1 .1 .0) (κs .1 .1 .1 .0) (qs .0) (qs .1 .0) (qs .1 .1 .0) (qs .1 .1 .1 .0)
-      (a .0) (a .1 .0 .ptr .0) (a .1 .0 .ptr .1) (a .1 .0 .name) (a .1 .0 .now) (a .1 .1 .0) (a .1 .1 .1 .0) (a .1 .1 .1 .1 .0) (a .1 .1 .1 .1 .1 .0) (a .1 .1 .1 .1 .1 .1 .0 .ptr .0)
-      (a .1 .1 .1 .1 .1 .1 .0 .ptr .1) (a .1 .1 .1 .1 .1 .1 .0 .name) (a .1 .1 .1 .1 .1 .1 .0 .now)
-      (are .1 .1 .1 .0 .1) (are .1 .1 .1 .1 .0 .1) (are .1 .1 .1 .1 .1 .0 .1) (are .0 .0 .1) (are .1 .0 .0 .1) (are .1 .1 .0 .0 .1) (are .1 .1 .1 .1 .1 .1 .0 .0 .1) 𝓣 k₀ k₁))
+      (a .0) (a .1 .0 .ptr .0) (a .1 .0 .ptr .1) (a .1 .0 .name) (a .1 .0 .now) (a .1 .1 .0) (a .1 .1 .1 .0) (a .1 .1 .1 .1 .0 .ptr .0) (a .1 .1 .1 .1 .0 .ptr .1) (a .1 .1 .1 .1 .0 .name)
+      (a .1 .1 .1 .1 .0 .now)
+      (are .1 .1 .1 .0) (are .0 .0 .1) (are .1 .0 .0 .1) (are .1 .1 .0 .0 .1) (are .1 .1 .1 .1 .0 .0 .1) 𝓣 k₀ k₁))
 
 order-meets : {M : Type 1} (𝓤 : URA M) (H : Heap 𝓤) (A : Atoms 𝓤) → Given 𝓤 H A → (mem : Memory → SProp 𝓤) (run : Routine → Fun 𝓤) (𝓣 : Tables 𝓤 H)
     → Triple 𝓤 (𝓣 .C #order_structs·settle) (Settle 𝓤 H A mem run) → Triple 𝓤 (𝓣 .C #order_structs·fill) (Fill 𝓤 H A mem run)
@@ -452,10 +445,7 @@ order-meets 𝓤 H A W mem run 𝓣 k₀ k₁ =
         goes-gave-slice 𝓤 H A W 4 1 tt (plain (λ _. u64)),
         (
           goes-none-slice 𝓤 H A W 4 (2 ∷ []) tt (plain (λ _. u64)) yes,
-          (
-            goes-none 𝓤 H A W 4 (λ _. usize) yes (λ κs x f. refl),
-            (goes-none 𝓤 H A W 4 (λ _. usize) yes (λ κs x f. refl), (goes-none 𝓤 H A W 4 (λ _. u64) yes (λ κs x f. refl), (goes-gave-slice 𝓤 H A W 4 3 tt (plain (λ _. T.the-row)), tt))),
-          ),
+          (goes-none 𝓤 H A W 4 (λ _. As.the-row) yes (λ κs x f. refl), (goes-gave-slice 𝓤 H A W 4 3 tt (plain (λ _. T.the-row)), tt)),
         ),
       ),
     )

@@ -1,11 +1,11 @@
 -- `order_structs::settle` meets its contract: the flat order on the front of the run, which has room enough for every order.
-use mathlib.Core.Path.{sym}
+use mathlib.Core.Path.{sym, _∙_}
 use mathlib.Core.Bool.{false≢true}
 use borrow.Author.Needs.{needs}
 use native.Mathlib.Omega.{arith}
 use lib.Seq.{length-take-le}
 use Rattle.order_structs.proofs.Room.{lent-bound}
-use Rattle.order_structs.proofs.Laws.{of-kind, settling}
+use Rattle.order_structs.proofs.Laws.{known, known-reply, known-book, known-list, settling}
 use Rattle.order_structs.proofs.settle.Statement.{statement}
 use Rattle.order_structs.proofs.settle.Tie as tie
 
@@ -24,7 +24,7 @@ slice-aggregate-order c =
     sym (length-take-le _ (a .args .flat .now) (omega (arith, lent-bound _ _ (lent .records-lent .ensures), a .pre)))
 
 order-requires : tie.Need-order-requires
-order-requires c κs = (λ q. absurd (false≢true q), rw (c .before .before .ask-of .ensures) (of-kind _ _ _))
+order-requires c κs = (λ q. absurd (false≢true q), rw (c .before .before .known-kind .ensures) (known _))
 
 returns : tie.Need-returns
 returns c =
@@ -32,8 +32,12 @@ returns c =
     let asked = called .before .before .before in
     let lent = asked .before in
     let made = called .order .ensures in
-    let full = lent .before .before .before .before .before .pre in
-    rw (sym (asked .ask-of .ensures)) (settling _ _ _ _ _ _ _ _ _ _ _ (lent .records-lent .ensures) full (c .made-count .ensures) (made .0) (made .1 .0) (made .1 .1))
+    let start = lent .before .before .before .before .before in
+    let e = asked .known-kind .ensures in
+    settling _ _ _ _ (start .args .room) _ _ _ _ _ _ (lent .records-lent .ensures) (start .pre) (c .made-count .ensures)
+    ((rw e at (made .0)) ∙ known-reply _ _ _ _ _)
+    ((rw e at (made .1 .0)) ∙ known-book _ _ _ _ _)
+    ((rw e at (made .1 .1)) ∙ known-list _ _ _ _ _)
 
 pub settle-spec : {M : Type 1} → statement M
 settle-spec =
