@@ -100,7 +100,7 @@ pub fn fields_of(figures: [Figure; 20]) -> ListFields
     let fund = Fund {
         first_code: figures[0].size - 1,
         basket_size: figures[1].size,
-        max_cash_ratio: Rate(figures[2].size),
+        max_cash_ratio: Rate::new(figures[2].size),
         switch: figures[4].size,
         estimated_cash: digits::signed_of(figures[6]),
         limits: limits_of(figures),

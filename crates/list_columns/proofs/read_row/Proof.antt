@@ -133,19 +133,26 @@ returns-6 : tie.Need-returns-6
 returns-6 c =
     fault-row _ 5 _ (omega arith) (read-5 (c .before .before .before .before)) (column-ill _ 5 (sym (c .before .before .before .read-amount .ensures) ∙ c .before .enum-told6 .given .1)) (c .faulty6 .ensures)
 
+new-requires : tie.Need-new-requires
+new-requires c κs = tt
+
+new-requires-2 : tie.Need-new-requires-2
+new-requires-2 c κs = tt
+
 returns-7 : tie.Need-returns-7
 returns-7 c =
-    let r5 = c .before .before .before .before in
+    let r6 = c .before .before in
+    let r5 = r6 .before .before .before .before in
     let r4 = r5 .before .before .before .before in
     let r3 = r4 .before .before .before in
     let r1 = r3 .before .before .before .before .before .before in (
-      sought-end _ _ _ (read-6 c) (omega arith) ∙ fault-first _,
+      sought-end _ _ _ (read-6 r6) (omega arith) ∙ fault-first _,
       λ _.
           component-is _ (r1 .before .before .before .before .flag-of .ensures)
           (column-known _ 0 (sym (r1 .before .before .before .read-code .ensures) ∙ r1 .before .code .given .1) .1)
           (column-known _ 2 (sym (r3 .before .before .before .read-quantity .ensures) ∙ r3 .before .quantity .given .1) .1)
-          (column-known _ 4 (sym (r5 .before .before .before .read-rate .ensures) ∙ r5 .before .rate .given .1) .1)
-          (column-known _ 5 (sym (c .before .before .before .read-amount .ensures) ∙ c .before .amount .given .1) .1),
+          (c .before .new .ensures ∙ column-known _ 4 (sym (r5 .before .before .before .read-rate .ensures) ∙ r5 .before .rate .given .1) .1)
+          (c .new2 .ensures ∙ column-known _ 5 (sym (r6 .before .before .before .read-amount .ensures) ∙ r6 .before .amount .given .1) .1),
     )
 
 pub read-row-spec : {M : Type 1} → statement M
@@ -181,4 +188,6 @@ read-row-spec =
     enum-told-6
     faulty-requires-6
     returns-6
+    new-requires
+    new-requires-2
     returns-7)
