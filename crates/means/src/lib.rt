@@ -101,7 +101,7 @@ fn stock_answer(ask: Ask, n: usize, stretch: &[u64], short: usize) -> Answer
     if scan::handable_at(stretch, n) < ask.units {
         return Answer::Refused(Refusal::ShortOfStock(0));
     }
-    if short < n {
+    if n > short {
         return Answer::Refused(Refusal::FundShort(short));
     }
     Answer::Done
