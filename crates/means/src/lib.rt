@@ -98,7 +98,8 @@ fn stock_answer(ask: Ask, n: usize, stretch: &[u64], short: usize) -> Answer
         }
         return Answer::Done;
     }
-    if scan::handable_at(stretch, n) < ask.units {
+    let held = scan::handable_at(stretch, n);
+    if held < ask.units {
         return Answer::Refused(Refusal::ShortOfStock(0));
     }
     if n > short {
