@@ -5,7 +5,7 @@ use mathlib.Core.List.{List, [], _∷_, _++_}
 use lib.Dec.{leb, ltb, eqb}
 use lib.ListN.{length, take, drop}
 use Rattle.lists.specs.Below.{firstBelow, joinBelow}
-use Rattle.lists.specs.Every.{every, inside}
+use Rattle.lists.specs.Every.{inside}
 use Rattle.lists.specs.Checks.{Check, check, Reply, answered, passes}
 use Rattle.layout.specs.declared.Component.{Component}
 use Rattle.fund.specs.Components.{componentFault}

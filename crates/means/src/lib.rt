@@ -1,6 +1,6 @@
 // The third stage of an order: stock, the cash ratio, cash and the room for the records. It only reads.
 ghost use mathlib.Core.Path.{_≡_};
-ghost use Prim.Native.Nat.{_+_, _*_, _≤_, _<_, _^_};
+ghost use Prim.Native.Nat.{_≤_, _<_, _^_};
 ghost use lib.ListN.{length};
 ghost use Rattle.lists.specs.Checks.{reply, answered};
 ghost use Rattle.layout.specs.Places.{basketWidth, mostComponents};

@@ -184,7 +184,3 @@ redemption-facts d b ps a units room e =
       money = ltb-false _ _ (p .1 .1 .1 .1 .1 .1 .1 .0);
       listed = ltb-false _ _ (p .1 .1 .1 .1 .1 .1 .1 .1 .0);
     }
-
-pub redemption-value : (d : Day) (b ps : List ℕ) (a units room : ℕ) → isAccepted (redemptionReply d b ps a units room) ≡ true → redemptionReply d b ps a units room .value ≡ length (redemptionRecords d units)
-unfolding redemptionReply redemptionChecks formChecks permissionChecks redemptionMeans
-redemption-value d b ps a units room e = accepted-value (onSoundDay d b ps (redemptionChecks d b a units room)) _ tt e

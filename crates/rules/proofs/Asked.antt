@@ -61,15 +61,6 @@ module _ (d : Day) (b ps : List ℕ) (a units : ℕ) where
   unfolding askedList askedReply askedChecks askedRecords redeemedList redemptionReply
   redeemed-list list = refl
 
--- the cash is what a creation owes, and what a redemption pays
-pub asked-due : (d : Day) (s ps : List ℕ) (a units : ℕ) → total (askedCash d s ps (creationOf a units)) ≡ creationDue d s ps (baskets d units)
-unfolding askedCash cashBy creationDue
-asked-due d s ps a units = refl
-
-pub asked-paid : (d : Day) (s ps : List ℕ) (a units : ℕ) → total (askedCash d s ps (redemptionOf a units)) ≡ redemptionPaid d (baskets d units)
-unfolding askedCash cashBy redemptionPaid
-asked-paid d s ps a units = refl
-
 -- the records and the moves of an ask, by the text for both kinds
 pub asked-records : (d : Day) (s ps : List ℕ) (k : Ask) → k .kind < 2
     → recordsBy (k .kind) d s (k .units) (baskets d (k .units)) (askedCash d s ps k) ≡ askedRecords d s ps k

@@ -9,7 +9,6 @@ use lib.ListN.{length, getD, replicate, length-replicate, getD-replicate}
 use Rattle.lists.specs.Below.{joinBelow, join-length, sum-same, sum-zero}
 use Rattle.lists.specs.Every.{every-at}
 use Rattle.lists.specs.Checks.{isAccepted, all-passed}
-use Rattle.lists.specs.Every.{every-at}
 use borrow.Author.Tests.{eqb-true}
 use Rattle.lists.specs.Stretch.{stretchOf, over, stretch-join, stretch-at}
 use Rattle.lots.specs.declared.Lots.{Lots}
@@ -18,7 +17,7 @@ use Rattle.lots.proofs.Laws.{lots, lots-eq}
 use Rattle.layout.specs.Places.{limitCount}
 use Rattle.layout.specs.Components.{blank, componentAt}
 use Rattle.layout.proofs.Components.{places-at}
-use Rattle.layout.specs.Day.{Day, dayAt}
+use Rattle.layout.specs.Day.{dayAt}
 use Rattle.layout.proofs.Day.{day-back}
 use Rattle.fund.proofs.Laws.{fund-sound, cash-size}
 use Rattle.layout.specs.Book.{widthOf, cash, created, redeemed, headAt, lotsAt, headTotal, lineTotal, lineFrom}

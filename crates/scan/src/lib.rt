@@ -2,7 +2,7 @@
 ghost use mathlib.Core.Bool.{cond, not, _||_};
 ghost use mathlib.Core.List.{[], _∷_};
 ghost use mathlib.Core.Path.{_≡_};
-ghost use Prim.Native.Nat.{_+_, _-_, _*_, _≤_, _<_, _^_, min};
+ghost use Prim.Native.Nat.{_+_, _-_, _≤_, _<_, _^_, min};
 ghost use lib.Dec.{leb, ltb};
 ghost use lib.ListN.{length};
 ghost use Rattle.lists.specs.Every.{every};

@@ -1,8 +1,6 @@
 -- `trades::trade_means` meets its contract: the seller's lots and the buyer's cash are read off their stretches.
-use mathlib.Core.Path.{_∙_, sym, ap}
 use native.Mathlib.Omega.{arith}
 use borrow.Author.Needs.{needs}
-use Rattle.lots.specs.Lots.{sellable}
 use Rattle.trades.proofs.Laws.{means-short, means-cash, means-done}
 use Rattle.trades.proofs.trade_means.Statement.{statement}
 use Rattle.trades.proofs.trade_means.Tie as tie
