@@ -31,9 +31,6 @@ pub struct Tested {
     pub cash: CashByMarket,
 }
 
-// The place of the cash in a stretch.
-const CASH: usize = 0;
-
 // The tests 14 and 15: nothing is asked where nothing is missing.
 fn ratio_answer(
     d: DayHead,
@@ -139,9 +136,9 @@ fn cash_held(kind: usize, stretch: &[u64], fund: &[u64]) -> u64
     ensures { λ r. ⌜ r ≡ headAt (byKind kind (now (stretch .entry)) (now (fund .entry))) cash ⌝ }
 {
     if kind == rules::CREATION {
-        return stretch[CASH];
+        return stretch[layout::CASH];
     }
-    fund[CASH]
+    fund[layout::CASH]
 }
 
 // All tests of the stage, from the scan t and the cash held.

@@ -172,7 +172,7 @@ fn room_left(book: &[u64], accounts: usize, n: usize) -> bool
     let old = totals::total_at(book, accounts, width, at);
     let bought = totals::total_at(book, accounts, width, at + 1);
     let got = totals::total_at(book, accounts, width, at + 2);
-    let created = totals::total_at(book, accounts, width, 1);
+    let created = totals::total_at(book, accounts, width, layout::CREATED);
     old + bought + got + (fund::CEILING - created) <= rules::MOST_UNITS
 }
 
