@@ -27,7 +27,8 @@ use Rattle.list_rules.specs.declared.ListRead.{ListRead}
 use Rattle.list_rules.specs.declared.ListAnswer.the-variants.{Done}
 use Rattle.list_rules.specs.Fields.{fieldsFrom, fieldsInRange}
 use Rattle.list_rules.proofs.Fields.{fields-same}
-use Rattle.list_rules.specs.Reading.{rowCount, shapeChecks, wrongField, fieldStart, figureRead, rowOf, componentRead, wrongRow, columnPlace, fieldsRead, isCounted, readFault, readReply, componentsRun, nameRead, nameFrom, rowStart}
+use Rattle.list_rules.specs.Reading.{rowCount, shapeChecks, wrongField, fieldStart, figureRead, rowOf, componentRead, wrongRow, columnPlace}
+use Rattle.list_rules.specs.Reading.{fieldsRead, isCounted, readFault, readReply, componentsRun, nameRead, nameFrom, rowStart}
 use Rattle.list_trip.proofs.WrittenRuns.{places-same}
 use Rattle.list_reading.specs.declared.Shape.{Shape}
 use Rattle.list_reading.specs.Outcome.{ReadOutcome, Rows, Shaped, Found, Spelled, Ranged, refusedRead}

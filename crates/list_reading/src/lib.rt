@@ -100,7 +100,7 @@ fn is_counted(recordnum: u64, count: usize) -> bool
     if recordnum < 1 {
         return false;
     }
-    if layout::MOST_COMPONENTS as u64 < recordnum {
+    if (layout::MOST_COMPONENTS as u64) < recordnum {
         return false;
     }
     recordnum == count as u64

@@ -15,7 +15,8 @@ use Rattle.lines.specs.Lines.{nextAt, same}
 use Rattle.list_rules.specs.Head.{fieldCount, headLines, isField, isHeadLine, endWord}
 use Rattle.list_rules.specs.Columns.{columnCount, isRow, columnFault}
 use Rattle.list_rules.specs.Fields.{fieldsInRange}
-use Rattle.list_rules.specs.Reading.{startOf, lineStands, wrongLine, rowStart, rowCount, endStart, shapeChecks, fieldOf, figureRead, wrongField, rowOf, wrongRow, fieldChecks, fieldsRead, isCounted, readFault, valueChecks, readChecks, readReply}
+use Rattle.list_rules.specs.Reading.{startOf, lineStands, wrongLine, rowStart, rowCount, endStart, shapeChecks, fieldOf, figureRead, wrongField}
+use Rattle.list_rules.specs.Reading.{rowOf, wrongRow, fieldChecks, fieldsRead, isCounted, readFault, valueChecks, readChecks, readReply}
 use Rattle.list_trip.proofs.Below.{first-before}
 
 pub record Reads (text : List ℕ) : Type 0 where

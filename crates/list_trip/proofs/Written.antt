@@ -18,7 +18,8 @@ use Rattle.layout.specs.Components.{componentAt, componentNumbers, placesOf}
 use Rattle.digits.specs.declared.Figure.{Figure}
 use Rattle.list_rules.specs.declared.ListFields.{ListFields}
 use Rattle.list_rules.specs.Fields.{figureAt, fieldsInRange}
-use Rattle.list_rules.specs.Reading.{rowCount, shapeChecks, fieldChecks, rowOf, componentRead, figureRead, fieldsRead, isCounted, readFault, valueChecks, readChecks, readReply, componentsRun, nameRead}
+use Rattle.list_rules.specs.Reading.{rowCount, shapeChecks, fieldChecks, rowOf, componentRead, figureRead, fieldsRead}
+use Rattle.list_rules.specs.Reading.{isCounted, readFault, valueChecks, readChecks, readReply, componentsRun, nameRead}
 use Rattle.list_rules.specs.Columns.{nameOf}
 use Rattle.list_rules.specs.Writing.{Listing, nameAt, textOf}
 use Rattle.list_trip.specs.Trips.{namesRead, listRead, WrittenReads}

@@ -59,7 +59,8 @@ put-again w b a s t h e =
 before-mid : (p k a : ℕ) (b s : List ℕ) → p + k ≤ a → a ≤ length b → take k (drop p (take a b ++ s)) ≡ take k (drop p b)
 before-mid p k a b s h g =
     let la : length (take a b) ≡ a = length-take-le a b g in
-    let front : (t : List ℕ) → take k (drop p (take a b ++ t)) ≡ take k (drop p (take a b)) = λ t. rw (drop-append-le p (take a b) t (omega arith)) (take-append-le k _ t (rw length-drop (omega arith))) in
+    let front : (t : List ℕ) → take k (drop p (take a b ++ t)) ≡ take k (drop p (take a b)) =
+    λ t. rw (drop-append-le p (take a b) t (omega arith)) (take-append-le k _ t (rw length-drop (omega arith))) in
     front s ∙ sym (front (drop a b)) ∙ rw take-append-drop
 
 -- from d after the part that changed on

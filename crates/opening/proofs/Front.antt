@@ -22,7 +22,8 @@ three-front at a b c s h =
     let one : at + 1 ≡ suc at = omega arith in
     let two : at + 2 ≡ suc (suc at) = omega arith in
     let front : length (take at s) ≡ at = length-take-le at s (omega arith) in
-    let cut : (t : List ℕ) → take (at + 3) ((take at s ++ (a ∷ b ∷ c ∷ [])) ++ t) ≡ take at s ++ (a ∷ b ∷ c ∷ []) = λ t. take-at (take at s ++ (a ∷ b ∷ c ∷ [])) t (at + 3) (rw length-append (omega arith)) in
+    let cut : (t : List ℕ) → take (at + 3) ((take at s ++ (a ∷ b ∷ c ∷ [])) ++ t) ≡ take at s ++ (a ∷ b ∷ c ∷ []) =
+    λ t. take-at (take at s ++ (a ∷ b ∷ c ∷ [])) t (at + 3) (rw length-append (omega arith)) in
     rw (one, two, sets-eq (a ∷ b ∷ c ∷ []) s at h) (cut (drop (at + 3) s))
 
 -- a stretch that is opened as far as line l

@@ -12,7 +12,8 @@ use Rattle.layout.specs.Book.{account}
 use Rattle.rules.specs.Orders.{creation, redemption, baskets}
 use Rattle.rules.specs.Creation.{creationDue, creationRecords, creationReply, creationMoves, createdBook, createdList}
 use Rattle.rules.specs.Redemption.{redemptionPaid, redemptionRecords, redemptionReply, redemptionMoves, redeemedBook, redeemedList}
-use Rattle.rules.specs.Kinds.{byKind, creationOf, redemptionOf, total, movedBy, stockLots, fundLots, unitLots, accountCash, fundCash, orderMoves, recordsBy, cashBy, askedCash, askedRecords, askedChecks, askedReply, askedMoves, askedBook, askedList}
+use Rattle.rules.specs.Kinds.{byKind, creationOf, redemptionOf, total, movedBy, stockLots, fundLots, unitLots, accountCash, fundCash}
+use Rattle.rules.specs.Kinds.{orderMoves, recordsBy, cashBy, askedCash, askedRecords, askedChecks, askedReply, askedMoves, askedBook, askedList}
 
 -- what holds of creation and of redemption holds of a kind
 pub by-kind : (P : ℕ → Type 0) → P creation → P redemption → (kind : ℕ) → kind < 2 → P kind

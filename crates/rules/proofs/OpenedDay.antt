@@ -22,7 +22,8 @@ use Rattle.layout.proofs.Day.{day-back}
 use Rattle.fund.proofs.Laws.{fund-sound, cash-size}
 use Rattle.layout.specs.Book.{widthOf, cash, created, redeemed, headAt, lotsAt, headTotal, lineTotal, lineFrom}
 use Rattle.rules.specs.Lines.{componentOf, priceOf}
-use Rattle.rules.specs.Opening.{Opening, holdingsOf, cashOpened, heldOpened, openedTotal, openedCash, sizeChecks, fundChecks, totalChecks, dayChecks, componentsOpened, lentSizesFit, openingSizesFit, openedTotals, openingReply, openedDay, openedRun, openedStretch, openedBook, openedPrices}
+use Rattle.rules.specs.Opening.{Opening, holdingsOf, cashOpened, heldOpened, openedTotal, openedCash, sizeChecks, fundChecks, totalChecks, dayChecks}
+use Rattle.rules.specs.Opening.{componentsOpened, lentSizesFit, openingSizesFit, openedTotals, openingReply, openedDay, openedRun, openedStretch, openedBook, openedPrices}
 use Rattle.rules.proofs.SoundDay.{DaySizes, sizes-facts, Opens, opens-facts, Kept}
 
 -- one account's stretch

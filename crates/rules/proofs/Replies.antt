@@ -7,7 +7,8 @@ use lib.Dec.{T}
 use Rattle.lists.specs.Checks.{Check, Reply, reply, isAccepted, answered, numbered, answered-next, answered-stop, accepted-passes, refused-stops}
 use Rattle.layout.specs.Day.{Day}
 use Rattle.rules.specs.declared.Refusal.{Refusal}
-use Rattle.rules.specs.declared.Refusal.the-variants.{Sizes, FundField, Component, Total, UnsoundDay, NoSuchLine, QuantityOrPrice, Account, ShortOfStock, ShortOfCash, NotWholeBaskets, Switch, Limit, NoReferenceValue, CashRatio, ListTooShort, FundShort, TextLine, TextField, RecordCount}
+use Rattle.rules.specs.declared.Refusal.the-variants.{Sizes, FundField, Component, Total, UnsoundDay, NoSuchLine, QuantityOrPrice, Account, ShortOfStock, ShortOfCash}
+use Rattle.rules.specs.declared.Refusal.the-variants.{NotWholeBaskets, Switch, Limit, NoReferenceValue, CashRatio, ListTooShort, FundShort, TextLine, TextField, RecordCount}
 use Rattle.rules.specs.Replies.{refusalReply, ifAccepted}
 use Rattle.rules.specs.Sound.{isSound, onSoundDay}
 

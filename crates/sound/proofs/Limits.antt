@@ -89,7 +89,15 @@ module _ (n : ℕ) (t u : ℕ → ℕ) (capped : (k : ℕ) → k < widthOf n →
         money = omega (arith, f .money, capped cash (omega arith));
         created-most = omega (arith, f .created-most, capped created (omega arith));
         redeemed-most = omega (arith, f .redeemed-most, capped redeemed (omega arith));
-        lines = λ l h. line-true n u l (omega (arith, line-facts n t l (f .lines l h), capped (lineFrom l) (omega arith), capped (lineFrom l + 1) (omega arith), capped (lineFrom l + 2) (omega arith)));
+        lines =
+            λ l h. line-true n u l (omega (
+              arith,
+              line-facts n t l (f .lines l h),
+              capped (lineFrom l) (omega arith),
+              capped (lineFrom l + 1) (omega arith),
+              capped
+                  (lineFrom l + 2) (omega arith),
+            ));
       }
 
   pub fits-capped : Fits n u → Fits n t
@@ -99,7 +107,15 @@ module _ (n : ℕ) (t u : ℕ → ℕ) (capped : (k : ℕ) → k < widthOf n →
         created-most = omega (arith, f .created-most, capped created (omega arith));
         redeemed-most = omega (arith, f .redeemed-most, capped redeemed (omega arith));
         lines = λ l h.
-            line-true n t l (omega (arith, line-facts n u l (f .lines l h), most-le n l, capped (lineFrom l) (omega arith), capped (lineFrom l + 1) (omega arith), capped (lineFrom l + 2) (omega arith)));
+            line-true n t l (omega (
+              arith,
+              line-facts n u l (f .lines l h),
+              most-le n l,
+              capped (lineFrom l) (omega arith),
+              capped (lineFrom l + 1) (omega arith),
+              capped
+                  (lineFrom l + 2) (omega arith),
+            ));
       }
 
   -- of totals that fit, those of the units and of `created` are not capped

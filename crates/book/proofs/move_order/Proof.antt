@@ -19,7 +19,8 @@ same-length c = search needs
 returns : tie.Need-returns
 returns c =
     let a = c .before .before .before .before .before .before .before .before .before .before .args in
-    order-is (a .kind) (dayOf (a .d) (a .basket .now)) _ _ _ _ _ _ (c .before .before .before .before .before .before .before .before .before .before .pre .0) (c .before .before .before .before .before .before .move-stock .ensures) _ (c .before .before .move-rest .ensures)
+    order-is (a .kind) (dayOf (a .d) (a .basket .now)) _ _ _ _ _ _ (c .before .before .before .before .before .before .before .before .before .before .pre .0)
+    (c .before .before .before .before .before .before .move-stock .ensures) _ (c .before .before .move-rest .ensures)
 
 pub move-order-spec : {M : Type 1} → statement M
 move-order-spec =

@@ -31,7 +31,8 @@ move-line-requires c κs =
     let a = c .before .before .before .before .before .before .before .before .args in
     let p = c .before .before .before .before .before .before .before .before .pre in
     rw (c .before .component-of .ensures)
-    (line-ready (a .kind) (dayOf (a .d) (a .basket .now)) _ _ _ (p .0 .0) (p .0 .1) _ _ (c .before .before .before .before .loop .inv .1) _ (c .before .before .before .before .before .width-of .ensures) (p .1 .0) (p .1 .1 .0) (c .before .before .if1 .taken))
+    (line-ready (a .kind) (dayOf (a .d) (a .basket .now)) _ _ _ (p .0 .0) (p .0 .1) _ _ (c .before .before .before .before .loop .inv .1) _
+    (c .before .before .before .before .before .width-of .ensures) (p .1 .0) (p .1 .1 .0) (c .before .before .if1 .taken))
 
 add-i : tie.Need-add-i Inv-loop μ-loop
 add-i c = search needs
@@ -43,8 +44,12 @@ loop-again : tie.Need-loop-again Inv-loop μ-loop
 loop-again c =
     let a = c .before .before .before .before .before .before .before .before .before .before .before .args in
     let p = c .before .before .before .before .before .before .before .before .before .before .before .pre in
-    let moved = c .before .before .move-line .ensures in
-    (omega arith, lines-more (a .kind) (dayOf (a .d) (a .basket .now)) _ _ _ (p .0 .0) (p .0 .1) _ _ (c .before .before .before .before .before .before .before .loop .inv .1) _ (c .before .before .before .before .before .before .before .before .width-of .ensures) _ _ (rw (c .before .before .before .before .component-of .ensures) at (moved .0)) (moved .1))
+    let moved = c .before .before .move-line .ensures in (
+      omega arith,
+      lines-more (a .kind) (dayOf (a .d) (a .basket .now)) _ _ _ (p .0 .0) (p .0 .1) _ _
+          (c .before .before .before .before .before .before .before .loop .inv .1) _ (c .before .before .before .before .before .before .before .before .width-of .ensures) _ _
+          (rw (c .before .before .before .before .component-of .ensures) at (moved .0)) (moved .1),
+    )
 
 same-length : tie.Need-same-length Inv-loop μ-loop
 same-length c =

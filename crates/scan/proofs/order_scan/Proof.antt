@@ -46,7 +46,9 @@ lines c = orderLines (c .args .kind) (placesOf (componentAt (now (c .args .baske
 
 -- the line of what the turn reads is that of the component at the loop's index
 found : (c : tie.After-shared-slice-known5 Inv-loop μ-loop) →
-    orderLine (c .before .before .before .before .before .before .before .before .before .before .args .kind) (c .before .before .component-of .result) (c .before .held-at .result) (priceOf (now (c .before .before .before .before .before .before .before .before .before .before .args .prices)) (c .before .before .before .before .loop .i)) (c .before .before .before .before .before .before .before .before .before .before .args .m)
+    orderLine (c .before .before .before .before .before .before .before .before .before .before .args .kind) (c .before .before .component-of .result)
+    (c .before .held-at .result) (priceOf (now (c .before .before .before .before .before .before .before .before .before .before .args .prices))
+    (c .before .before .before .before .loop .i)) (c .before .before .before .before .before .before .before .before .before .before .args .m)
     ≡ lines (c .before .before .before .before .before .before .before .before .before .before) (c .before .before .before .before .loop .i)
 unfolding orderLines
 found c = rw (c .before .held-at .ensures, c .before .before .component-of .ensures)
