@@ -6,6 +6,7 @@ use native.Mathlib.Omega.{arith}
 use lib.ListN.{length, getD}
 use denote.Ref.{now}
 use Rattle.fund.specs.Fund.{ceiling}
+use Rattle.layout.specs.Places.{linesFrom}
 use Rattle.layout.specs.Book.{widthOf, counter}
 use Rattle.permission.specs.Form.{headSum}
 use Rattle.permission.proofs.Laws.{head-none, head-more, head-grows, slot, all-counts}
@@ -41,7 +42,7 @@ place : (c : tie.In-loop Inv-loop μ-loop)
 place c = slot _ _ (now (c .before .before .before .before .args .book)) _ _ (c .before .before .before .before .pre .0 .3) (c .before .before .width-of .ensures) (c .loop-test .taken)
 
 -- the next sum of a place, which the whole sum bounds
-next : (c : tie.In-loop Inv-loop μ-loop) (p sum : ℕ) → p < 3
+next : (c : tie.In-loop Inv-loop μ-loop) (p sum : ℕ) → p < linesFrom
     → sum ≡ headSum (c .before .loop .a) (c .before .before .before .before .args .count) (now (c .before .before .before .before .args .book)) p
     → sum + getD (now (c .before .before .before .before .args .book)) (c .before .loop .a * c .before .before .width-of .result + p) 0 ≡ headSum (c .before .loop .a + 1)
     (c .before .before .before .before .args .count) (now (c .before .before .before .before .args .book)) p
