@@ -117,9 +117,13 @@ order-facts d b kind a units two i w l =
     let whole = every-at (eqb (units % d .fund .«basket_size») 0 ∷ inside 1 mostBaskets (baskets d units) ∷ []) w in
     let count = inside-facts 1 mostBaskets (baskets d units) (whole 1) in
     let at =
-    every-at (withinLimit (limitOf (d .fund) cumulativeLimit kind) (fundCount d b kind + units) ∷ withinLimit (limitOf (d .fund) cumulativeLimitEach kind)
-    (countOf d b kind a + units) ∷ withinLimit (limitOf (d .fund) netLimit kind) (fundCount d b kind + units - fundCount d b (1 - kind)) ∷ withinLimit
-    (limitOf (d .fund) netLimitEach kind) (countOf d b kind a + units - countOf d b (1 - kind) a) ∷ leb (fundCount d b kind + units) ceiling ∷ []) l in
+    every-at
+    (withinLimit (limitOf (d .fund) cumulativeLimit kind) (fundCount d b kind + units)
+    ∷ withinLimit (limitOf (d .fund) cumulativeLimitEach kind) (countOf d b kind a + units)
+    ∷ withinLimit (limitOf (d .fund) netLimit kind) (fundCount d b kind + units - fundCount d b (1 - kind))
+    ∷ withinLimit (limitOf (d .fund) netLimitEach kind) (countOf d b kind a + units - countOf d b (1 - kind) a)
+    ∷ leb (fundCount d b kind + units) ceiling
+    ∷ []) l in
     record {
       account-low = who .0;
       account-in = who .1;

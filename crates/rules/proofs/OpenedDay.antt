@@ -33,7 +33,7 @@ module _ (n : ℕ) (h : List ℕ) where
 
   pub opened-length : length (openedStretch n h) ≡ widthOf n
   unfolding openedStretch
-  opened-length = omega (arith, join-length (λ l. heldOpened l h ∷ 0 ∷ 0 ∷ []) (n + 1) 3 (λ k. refl))
+  opened-length = omega (arith, join-length (λ l. heldOpened l h ∷ 0 ∷ 0 ∷ []) (n + 1) lineWidth (λ k. refl))
 
   pub opened-cash : headAt (openedStretch n h) cash ≡ cashOpened h
   unfolding openedStretch headAt

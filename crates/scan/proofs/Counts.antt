@@ -50,8 +50,7 @@ order-count d ss rs units moved other shanghai =
     (omega (
       arith,
       join-count (stockRecord d ss moved) (λ i. stockCount (moved i)) (d .count) (stock-records d ss moved),
-      cash-records
-          (d .fund .«first_code» + otherStep) rs other,
+      cash-records (d .fund .«first_code» + otherStep) rs other,
       cash-records (d .fund .«first_code» + shanghaiStep) rs shanghai,
     ))
 

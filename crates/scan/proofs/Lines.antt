@@ -39,8 +39,7 @@ module _ (f : ℕ → Line) where
         any-none (λ i. ltb 0 (f i .missing)),
         sum-none (λ i. f i .worth .0),
         sum-none (λ i. otherOf (f i)),
-        sum-none
-            (λ i. shanghaiOf (f i)),
+        sum-none (λ i. shanghaiOf (f i)),
         sum-none (λ i. stockCount (f i .moved)),
       )
 
@@ -52,8 +51,7 @@ module _ (f : ℕ → Line) where
         any-more (λ k. ltb 0 (f k .missing)) i,
         sum-more (λ k. f k .worth .0) i,
         sum-more (λ k. otherOf (f k)) i,
-        sum-more
-            (λ k. shanghaiOf (f k)) i,
+        sum-more (λ k. shanghaiOf (f k)) i,
         sum-more (λ k. stockCount (f k .moved)) i,
       )
 

@@ -95,8 +95,7 @@ module _ (n : ℕ) (t u : ℕ → ℕ) (capped : (k : ℕ) → k < widthOf n →
               line-facts n t l (f .lines l h),
               capped (lineFrom l) (omega arith),
               capped (lineFrom l + 1) (omega arith),
-              capped
-                  (lineFrom l + 2) (omega arith),
+              capped (lineFrom l + 2) (omega arith),
             ));
       }
 
@@ -113,8 +112,7 @@ module _ (n : ℕ) (t u : ℕ → ℕ) (capped : (k : ℕ) → k < widthOf n →
               most-le n l,
               capped (lineFrom l) (omega arith),
               capped (lineFrom l + 1) (omega arith),
-              capped
-                  (lineFrom l + 2) (omega arith),
+              capped (lineFrom l + 2) (omega arith),
             ));
       }
 

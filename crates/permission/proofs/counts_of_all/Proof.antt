@@ -38,14 +38,14 @@ loop-holds c = (omega arith, c .width-of .ensures, sym (head-none _ _ _), sym (h
 -- the account's place
 place : (c : tie.In-loop Inv-loop μ-loop)
     → (c .before .loop .a * c .before .before .width-of .result + c .before .before .width-of .result ≤ length (now (c .before .before .before .before .args .book)))
-    × (6 ≤ c .before .before .width-of .result)
+    × (widthOf 0 ≤ c .before .before .width-of .result)
 place c = slot _ _ (now (c .before .before .before .before .args .book)) _ _ (c .before .before .before .before .pre .0 .3) (c .before .before .width-of .ensures) (c .loop-test .taken)
 
 -- the next sum of a place, which the whole sum bounds
 next : (c : tie.In-loop Inv-loop μ-loop) (p sum : ℕ) → p < linesFrom
     → sum ≡ headSum (c .before .loop .a) (c .before .before .before .before .args .count) (now (c .before .before .before .before .args .book)) p
-    → sum + getD (now (c .before .before .before .before .args .book)) (c .before .loop .a * c .before .before .width-of .result + p) 0 ≡ headSum (c .before .loop .a + 1)
-    (c .before .before .before .before .args .count) (now (c .before .before .before .before .args .book)) p
+    → sum + getD (now (c .before .before .before .before .args .book)) (c .before .loop .a * c .before .before .width-of .result + p) 0
+    ≡ headSum (c .before .loop .a + 1) (c .before .before .before .before .args .count) (now (c .before .before .before .before .args .book)) p
 next c p sum h e = rw e (sym (head-more _ _ _ _ _ (c .before .loop .inv .1) h))
 
 bounded : (c : tie.In-loop Inv-loop μ-loop) (p : ℕ)
@@ -90,8 +90,7 @@ add-reverse-2 c =
     omega (
       arith,
       next (c .before .before) _ _ (omega arith) (c .before .before .before .loop .inv .3),
-      bounded (c .before .before) _
-          (c .before .before .before .before .before .before .pre .1 .1),
+      bounded (c .before .before) _ (c .before .before .before .before .before .before .pre .1 .1),
     )
 
 add-a : tie.Need-add-a Inv-loop μ-loop
@@ -105,8 +104,7 @@ loop-again c = (
   omega arith,
   c .before .before .before .loop .inv .1,
   next (c .before .before) _ _ (omega arith) (c .before .before .before .loop .inv .2),
-  next
-      (c .before .before) _ _ (omega arith) (c .before .before .before .loop .inv .3),
+  next (c .before .before) _ _ (omega arith) (c .before .before .before .loop .inv .3),
 )
 
 returns : tie.Need-returns Inv-loop μ-loop

@@ -35,8 +35,9 @@ put-record-requires c κs =
 
 same-length : tie.Need-same-length
 same-length c =
-    wrote-length (c .before .before .put-record .ensures) ∙ wrote-length (c .before .before .before .before .before .before .before .put-cash2 .ensures) ∙ wrote-length
-    (c .before .before .before .before .before .before .before .before .before .before .before .put-cash .ensures)
+    wrote-length (c .before .before .put-record .ensures)
+    ∙ wrote-length (c .before .before .before .before .before .before .before .put-cash2 .ensures)
+    ∙ wrote-length (c .before .before .before .before .before .before .before .before .before .before .before .put-cash .ensures)
 
 returns : tie.Need-returns
 unfolding recordsAfterStock

@@ -52,8 +52,9 @@ same-length c = search needs
 same-length-2 : tie.Need-same-length-2
 same-length-2 c =
     let stock = c .before .before .before .before .before .before .before .before .before .before .before .before .before in
-    wrote-length (c .before .before .before .before .before .before .before .put-after-stock .ensures) ∙ wrote-length (stock .settle-stock .ensures .0) ∙ wrote-length
-    (stock .before .before .before .before .before .put-record .ensures)
+    wrote-length (c .before .before .before .before .before .before .before .put-after-stock .ensures)
+    ∙ wrote-length (stock .settle-stock .ensures .0)
+    ∙ wrote-length (stock .before .before .before .before .before .put-record .ensures)
 
 returns : tie.Need-returns
 returns c =
