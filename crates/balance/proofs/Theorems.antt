@@ -20,7 +20,7 @@ use Rattle.rules.proofs.OpenedDay.{opened-kept}
 use Rattle.balance.specs.Calls.{State, Lent, Call, Result, Event, price, trade, create, redeem, value, step, Happened}
 use Rattle.balance.specs.Balanced.{opened}
 pub use Rattle.balance.proofs.Relation.{KeptState}
-pub use Rattle.balance.proofs.Steps.{kept-step, refusal-changes-nothing}
+pub use Rattle.balance.proofs.Steps.{kept-step}
 
 -- an accepted opening leaves the kept property
 pub kept-opened : (o : Opening) → isAccepted (openingReply o) ≡ true → KeptState (opened o)

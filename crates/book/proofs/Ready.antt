@@ -1,4 +1,4 @@
--- An accepted trade, creation or redemption has what its move asks: each number of an account is at most the day's total.
+-- An accepted creation or redemption has what its move asks: each number of an account is at most the day's total.
 use mathlib.Core.Path.{_≡_, refl, ap}
 use mathlib.Core.List.{List}
 use mathlib.Core.Logic.{⊎-elim}
@@ -21,8 +21,8 @@ use Rattle.rules.specs.Creation.{creationDue}
 use Rattle.rules.specs.Redemption.{unitsAvailable, redemptionPaid}
 use Rattle.rules.specs.Kinds.{movedBy}
 use Rattle.rules.proofs.SoundDay.{SoundDay}
-use Rattle.rules.proofs.Accepted.{Trades, Orders, Creates, Redeems}
-use Rattle.book.specs.Ready.{Tradable, StockReady, OrderReady}
+use Rattle.rules.proofs.Accepted.{Orders, Creates, Redeems}
+use Rattle.book.specs.Ready.{StockReady, OrderReady}
 
 -- what a sound day says of one account
 module _ {d : Day} {b ps : List ℕ} (s : SoundDay d b ps) (a : ℕ) (a-in : a < d .accounts) where
@@ -41,22 +41,6 @@ module _ {d : Day} {b ps : List ℕ} (s : SoundDay d b ps) (a : ℕ) (a-in : a <
       (λ e. omega (arith, part, ap (lineTotal d b) e, s .book .units))
       (λ q. omega (arith, part, s .book .lines l q))
       (eq-or-lt-of-le h)
-
-pub trade-ready : {d : Day} {b ps : List ℕ} {line q price seller buyer : ℕ} → Trades d b ps line q price seller buyer
-    → Tradable (d .count) b line q price seller buyer
-trade-ready {d} {b} {ps} {line} {q} {price} {seller} {buyer} t =
-    let s = t .sound in
-    record {
-      count-high = s .own .count-high;
-      line-in = t .line-in;
-      seller-in = account-in s seller (t .seller-in);
-      buyer-in = account-in s buyer (t .buyer-in);
-      two = t .two;
-      stock = t .stock;
-      lots-fit = omega (arith, t .quantity-high, line-most s buyer (t .buyer-in) line (t .line-in));
-      money = t .money;
-      cash-fits = omega (arith, t .money, head-most s buyer (t .buyer-in) cash, head-most s seller (t .seller-in) cash, s .book .money);
-    }
 
 -- what both kinds of order have, with the cash c
 module _ {d : Day} {b ps : List ℕ} {kind a units : ℕ} (c : ℕ) (s : SoundDay d b ps) (o : Orders d b kind a units) (two : kind < 2) (most : c ≤ mostCash) where

@@ -22,7 +22,8 @@ pub buyer-ready : {n line q price seller buyer w : ℕ} {b mid : List ℕ} → T
 buyer-ready {n} {line} {q} {price} {seller} {buyer} {w} {b} {mid} p e sold =
     let s = stretchOf (widthOf n) b seller in
     let long : length (sellSide line q (q * price) (stretchOf (widthOf n) b seller)) ≡ widthOf n = sell-side-length line q (q * price) s ∙ stretch-length (widthOf n) b seller (p .seller-in) in
-    let same : stretchOf (widthOf n) (putStretch (widthOf n) b seller (sellSide line q (q * price) (stretchOf (widthOf n) b seller))) buyer ≡ stretchOf (widthOf n) b buyer = stretch-put-other (widthOf n) b seller buyer (sellSide line q (q * price) s) (p .two) (p .seller-in) long in
+    let same : stretchOf (widthOf n) (putStretch (widthOf n) b seller (sellSide line q (q * price) (stretchOf (widthOf n) b seller))) buyer ≡ stretchOf (widthOf n) b buyer =
+    stretch-put-other (widthOf n) b seller buyer (sellSide line q (q * price) s) (p .two) (p .seller-in) long in
     rw (sold, e) (
       rw (put-length (widthOf n) b seller (sellSide line q (q * price) s) (p .seller-in) long) (p .buyer-in),
       (omega arith, (rw same (p .lots-fit), rw same (p .money))),

@@ -126,7 +126,8 @@ module _ (kind : ℕ) (d : Day) (b : List ℕ) (a units m c : ℕ) (t : List ℕ
       eu
       ∙ rw (fund-is, own-is)
       (ap (withSides w a paid (restOf kind (d .count) units c own)) et
-      ∙ sides-again w a b (p .account-low) (p .account-in) fund own (fund-long kind d b a m (p .account-low) (p .account-in) (d .count)) (own-long kind d b a m (p .account-low) (p .account-in) (d .count)) paid (restOf kind (d .count) units c own) paid-long
+      ∙ sides-again w a b (p .account-low) (p .account-in) fund own (fund-long kind d b a m (p .account-low) (p .account-in) (d .count))
+      (own-long kind d b a m (p .account-low) (p .account-in) (d .count)) paid (restOf kind (d .count) units c own) paid-long
       ∙ rw (fund-side, account-side)
       (sym (sides-by w a b (p .account-low) (p .account-in)
       (λ x. fundSide (d .count) f (fundCash kind (headAt x cash) c) x)

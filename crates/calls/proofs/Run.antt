@@ -6,7 +6,7 @@ use Prim.Native.Nat.{ℕ}
 use native.Mathlib.Decide.{ℕ-discrete}
 use lib.ListN.{length}
 use Rattle.lists.specs.Checks.{passes}
-use Rattle.lists.specs.Every.{every, inside, every-at}
+use Rattle.lists.specs.Every.{every, inside}
 use Rattle.layout.specs.declared.DayHead.{DayHead}
 use Rattle.layout.specs.Places.{basketWidth, dayWidth}
 use Rattle.layout.specs.Day.{Day, dayOf, dayHeadAt, basketAt, blankDay, dayAt}

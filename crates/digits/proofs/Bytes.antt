@@ -8,7 +8,6 @@ use native.Mathlib.Decide.{ℕ-discrete}
 use lib.ListN.{length, replicate}
 use lib.Dec.{leb}
 use borrow.Author.Tests.{le-leb}
-use Rattle.lists.specs.Every.{every}
 use Rattle.digits.specs.declared.Form.{Form}
 use Rattle.digits.specs.declared.Figure.{Figure}
 use Rattle.digits.specs.Digits.{fixed, decimal, wholeText, plainText, signedText, numberText, allDigits}

@@ -5,7 +5,8 @@ use mathlib.Core.List.{List, [], _∷_}
 use Prim.Native.Nat.{ℕ, zero, suc, _+_, _-_, _*_, _/_, _%_, _^_, _≤_, _<_}
 use native.Mathlib.Omega.{arith}
 use native.Mathlib.Numerals.{add-one}
-use native.Mathlib.Nat.{pow-suc, pow-succ', one-le-pow, pow-le-pow-right, add-mul, mul-assoc, add-assoc, mod-lt, mod-eq-of-lt, zero-add, div-lt-iff-lt-mul, le-div-iff-mul-le, mul-le-mul-right, le-antisymm, div-div-eq-div-mul}
+use native.Mathlib.Nat.{pow-suc, pow-succ', one-le-pow, pow-le-pow-right, add-mul, mul-assoc, add-assoc, mod-lt}
+use native.Mathlib.Nat.{mod-eq-of-lt, zero-add, div-lt-iff-lt-mul, le-div-iff-mul-le, mul-le-mul-right, le-antisymm, div-div-eq-div-mul}
 use lib.ListN.{length, set, length-set}
 use lib.Arith.{mod-mul, digits-div, digits-lt}
 use borrow.Author.Tests.{ne-eqb, lt-ltb, le-ltb, eqb-false}

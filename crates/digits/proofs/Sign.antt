@@ -12,7 +12,8 @@ use borrow.Author.Tests.{eq-eqb, ne-eqb}
 use Rattle.lists.specs.Every.{every}
 use Rattle.digits.specs.declared.Form.{Form}
 use Rattle.digits.specs.declared.Reading.the-variants.{Good, Ill}
-use Rattle.digits.specs.Digits.{plain, blanks, allBlank, minusFigure, isPlain, plainSize, hasMinus, isSigned, signedFigure, trimmed, isNumber, figureOf, sizeReading, reading, belowZero, aboveZero}
+use Rattle.digits.specs.Digits.{plain, blanks, allBlank, minusFigure, isPlain, plainSize, hasMinus, isSigned}
+use Rattle.digits.specs.Digits.{signedFigure, trimmed, isNumber, figureOf, sizeReading, reading, belowZero, aboveZero}
 use Rattle.digits.proofs.Put.{rest-all}
 
 -- ---- a size behind a "-"

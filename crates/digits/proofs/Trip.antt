@@ -15,7 +15,8 @@ use borrow.Author.Tests.{eq-eqb, ne-eqb, eqb-true, eqb-false, not-true}
 use Rattle.lists.specs.Every.{every, every-at}
 use Rattle.digits.specs.declared.Form.{Form}
 use Rattle.digits.specs.declared.Figure.{Figure}
-use Rattle.digits.specs.Digits.{plain, fixed, tens, decimal, wholeText, plainText, signedText, numberText, allDigits, from, spare, cap, capped, isWhole, pointAt, isPlain, plainSize, hasMinus, isSigned, signedFigure, blanks, allBlank, trimmed, isNumber, figureOf}
+use Rattle.digits.specs.Digits.{plain, fixed, tens, decimal, wholeText, plainText, signedText, numberText, allDigits, from, spare, cap, capped}
+use Rattle.digits.specs.Digits.{isWhole, pointAt, isPlain, plainSize, hasMinus, isSigned, signedFigure, blanks, allBlank, trimmed, isNumber, figureOf}
 use Rattle.digits.proofs.Read.{compare, both-pass, capped-small, capped-within, capped-exact, from-grows, shaped, shaped-fixed, whole-true, whole-facts, whole-empty}
 use Rattle.digits.proofs.Count.{fixed-length, fixed-digits, from-fixed, from-shift, from-below, fixed-from, tens-wide, decimal-length, decimal-spare, decimal-digits, decimal-from, from-decimal}
 use Rattle.digits.proofs.Sign.{minus-first, minus-other}

@@ -11,7 +11,7 @@ use lib.ListN.{length, getD, List·getD-eq-default}
 use borrow.Author.Tests.{not-true, ne-eqb}
 use Rattle.lists.specs.Below.{allBelow, all-at}
 use Rattle.lists.specs.Every.{every, every-at}
-use Rattle.flags.specs.Table.{flagTable, entry, stockMoves, shortageInCash, rateUsed, amountUsed, shanghai, priced}
+use Rattle.flags.specs.Table.{flagTable, entry, stockMoves, amountUsed, shanghai, priced}
 
 -- past the table every entry is false
 pub past-flags : (flag column : ℕ) → 5 ≤ flag → entry flag column ≡ false
@@ -58,9 +58,6 @@ rules flag =
     implies (entry flag stockMoves) (entry flag shanghai)
     ∷ implies (entry flag stockMoves) (entry flag priced)
     ∷ implies (entry flag stockMoves) (not (entry flag amountUsed))
-    ∷ implies (not (entry flag stockMoves)) (entry flag amountUsed)
-    ∷ implies (entry flag shortageInCash) (entry flag stockMoves)
-    ∷ implies (entry flag shortageInCash) (entry flag rateUsed)
     ∷ []
 
 table-rules : allBelow (λ flag. every (rules flag)) 5 ≡ true
@@ -87,13 +84,3 @@ pub moves-rules : (flag : ℕ) → entry flag stockMoves ≡ true → (entry fla
 moves-rules flag e =
     let r = rule flag (inside flag stockMoves e) in
     (follows _ _ (r 0) e, follows _ _ (r 1) e, not-true _ (follows _ _ (r 2) e))
-
--- where no stock moves, the amount is used
-pub stays-rule : (flag : ℕ) → flag < 5 → entry flag stockMoves ≡ false → entry flag amountUsed ≡ true
-stays-rule flag h e = follows _ _ (rule flag h 3) (ap not e)
-
--- where cash stands for a shortage, stock moves and the rate is used
-pub shortage-rules : (flag : ℕ) → entry flag shortageInCash ≡ true → (entry flag stockMoves ≡ true) × (entry flag rateUsed ≡ true)
-shortage-rules flag e =
-    let r = rule flag (inside flag shortageInCash e) in
-    (follows _ _ (r 4) e, follows _ _ (r 5) e)

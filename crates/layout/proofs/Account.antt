@@ -2,7 +2,7 @@
 use mathlib.Core.Path.{_≡_, refl, sym, ap, subst, _∙_}
 use mathlib.Core.Logic.{_≢_, ⊎-elim}
 use mathlib.Core.List.{List}
-use Prim.Native.Nat.{ℕ, zero, suc, _+_, _*_, _≤_, _<_}
+use Prim.Native.Nat.{ℕ, zero, suc, _+_, _≤_, _<_}
 use native.Mathlib.Nat.{eq-or-lt-of-le, le-of-suc-le-suc, not-suc-le-zero}
 use native.Mathlib.Numerals.{add-one}
 use native.Mathlib.Omega.{arith}
@@ -116,7 +116,8 @@ module _ (f : ℕ → Lots → Lots) where
   each-at zero s j h l = absurd (not-suc-le-zero l)
   each-at (suc i) s j h l =
       ⊎-elim
-      (λ e. subst (λ (k : ℕ). lotsAt (onLine (f i) i (eachLine f i s)) k ≡ f k (lotsAt s k)) (sym e) (on-same (f i) i (eachLine f i s) (omega (arith, each-length i s)) ∙ ap (f i) (each-later i s i (omega arith))))
+      (λ e. subst (λ (k : ℕ). lotsAt (onLine (f i) i (eachLine f i s)) k ≡ f k (lotsAt s k)) (sym e)
+      (on-same (f i) i (eachLine f i s) (omega (arith, each-length i s)) ∙ ap (f i) (each-later i s i (omega arith))))
       (λ b. on-other (f i) i (eachLine f i s) j (omega arith) ∙ each-at i s j (omega arith) b)
       (eq-or-lt-of-le (le-of-suc-le-suc l))
 

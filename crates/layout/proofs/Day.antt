@@ -16,12 +16,11 @@ use Rattle.digits.specs.Digits.{cap}
 use Rattle.digits.specs.Signed.{figureSigned}
 use Rattle.digits.proofs.Read.{capped-small}
 use Rattle.digits.proofs.Signed.{signed-figure}
-use Rattle.layout.specs.declared.Component.{Component}
 use Rattle.layout.specs.declared.Fund.{Fund}
 use Rattle.layout.specs.Places.{mostComponents, componentWidth, basketWidth, limitCount, cashPlace, limitsFrom, fundFrom, basketFrom, dayWidth}
 use Rattle.layout.specs.Components.{blank, componentAt, placesOf}
 use Rattle.layout.specs.Fund.{signedAt, signedNumbers, fundAt, fundNumbers}
-use Rattle.layout.specs.Day.{Day, dayOf, dayHeadAt, basketAt, blankDay, dayAt, dayNumbers}
+use Rattle.layout.specs.Day.{dayOf, dayHeadAt, basketAt, blankDay, dayAt, dayNumbers}
 use Rattle.layout.proofs.Stored.{fund-length, day-length}
 
 -- The parts of a run.

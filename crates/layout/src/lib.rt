@@ -130,8 +130,8 @@ pub fn component_at(run: &[u64], i: usize) -> Component
         code: run[at],
         quantity: run[at + 1],
         flag: run[at + 2],
-        rate: Rate(run[at + 3]),
-        amount: Money(run[at + 4]),
+        rate: Rate::new(run[at + 3]),
+        amount: Money::new(run[at + 4]),
     }
 }
 
@@ -225,7 +225,7 @@ pub fn fund_of(run: &[u64], at: usize) -> Fund
     Fund {
         first_code: run[at],
         basket_size: run[at + 1],
-        max_cash_ratio: Rate(run[at + 2]),
+        max_cash_ratio: Rate::new(run[at + 2]),
         switch: run[at + 3],
         estimated_cash: signed_at(run, at + CASH_AT),
         limits: limits_at(run, at + LIMITS_FROM),
@@ -370,8 +370,8 @@ pub fn record_at(list: &[u64], k: usize) -> Record
         code: list[at],
         side: list[at + 1],
         quantity: list[at + 2],
-        price: Money(list[at + 3]),
-        amount: Money(list[at + 4]),
+        price: Money::new(list[at + 3]),
+        amount: Money::new(list[at + 4]),
     }
 }
 

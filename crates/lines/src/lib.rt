@@ -1,7 +1,7 @@
 // Lines of a text, words compared in any case, and bytes that a name may have.
 ghost use mathlib.Core.Path.{_≡_};
 ghost use mathlib.Core.Bool.{true};
-ghost use Prim.Native.Nat.{_+_, _≤_, _<_};
+ghost use Prim.Native.Nat.{_≤_, _<_};
 ghost use lib.ListN.{length};
 ghost use Rattle.lines.specs.Lines.{endAt, lineLen, otherByte, lower, same, sameInAnyCase, isNamed, nameByte, letterByte, allBytes};
 

@@ -17,7 +17,8 @@ use Rattle.digits.specs.declared.Size.the-variants.{Known, Ill}
 use Rattle.digits.specs.Digits.{allBlank, isPlain, plainSize, hasMinus, isSigned, signedFigure, trimmed, isNumber, figureOf, sizeReading}
 use Rattle.digits.proofs.Read.{size-ill, size-known}
 use Rattle.lines.specs.Lines.{nameByte, allBytes}
-use Rattle.list_rules.specs.Columns.{columnCount, rowWidth, columnTable, columnEntry, columnStart, columnWidth, columnForm, holdsName, isUsed, isRow, columnPart, isColumn, columnValue, flagOf, columnFault, componentOf}
+use Rattle.list_rules.specs.Columns.{columnCount, rowWidth, columnTable, columnEntry, columnStart, columnWidth, columnForm, holdsName}
+use Rattle.list_rules.specs.Columns.{isUsed, isRow, columnPart, isColumn, columnValue, flagOf, columnFault, componentOf}
 use Rattle.list_columns.specs.declared.Row.{Row}
 use Rattle.list_columns.specs.Read.{rightForm, numberSize, columnSize}
 use Rattle.list_columns.proofs.Entries.{entry-facts}

@@ -242,8 +242,8 @@ pub fn read_row(line: &[u8]) -> Row
         code,
         quantity,
         flag,
-        rate: Rate(rate),
-        amount: Money(amount),
+        rate: Rate::new(rate),
+        amount: Money::new(amount),
     };
     Row {
         fault: COLUMNS,

@@ -5,15 +5,15 @@ use Prim.Native.Nat.{ℕ}
 use lib.IntN.{ℤ}
 use Rattle.list_rules.specs.declared.ListFields.{ListFields}
 
--- fields with other amounts of cash and other limits
-abbrev withParts : ListFields → ℤ → ℤ → List ℕ → ListFields
-withParts l estimated cash limits =
+-- fields with another ratio, other amounts of cash and other limits
+abbrev withParts : ListFields → ℕ → ℤ → ℤ → List ℕ → ListFields
+withParts l ratio estimated cash limits =
     record {
       fund =
           record {
             «first_code» = l .fund .«first_code»;
             «basket_size» = l .fund .«basket_size»;
-            «max_cash_ratio» = l .fund .«max_cash_ratio»;
+            «max_cash_ratio» = record { 0 = ratio };
             switch = l .fund .switch;
             «estimated_cash» = estimated;
             limits = limits;
@@ -28,9 +28,13 @@ withParts l estimated cash limits =
     }
 
 -- the same fields, where the parts are theirs
-pub parts-same : (l : ListFields) {estimated cash : ℤ} {limits : List ℕ}
-    → estimated ≡ l .fund .«estimated_cash» → cash ≡ l .«cash_component» → limits ≡ l .fund .limits → withParts l estimated cash limits ≡ l
-parts-same l p q r = rw (p, q, r)
+pub parts-same : (l : ListFields) {ratio : ℕ} {estimated cash : ℤ} {limits : List ℕ}
+    → ratio ≡ l .fund .«max_cash_ratio» .0
+    → estimated ≡ l .fund .«estimated_cash»
+    → cash ≡ l .«cash_component»
+    → limits ≡ l .fund .limits
+    → withParts l ratio estimated cash limits ≡ l
+parts-same l o p q r = rw (o, p, q, r)
 
 -- two lists are one by their first elements and the others
 infixr 5 _▹_

@@ -4,7 +4,6 @@ ghost use Prim.Native.Nat.{ℕ, _+_, _≤_, _<_};
 ghost use mathlib.Core.Bool.{true};
 ghost use lib.ListN.{getD};
 ghost use Rattle.lists.specs.Below.{tabulate};
-ghost use Rattle.fund.specs.Fund.{cashInRange};
 ghost use Rattle.digits.specs.Digits.{cap, plain};
 ghost use Rattle.list_rules.specs.Dates.{isLeap, daysIn, isDate};
 ghost use Rattle.list_rules.specs.Fields.{fieldsFrom, figureAt, fieldsInRange, blankFields};
@@ -100,7 +99,7 @@ pub fn fields_of(figures: [Figure; 20]) -> ListFields
     let fund = Fund {
         first_code: figures[0].size - 1,
         basket_size: figures[1].size,
-        max_cash_ratio: Rate(figures[2].size),
+        max_cash_ratio: Rate::new(figures[2].size),
         switch: figures[4].size,
         estimated_cash: digits::signed_of(figures[6]),
         limits: limits_of(figures),

@@ -4,7 +4,7 @@ use mathlib.Core.List.{List, [], _∷_, _++_, append-nil}
 use Prim.Native.Nat.{ℕ, _+_, _≤_}
 use native.Mathlib.Omega.{arith}
 use lib.IntN.{ℤ, natAbs}
-use lib.ListN.{length, set, drop, length-append, drop-of-length-le}
+use lib.ListN.{length, set, length-append, drop-of-length-le}
 use lib.Seq.{sets, drop-at}
 use Rattle.lists.specs.Runs.{sets-append, sets-front}
 use Rattle.digits.specs.Digits.{cap}

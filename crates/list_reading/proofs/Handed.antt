@@ -15,7 +15,7 @@ use Rattle.lists.specs.Checks.{reply, passes}
 use Rattle.layout.specs.declared.Component.{Component}
 use Rattle.layout.specs.Components.{componentAt, componentNumbers, placesOf}
 use Rattle.fund.specs.Components.{componentFault}
-use Rattle.layout.specs.Places.{componentWidth}
+use Rattle.layout.specs.Places.{componentWidth, mostComponents}
 use Rattle.layout.proofs.Components.{numbers-length, component-is}
 use Rattle.rules.specs.declared.Refusal.{Refusal}
 use Rattle.rules.specs.Replies.{refusalReply}
@@ -27,7 +27,8 @@ use Rattle.list_rules.specs.declared.ListRead.{ListRead}
 use Rattle.list_rules.specs.declared.ListAnswer.the-variants.{Done}
 use Rattle.list_rules.specs.Fields.{fieldsFrom, fieldsInRange}
 use Rattle.list_rules.proofs.Fields.{fields-same}
-use Rattle.list_rules.specs.Reading.{rowCount, shapeChecks, wrongField, fieldStart, figureRead, rowOf, componentRead, wrongRow, columnPlace, fieldsRead, isCounted, readFault, readReply, componentsRun, nameRead, nameFrom, rowStart}
+use Rattle.list_rules.specs.Reading.{rowCount, shapeChecks, wrongField, fieldStart, figureRead, rowOf, componentRead, wrongRow, columnPlace}
+use Rattle.list_rules.specs.Reading.{fieldsRead, isCounted, readFault, readReply, componentsRun, nameRead, nameFrom, rowStart}
 use Rattle.list_trip.proofs.WrittenRuns.{places-same}
 use Rattle.list_reading.specs.declared.Shape.{Shape}
 use Rattle.list_reading.specs.Outcome.{ReadOutcome, Rows, Shaped, Found, Spelled, Ranged, refusedRead}
@@ -130,26 +131,26 @@ module _ (text : List ℕ) (start count : ℕ) (figures : List Figure) (s : Spel
 
 -- the components
 module _ (text : List ℕ) (start count : ℕ) (fields : ListFields) (s : Ranged text start count fields) where
-  pub few : count ≤ 300
+  pub few : count ≤ mostComponents
   unfolding isCounted
   few =
-      let both = and-eq-true-iff (inside 1 300 (fieldsRead text .count)) (eqb (fieldsRead text .count) (rowCount text)) .0 (s .counted) in
+      let both = and-eq-true-iff (inside 1 mostComponents (fieldsRead text .count)) (eqb (fieldsRead text .count) (rowCount text)) .0 (s .counted) in
       omega (
         arith,
-        inside-facts 1 300 (fieldsRead text .count) (both .0) .1,
+        inside-facts 1 mostComponents (fieldsRead text .count) (both .0) .1,
         eqb-true (fieldsRead text .count) (rowCount text) (both .1),
         s .rows .count-is,
       )
 
   -- the numbers found are those of the text's components
   module _ (numbers : List ℕ) (f : Found text count numbers) where
-    found-are : take (5 * count) numbers ≡ componentsRun text
+    found-are : take (componentWidth * count) numbers ≡ componentsRun text
     found-are = f .numbers-are few
 
-    pub found-long : length (take (5 * count) numbers) ≡ 5 * count
-    found-long = length-take-le (5 * count) numbers (omega (arith, f .long, few))
+    pub found-long : length (take (componentWidth * count) numbers) ≡ componentWidth * count
+    found-long = length-take-le (componentWidth * count) numbers (omega (arith, f .long, few))
 
-    component-found : (j : ℕ) → j < count → componentAt (take (5 * count) numbers) j ≡ componentRead text j
+    component-found : (j : ℕ) → j < count → componentAt (take (componentWidth * count) numbers) j ≡ componentRead text j
     unfolding componentsRun
     component-found j l =
         ap (λ (r : List ℕ). componentAt r j) found-are
@@ -158,7 +159,7 @@ module _ (text : List ℕ) (start count : ℕ) (fields : ListFields) (s : Ranged
         (λ k. numbers-length (componentRead text k)) (omega (arith, s .rows .count-is)))
 
     pub fault-is : (fault : ℕ)
-        → fault ≡ componentFault (fields .fund .«first_code») (placesOf (componentAt (take (5 * count) numbers)) count) count
+        → fault ≡ componentFault (fields .fund .«first_code») (placesOf (componentAt (take (componentWidth * count) numbers)) count) count
         → fault ≡ readFault text
     unfolding readFault
     fault-is fault h =
@@ -176,22 +177,22 @@ module _ (text : List ℕ) (start count : ℕ) (fields : ListFields) (s : Ranged
           ∙ reply-3 text room (s .rows .lines-stand) (s .fields-well) (ap not (s .counted)) (ap not (s .ranged)) (below (lt-ltb fault count l))
 
       module _ (room : ℕ) (high : count ≤ fault) where
-        rest : {b : Bool} → ltb room (5 * count) ≡ b → ltb room (componentWidth * rowCount text) ≡ b
+        rest : {b : Bool} → ltb room (componentWidth * count) ≡ b → ltb room (componentWidth * rowCount text) ≡ b
         rest q = rw (s .rows .count-is) at q
 
-        pub room-reply : room < 5 * count → reply 16 0 0 ≡ readReply text room
+        pub room-reply : room < componentWidth * count → reply 16 0 0 ≡ readReply text room
         room-reply l =
             reply-16 text room (s .rows .lines-stand) (s .fields-well) (ap not (s .counted)) (ap not (s .ranged))
-            (below (le-ltb fault count high)) (rest (lt-ltb room (5 * count) l))
+            (below (le-ltb fault count high)) (rest (lt-ltb room (componentWidth * count) l))
 
-        pub read-reply : 5 * count ≤ room → reply 0 0 (rowCount text) ≡ readReply text room
+        pub read-reply : componentWidth * count ≤ room → reply 0 0 (rowCount text) ≡ readReply text room
         read-reply l =
             reply-0 text room (s .rows .lines-stand) (s .fields-well) (ap not (s .counted)) (ap not (s .ranged))
-            (below (le-ltb fault count high)) (rest (le-ltb room (5 * count) l))
+            (below (le-ltb fault count high)) (rest (le-ltb room (componentWidth * count) l))
 
     pub read-outcome : (run run′ : List ℕ) → reply 0 0 (rowCount text) ≡ readReply text (length run)
-        → run′ ≡ take (5 * count) numbers ++ drop (length (take (5 * count) numbers)) run
+        → run′ ≡ take (componentWidth * count) numbers ++ drop (length (take (componentWidth * count) numbers)) run
         → ReadOutcome text run (record { answer = Done count; fields = fields; «first_row» = start }) run′
     read-outcome run run′ q w =
         outcome-read text run run′ _ q (ap Done (s .rows .count-is)) (s .fields-are) (s .rows .start-is)
-        (w ∙ ap₂ (λ (a : List ℕ) (n : ℕ). a ++ drop n run) found-are (found-long ∙ ap (λ (n : ℕ). 5 * n) (s .rows .count-is)))
+        (w ∙ ap₂ (λ (a : List ℕ) (n : ℕ). a ++ drop n run) found-are (found-long ∙ ap (λ (n : ℕ). componentWidth * n) (s .rows .count-is)))

@@ -10,7 +10,8 @@ use Rattle.layout.specs.Places.{componentWidth}
 use Rattle.lines.specs.Lines.{same, nextAt}
 use Rattle.list_rules.specs.Head.{headLines, fieldCount, endWord}
 use Rattle.list_rules.specs.Fields.{fieldsInRange}
-use Rattle.list_rules.specs.Reading.{startOf, lineStands, wrongLine, rowCount, endStart, shapeChecks, wrongField, fieldStart, wrongRow, columnPlace, fieldChecks, figureRead, fieldsRead, isCounted, readFault, valueChecks, readChecks, readReply}
+use Rattle.list_rules.specs.Reading.{startOf, lineStands, wrongLine, rowCount, endStart, shapeChecks, wrongField, fieldStart, wrongRow}
+use Rattle.list_rules.specs.Reading.{columnPlace, fieldChecks, figureRead, fieldsRead, isCounted, readFault, valueChecks, readChecks, readReply}
 
 module _ (text : List ℕ) where
   -- the tests of 18

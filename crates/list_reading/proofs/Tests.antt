@@ -4,6 +4,7 @@ use mathlib.Core.Bool.{false}
 use Prim.Native.Nat.{ℕ, _≤_, _<_}
 use lib.Dec.{eqb}
 use borrow.Author.Tests.{le-leb, lt-leb}
+use Rattle.layout.specs.Places.{mostComponents}
 use Rattle.lists.specs.Every.{inside}
 use Rattle.list_rules.specs.Reading.{isCounted}
 
@@ -13,10 +14,10 @@ module _ (recordnum rows : ℕ) where
   count-low h = rw (lt-leb 1 recordnum h)
 
   module _ (low : 1 ≤ recordnum) where
-    pub count-high : 300 < recordnum → false ≡ isCounted recordnum rows
+    pub count-high : mostComponents < recordnum → false ≡ isCounted recordnum rows
     unfolding isCounted inside
-    count-high h = rw (le-leb 1 recordnum low, lt-leb recordnum 300 h)
+    count-high h = rw (le-leb 1 recordnum low, lt-leb recordnum mostComponents h)
 
-    pub count-same : recordnum ≤ 300 → eqb recordnum rows ≡ isCounted recordnum rows
+    pub count-same : recordnum ≤ mostComponents → eqb recordnum rows ≡ isCounted recordnum rows
     unfolding isCounted inside
-    count-same h = rw (le-leb 1 recordnum low, le-leb recordnum 300 h)
+    count-same h = rw (le-leb 1 recordnum low, le-leb recordnum mostComponents h)

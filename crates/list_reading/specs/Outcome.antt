@@ -10,6 +10,7 @@ use Rattle.lists.specs.Checks.{reply, answered, passes}
 use Rattle.list_rules.specs.declared.ListRead.{ListRead}
 use Rattle.list_rules.specs.declared.ListAnswer.the-variants.{Refused}
 use Rattle.list_rules.specs.declared.ListFields.{ListFields}
+use Rattle.layout.specs.Places.{mostComponents, componentWidth, basketWidth}
 use Rattle.rules.specs.declared.Refusal.{Refusal}
 use Rattle.digits.specs.declared.Figure.{Figure}
 use Rattle.list_rules.specs.Replies.{listReply}
@@ -46,8 +47,8 @@ rowsAt start count = record { wrong = false; place = 0; start = start; count = c
 
 -- the numbers of the text's components stand at the front of an array, where they are not too many
 pub record Found (text : List ℕ) (count : ℕ) (numbers : List ℕ) : Type 0 where
-  pub long : length numbers ≡ 1500
-  pub numbers-are : count ≤ 300 → take (5 * count) numbers ≡ componentsRun text
+  pub long : length numbers ≡ basketWidth
+  pub numbers-are : count ≤ mostComponents → take (componentWidth * count) numbers ≡ componentsRun text
 
 -- the text's fields are all well written, and these are the head's figures
 pub record Spelled (text : List ℕ) (start count : ℕ) (figures : List Figure) : Type 0 where

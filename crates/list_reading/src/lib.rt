@@ -100,7 +100,7 @@ fn is_counted(recordnum: u64, count: usize) -> bool
     if recordnum < 1 {
         return false;
     }
-    if 300 < recordnum {
+    if (layout::MOST_COMPONENTS as u64) < recordnum {
         return false;
     }
     recordnum == count as u64
@@ -171,7 +171,7 @@ fn read_fields(text: &[u8], start: usize, count: usize, run: &mut [u64]) -> List
     if head.wrong < list_head::FIELDS {
         return refused(Refusal::TextField(head.place));
     }
-    let mut numbers: [u64; 1500] = [0; 1500];
+    let mut numbers = [0u64; layout::BASKET_WIDTH];
     let rows = list_rows::read_rows(text, start, count, &mut numbers);
     if rows.row < count {
         return refused(Refusal::TextField(rows.place));

@@ -11,7 +11,7 @@ use native.Mathlib.Numerals.{add-one}
 use Rattle.lists.specs.Below.{joinBelow}
 use Rattle.layout.specs.declared.Component.{Component}
 use Rattle.layout.specs.Components.{componentAt, componentNumbers}
-use Rattle.layout.specs.Places.{componentWidth}
+use Rattle.layout.specs.Places.{componentWidth, mostComponents, basketWidth}
 use Rattle.layout.proofs.Runs.{numbersBelow, numbers-long, Filled, filled-start, filled-again, filled-end}
 use Rattle.lines.specs.Lines.{lineText}
 use Rattle.list_rules.specs.Columns.{rowText}
@@ -54,7 +54,7 @@ module _ (run numbers : List ℕ) where
 pub record RowsRead (text : List ℕ) (count : ℕ) (run run′ : List ℕ) (j : ℕ) : Type 0 where
   pub none : Sought (wrongAt text) count j
   pub long : length run′ ≡ length run
-  pub kept : j ≤ 300 → Filled (componentRead text) run run′ j
+  pub kept : j ≤ mostComponents → Filled (componentRead text) run run′ j
 
 module _ (text : List ℕ) (count : ℕ) (run : List ℕ) where
   pub rows-start : RowsRead text count run run 0
@@ -65,11 +65,11 @@ module _ (text : List ℕ) (count : ℕ) (run : List ℕ) where
   Answered run′ r =
       (r .row ≡ wrongRow text)
       × ((r .row < count → r .place ≡ columnPlace text (r .row))
-      × (count ≤ r .row → count ≤ 300 → take (componentWidth * count) run′ ≡ componentsRun text))
+      × (count ≤ r .row → count ≤ mostComponents → take (componentWidth * count) run′ ≡ componentsRun text))
 
   module _ (run′ : List ℕ) (j : ℕ) (v : RowsRead text count run run′ j) where
     pub rows-again : j < count → wrongAt text j ≡ false → {x : Component} → x ≡ componentRead text j → (run″ : List ℕ) → length run″ ≡ length run′
-        → (j < 300 → run″ ≡ sets run′ (componentWidth * j) (componentNumbers x)) → RowsRead text count run run″ (j + 1)
+        → (j < mostComponents → run″ ≡ sets run′ (componentWidth * j) (componentNumbers x)) → RowsRead text count run run″ (j + 1)
     rows-again h w q run″ l e =
         record {
           none = sought-again _ _ _ (v .none) h w;
@@ -82,7 +82,7 @@ module _ (text : List ℕ) (count : ℕ) (run : List ℕ) where
     rows-wrong e h w place f =
         (sought-found _ _ _ (v .none) h w ∙ wrong-first text count e, ((λ _. f), λ past. absurd (omega (arith, past))))
 
-    pub rows-end : count ≡ rowCount text → count ≤ j → length run ≡ 1500 → Answered run′ (record { row = j; place = 0 })
+    pub rows-end : count ≡ rowCount text → count ≤ j → length run ≡ basketWidth → Answered run′ (record { row = j; place = 0 })
     unfolding componentsRun numbersBelow
     rows-end e h l =
         let q : j ≡ count = omega (arith, v .none .turns) in (
@@ -90,7 +90,7 @@ module _ (text : List ℕ) (count : ℕ) (run : List ℕ) where
           ((λ low. absurd (omega (arith, low))), λ _ few. stored (rw q at (v .kept (omega arith))) few),
         )
       where
-        stored : Filled (componentRead text) run run′ count → count ≤ 300 → take (componentWidth * count) run′ ≡ componentsRun text
+        stored : Filled (componentRead text) run run′ count → count ≤ mostComponents → take (componentWidth * count) run′ ≡ componentsRun text
         stored f few =
             ap (take (componentWidth * count)) (filled-end (componentRead text) run run′ count f (omega arith))
             ∙ take-at (numbersBelow (componentRead text) count) _ _ (numbers-long (componentRead text) count)

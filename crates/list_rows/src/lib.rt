@@ -3,6 +3,7 @@ ghost use mathlib.Core.Path.{_≡_};
 ghost use mathlib.Core.List.{_++_};
 ghost use Prim.Native.Nat.{ℕ, _+_, _*_, _≤_, _<_};
 ghost use lib.ListN.{length, drop, take};
+ghost use Rattle.layout.specs.Places.{mostComponents, componentWidth, basketWidth};
 ghost use Rattle.layout.specs.Components.{componentAt, componentNumbers};
 ghost use lib.Seq.{sets};
 ghost use Rattle.digits.specs.Written.{Written};
@@ -59,8 +60,8 @@ fn row_part(text: &[u8], start: usize, j: usize) -> &[u8]
 
 // Stores the j-th component where it is one of the first 300.
 fn keep_component(run: &mut [u64], j: usize, c: Component)
-    requires { ⌜ length (now run) ≡ 1500 ⌝ }
-    ensures { λ _. ⌜ (j < 300 → now (run .exit) ≡ sets (now (run .entry)) (5 * j) (componentNumbers c)) ⌝ }
+    requires { ⌜ length (now run) ≡ basketWidth ⌝ }
+    ensures { λ _. ⌜ (j < mostComponents → now (run .exit) ≡ sets (now (run .entry)) (componentWidth * j) (componentNumbers c)) ⌝ }
 {
     if j < layout::MOST_COMPONENTS {
         layout::put_component(run, j, c);
@@ -71,10 +72,10 @@ fn keep_component(run: &mut [u64], j: usize, c: Component)
 pub fn read_rows(text: &[u8], start: usize, count: usize, run: &mut [u64]) -> RowFault
     requires { ⌜ start + 50 * count ≤ length (now text) ⌝ }
     requires { ⌜ (start ≡ startOf (now text) 22) × (count ≡ rowCount (now text)) ⌝ }
-    requires { ⌜ length (now run) ≡ 1500 ⌝ }
+    requires { ⌜ length (now run) ≡ basketWidth ⌝ }
     ensures { λ r. ⌜ r .row ≡ wrongRow (now (text .entry)) ⌝ }
     ensures { λ r. ⌜ (r .row < count → r .place ≡ columnPlace (now (text .entry)) (r .row)) ⌝ }
-    ensures { λ r. ⌜ (count ≤ r .row → count ≤ 300 → take (5 * count) (now (run .exit)) ≡ componentsRun (now (text .entry))) ⌝ }
+    ensures { λ r. ⌜ (count ≤ r .row → count ≤ mostComponents → take (componentWidth * count) (now (run .exit)) ≡ componentsRun (now (text .entry))) ⌝ }
 {
     let mut j = 0;
     while j < count {
@@ -138,7 +139,7 @@ pub fn name_fault(names: &[u8], count: usize) -> usize
 
 // Writes so many component lines.
 pub fn put_rows(dst: &mut [u8], at: usize, run: &[u64], names: &[u8], count: usize) -> usize
-    requires { ⌜ (5 * count ≤ length (now run)) × (8 * count ≤ length (now names)) ⌝ }
+    requires { ⌜ (componentWidth * count ≤ length (now run)) × (8 * count ≤ length (now names)) ⌝ }
     requires { ⌜ ((j : ℕ) → j < count → Fitting (componentAt (now run) j)) ⌝ }
     requires { ⌜ at + length (rowBytes (now run) (now names) count) ≤ length (now dst) ⌝ }
     ensures { λ r. ⌜ Written (now (dst .entry)) at (rowBytes (now (run .entry)) (now (names .entry)) count) (now (dst .exit)) r ⌝ }

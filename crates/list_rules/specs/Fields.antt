@@ -1,9 +1,9 @@
 -- The fields of a list: from the figures of the head, as figures of the head, and their ranges.
-use Prim.Native.Nat.{ℕ, zero, suc, _+_, _-_}
-use mathlib.Core.Bool.{Bool, true, cond}
+use Prim.Native.Nat.{ℕ, _+_, _-_}
+use mathlib.Core.Bool.{Bool}
 use mathlib.Core.List.{[], _∷_}
 use lib.Dec.{leb}
-use lib.IntN.{ℤ, pos, negsuc}
+use lib.IntN.{pos}
 use lib.ListN.{getD}
 use Rattle.lists.specs.Below.{tabulate}
 use Rattle.lists.specs.Every.{every}

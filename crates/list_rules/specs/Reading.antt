@@ -5,11 +5,11 @@ use mathlib.Core.List.{List, [], _∷_, _++_}
 use lib.Dec.{leb, ltb, eqb}
 use lib.ListN.{length, take, drop}
 use Rattle.lists.specs.Below.{firstBelow, joinBelow}
-use Rattle.lists.specs.Every.{every, inside}
+use Rattle.lists.specs.Every.{inside}
 use Rattle.lists.specs.Checks.{Check, check, Reply, answered, passes}
 use Rattle.layout.specs.declared.Component.{Component}
 use Rattle.fund.specs.Components.{componentFault}
-use Rattle.layout.specs.Places.{componentWidth}
+use Rattle.layout.specs.Places.{componentWidth, mostComponents}
 use Rattle.layout.specs.Components.{componentNumbers, placesOf}
 use Rattle.rules.specs.Replies.{ifAccepted}
 use Rattle.digits.specs.declared.Figure.{Figure}
@@ -95,7 +95,7 @@ fieldsRead text = fieldsFrom (figureRead text)
 
 -- 20, and then 2 and 3
 unfoldable pub isCounted : ℕ → ℕ → Bool
-isCounted recordnum rows = inside 1 300 recordnum && eqb recordnum rows
+isCounted recordnum rows = inside 1 mostComponents recordnum && eqb recordnum rows
 
 unfoldable pub readFault : List ℕ → ℕ
 readFault text =

@@ -9,7 +9,7 @@ use Rattle.lists.specs.Every.{every, inside}
 use Rattle.lists.specs.Checks.{Check, check, Reply, answered}
 use Rattle.layout.specs.Components.{componentAt, placesOf}
 use Rattle.fund.specs.Components.{componentFault}
-use Rattle.layout.specs.Places.{componentWidth}
+use Rattle.layout.specs.Places.{componentWidth, mostComponents}
 use Rattle.rules.specs.Replies.{ifAccepted}
 use Rattle.digits.specs.Written.{put}
 use Rattle.lines.specs.Lines.{lineText, nameByte, allBytes}
@@ -48,7 +48,7 @@ textOf l = headText l headLines ++ (rowsText l (l .fields .count) ++ lineText en
 unfoldable pub sizesFit : Listing → Bool
 sizesFit l =
     every
-    (inside 1 300 (l .fields .count)
+    (inside 1 mostComponents (l .fields .count)
     ∷ eqb (length (l .run)) (componentWidth * l .fields .count)
     ∷ eqb (length (l .names)) (nameWidth * l .fields .count)
     ∷ [])

@@ -9,6 +9,7 @@ use native.Mathlib.Omega.{arith}
 use lib.Dec.{ltb}
 use lib.ListN.{length}
 use borrow.Author.Tests.{eq-eqb, le-ltb}
+use Rattle.layout.specs.Places.{mostComponents}
 use Rattle.lists.specs.Below.{table-length}
 use Rattle.lists.specs.Every.{every-none, every-more, inside-true}
 use Rattle.lists.specs.Checks.{passes, passes-all}
@@ -37,7 +38,7 @@ module _ (text : List ℕ) (r : Reads text) where
   sizes-fit =
       let p = count-read text r in
       rw count-is
-      (every-more _ _ (inside-true 1 300 (rowCount text) (p .0) (p .1))
+      (every-more _ _ (inside-true 1 mostComponents (rowCount text) (p .0) (p .1))
       (every-more _ _ (eq-eqb _ _ (run-length text r)) (every-more _ _ (eq-eqb _ _ (names-length text r)) every-none)))
 
   no-fault : ltb (writeFault (listRead text)) (listRead text .fields .count) ≡ false

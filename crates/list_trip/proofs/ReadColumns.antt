@@ -18,7 +18,8 @@ use Rattle.digits.specs.declared.Form.{Form}
 use Rattle.digits.specs.declared.Figure.{Figure}
 use Rattle.digits.specs.Digits.{plain, cap, capped, from, blanks, isDigit, allDigits, isWhole, isPlain, plainSize, hasMinus, isSigned, signedFigure, trimmed, isNumber, figureOf, numberText, allBlank}
 use Rattle.lines.specs.Lines.{nameByte, allBytes}
-use Rattle.list_rules.specs.Columns.{columnCount, rowWidth, columnTable, columnEntry, columnStart, columnWidth, columnForm, holdsName, isUsed, isRow, columnPart, isColumn, columnValue, flagOf, columnFault, componentOf, nameOf, valueAt, columnText, rowText}
+use Rattle.list_rules.specs.Columns.{columnCount, rowWidth, columnTable, columnEntry, columnStart, columnWidth, columnForm, holdsName, isUsed, isRow}
+use Rattle.list_rules.specs.Columns.{columnPart, isColumn, columnValue, flagOf, columnFault, componentOf, nameOf, valueAt, columnText, rowText}
 use Rattle.digits.proofs.Trip.{number-again, figure-sign, blank-is}
 use Rattle.list_trip.proofs.Below.{each-at, implied, join-same}
 use Rattle.list_trip.proofs.ReadRows.{row-facts}

@@ -9,6 +9,7 @@ use lib.IntN.{ℤ, pos, negsuc}
 use lib.ListN.{getD}
 use borrow.Author.Tests.{leb-true, ltb-true}
 use Rattle.lists.specs.Every.{every-at, inside-facts}
+use Rattle.layout.specs.Places.{mostComponents}
 use Rattle.fund.specs.Fund.{cashInRange}
 use Rattle.fund.proofs.Laws.{fund-sound, fund-limits}
 use Rattle.digits.specs.declared.Figure.{Figure}
@@ -50,7 +51,7 @@ headFigures l =
     ∷ []
 
 -- every figure is below the cap
-pub figures-small : (l : ListFields) (k : ℕ) → fieldsInRange l ≡ true → l .count ≤ 300 → k < 20 → figureAt l k .size < cap
+pub figures-small : (l : ListFields) (k : ℕ) → fieldsInRange l ≡ true → l .count ≤ mostComponents → k < 20 → figureAt l k .size < cap
 unfolding fieldsInRange figureAt
 figures-small l k e most h =
     let at = every-at _ e in

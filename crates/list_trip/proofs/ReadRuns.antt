@@ -13,7 +13,7 @@ use Rattle.lists.specs.Stretch.{stretchOf, stretch-join}
 use Rattle.layout.specs.declared.Component.{Component}
 use Rattle.layout.specs.Components.{blank, componentAt, componentNumbers, placesOf}
 use Rattle.fund.specs.Components.{componentFault}
-use Rattle.layout.specs.Places.{componentWidth}
+use Rattle.layout.specs.Places.{componentWidth, mostComponents}
 use Rattle.fund.proofs.Laws.{ComponentRanges, components-fine}
 use Rattle.layout.proofs.Components.{places-at, numbers-length, component-is}
 use Rattle.lines.specs.Lines.{nameByte, allBytes}
@@ -33,7 +33,7 @@ places-cases f g n k false p e = refl
 
 places-same : (f g : ℕ → Component) (n : ℕ) → ((k : ℕ) → k < n → f k ≡ g k) → placesOf f n ≡ placesOf g n
 unfolding placesOf
-places-same f g n e = table-same _ _ 300 (λ k _. places-cases f g n k (ltb k n) refl e)
+places-same f g n e = table-same _ _ mostComponents (λ k _. places-cases f g n k (ltb k n) refl e)
 
 module _ (text : List ℕ) (r : Reads text) where
   -- Components.

@@ -9,12 +9,14 @@ use borrow.Author.Tests.{leb-true, ltb-false, eqb-true, not-false}
 use Rattle.lists.specs.Below.{first-all, first-stops}
 use Rattle.lists.specs.Every.{inside, inside-facts}
 use Rattle.lists.specs.Checks.{isAccepted, passes, all-passed, passes-all}
+use Rattle.layout.specs.Places.{mostComponents}
 use Rattle.fund.specs.Components.{componentFault}
 use Rattle.lines.specs.Lines.{nextAt, same}
 use Rattle.list_rules.specs.Head.{fieldCount, headLines, isField, isHeadLine, endWord}
 use Rattle.list_rules.specs.Columns.{columnCount, isRow, columnFault}
 use Rattle.list_rules.specs.Fields.{fieldsInRange}
-use Rattle.list_rules.specs.Reading.{startOf, lineStands, wrongLine, rowStart, rowCount, endStart, shapeChecks, fieldOf, figureRead, wrongField, rowOf, wrongRow, fieldChecks, fieldsRead, isCounted, readFault, valueChecks, readChecks, readReply}
+use Rattle.list_rules.specs.Reading.{startOf, lineStands, wrongLine, rowStart, rowCount, endStart, shapeChecks, fieldOf, figureRead, wrongField}
+use Rattle.list_rules.specs.Reading.{rowOf, wrongRow, fieldChecks, fieldsRead, isCounted, readFault, valueChecks, readChecks, readReply}
 use Rattle.list_trip.proofs.Below.{first-before}
 
 pub record Reads (text : List ℕ) : Type 0 where
@@ -82,10 +84,10 @@ module _ (text : List ℕ) where
       }
 
   -- there are 1 to 300 component lines, as many as the count says
-  pub count-read : Reads text → (1 ≤ rowCount text) × (rowCount text ≤ 300) × (fieldsRead text .count ≡ rowCount text)
+  pub count-read : Reads text → (1 ≤ rowCount text) × (rowCount text ≤ mostComponents) × (fieldsRead text .count ≡ rowCount text)
   unfolding isCounted
   count-read r =
-      let p = and-eq-true-iff (inside 1 300 (fieldsRead text .count)) (eqb (fieldsRead text .count) (rowCount text)) .0 (r .counted) in
+      let p = and-eq-true-iff (inside 1 mostComponents (fieldsRead text .count)) (eqb (fieldsRead text .count) (rowCount text)) .0 (r .counted) in
       let same = eqb-true _ _ (p .1) in
-      let within = inside-facts 1 300 (fieldsRead text .count) (p .0) in
-      (subst (λ (n : ℕ). 1 ≤ n) same (within .0), subst (λ (n : ℕ). n ≤ 300) same (within .1), same)
+      let within = inside-facts 1 mostComponents (fieldsRead text .count) (p .0) in
+      (subst (λ (n : ℕ). 1 ≤ n) same (within .0), subst (λ (n : ℕ). n ≤ mostComponents) same (within .1), same)

@@ -13,11 +13,13 @@ use Rattle.lists.specs.Every.{inside-true}
 use Rattle.lists.specs.Checks.{check, reply, passes, passes-all, answered-passed, answered-next}
 use Rattle.lists.specs.Stretch.{join-ext}
 use Rattle.fund.specs.Components.{componentFault}
+use Rattle.layout.specs.Places.{mostComponents, componentWidth}
 use Rattle.layout.specs.Components.{componentAt, componentNumbers, placesOf}
 use Rattle.digits.specs.declared.Figure.{Figure}
 use Rattle.list_rules.specs.declared.ListFields.{ListFields}
 use Rattle.list_rules.specs.Fields.{figureAt, fieldsInRange}
-use Rattle.list_rules.specs.Reading.{rowCount, shapeChecks, fieldChecks, rowOf, componentRead, figureRead, fieldsRead, isCounted, readFault, valueChecks, readChecks, readReply, componentsRun, nameRead}
+use Rattle.list_rules.specs.Reading.{rowCount, shapeChecks, fieldChecks, rowOf, componentRead, figureRead, fieldsRead}
+use Rattle.list_rules.specs.Reading.{isCounted, readFault, valueChecks, readChecks, readReply, componentsRun, nameRead}
 use Rattle.list_rules.specs.Columns.{nameOf}
 use Rattle.list_rules.specs.Writing.{Listing, nameAt, textOf}
 use Rattle.list_trip.specs.Trips.{namesRead, listRead, WrittenReads}
@@ -64,7 +66,7 @@ module _ (l : Listing) (eight : length (l .fields .fund .limits) ≡ 8) (p : Pas
   counted =
       ap₂ (λ (f : ListFields) (n : ℕ). isCounted (f .count) n) fields-there (count-there l p)
       ∙ ap₂ (λ (a b : Bool). a && b)
-      (inside-true 1 300 (l .fields .count) (p .some) (p .few))
+      (inside-true 1 mostComponents (l .fields .count) (p .some) (p .few))
       (eq-eqb (l .fields .count) (l .fields .count) refl)
 
   -- the fields are in their ranges
@@ -83,14 +85,14 @@ module _ (l : Listing) (eight : length (l .fields .fund .limits) ≡ 8) (p : Pas
       (ap not counted, (ap not in-range, (le-ltb _ _ (le-of-eq (sym no-fault)), tt)))
 
   -- all of them, with room for the run
-  reply-there : (room : ℕ) → 5 * l .fields .count ≤ room → readReply (textOf l) room ≡ reply 0 0 (l .fields .count)
+  reply-there : (room : ℕ) → componentWidth * l .fields .count ≤ room → readReply (textOf l) room ≡ reply 0 0 (l .fields .count)
   unfolding readReply readChecks
   reply-there room h =
       answered-next (shapeChecks (textOf l)) _ _ shape-passes
       ∙ answered-next (fieldChecks (textOf l)) _ _ fields-pass
       ∙ answered-next (valueChecks (textOf l)) _ _ values-pass
-      ∙ answered-passed (check (ltb room (5 * rowCount (textOf l))) 16 0 ∷ []) (rowCount (textOf l))
-      (passes-all _ (le-ltb room (5 * rowCount (textOf l)) (omega (arith, count-there l p)), tt))
+      ∙ answered-passed (check (ltb room (componentWidth * rowCount (textOf l))) 16 0 ∷ []) (rowCount (textOf l))
+      (passes-all _ (le-ltb room (componentWidth * rowCount (textOf l)) (omega (arith, count-there l p)), tt))
       ∙ ap (λ (n : ℕ). reply 0 0 n) (count-there l p)
 
   -- the run and the names are those of the list

@@ -10,6 +10,7 @@ use lib.IntN.{ℤ, pos, negsuc}
 use lib.ListN.{getD}
 use borrow.Author.Tests.{leb-true, ltb-true}
 use Rattle.lists.specs.Every.{every-at, inside-facts}
+use Rattle.layout.specs.Places.{mostComponents}
 use Rattle.fund.specs.Fund.{cashInRange}
 use Rattle.fund.proofs.Laws.{FundRanges, fund-sound, fund-limits}
 use Rattle.digits.specs.declared.Form.{Form}
@@ -75,7 +76,7 @@ date-says d e = fixed-says 8 1 d (omega (arith, date-low d e)) (date-low d e) e
 
 -- The fields of a list in their ranges.
 
-module _ (l : ListFields) (fit : fieldsInRange l ≡ true) (few : l .count ≤ 300) where
+module _ (l : ListFields) (fit : fieldsInRange l ≡ true) (few : l .count ≤ mostComponents) where
   -- a limit, for the fields from the 12th on
   limit-says : (k : ℕ) → k < 20 → FundRanges (l .fund) → Says (0 ∷ 0 ∷ 0 ∷ 0 ∷ []) (plain (getD (l .fund .limits) (k - 12) 0))
   unfolding isKind

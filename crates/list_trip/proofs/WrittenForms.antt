@@ -2,7 +2,7 @@
 use mathlib.Core.Path.{_≡_, refl}
 use mathlib.Core.Bool.{true, false, cond, true≢false, false≢true}
 use mathlib.Core.List.{List, [], _∷_}
-use Prim.Native.Nat.{ℕ, zero, suc, _+_, _/_, _^_, _≤_, _<_}
+use Prim.Native.Nat.{ℕ, suc, _+_, _/_, _^_, _≤_, _<_}
 use native.Mathlib.Nat.{div-one, div-lt-iff-lt-mul, le-of-eq}
 use native.Mathlib.Omega.{arith}
 use lib.Dec.{ltb}

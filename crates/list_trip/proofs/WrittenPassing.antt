@@ -12,6 +12,7 @@ use Rattle.lists.specs.Every.{every-at, inside-facts}
 use Rattle.lists.specs.Checks.{passes, passed-all}
 use Rattle.lists.specs.Stretch.{stretchOf, within, stretch-length}
 use Rattle.fund.specs.Components.{componentFault}
+use Rattle.layout.specs.Places.{mostComponents, componentWidth}
 use Rattle.layout.specs.Components.{componentAt, placesOf}
 use Rattle.fund.proofs.Laws.{ComponentRanges, components-fine}
 use Rattle.layout.proofs.Components.{places-at}
@@ -28,8 +29,8 @@ name-stretch names j = rw (mul-comm j 8)
 -- sizes, ranges, components and names
 pub record Passing (l : Listing) : Type 0 where
   pub some : 1 ≤ l .fields .count
-  pub few : l .fields .count ≤ 300
-  pub run-length : length (l .run) ≡ 5 * l .fields .count
+  pub few : l .fields .count ≤ mostComponents
+  pub run-length : length (l .run) ≡ componentWidth * l .fields .count
   pub names-length : length (l .names) ≡ 8 * l .fields .count
   pub ranges : fieldsInRange (l .fields) ≡ true
   pub letters : isLetters (l .letters) ≡ true
@@ -43,7 +44,7 @@ unfolding listChecks sizesFit writeFault componentFault nameFault
 passing l e =
     let p = passed-all (listChecks l) e in
     let size = every-at _ (not-false (sizesFit l) (p .0)) in
-    let count = inside-facts 1 300 (l .fields .count) (size 0) in
+    let count = inside-facts 1 mostComponents (l .fields .count) (size 0) in
     let both = and-eq-true-iff (fieldsInRange (l .fields)) (isLetters (l .letters)) .0 (not-false _ (p .1 .0)) in
     let low = ltb-false (writeFault l) (l .fields .count) (p .1 .1 .0) in
     record {

@@ -15,7 +15,8 @@ use Rattle.digits.specs.declared.Figure.{Figure}
 use Rattle.digits.specs.Digits.{plain, fixed, wholeText, plainText, signedText, numberText, isNumber, figureOf, allBlank}
 use Rattle.lines.specs.Lines.{nameByte, allBytes}
 use Rattle.lines.proofs.Laws.{noCR, noCR-append, names-noCR}
-use Rattle.list_rules.specs.Columns.{columnTable, columnEntry, columnStart, columnWidth, columnForm, holdsName, isUsed, isRow, columnPart, isColumn, columnValue, flagOf, columnFault, componentOf, nameOf, valueAt, columnText, rowText}
+use Rattle.list_rules.specs.Columns.{columnTable, columnEntry, columnStart, columnWidth, columnForm, holdsName, isUsed, isRow, columnPart}
+use Rattle.list_rules.specs.Columns.{isColumn, columnValue, flagOf, columnFault, componentOf, nameOf, valueAt, columnText, rowText}
 use Rattle.digits.proofs.Trip.{number-read, figure-read, number-width, blank-all}
 use Rattle.list_trip.proofs.WrittenLines.{parts-noCR}
 use Rattle.list_trip.proofs.WrittenHead.{number-noCR}

@@ -9,6 +9,7 @@ use borrow.Author.Tests.{eqb-true, ltb-false}
 use Rattle.lists.specs.Every.{every-at, inside-facts}
 use Rattle.lists.specs.Checks.{reply, answered, passes, isAccepted, passed-all, passes-all, answered-next, accepted-passes}
 use Rattle.fund.specs.Components.{componentFault}
+use Rattle.layout.specs.Places.{mostComponents, componentWidth}
 use Rattle.layout.specs.Components.{componentAt, placesOf}
 use Rattle.rules.specs.declared.Refusal.{Refusal}
 use Rattle.rules.proofs.Replies.{is-refused}
@@ -28,15 +29,15 @@ module _ (l : Listing) where
 
   -- what refusal 1's test says
   pub record Sized : Type 0 where
-    pub few : l .fields .count ≤ 300
-    pub run-length : length (l .run) ≡ 5 * l .fields .count
+    pub few : l .fields .count ≤ mostComponents
+    pub run-length : length (l .run) ≡ componentWidth * l .fields .count
     pub names-length : length (l .names) ≡ 8 * l .fields .count
 
   pub sizes-sound : sizesFit l ≡ true → Sized
   unfolding sizesFit
   sizes-sound e =
       let t = every-at _ e in
-      record { few = inside-facts 1 300 _ (t 0) .1; run-length = eqb-true _ _ (t 1); names-length = eqb-true _ _ (t 2) }
+      record { few = inside-facts 1 mostComponents _ (t 0) .1; run-length = eqb-true _ _ (t 1); names-length = eqb-true _ _ (t 2) }
 
   pub fault-is : min
       (componentFault (l .fields .fund .«first_code») (placesOf (componentAt (l .run)) (l .fields .count)) (l .fields .count))

@@ -6,6 +6,7 @@ use native.Mathlib.Nat.{min-eq-left, min-comm}
 use native.Mathlib.Omega.{arith}
 use lib.Dec.{eqb}
 use borrow.Author.Tests.{le-leb, lt-leb, eq-eqb, ne-eqb}
+use Rattle.layout.specs.Places.{mostComponents, componentWidth}
 use Rattle.lists.specs.Every.{every, inside}
 use Rattle.list_writing.specs.Outcome.{lengthsFit}
 
@@ -20,18 +21,18 @@ module _ (count run names : ℕ) where
   count-low h = rw (lt-leb 1 count h)
 
   module _ (low : 1 ≤ count) where
-    pub count-high : 300 < count → false ≡ lengthsFit count run names
+    pub count-high : mostComponents < count → false ≡ lengthsFit count run names
     unfolding lengthsFit every inside
-    count-high h = rw (le-leb 1 count low, lt-leb count 300 h)
+    count-high h = rw (le-leb 1 count low, lt-leb count mostComponents h)
 
-    module _ (high : count ≤ 300) where
-      pub run-other : (run ≡ 5 * count → ⊥) → false ≡ lengthsFit count run names
+    module _ (high : count ≤ mostComponents) where
+      pub run-other : (run ≡ componentWidth * count → ⊥) → false ≡ lengthsFit count run names
       unfolding lengthsFit every inside
-      run-other h = rw (le-leb 1 count low, le-leb count 300 high, ne-eqb run (5 * count) h)
+      run-other h = rw (le-leb 1 count low, le-leb count mostComponents high, ne-eqb run (componentWidth * count) h)
 
-      pub names-decide : run ≡ 5 * count → eqb names (8 * count) ≡ lengthsFit count run names
+      pub names-decide : run ≡ componentWidth * count → eqb names (8 * count) ≡ lengthsFit count run names
       unfolding lengthsFit every inside
-      names-decide h = rw (le-leb 1 count low, le-leb count 300 high, eq-eqb run (5 * count) h) (and-last (eqb names (8 * count)))
+      names-decide h = rw (le-leb 1 count low, le-leb count mostComponents high, eq-eqb run (componentWidth * count) h) (and-last (eqb names (8 * count)))
 
 -- the lower of two places
 module _ (a b x y : ℕ) (p : a ≡ x) (q : b ≡ y) where

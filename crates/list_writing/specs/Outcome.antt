@@ -6,7 +6,7 @@ use mathlib.Core.List.{List, [], _∷_}
 use lib.Dec.{eqb}
 use lib.ListN.{length}
 use Rattle.lists.specs.Every.{every, inside}
-use Rattle.layout.specs.Places.{componentWidth}
+use Rattle.layout.specs.Places.{componentWidth, mostComponents}
 use Rattle.list_rules.specs.declared.ListAnswer.{ListAnswer}
 use Rattle.list_rules.specs.Replies.{listReply}
 use Rattle.list_rules.specs.Writing.{Listing, nameWidth, writeReply, outputAfter}
@@ -19,4 +19,4 @@ pub record WriteOutcome (l : Listing) (output : List ℕ) (r : ListAnswer) (outp
 -- refusal 1's test, on N and the lent lengths
 unfoldable pub lengthsFit : ℕ → ℕ → ℕ → Bool
 lengthsFit count run names =
-    every (inside 1 300 count ∷ eqb run (componentWidth * count) ∷ eqb names (nameWidth * count) ∷ [])
+    every (inside 1 mostComponents count ∷ eqb run (componentWidth * count) ∷ eqb names (nameWidth * count) ∷ [])

@@ -4,6 +4,7 @@ ghost use mathlib.Core.Bool.{true};
 ghost use Prim.Native.Nat.{_*_, _≤_, min};
 ghost use lib.ListN.{length};
 ghost use Rattle.lists.specs.Checks.{passes};
+ghost use Rattle.layout.specs.Places.{mostComponents, componentWidth};
 ghost use Rattle.layout.specs.Components.{componentAt, placesOf};
 ghost use Rattle.fund.specs.Components.{componentFault};
 ghost use Rattle.digits.specs.Written.{put};
@@ -35,7 +36,7 @@ fn lengths_fit(count: usize, run: usize, names: usize) -> bool
 
 // The first component at fault, by its numbers or by its name, and `count` where there is none.
 fn write_fault(first_code: u64, run: &[u64], names: &[u8], count: usize) -> usize
-    requires { ⌜ (count ≤ 300) × (length (now run) ≡ 5 * count) × (length (now names) ≡ 8 * count) ⌝ }
+    requires { ⌜ (count ≤ mostComponents) × (length (now run) ≡ componentWidth * count) × (length (now names) ≡ 8 * count) ⌝ }
     ensures { λ r. ⌜ r ≡ min (componentFault «first_code» (placesOf (componentAt (now (run .entry))) count) count) (nameFault (now (names .entry)) count) ⌝ }
 {
     let fault = fund::run_fault(first_code, run, count);

@@ -2,10 +2,10 @@
 use mathlib.Core.Path.{_≡_, refl, sym, ap, _∙_}
 use mathlib.Core.Bool.{Bool, true, false, _&&_, false≢true}
 use mathlib.Core.List.{List, [], _∷_}
-use Prim.Native.Nat.{ℕ, zero, suc, _≤_, _<_}
+use Prim.Native.Nat.{ℕ, zero, suc, _≤_}
 use lib.Dec.{leb}
 use lib.ListN.{getD}
-use borrow.Author.Tests.{le-leb, lt-leb, leb-true}
+use borrow.Author.Tests.{le-leb, leb-true}
 
 -- every test of the list passes
 unfoldable pub every : List Bool → Bool

@@ -1,6 +1,6 @@
 -- A number that counts only where two numbers are the same.
-use mathlib.Core.Path.{_≡_, refl}
-use mathlib.Core.Bool.{Bool, true, false, cond}
+use mathlib.Core.Path.{_≡_}
+use mathlib.Core.Bool.{cond}
 use Prim.Native.Nat.{ℕ}
 use lib.Dec.{eqb}
 use borrow.Author.Tests.{eq-eqb, ne-eqb}
@@ -16,11 +16,3 @@ when-same x y v e = rw (eq-eqb x y e)
 pub when-other : (x y v : ℕ) → (x ≡ y → ⊥) → whenSame x y v ≡ 0
 unfolding whenSame
 when-other x y v n = rw (ne-eqb x y n)
-
-pub when-none : (x y : ℕ) → whenSame x y 0 ≡ 0
-unfolding whenSame
-when-none x y = go (eqb x y)
-  where
-    go : (b : Bool) → _≡_ {A = ℕ} (cond b 0 0) 0
-    go true = refl
-    go false = refl

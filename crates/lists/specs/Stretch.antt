@@ -1,6 +1,6 @@
 -- A list cut into stretches of one width: one stretch, the list with another in its place, and sums over the stretches.
-use mathlib.Core.Path.{_≡_, refl, sym, ap, _∙_, subst⁻¹}
-use mathlib.Core.List.{List, [], _∷_, _++_, append-assoc}
+use mathlib.Core.Path.{_≡_, sym, ap, _∙_, subst⁻¹}
+use mathlib.Core.List.{List, _++_, append-assoc}
 use mathlib.Core.Logic.{⊎-elim}
 use Prim.Native.Nat.{ℕ, zero, suc, _+_, _-_, _*_, _≤_, _<_}
 use native.Mathlib.Nat.{zero-mul, suc-mul, le-step, lt-suc-self, add-sub-cancel-left, mul-le-mul-right, not-suc-le-zero, eq-or-lt-of-le, le-of-suc-le-suc}
@@ -9,7 +9,7 @@ use native.Mathlib.Omega.{arith}
 use lib.ListN.{length, getD, take, drop, length-append, length-drop, take-append-drop}
 use lib.Seq.{length-take-le, take-all, take-at, drop-at, take-append-le, drop-append-le, drop-drop, take-add, getD-take, getD-drop}
 use borrow.Rule.Slice.PartMut.{same-len-mid, put-same}
-use Rattle.lists.specs.Below.{sumBelow, sum-one, sum-two, joinBelow, join-length}
+use Rattle.lists.specs.Below.{sumBelow, sum-two, joinBelow, join-length}
 
 -- the a-th stretch of w elements of b
 unfoldable pub stretchOf : ℕ → List ℕ → ℕ → List ℕ
@@ -59,7 +59,8 @@ put-again w b a s t h e =
 before-mid : (p k a : ℕ) (b s : List ℕ) → p + k ≤ a → a ≤ length b → take k (drop p (take a b ++ s)) ≡ take k (drop p b)
 before-mid p k a b s h g =
     let la : length (take a b) ≡ a = length-take-le a b g in
-    let front : (t : List ℕ) → take k (drop p (take a b ++ t)) ≡ take k (drop p (take a b)) = λ t. rw (drop-append-le p (take a b) t (omega arith)) (take-append-le k _ t (rw length-drop (omega arith))) in
+    let front : (t : List ℕ) → take k (drop p (take a b ++ t)) ≡ take k (drop p (take a b)) =
+    λ t. rw (drop-append-le p (take a b) t (omega arith)) (take-append-le k _ t (rw length-drop (omega arith))) in
     front s ∙ sym (front (drop a b)) ∙ rw take-append-drop
 
 -- from d after the part that changed on
@@ -121,13 +122,6 @@ take-join f (suc n) w b all =
 -- a list of n stretches whose a-th is f a
 pub join-ext : (f : ℕ → List ℕ) (n w : ℕ) (b : List ℕ) → length b ≡ n * w → ((a : ℕ) → a < n → stretchOf w b a ≡ f a) → b ≡ joinBelow f n
 join-ext f n w b e all = sym (take-all (n * w) b (omega arith)) ∙ take-join f n w b all
-
--- one stretch is replaced: the sum changes by that stretch's number
-pub over-put : (w k : ℕ) (g : List ℕ → ℕ) (b : List ℕ) (a : ℕ) (s : List ℕ) → a < k → a * w + w ≤ length b → length s ≡ w → over w k g (putStretch w b a s) + g (stretchOf w b a) ≡ over w k g b + g s
-unfolding over
-over-put w k g b a s l h e =
-    sum-one (λ i. g (stretchOf w (putStretch w b a s) i)) (λ i. g (stretchOf w b i)) k a l (λ i _ n. ap g (stretch-put-other w b a i s n h e))
-    ∙ ap (λ (t : List ℕ). over w k g b + g t) (stretch-put-same w b a s h e)
 
 -- Two stretches s and t changed, to x and y, and nothing else.
 pub record Changed (w : ℕ) (b b′ : List ℕ) (s t : ℕ) (x y : List ℕ) : Type 0 where

@@ -1,6 +1,6 @@
 // The third stage of an order: stock, the cash ratio, cash and the room for the records. It only reads.
 ghost use mathlib.Core.Path.{_≡_};
-ghost use Prim.Native.Nat.{_+_, _*_, _≤_, _<_, _^_};
+ghost use Prim.Native.Nat.{_≤_, _<_, _^_};
 ghost use lib.ListN.{length};
 ghost use Rattle.lists.specs.Checks.{reply, answered};
 ghost use Rattle.layout.specs.Places.{basketWidth, mostComponents};
@@ -30,9 +30,6 @@ pub struct Tested {
     pub answer: OrderAnswer,
     pub cash: CashByMarket,
 }
-
-// The place of the cash in a stretch.
-const CASH: usize = 0;
 
 // The tests 14 and 15: nothing is asked where nothing is missing.
 fn ratio_answer(
@@ -98,10 +95,11 @@ fn stock_answer(ask: Ask, n: usize, stretch: &[u64], short: usize) -> Answer
         }
         return Answer::Done;
     }
-    if scan::handable_at(stretch, n) < ask.units {
+    let held = scan::handable_at(stretch, n);
+    if held < ask.units {
         return Answer::Refused(Refusal::ShortOfStock(0));
     }
-    if short < n {
+    if n > short {
         return Answer::Refused(Refusal::FundShort(short));
     }
     Answer::Done
@@ -138,9 +136,9 @@ fn cash_held(kind: usize, stretch: &[u64], fund: &[u64]) -> u64
     ensures { λ r. ⌜ r ≡ headAt (byKind kind (now (stretch .entry)) (now (fund .entry))) cash ⌝ }
 {
     if kind == rules::CREATION {
-        return stretch[CASH];
+        return stretch[layout::CASH];
     }
-    fund[CASH]
+    fund[layout::CASH]
 }
 
 // All tests of the stage, from the scan t and the cash held.

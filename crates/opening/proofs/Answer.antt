@@ -21,7 +21,8 @@ use Rattle.rules.specs.declared.Refusal.{Refusal}
 use Rattle.rules.specs.declared.Answer.{Answer}
 use Rattle.rules.specs.declared.Answer.the-variants.{Done, Refused}
 use Rattle.rules.specs.Replies.{answerReply}
-use Rattle.rules.specs.Opening.{Opening, holdingsOf, openedTotal, openedCash, sizeChecks, fundChecks, totalFault, totalChecks, dayChecks, componentsOpened, openingSizesFit, openingReply, openedRun, openedStretch, openedBook, openedPrices}
+use Rattle.rules.specs.Opening.{Opening, holdingsOf, openedTotal, openedCash, sizeChecks, fundChecks, totalFault, totalChecks}
+use Rattle.rules.specs.Opening.{dayChecks, componentsOpened, openingSizesFit, openingReply, openedRun, openedStretch, openedBook, openedPrices}
 use Rattle.rules.proofs.Replies.{refused}
 use Rattle.rules.proofs.OpenedDay.{opened-opens, opened-book, opened-prices, opened-run}
 use Rattle.opening.specs.Given.{Outcome, totalsOf}

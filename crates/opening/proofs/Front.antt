@@ -6,7 +6,8 @@ use native.Mathlib.Omega.{arith}
 use lib.ListN.{length, getD, take, drop, length-set, length-append}
 use lib.Seq.{sets-eq, take-at, take-all, length-take-le}
 use Rattle.lists.specs.Below.{joinBelow, join-none, join-more}
-use Rattle.layout.specs.Book.{widthOf}
+use Rattle.layout.specs.Places.{lineWidth}
+use Rattle.layout.specs.Book.{widthOf, lineFrom}
 use Rattle.rules.specs.Opening.{cashOpened, heldOpened, openedStretch}
 use Rattle.opening.specs.Given.{putThree}
 
@@ -21,13 +22,14 @@ three-front at a b c s h =
     let one : at + 1 ≡ suc at = omega arith in
     let two : at + 2 ≡ suc (suc at) = omega arith in
     let front : length (take at s) ≡ at = length-take-le at s (omega arith) in
-    let cut : (t : List ℕ) → take (at + 3) ((take at s ++ (a ∷ b ∷ c ∷ [])) ++ t) ≡ take at s ++ (a ∷ b ∷ c ∷ []) = λ t. take-at (take at s ++ (a ∷ b ∷ c ∷ [])) t (at + 3) (rw length-append (omega arith)) in
+    let cut : (t : List ℕ) → take (at + 3) ((take at s ++ (a ∷ b ∷ c ∷ [])) ++ t) ≡ take at s ++ (a ∷ b ∷ c ∷ []) =
+    λ t. take-at (take at s ++ (a ∷ b ∷ c ∷ [])) t (at + 3) (rw length-append (omega arith)) in
     rw (one, two, sets-eq (a ∷ b ∷ c ∷ []) s at h) (cut (drop (at + 3) s))
 
 -- a stretch that is opened as far as line l
 pub record Fronted (n : ℕ) (h : List ℕ) (l : ℕ) (s : List ℕ) : Type 0 where
   pub size : length s ≡ widthOf n
-  pub front : take (3 + 3 * l) s ≡ cashOpened h ∷ 0 ∷ 0 ∷ joinBelow (λ l. heldOpened l h ∷ 0 ∷ 0 ∷ []) l
+  pub front : take (lineFrom l) s ≡ cashOpened h ∷ 0 ∷ 0 ∷ joinBelow (λ l. heldOpened l h ∷ 0 ∷ 0 ∷ []) l
 
 module _ (n : ℕ) (h s t : List ℕ) where
   pub fronted-none : length s ≡ widthOf n → t ≡ putThree 0 (getD h 0 0) 0 0 s → Fronted n h 0 t
@@ -38,15 +40,15 @@ module _ (n : ℕ) (h s t : List ℕ) where
         front = rw e (three-front 0 (getD h 0 0) 0 0 s (omega arith) ∙ rw join-none);
       }
 
-  pub fronted-more : (l : ℕ) → l < n + 1 → t ≡ putThree (3 + 3 * l) (getD h (1 + l) 0) 0 0 s → Fronted n h l s → Fronted n h (l + 1) t
+  pub fronted-more : (l : ℕ) → l < n + 1 → t ≡ putThree (lineFrom l) (getD h (1 + l) 0) 0 0 s → Fronted n h l s → Fronted n h (l + 1) t
   unfolding heldOpened
   fronted-more l k e f =
-      let next : 3 + 3 * (l + 1) ≡ 3 + 3 * l + 3 = omega arith in
+      let next : lineFrom (l + 1) ≡ lineFrom l + lineWidth = omega arith in
       record {
-        size = rw e (three-length (3 + 3 * l) (getD h (1 + l) 0) 0 0 s ∙ f .size);
-        front = rw (e, next, three-front (3 + 3 * l) (getD h (1 + l) 0) 0 0 s (omega (arith, f .size)), f .front, join-more);
+        size = rw e (three-length (lineFrom l) (getD h (1 + l) 0) 0 0 s ∙ f .size);
+        front = rw (e, next, three-front (lineFrom l) (getD h (1 + l) 0) 0 0 s (omega (arith, f .size)), f .front, join-more);
       }
 
 pub fronted-all : (n : ℕ) (h s : List ℕ) (l : ℕ) → l ≡ n + 1 → Fronted n h l s → s ≡ openedStretch n h
 unfolding openedStretch
-fronted-all n h s l e f = sym (take-all (3 + 3 * l) s (omega (arith, f .size))) ∙ f .front ∙ rw e
+fronted-all n h s l e f = sym (take-all (lineFrom l) s (omega (arith, f .size))) ∙ f .front ∙ rw e

@@ -137,13 +137,8 @@ fn open_account(stretch: &mut [u64], held: &[u64], count: usize)
     put_three(stretch, layout::CASH, held[0], 0, 0);
     let mut l = 0;
     while l < count + 1 {
-        put_three(
-            stretch,
-            layout::LINES_FROM + layout::LINE_WIDTH * l,
-            held[1 + l],
-            0,
-            0,
-        );
+        let at = layout::LINES_FROM + layout::LINE_WIDTH * l;
+        put_three(stretch, at, held[1 + l], 0, 0);
         l += 1;
     }
 }

@@ -109,7 +109,8 @@ accepted d b ps room =
 
 -- it can be written and moved, and gives the rules' records and book; m is its count of baskets, and c its cash
 module _ (d : Day) (b ps : List ℕ) (ask : Ask) (list : List ℕ) (k : ask .kind < 2) (whole : isSound d b ps ≡ true) (count : ℕ)
-    (made : reply 0 0 count ≡ askedAnswer d b ps ask (roomIn list)) (m : ℕ) (in-baskets : m ≡ baskets d (ask .units)) (c : CashByMarket) (paid : c ≡ askedCash d (account d b (ask .account)) ps ask) where
+    (made : reply 0 0 count ≡ askedAnswer d b ps ask (roomIn list)) (m : ℕ) (in-baskets : m ≡ baskets d (ask .units)) (c : CashByMarket)
+    (paid : c ≡ askedCash d (account d b (ask .account)) ps ask) where
   facts : Accepted d b ps (roomIn list) ask
   unfolding askedAnswer askedReply
   facts = accepted d b ps (roomIn list) ask k (ap isAccepted (on-sound d b ps (askedChecks d b ps ask (roomIn list)) _ whole) ∙ is-accepted count _ made)

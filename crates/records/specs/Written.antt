@@ -4,7 +4,7 @@ use mathlib.Core.Path.{_≡_}
 use mathlib.Core.Bool.{cond}
 use mathlib.Core.List.{List, [], _∷_, _++_}
 use lib.Dec.{ltb}
-use lib.ListN.{length, getD}
+use lib.ListN.{length}
 use lib.Seq.{sets}
 use Rattle.lists.specs.Below.{joinBelow}
 use Rattle.layout.specs.Day.{Day}

@@ -1,8 +1,7 @@
 // The records of an order, written to a lent run of numbers.
 ghost use mathlib.Core.Path.{_≡_};
 ghost use mathlib.Core.List.{[], _∷_};
-ghost use Prim.Native.Nat.{_+_, _*_, _≤_, _<_, _^_};
-ghost use lib.ListN.{length};
+ghost use Prim.Native.Nat.{_*_, _≤_, _<_, _^_};
 ghost use Rattle.rules.specs.Records.{recordOf, cashRecords};
 ghost use Rattle.rules.specs.Kinds.{stockSide, restSide};
 ghost use Rattle.records.specs.Written.{Fits, Wrote, lineRecord, recordsAfterStock};

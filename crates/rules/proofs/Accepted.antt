@@ -109,13 +109,21 @@ pub record Orders (d : Day) (b : List ℕ) (kind a units : ℕ) : Type 0 where
   pub net-limit-each : 0 < limitOf (d .fund) netLimitEach kind → countOf d b kind a + units - countOf d b (1 - kind) a ≤ limitOf (d .fund) netLimitEach kind
   pub below-ceiling : fundCount d b kind + units ≤ ceiling
 
-pub order-facts : (d : Day) (b : List ℕ) (kind a units : ℕ) → 2 ≤ d .accounts → isInvestor (d .accounts) a ≡ true → wholeBaskets mostBaskets d units ≡ true → withinLimits d b kind a units ≡ true → Orders d b kind a units
+pub order-facts : (d : Day) (b : List ℕ) (kind a units : ℕ) → 2 ≤ d .accounts → isInvestor (d .accounts) a ≡ true → wholeBaskets mostBaskets d units ≡ true
+    → withinLimits d b kind a units ≡ true → Orders d b kind a units
 unfolding wholeBaskets withinLimits
 order-facts d b kind a units two i w l =
     let who = investor-facts d a two i in
     let whole = every-at (eqb (units % d .fund .«basket_size») 0 ∷ inside 1 mostBaskets (baskets d units) ∷ []) w in
     let count = inside-facts 1 mostBaskets (baskets d units) (whole 1) in
-    let at = every-at (withinLimit (limitOf (d .fund) cumulativeLimit kind) (fundCount d b kind + units) ∷ withinLimit (limitOf (d .fund) cumulativeLimitEach kind) (countOf d b kind a + units) ∷ withinLimit (limitOf (d .fund) netLimit kind) (fundCount d b kind + units - fundCount d b (1 - kind)) ∷ withinLimit (limitOf (d .fund) netLimitEach kind) (countOf d b kind a + units - countOf d b (1 - kind) a) ∷ leb (fundCount d b kind + units) ceiling ∷ []) l in
+    let at =
+    every-at
+    (withinLimit (limitOf (d .fund) cumulativeLimit kind) (fundCount d b kind + units)
+    ∷ withinLimit (limitOf (d .fund) cumulativeLimitEach kind) (countOf d b kind a + units)
+    ∷ withinLimit (limitOf (d .fund) netLimit kind) (fundCount d b kind + units - fundCount d b (1 - kind))
+    ∷ withinLimit (limitOf (d .fund) netLimitEach kind) (countOf d b kind a + units - countOf d b (1 - kind) a)
+    ∷ leb (fundCount d b kind + units) ceiling
+    ∷ []) l in
     record {
       account-low = who .0;
       account-in = who .1;
@@ -154,7 +162,8 @@ creation-facts d b ps a units room e =
     }
 
 -- its value is the count of records
-pub creation-value : (d : Day) (b ps : List ℕ) (a units room : ℕ) → isAccepted (creationReply d b ps a units room) ≡ true → creationReply d b ps a units room .value ≡ length (creationRecords d (account d b a) ps units)
+pub creation-value : (d : Day) (b ps : List ℕ) (a units room : ℕ) → isAccepted (creationReply d b ps a units room) ≡ true
+    → creationReply d b ps a units room .value ≡ length (creationRecords d (account d b a) ps units)
 unfolding creationReply creationChecks formChecks permissionChecks creationMeans
 creation-value d b ps a units room e = accepted-value (onSoundDay d b ps (creationChecks d b ps a units room)) _ tt e
 
@@ -184,7 +193,3 @@ redemption-facts d b ps a units room e =
       money = ltb-false _ _ (p .1 .1 .1 .1 .1 .1 .1 .0);
       listed = ltb-false _ _ (p .1 .1 .1 .1 .1 .1 .1 .1 .0);
     }
-
-pub redemption-value : (d : Day) (b ps : List ℕ) (a units room : ℕ) → isAccepted (redemptionReply d b ps a units room) ≡ true → redemptionReply d b ps a units room .value ≡ length (redemptionRecords d units)
-unfolding redemptionReply redemptionChecks formChecks permissionChecks redemptionMeans
-redemption-value d b ps a units room e = accepted-value (onSoundDay d b ps (redemptionChecks d b a units room)) _ tt e

@@ -12,7 +12,8 @@ use Rattle.layout.specs.Book.{account}
 use Rattle.rules.specs.Orders.{creation, redemption, baskets}
 use Rattle.rules.specs.Creation.{creationDue, creationRecords, creationReply, creationMoves, createdBook, createdList}
 use Rattle.rules.specs.Redemption.{redemptionPaid, redemptionRecords, redemptionReply, redemptionMoves, redeemedBook, redeemedList}
-use Rattle.rules.specs.Kinds.{byKind, creationOf, redemptionOf, total, movedBy, stockLots, fundLots, unitLots, accountCash, fundCash, orderMoves, recordsBy, cashBy, askedCash, askedRecords, askedChecks, askedReply, askedMoves, askedBook, askedList}
+use Rattle.rules.specs.Kinds.{byKind, creationOf, redemptionOf, total, movedBy, stockLots, fundLots, unitLots, accountCash, fundCash}
+use Rattle.rules.specs.Kinds.{orderMoves, recordsBy, cashBy, askedCash, askedRecords, askedChecks, askedReply, askedMoves, askedBook, askedList}
 
 -- what holds of creation and of redemption holds of a kind
 pub by-kind : (P : ℕ → Type 0) → P creation → P redemption → (kind : ℕ) → kind < 2 → P kind
@@ -60,15 +61,6 @@ module _ (d : Day) (b ps : List ℕ) (a units : ℕ) where
   pub redeemed-list : (list : List ℕ) → askedList d b ps (redemptionOf a units) list ≡ redeemedList d b ps a units list
   unfolding askedList askedReply askedChecks askedRecords redeemedList redemptionReply
   redeemed-list list = refl
-
--- the cash is what a creation owes, and what a redemption pays
-pub asked-due : (d : Day) (s ps : List ℕ) (a units : ℕ) → total (askedCash d s ps (creationOf a units)) ≡ creationDue d s ps (baskets d units)
-unfolding askedCash cashBy creationDue
-asked-due d s ps a units = refl
-
-pub asked-paid : (d : Day) (s ps : List ℕ) (a units : ℕ) → total (askedCash d s ps (redemptionOf a units)) ≡ redemptionPaid d (baskets d units)
-unfolding askedCash cashBy redemptionPaid
-asked-paid d s ps a units = refl
 
 -- the records and the moves of an ask, by the text for both kinds
 pub asked-records : (d : Day) (s ps : List ℕ) (k : Ask) → k .kind < 2

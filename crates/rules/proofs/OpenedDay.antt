@@ -9,21 +9,21 @@ use lib.ListN.{length, getD, replicate, length-replicate, getD-replicate}
 use Rattle.lists.specs.Below.{joinBelow, join-length, sum-same, sum-zero}
 use Rattle.lists.specs.Every.{every-at}
 use Rattle.lists.specs.Checks.{isAccepted, all-passed}
-use Rattle.lists.specs.Every.{every-at}
 use borrow.Author.Tests.{eqb-true}
 use Rattle.lists.specs.Stretch.{stretchOf, over, stretch-join, stretch-at}
 use Rattle.lots.specs.declared.Lots.{Lots}
 use Rattle.lots.specs.Lots.{lotsTotal}
 use Rattle.lots.proofs.Laws.{lots, lots-eq}
-use Rattle.layout.specs.Places.{limitCount}
+use Rattle.layout.specs.Places.{limitCount, lineWidth}
 use Rattle.layout.specs.Components.{blank, componentAt}
 use Rattle.layout.proofs.Components.{places-at}
-use Rattle.layout.specs.Day.{Day, dayAt}
+use Rattle.layout.specs.Day.{dayAt}
 use Rattle.layout.proofs.Day.{day-back}
 use Rattle.fund.proofs.Laws.{fund-sound, cash-size}
 use Rattle.layout.specs.Book.{widthOf, cash, created, redeemed, headAt, lotsAt, headTotal, lineTotal, lineFrom}
 use Rattle.rules.specs.Lines.{componentOf, priceOf}
-use Rattle.rules.specs.Opening.{Opening, holdingsOf, cashOpened, heldOpened, openedTotal, openedCash, sizeChecks, fundChecks, totalChecks, dayChecks, componentsOpened, lentSizesFit, openingSizesFit, openedTotals, openingReply, openedDay, openedRun, openedStretch, openedBook, openedPrices}
+use Rattle.rules.specs.Opening.{Opening, holdingsOf, cashOpened, heldOpened, openedTotal, openedCash, sizeChecks, fundChecks, totalChecks, dayChecks}
+use Rattle.rules.specs.Opening.{componentsOpened, lentSizesFit, openingSizesFit, openedTotals, openingReply, openedDay, openedRun, openedStretch, openedBook, openedPrices}
 use Rattle.rules.proofs.SoundDay.{DaySizes, sizes-facts, Opens, opens-facts, Kept}
 
 -- one account's stretch
@@ -33,7 +33,7 @@ module _ (n : ℕ) (h : List ℕ) where
 
   pub opened-length : length (openedStretch n h) ≡ widthOf n
   unfolding openedStretch
-  opened-length = omega (arith, join-length (λ l. heldOpened l h ∷ 0 ∷ 0 ∷ []) (n + 1) 3 (λ k. refl))
+  opened-length = omega (arith, join-length (λ l. heldOpened l h ∷ 0 ∷ 0 ∷ []) (n + 1) lineWidth (λ k. refl))
 
   pub opened-cash : headAt (openedStretch n h) cash ≡ cashOpened h
   unfolding openedStretch headAt
@@ -48,15 +48,15 @@ module _ (n : ℕ) (h : List ℕ) where
   opened-redeemed = refl
 
   -- the i-th of the three numbers of line l
-  at-line : (l i : ℕ) → l < n + 1 → i < 3 → getD lines (l * 3 + i) 0 ≡ getD (heldOpened l h ∷ 0 ∷ 0 ∷ []) i 0
+  at-line : (l i : ℕ) → l < n + 1 → i < lineWidth → getD lines (l * lineWidth + i) 0 ≡ getD (heldOpened l h ∷ 0 ∷ 0 ∷ []) i 0
   at-line l i hl hi =
-      sym (stretch-at 3 lines l i hi)
-      ∙ ap (λ (s : List ℕ). getD s i 0) (stretch-join (λ l. heldOpened l h ∷ 0 ∷ 0 ∷ []) (n + 1) 3 l (λ k. refl) hl)
+      sym (stretch-at lineWidth lines l i hi)
+      ∙ ap (λ (s : List ℕ). getD s i 0) (stretch-join (λ l. heldOpened l h ∷ 0 ∷ 0 ∷ []) (n + 1) lineWidth l (λ k. refl) hl)
 
-  past-head : (l i : ℕ) → getD (openedStretch n h) (lineFrom l + i) 0 ≡ getD lines (l * 3 + i) 0
+  past-head : (l i : ℕ) → getD (openedStretch n h) (lineFrom l + i) 0 ≡ getD lines (l * lineWidth + i) 0
   unfolding openedStretch
   past-head l i =
-      let e : lineFrom l + i ≡ suc (suc (suc (l * 3 + i))) = omega arith in
+      let e : lineFrom l + i ≡ suc (suc (suc (l * lineWidth + i))) = omega arith in
       rw e
 
   pub opened-lots : (l : ℕ) → l < n + 1 → lotsAt (openedStretch n h) l ≡ lots (heldOpened l h) 0 0

@@ -2,7 +2,7 @@
 use mathlib.Core.Path.{_≡_, ap, _∙_}
 use mathlib.Core.Logic.{_≢_}
 use mathlib.Core.List.{List}
-use Prim.Native.Nat.{ℕ, _+_, _-_, _*_, _≤_, _<_}
+use Prim.Native.Nat.{ℕ, _+_, _≤_, _<_}
 use native.Mathlib.Omega.{arith}
 use lib.ListN.{length}
 use Rattle.lots.specs.declared.Lots.{Lots}
@@ -60,7 +60,7 @@ module _ (n kind units : ℕ) (f : ℕ → Lots → Lots) (g : Lots → Lots) (c
   account-count k h =
       head-put-same (counter kind) (headAt s (counter kind) + units) (putHead cash c lined) (omega (arith, put-head-length cash c lined, lined-length))
 
-  pub account-head : (k : ℕ) → 0 < k → k < linesFrom → k ≢ 1 + kind → headAt (accountSide n kind units f g c s) k ≡ headAt s k
+  pub account-head : (k : ℕ) → 0 < k → k < linesFrom → k ≢ counter kind → headAt (accountSide n kind units f g c s) k ≡ headAt s k
   unfolding accountSide
   account-head k p q r =
       head-put-other (counter kind) (headAt s (counter kind) + units) (putHead cash c lined) k r

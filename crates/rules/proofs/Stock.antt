@@ -83,7 +83,9 @@ module _ (d : Day) (v : Record → ℕ) (sound : componentFault (d .fund .«firs
       let sh = cashRecords (g + 2) rest shanghai in
       let ot = cashRecords (g + 5) rest other in
       let first-none = when-other g code (v (recordOf g rest units 0)) (λ e. group 0 (omega arith) (omega arith)) in
-      let stock-sum = tally-join v code (stockRecord d side moved) (d .count) ∙ sum-only (λ i. tally v code (stockRecord d side moved i)) (d .count) l inside (stock-elsewhere side moved) ∙ stock-here side moved in
+      let stock-sum =
+      tally-join v code (stockRecord d side moved) (d .count) ∙ sum-only (λ i. tally v code (stockRecord d side moved i)) (d .count) l inside (stock-elsewhere side moved)
+      ∙ stock-here side moved in
       omega (
         arith,
         first-none,
@@ -97,7 +99,8 @@ module _ (d : Day) (v : Record → ℕ) (sound : componentFault (d .fund .«firs
       )
 
 -- so its quantity is what moved, and there is at most one
-module _ (d : Day) (sound : componentFault (d .fund .«first_code») (d .components) (d .count) ≡ d .count) (l : ℕ) (inside : l < d .count) (side rest units : ℕ) (moved : ℕ → ℕ) (other shanghai : ℕ) where
+module _ (d : Day) (sound : componentFault (d .fund .«first_code») (d .components) (d .count) ≡ d .count) (l : ℕ) (inside : l < d .count) (side rest units : ℕ)
+    (moved : ℕ → ℕ) (other shanghai : ℕ) where
   pub stock-moved : tally (λ r. r .quantity) (codeOf d l) (orderRecords d side rest units moved other shanghai) ≡ moved l
   stock-moved = tally-order d (λ r. r .quantity) sound l inside side rest units moved other shanghai ∙ go (ltb 0 (moved l)) refl
     where

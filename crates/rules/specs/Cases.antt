@@ -18,15 +18,18 @@ use Rattle.layout.specs.Places.{dayWidth}
 use Rattle.layout.specs.Components.{componentAt, placesOf}
 use Rattle.layout.specs.Book.{headAt, lotsAt, account, headTotal, lineTotal}
 use Rattle.rules.specs.Lines.{codeOf, quantity, column, creationRate, redemptionRate, creationAmount, redemptionAmount, priceOf}
-use Rattle.rules.specs.Opening.{Opening, cashOpened, heldOpened, openedTotal, openedCash, daySizesFit, sizeChecks, fundChecks, overAt, totalFault, totalChecks, dayChecks, componentsOpened, lentSizesFit, openingReply, openedDay, openedStretch, openedBook}
+use Rattle.rules.specs.Opening.{Opening, cashOpened, heldOpened, openedTotal, openedCash, daySizesFit, sizeChecks, fundChecks, overAt}
+use Rattle.rules.specs.Opening.{totalFault, totalChecks, dayChecks, componentsOpened, lentSizesFit, openingReply, openedDay, openedStretch, openedBook}
 use Rattle.rules.specs.Sound.{opens, fundStill, isSound}
 use Rattle.rules.specs.Trade.{isInvestor}
 use Rattle.rules.specs.Value.{worthAt, lacksPrice, cashAdded, cashTaken, worthBefore, referenceValue, hasValue, valueChecks, worthReply}
 use Rattle.rules.specs.Records.{sideB, cashParts, cashRecords, stockRecord, orderRecords}
 use Rattle.layout.specs.Records.{flatten, roomIn, withRecords}
 use Rattle.rules.specs.Orders.{baskets, wholeBaskets, formChecks, switchAllows, withinLimit, countOf, fundCount, withinLimits, permissionChecks, need, shanghaiCash, otherCash}
-use Rattle.rules.specs.Creation.{available, handedIn, isShort, missing, missingWorth, isMissing, creationCash, creationDue, ratioPassed, creationRecords, firstShort, creationMeans, creationChecks, creationReply, createdList}
-use Rattle.rules.specs.Redemption.{delivered, redemptionCash, redemptionPaid, unitsAvailable, fundLacks, firstLacking, redemptionRecords, redemptionMeans, redemptionChecks, redemptionReply, redeemedList}
+use Rattle.rules.specs.Creation.{available, handedIn, isShort, missing, missingWorth, isMissing, creationCash, creationDue}
+use Rattle.rules.specs.Creation.{ratioPassed, creationRecords, firstShort, creationMeans, creationChecks, creationReply, createdList}
+use Rattle.rules.specs.Redemption.{delivered, redemptionCash, redemptionPaid, unitsAvailable, fundLacks, firstLacking}
+use Rattle.rules.specs.Redemption.{redemptionRecords, redemptionMeans, redemptionChecks, redemptionReply, redeemedList}
 
 abbrev both : Bool → Bool → Bool
 both true b = b

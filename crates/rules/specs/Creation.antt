@@ -93,7 +93,8 @@ creationReply d b ps a units room =
 unfoldable pub creationMoves : Day → List ℕ → ℕ → ℕ → List ℕ → List ℕ
 creationMoves d ps a units b =
     onStretch (width d) a
-    (λ s. accountSide (d .count) creation units (λ i x. handInOf x (handedIn d (account d b a) (baskets d units) i)) (λ x. getOf x units) (headAt s cash - creationDue d (account d b a) ps (baskets d units)) s)
+    (λ s. accountSide (d .count) creation units (λ i x. handInOf x (handedIn d (account d b a) (baskets d units) i)) (λ x. getOf x units)
+    (headAt s cash - creationDue d (account d b a) ps (baskets d units)) s)
     (onStretch (width d) 0
     (λ f. fundSide (d .count) (λ i x. takeInOf x (handedIn d (account d b a) (baskets d units) i)) (headAt f cash + creationDue d (account d b a) ps (baskets d units)) f)
     b)

@@ -1,9 +1,8 @@
 -- The records of an order, and the lent list that takes them.
-use Prim.Native.Nat.{ℕ, _+_, _-_, _*_, _/_, _%_}
-use mathlib.Core.Bool.{Bool, cond}
+use Prim.Native.Nat.{ℕ, _+_, _*_, _/_, _%_}
+use mathlib.Core.Bool.{cond}
 use mathlib.Core.List.{List, [], _∷_, _++_, map}
 use lib.Dec.{ltb, eqb}
-use lib.ListN.{length, drop}
 use Rattle.lists.specs.Below.{joinBelow}
 use Rattle.units.specs.Units.{splitSize}
 use Rattle.layout.specs.Day.{Day}

@@ -1,9 +1,9 @@
 -- "Calls and what turns them back": the paper's number, place and value for every answer.
-use Prim.Native.Nat.{ℕ}
-use mathlib.Core.Bool.{Bool, cond}
+use mathlib.Core.Bool.{cond}
 use Rattle.lists.specs.Checks.{Reply, reply, isAccepted}
 use Rattle.rules.specs.declared.Refusal.{Refusal}
-use Rattle.rules.specs.declared.Refusal.the-variants.{Sizes, FundField, Component, Total, UnsoundDay, NoSuchLine, QuantityOrPrice, Account, ShortOfStock, ShortOfCash, NotWholeBaskets, Switch, Limit, NoReferenceValue, CashRatio, ListTooShort, FundShort, TextLine, TextField, RecordCount}
+use Rattle.rules.specs.declared.Refusal.the-variants.{Sizes, FundField, Component, Total, UnsoundDay, NoSuchLine, QuantityOrPrice, Account, ShortOfStock, ShortOfCash}
+use Rattle.rules.specs.declared.Refusal.the-variants.{NotWholeBaskets, Switch, Limit, NoReferenceValue, CashRatio, ListTooShort, FundShort, TextLine, TextField, RecordCount}
 use Rattle.rules.specs.declared.Answer.{Answer}
 use Rattle.rules.specs.declared.Answer.the-variants.{Done, Refused}
 use Rattle.rules.specs.declared.OrderAnswer.{OrderAnswer}

@@ -47,7 +47,12 @@ pub order-count : (d : Day) (ss rs units : ℕ) (moved : ℕ → ℕ) (other sha
 unfolding orderRecords
 order-count d ss rs units moved other shanghai =
     simp length-append
-    (omega (arith, join-count (stockRecord d ss moved) (λ i. stockCount (moved i)) (d .count) (stock-records d ss moved), cash-records (d .fund .«first_code» + otherStep) rs other, cash-records (d .fund .«first_code» + shanghaiStep) rs shanghai))
+    (omega (
+      arith,
+      join-count (stockRecord d ss moved) (λ i. stockCount (moved i)) (d .count) (stock-records d ss moved),
+      cash-records (d .fund .«first_code» + otherStep) rs other,
+      cash-records (d .fund .«first_code» + shanghaiStep) rs shanghai,
+    ))
 
 -- so the scan counts them
 pub scan-count : (d : Day) (s f ps : List ℕ) (k : Ask) → k .kind < 2 → recordCount (orderScan (k .kind) d s f ps (baskets d (k .units))) ≡ length (askedRecords d s ps k)

@@ -2,7 +2,7 @@
 use mathlib.Core.Path.{_≡_, refl}
 use mathlib.Core.Bool.{Bool, false}
 use mathlib.Core.List.{List}
-use Prim.Native.Nat.{ℕ, zero, suc, _+_, _-_, _≤_, _<_, zero-le}
+use Prim.Native.Nat.{ℕ, zero, suc, _+_, _≤_, _<_, zero-le}
 use native.Mathlib.Numerals.{add-one}
 use native.Mathlib.Omega.{arith}
 use lib.Dec.{ltb, lit≤}
@@ -34,12 +34,26 @@ module _ (f : ℕ → Line) where
   pub scan-none : noLines ≡ scanBelow f 0
   unfolding scanBelow
   scan-none =
-      rw (first-none (λ i. f i .short), any-none (λ i. ltb 0 (f i .missing)), sum-none (λ i. f i .worth .0), sum-none (λ i. otherOf (f i)), sum-none (λ i. shanghaiOf (f i)), sum-none (λ i. stockCount (f i .moved)))
+      rw (
+        first-none (λ i. f i .short),
+        any-none (λ i. ltb 0 (f i .missing)),
+        sum-none (λ i. f i .worth .0),
+        sum-none (λ i. otherOf (f i)),
+        sum-none (λ i. shanghaiOf (f i)),
+        sum-none (λ i. stockCount (f i .moved)),
+      )
 
   next : (i : ℕ) → withLine (scanBelow f i) i (f i) ≡ scanBelow f (i + 1)
   unfolding scanBelow withLine withCash
   next i =
-      rw (first-next (λ k. f k .short) i, any-more (λ k. ltb 0 (f k .missing)) i, sum-more (λ k. f k .worth .0) i, sum-more (λ k. otherOf (f k)) i, sum-more (λ k. shanghaiOf (f k)) i, sum-more (λ k. stockCount (f k .moved)) i)
+      rw (
+        first-next (λ k. f k .short) i,
+        any-more (λ k. ltb 0 (f k .missing)) i,
+        sum-more (λ k. f k .worth .0) i,
+        sum-more (λ k. otherOf (f k)) i,
+        sum-more (λ k. shanghaiOf (f k)) i,
+        sum-more (λ k. stockCount (f k .moved)) i,
+      )
 
   pub scan-more : (i : ℕ) (t : Scan) (x : Line) → t ≡ scanBelow f i → x ≡ f i → withLine t i x ≡ scanBelow f (i + 1)
   scan-more i t x e g = rw (e, g) (next i)

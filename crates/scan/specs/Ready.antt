@@ -22,7 +22,7 @@ pub record Ranged (c : Component) : Type 0 where
 
 -- a scan of i lines, and one line more
 pub record Room (t : Scan) (i : ℕ) (x : Line) : Type 0 where
-  pub index : i < 300
+  pub index : i < mostComponents
   pub worth : t .«missing_worth» .0 + x .worth .0 ≤ 12_000_000_000_000_000_000
   pub other : t .cash .other .0 + x .cash .0 ≤ 12_000_000_000_000_000_000
   pub shanghai : t .cash .shanghai .0 + x .cash .0 ≤ 12_000_000_000_000_000_000

@@ -2,7 +2,7 @@
 ghost use mathlib.Core.Bool.{cond, not, _||_};
 ghost use mathlib.Core.List.{[], _∷_};
 ghost use mathlib.Core.Path.{_≡_};
-ghost use Prim.Native.Nat.{_+_, _-_, _*_, _≤_, _<_, _^_, min};
+ghost use Prim.Native.Nat.{_+_, _-_, _≤_, _<_, _^_, min};
 ghost use lib.Dec.{leb, ltb};
 ghost use lib.ListN.{length};
 ghost use Rattle.lists.specs.Every.{every};
@@ -172,7 +172,7 @@ fn order_line(kind: usize, c: Component, have: u64, price: u64, m: u64) -> Line
 
 // The first short component of the first i + 1, from that of the first i.
 fn next_short(first: usize, i: usize, short: bool) -> usize
-    requires { ⌜ i < 300 ⌝ }
+    requires { ⌜ i < mostComponents ⌝ }
     ensures { λ r. ⌜ r ≡ nextShort first i short ⌝ }
 {
     if first < i {
@@ -242,7 +242,7 @@ fn is_covered(flag: u64, need: u64, have: u64) -> bool
 
 // The scan of the first i components with one whose stock is there in full: it adds no cash.
 fn with_stock(t: Scan, i: usize, need: u64) -> Scan
-    requires { ⌜ (i < 300) × (t .«stock_records» ≤ i) ⌝ }
+    requires { ⌜ (i < mostComponents) × (t .«stock_records» ≤ i) ⌝ }
     ensures { λ r. ⌜ r ≡ withLine t i (stockLine need) ⌝ }
 {
     let missing_worth = t.missing_worth;

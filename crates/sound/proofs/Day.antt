@@ -2,7 +2,7 @@
 use mathlib.Core.Path.{_≡_, refl, sym, ap, _∙_}
 use mathlib.Core.Bool.{true, false}
 use mathlib.Core.List.{List}
-use Prim.Native.Nat.{ℕ, zero, suc, _+_, _-_, _*_, _≤_, _<_}
+use Prim.Native.Nat.{ℕ, zero, suc, _+_, _-_, _≤_, _<_}
 use native.Mathlib.Nat.{zero-mul, zero-add}
 use native.Mathlib.Decide.{decLt}
 use native.Mathlib.Omega.{arith}
@@ -27,12 +27,12 @@ use Rattle.sound.specs.Parts.{mostOf, lineOf, priceFits, roomLeft}
 use Rattle.sound.proofs.Limits.{Fits, Still, most-line, most-unit, line-true, line-facts, line-still, still-line}
 
 -- the search for a fault in a day's places looks at the first n only
-pub fault-places : (g : ℕ) (f : ℕ → Component) (n : ℕ) → n ≤ mostComponents → componentFault g (placesOf f n) n ≡ componentFault g (placesOf f 300) n
+pub fault-places : (g : ℕ) (f : ℕ → Component) (n : ℕ) → n ≤ mostComponents → componentFault g (placesOf f n) n ≡ componentFault g (placesOf f mostComponents) n
 unfolding componentFault faultAt
 fault-places g f n most = first-same _ _ n (λ k h. rw (same k h, same (k - 1) (omega arith)))
   where
-    same : (k : ℕ) → k < n → getD (placesOf f n) k blank ≡ getD (placesOf f 300) k blank
-    same k h = places-at f n k h most ∙ sym (places-at f 300 k (omega arith) (omega arith))
+    same : (k : ℕ) → k < n → getD (placesOf f n) k blank ≡ getD (placesOf f mostComponents) k blank
+    same k h = places-at f n k h most ∙ sym (places-at f mostComponents k (omega arith) (omega arith))
 
 -- a sum of three
 sum-three : (f g h : ℕ → ℕ) (n : ℕ) → sumBelow (λ k. f k + g k + h k) n ≡ sumBelow f n + sumBelow g n + sumBelow h n

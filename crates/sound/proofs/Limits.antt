@@ -2,7 +2,7 @@
 use mathlib.Core.Path.{_≡_, sym, _∙_}
 use mathlib.Core.Bool.{true, false, true≢false}
 use mathlib.Core.List.{List}
-use Prim.Native.Nat.{ℕ, _+_, _*_, _≤_, _<_, min}
+use Prim.Native.Nat.{ℕ, _+_, _≤_, _<_, min}
 use native.Mathlib.Omega.{arith}
 use lib.Dec.{ltb}
 use lib.ListN.{getD}
@@ -89,7 +89,14 @@ module _ (n : ℕ) (t u : ℕ → ℕ) (capped : (k : ℕ) → k < widthOf n →
         money = omega (arith, f .money, capped cash (omega arith));
         created-most = omega (arith, f .created-most, capped created (omega arith));
         redeemed-most = omega (arith, f .redeemed-most, capped redeemed (omega arith));
-        lines = λ l h. line-true n u l (omega (arith, line-facts n t l (f .lines l h), capped (lineFrom l) (omega arith), capped (lineFrom l + 1) (omega arith), capped (lineFrom l + 2) (omega arith)));
+        lines =
+            λ l h. line-true n u l (omega (
+              arith,
+              line-facts n t l (f .lines l h),
+              capped (lineFrom l) (omega arith),
+              capped (lineFrom l + 1) (omega arith),
+              capped (lineFrom l + 2) (omega arith),
+            ));
       }
 
   pub fits-capped : Fits n u → Fits n t
@@ -99,7 +106,14 @@ module _ (n : ℕ) (t u : ℕ → ℕ) (capped : (k : ℕ) → k < widthOf n →
         created-most = omega (arith, f .created-most, capped created (omega arith));
         redeemed-most = omega (arith, f .redeemed-most, capped redeemed (omega arith));
         lines = λ l h.
-            line-true n t l (omega (arith, line-facts n u l (f .lines l h), most-le n l, capped (lineFrom l) (omega arith), capped (lineFrom l + 1) (omega arith), capped (lineFrom l + 2) (omega arith)));
+            line-true n t l (omega (
+              arith,
+              line-facts n u l (f .lines l h),
+              most-le n l,
+              capped (lineFrom l) (omega arith),
+              capped (lineFrom l + 1) (omega arith),
+              capped (lineFrom l + 2) (omega arith),
+            ));
       }
 
   -- of totals that fit, those of the units and of `created` are not capped

@@ -1,7 +1,7 @@
 -- The tests of refusal 5 as the code makes them: of numbers, of the totals t of a book's places, and of the book's first stretch, the fund's.
 use mathlib.Core.Bool.{Bool, cond}
 use mathlib.Core.List.{List, [], _∷_}
-use Prim.Native.Nat.{ℕ, _+_, _-_, _*_}
+use Prim.Native.Nat.{ℕ, _+_, _-_}
 use lib.Dec.{leb, ltb, eqb}
 use lib.ListN.{getD}
 use Rattle.lists.specs.Below.{allBelow}

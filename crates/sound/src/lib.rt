@@ -1,7 +1,7 @@
 // Refusal 5: whether a day, its book and its prices are sound. And whether they have what every call keeps.
 ghost use mathlib.Core.Path.{_≡_};
 ghost use mathlib.Core.Bool.{true};
-ghost use Prim.Native.Nat.{_+_, _*_, _≤_, _<_};
+ghost use Prim.Native.Nat.{_*_, _≤_};
 ghost use lib.ListN.{length};
 ghost use Rattle.lists.specs.Below.{allBelow};
 ghost use Rattle.totals.specs.Totals.{widest, mostRows, numberAt, total, Capped};
@@ -172,7 +172,7 @@ fn room_left(book: &[u64], accounts: usize, n: usize) -> bool
     let old = totals::total_at(book, accounts, width, at);
     let bought = totals::total_at(book, accounts, width, at + 1);
     let got = totals::total_at(book, accounts, width, at + 2);
-    let created = totals::total_at(book, accounts, width, 1);
+    let created = totals::total_at(book, accounts, width, layout::CREATED);
     old + bought + got + (fund::CEILING - created) <= rules::MOST_UNITS
 }
 

@@ -1,18 +1,18 @@
 -- The answers of price and trade, test by test, and what a sound day gives them.
 use mathlib.Core.Path.{_≡_, sym, ap, _∙_}
-use mathlib.Core.Bool.{true, false, not}
+use mathlib.Core.Bool.{true, false}
 use mathlib.Core.List.{List}
 use Prim.Native.Nat.{ℕ, _+_, _-_, _*_, _≤_, _<_}
-use native.Mathlib.Nat.{mul-le-mul, add-zero}
+use native.Mathlib.Nat.{mul-le-mul}
 use native.Mathlib.Decide.{decLt}
 use native.Mathlib.Omega.{arith}
-use lib.Dec.{leb, ltb, eqb}
-use lib.ListN.{length, getD}
+use lib.Dec.{ltb}
+use lib.ListN.{length}
 use borrow.Author.Tests.{le-leb, lt-leb, lt-ltb, le-ltb, leb-false, ltb-false, eqb-false, eq-eqb, ne-eqb, not-false}
 use Rattle.lists.specs.Below.{sum-part}
 use Rattle.lists.specs.Every.{inside, inside-facts}
 use Rattle.lists.specs.Checks.{reply, answered, all-passed}
-use Rattle.lists.specs.Stretch.{stretchOf, over, within, stretch-at}
+use Rattle.lists.specs.Stretch.{stretchOf, over, within}
 use Rattle.lots.specs.declared.Lots.{Lots}
 use Rattle.lots.specs.Lots.{sellable, lotsTotal}
 use Rattle.layout.specs.Day.{Day}

@@ -1,12 +1,12 @@
 // Price and trade on a sound day: tests that only read, then the move.
 ghost use mathlib.Core.Path.{_≡_};
-ghost use Prim.Native.Nat.{_+_, _*_, _≤_, _<_};
+ghost use Prim.Native.Nat.{_+_, _*_, _≤_};
 ghost use lib.ListN.{length, set};
 ghost use Rattle.lists.specs.Checks.{answered};
 ghost use Rattle.lists.specs.Stretch.{stretchOf};
 ghost use Rattle.lots.specs.Lots.{sellable};
 ghost use Rattle.layout.specs.Places.{mostComponents};
-ghost use Rattle.layout.specs.Book.{cash, widthOf, lotsAt};
+ghost use Rattle.layout.specs.Book.{widthOf, lotsAt};
 ghost use Rattle.rules.specs.Replies.{answerReply, ifAccepted};
 ghost use Rattle.rules.specs.Price.{priceChecks};
 ghost use Rattle.rules.specs.Trade.{tradeChecks, tradeMeans, tradeMoves};
@@ -123,7 +123,7 @@ pub fn trade(
     let answer = trade_answer(accounts, count, book, line, q, price, seller, buyer);
     match answer {
         Answer::Done => {
-            book::move_trade(book, count, line, q, Money(price), seller, buyer);
+            book::move_trade(book, count, line, q, Money::new(price), seller, buyer);
             Answer::Done
         }
         Answer::Refused(why) => Answer::Refused(why),

@@ -48,15 +48,6 @@ pub discount-none : (v : ℕ) → discount v 0 ≡ v
 unfolding discount
 discount-none v = omega (arith, rounded-rate (v * 100_000))
 
--- the bound stays below 2,000,000,000,000 yuan
-pub ratio-bound-le : (m u v x : ℕ) → m ≤ 20 → u ≤ 99_999_999 → v ≤ 9_999_999 → x ≤ 100_000 → ratioBound m u v x ≤ 2_000_000_000_000_000
-unfolding ratioBound
-ratio-bound-le m u v x hm hu hv hx =
-    let p : m * u ≤ 20 * 99_999_999 = under 20 99_999_999 hm hu in
-    let q : m * u * v ≤ 20 * 99_999_999 * 9_999_999 = under (20 * 99_999_999) 9_999_999 p hv in
-    let r : m * u * v * x ≤ 20 * 99_999_999 * 9_999_999 * 100_000 = under (20 * 99_999_999 * 9_999_999) 100_000 q hx in
-    omega arith
-
 -- a whole sum is at most the bound exactly where it is at most the quotient itself
 pub within-bound : (s m u v x : ℕ) → (s ≤ ratioBound m u v x) ↔ (s * 1_000_000 ≤ m * u * v * x)
 unfolding ratioBound

@@ -1,7 +1,7 @@
 // The paper's units of count, each a type of its own, and the roundings between them.
 ghost use mathlib.Core.Path.{_≡_};
 ghost use Prim.Native.Nat.{_+_, _*_, _≤_, _<_, _^_};
-ghost use Rattle.units.specs.Units.{rounded, premium, discount, ratioBound};
+ghost use Rattle.units.specs.Units.{rateOne, rounded, premium, discount, ratioBound};
 
 // Thousandths of a yuan.
 pub struct Money(pub u64);
@@ -80,10 +80,12 @@ impl ReferenceValue {
 // no cash, and 0 needs no division.
 fn scaled(v: u64, k: u64) -> u64
     requires { ⌜ (v ≤ 20_000_000_000_000_000) × (k ≤ 200_000) ⌝ }
-    ensures { λ r. ⌜ r ≡ rounded (v * k) 100_000 ⌝ }
+    ensures { λ r. ⌜ r ≡ rounded (v * k) rateOne ⌝ }
 {
     if v == 0 {
         return 0;
     }
-    (v / 100_000) * k + ((v % 100_000) * k + 50_000) / 100_000
+    let rate = Rate::ONE;
+    let one = rate.0;
+    (v / one) * k + ((v % one) * k + one / 2) / one
 }

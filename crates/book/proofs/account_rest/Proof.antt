@@ -17,7 +17,9 @@ same-length : tie.Need-same-length
 same-length c = search needs
 
 returns : tie.Need-returns
-returns c = c .before .before .account-head .ensures ∙ rest-is _ _ _ _ _ _ (c .before .before .before .before .before .before .unit-line .ensures) (c .before .before .before .before .before .before .before .before .before .pre .0 .0)
+returns c =
+    c .before .before .account-head .ensures ∙ rest-is _ _ _ _ _ _ (c .before .before .before .before .before .before .unit-line .ensures)
+    (c .before .before .before .before .before .before .before .before .before .pre .0 .0)
 
 pub account-rest-spec : {M : Type 1} → statement M
 account-rest-spec =

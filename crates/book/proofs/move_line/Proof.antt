@@ -34,7 +34,8 @@ fund-lots-requires c κs =
     let a = c .before .before .before .before .before .before .before .args in
     let p = c .before .before .before .before .before .before .before .pre in
     let x = lotsAt (stretchOf (a .w) (a .book .now) (a .a)) (a .line) in
-    let e : c .before .before .before .stock-moved .result ≡ movedOf (a .kind) (a .c) (a .m) x = c .before .before .before .stock-moved .ensures ∙ ap (movedOf (a .kind) (a .c) (a .m)) (c .before .before .before .before .lots-of .ensures) in
+    let e : c .before .before .before .stock-moved .result ≡ movedOf (a .kind) (a .c) (a .m) x =
+    c .before .before .before .stock-moved .ensures ∙ ap (movedOf (a .kind) (a .c) (a .m)) (c .before .before .before .before .lots-of .ensures) in
     rw (c .lots-of2 .ensures, e) (p .delivers, omega (arith, p .need, p .room, moved-le (a .kind) (a .c) (a .m) x))
 
 stock-lots-requires : tie.Need-stock-lots-requires
@@ -55,8 +56,16 @@ same-length-2 c = search needs
 
 returns-2 : tie.Need-returns-2
 returns-2 c =
-    let p = c .before .before .before .before .before .before .before .before .before .before .before .before .before .before .before .before .before .pre in
-    (c .before .before .before .before .before .before .before .before .before .before .before .before .before .stock-moved .ensures ∙ ap (movedOf _ _ _) (c .before .before .before .before .before .before .before .before .before .before .before .before .before .before .lots-of .ensures), line-moved _ _ _ _ _ (p .account-low) (p .account-in) _ (c .before .before .before .before .before .before .before .before .before .before .lots-of2 .ensures) (c .before .before .before .before .before .before .before .before .before .fund-lots .ensures) (c .before .before .before .before .before .before .before .before .before .before .before .before .before .before .lots-of .ensures) (c .before .before .before .before .before .before .before .before .stock-lots .ensures) (c .before .before .before .before .before .before .put-lots-of .ensures) (c .before .before .put-lots-of2 .ensures))
+    let p = c .before .before .before .before .before .before .before .before .before .before .before .before .before .before .before .before .before .pre in (
+      c .before .before .before .before .before .before .before .before .before .before .before .before .before .stock-moved .ensures ∙ ap (movedOf _ _ _)
+          (c .before .before .before .before .before .before .before .before .before .before .before .before .before .before .lots-of .ensures),
+      line-moved _ _ _ _ _
+          (p .account-low) (p .account-in) _ (c .before .before .before .before .before .before .before .before .before .before .lots-of2 .ensures)
+          (c .before .before .before .before .before .before .before .before .before .fund-lots .ensures)
+          (c .before .before .before .before .before .before .before .before .before .before .before .before .before .before .lots-of .ensures)
+          (c .before .before .before .before .before .before .before .before .stock-lots .ensures) (c .before .before .before .before .before .before .put-lots-of .ensures)
+          (c .before .before .put-lots-of2 .ensures),
+    )
 
 pub move-line-spec : {M : Type 1} → statement M
 move-line-spec =

@@ -14,13 +14,18 @@ fund-head-of-requires c κs =
     rw (c .before .width-of .ensures) (omega (arith, p .account-in), (omega arith, (p .fund-pays, p .fund-fits)))
 
 account-rest-of-requires : tie.Need-account-rest-of-requires
-account-rest-of-requires c κs = account-rest-ready _ _ _ _ _ _ _ _ (c .before .before .before .before .before .before .before .pre) (c .before .before .before .before .before .width-of .ensures) (c .before .before .before .fund-head-of .ensures)
+account-rest-of-requires c κs =
+    account-rest-ready _ _ _ _ _ _ _ _ (c .before .before .before .before .before .before .before .pre) (c .before .before .before .before .before .width-of .ensures)
+    (c .before .before .before .fund-head-of .ensures)
 
 same-length : tie.Need-same-length
 same-length c = search needs
 
 returns : tie.Need-returns
-returns c = rest-moved _ _ _ _ _ _ _ _ (c .before .before .before .before .before .before .before .before .before .before .pre) (c .before .before .before .before .before .before .before .before .width-of .ensures) (c .before .before .before .before .before .before .fund-head-of .ensures) _ (c .before .before .account-rest-of .ensures)
+returns c =
+    rest-moved _ _ _ _ _ _ _ _ (c .before .before .before .before .before .before .before .before .before .before .pre)
+    (c .before .before .before .before .before .before .before .before .width-of .ensures) (c .before .before .before .before .before .before .fund-head-of .ensures) _
+    (c .before .before .account-rest-of .ensures)
 
 pub move-rest-spec : {M : Type 1} → statement M
 move-rest-spec =

@@ -16,7 +16,9 @@ sell-from-requires : tie.Need-sell-from-requires
 sell-from-requires c κs = rw (c .before .before .width-of .ensures) (search needs)
 
 buy-into-requires : tie.Need-buy-into-requires
-buy-into-requires c κs = buyer-ready (c .before .before .before .before .before .before .before .before .pre) (c .before .before .before .before .before .before .width-of .ensures) (c .before .before .before .sell-from .ensures)
+buy-into-requires c κs =
+    buyer-ready (c .before .before .before .before .before .before .before .before .pre) (c .before .before .before .before .before .before .width-of .ensures)
+    (c .before .before .before .sell-from .ensures)
 
 same-length : tie.Need-same-length
 same-length c = search needs

@@ -25,12 +25,20 @@ add-there c = search needs
 returns-3 : tie.Need-returns-3
 returns-3 c =
     let a = c .before .before .before .before .before .before .args in
-    omega (arith, moved-least (a .kind) (a .c) (a .m) (a .x) (sym (c .before .before .before .before .before .entry-of .ensures) ∙ not-false _ (c .before .before .before .before .if1 .left)) (c .before .before .if2 .left))
+    omega (
+      arith,
+      moved-least (a .kind) (a .c) (a .m) (a .x)
+          (sym (c .before .before .before .before .before .entry-of .ensures) ∙ not-false _ (c .before .before .before .before .if1 .left)) (c .before .before .if2 .left),
+    )
 
 returns-4 : tie.Need-returns-4
 returns-4 c =
     let a = c .before .before .before .before .before .before .args in
-    omega (arith, moved-least (a .kind) (a .c) (a .m) (a .x) (sym (c .before .before .before .before .before .entry-of .ensures) ∙ not-false _ (c .before .before .before .before .if1 .left)) (c .before .before .if2 .left))
+    omega (
+      arith,
+      moved-least (a .kind) (a .c) (a .m) (a .x)
+          (sym (c .before .before .before .before .before .entry-of .ensures) ∙ not-false _ (c .before .before .before .before .if1 .left)) (c .before .before .if2 .left),
+    )
 
 pub stock-moved-spec : {M : Type 1} → statement M
 stock-moved-spec =

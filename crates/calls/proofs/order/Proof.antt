@@ -36,8 +36,10 @@ order-requires c κs =
     let s = sound (head .before) in
     let full = sound-width _ _ _ s in
     let start = head .before .before .before .before .before .before .before .before in
-    let a = start .args in
-    (rw (run-parts (a .day .now) _ _ (head .head-of .ensures) (c .before .before .basket-of .ensures) full) s, (start .pre .1, basket-wide (a .day .now) _ (c .before .before .basket-of .ensures) full))
+    let a = start .args in (
+      rw (run-parts (a .day .now) _ _ (head .head-of .ensures) (c .before .before .basket-of .ensures) full) s,
+      (start .pre .1, basket-wide (a .day .now) _ (c .before .before .basket-of .ensures) full),
+    )
 
 -- the list that the core leaves
 abbrev listLeft : Day → List ℕ → List ℕ → Ask → List ℕ → List ℕ

@@ -63,7 +63,22 @@ unfolding entry flagTable
 returns-2 c =
     let learnt = c .before .before .before .before .before .before .before .before .before .before .before .before .args in
     c .any-of .ensures
-    ∙ rw (c .before .before .before .before .before .before .before .before .before .of-row .ensures, c .before .before .before .before .before .before .before .of-row2 .ensures, c .before .before .before .before .before .of-row3 .ensures, c .before .before .before .of-row4 .ensures, c .before .of-row5 .ensures) (row-of (learnt .flag) (learnt .column))
+    ∙ rw (
+      c .before .before .before .before .before .before .before .before .before .of-row .ensures,
+      c .before .before .before .before .before .before .before .of-row2 .ensures,
+      c .before .before .before .before .before .of-row3 .ensures,
+      c .before .before .before .of-row4 .ensures,
+      c .before .of-row5 .ensures,
+    ) (row-of (learnt .flag) (learnt .column))
 
 pub entry-of-spec : {M : Type 1} → statement M
-entry-of-spec = tie.close (tie.spec returns index-1-of-row index-2-of-row of-row-requires index-1-of-row-2 index-2-of-row-2 of-row-requires-2 index-1-of-row-3 index-2-of-row-3 of-row-requires-3 index-1-of-row-4 index-2-of-row-4 of-row-requires-4 index-1-of-row-5 index-2-of-row-5 of-row-requires-5 any-of-requires returns-2)
+entry-of-spec =
+    tie.close
+    (tie.spec
+    returns
+    index-1-of-row index-2-of-row of-row-requires
+    index-1-of-row-2 index-2-of-row-2 of-row-requires-2
+    index-1-of-row-3 index-2-of-row-3 of-row-requires-3
+    index-1-of-row-4 index-2-of-row-4 of-row-requires-4
+    index-1-of-row-5 index-2-of-row-5 of-row-requires-5
+    any-of-requires returns-2)

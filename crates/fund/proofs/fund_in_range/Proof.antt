@@ -34,7 +34,8 @@ cash-in-range-requires c κs = tt
 -- what `cash_in_range` answers of the fund's field
 cash-test : (c : tie.After-cash-in-range) → c .cash-in-range .result ≡ cashInRange (c .before .before .before .before .before .before .before .before .before .before .args .f .«estimated_cash»)
 cash-test c =
-    let same : toZ w64 (ofZ w64 (c .before .before .before .before .before .before .before .before .before .before .args .f .«estimated_cash»)) ≡ c .before .before .before .before .before .before .before .before .before .before .args .f .«estimated_cash» = search needs in
+    let cash = c .before .before .before .before .before .before .before .before .before .before .args .f .«estimated_cash» in
+    let same : toZ w64 (ofZ w64 cash) ≡ cash = search needs in
     c .cash-in-range .ensures ∙ ap cashInRange same
 
 returns-6 : tie.Need-returns-6

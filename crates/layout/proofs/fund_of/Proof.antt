@@ -11,7 +11,7 @@ returns : tie.Need-returns
 unfolding fundAt
 returns c =
     let back : toZ w64 (ofZ w64 (c .before .signed-at .result)) ≡ c .before .signed-at .result = search needs in
-    rw (back, c .before .signed-at .ensures, c .limits-at .ensures)
+    rw (c .before .before .before .new .ensures, back, c .before .signed-at .ensures, c .limits-at .ensures)
 
 pub fund-of-spec : {M : Type 1} → statement M
 fund-of-spec =
@@ -25,6 +25,7 @@ fund-of-spec =
     (λ c. search needs)
     (λ c. search needs)
     (λ c. search needs)
+    (λ c κs. tt)
     (λ c. search needs)
     (λ c. search needs)
     (λ c. search needs)

@@ -6,7 +6,6 @@ use lib.ListN.{length, length-set}
 use mir.Val.{toZ, ofZ}
 use mir.Syntax.{w64}
 use borrow.Author.Needs.{needs}
-use Rattle.digits.specs.Digits.{cap}
 use Rattle.layout.proofs.Stored.{fund-stored}
 use Rattle.layout.proofs.put_fund.Statement.{statement}
 use Rattle.layout.proofs.put_fund.Tie as tie

@@ -56,8 +56,11 @@ put-pointed-requires-2 c κs =
     let w₂ = w₃ .before .before .before .before in
     let w₁ = w₂ .before .before .before .before in
     let f = w₁ .before .before in
-    let s = f .before .before .before .before in
-    (amount-pointed _ (s .pre .0 .0), amount-room _ _ (s .pre .0 .0) (s .pre .0 .1) _ _ (s .pre .1) (w₁ .put-digits .ensures) (w₂ .put-name .ensures) (w₃ .put-whole .ensures) (w₄ .put-digits2 .ensures) (used-same _ _ _ (f .before .entry-of .ensures) (w₅ .put-pointed .ensures)))
+    let s = f .before .before .before .before in (
+      amount-pointed _ (s .pre .0 .0),
+      amount-room _ _ (s .pre .0 .0) (s .pre .0 .1) _ _ (s .pre .1) (w₁ .put-digits .ensures) (w₂ .put-name .ensures)
+          (w₃ .put-whole .ensures) (w₄ .put-digits2 .ensures) (used-same _ _ _ (f .before .entry-of .ensures) (w₅ .put-pointed .ensures)),
+    )
 
 slice-aggregate-put-bytes : tie.Need-slice-aggregate-put-bytes
 slice-aggregate-put-bytes c = search needs
@@ -72,7 +75,8 @@ put-bytes-requires c κs =
     let w₁ = w₂ .before .before .before .before in
     let f = w₁ .before .before in
     let s = f .before .before .before .before in
-    end-room _ _ (s .pre .0 .0) (s .pre .0 .1) _ _ (s .pre .1) (w₁ .put-digits .ensures) (w₂ .put-name .ensures) (w₃ .put-whole .ensures) (w₄ .put-digits2 .ensures) (used-same _ _ _ (f .before .entry-of .ensures) (w₅ .put-pointed .ensures)) (used-same _ _ _ (f .entry-of2 .ensures) (w₆ .put-pointed2 .ensures))
+    end-room _ _ (s .pre .0 .0) (s .pre .0 .1) _ _ (s .pre .1) (w₁ .put-digits .ensures) (w₂ .put-name .ensures) (w₃ .put-whole .ensures) (w₄ .put-digits2 .ensures)
+    (used-same _ _ _ (f .before .entry-of .ensures) (w₅ .put-pointed .ensures)) (used-same _ _ _ (f .entry-of2 .ensures) (w₆ .put-pointed2 .ensures))
 
 same-length : tie.Need-same-length
 same-length c = search needs
@@ -87,7 +91,9 @@ returns c =
     let w₁ = w₂ .before .before .before .before in
     let f = w₁ .before .before in
     let s = f .before .before .before .before in
-    row-put _ _ (s .pre .0 .0) (s .pre .0 .1) _ _ (s .pre .1) (w₁ .put-digits .ensures) (w₂ .put-name .ensures) (w₃ .put-whole .ensures) (w₄ .put-digits2 .ensures) (used-same _ _ _ (f .before .entry-of .ensures) (w₅ .put-pointed .ensures)) (used-same _ _ _ (f .entry-of2 .ensures) (w₆ .put-pointed2 .ensures)) (c .before .before .put-bytes .ensures)
+    row-put _ _ (s .pre .0 .0) (s .pre .0 .1) _ _ (s .pre .1) (w₁ .put-digits .ensures) (w₂ .put-name .ensures) (w₃ .put-whole .ensures) (w₄ .put-digits2 .ensures)
+    (used-same _ _ _ (f .before .entry-of .ensures) (w₅ .put-pointed .ensures)) (used-same _ _ _ (f .entry-of2 .ensures) (w₆ .put-pointed2 .ensures))
+    (c .before .before .put-bytes .ensures)
 
 pub put-row-spec : {M : Type 1} → statement M
 put-row-spec =

@@ -36,7 +36,8 @@ read-5 : (c : tie.After-known-told3) → Read (c .before .before .before .before
 read-5 c =
     sought-again _ _ 4 (read-4 (c .before .before .before .before)) (omega arith) (column-known _ 4 (sym (c .before .before .before .read-rate .ensures) ∙ c .before .rate .given .1) .0)
 
-read-6 : (c : tie.After-known-told4) → Read (c .before .before .before .before .before .before .before .before .before .before .before .before .before .before .before .before .before .before .before .before .before) 6
+read-6 : (c : tie.After-known-told4)
+    → Read (c .before .before .before .before .before .before .before .before .before .before .before .before .before .before .before .before .before .before .before .before .before) 6
 read-6 c =
     sought-again _ _ 5 (read-5 (c .before .before .before .before)) (omega arith) (column-known _ 5 (sym (c .before .before .before .read-amount .ensures) ∙ c .before .amount .given .1) .0)
 
@@ -83,7 +84,8 @@ faulty-requires-3 c κs = search needs
 
 returns-3 : tie.Need-returns-3
 returns-3 c =
-    fault-row _ 2 _ (omega arith) (read-2 (c .before .before .before .before)) (column-ill _ 2 (sym (c .before .before .before .read-quantity .ensures) ∙ c .before .enum-told2 .given .1)) (c .faulty3 .ensures)
+    fault-row _ 2 _ (omega arith) (read-2 (c .before .before .before .before))
+    (column-ill _ 2 (sym (c .before .before .before .read-quantity .ensures) ∙ c .before .enum-told2 .given .1)) (c .faulty3 .ensures)
 
 read-flag-requires : tie.Need-read-flag-requires
 read-flag-requires c κs = search needs
@@ -99,7 +101,8 @@ faulty-requires-4 c κs = search needs
 
 returns-4 : tie.Need-returns-4
 returns-4 c =
-    fault-row _ 3 _ (omega arith) (read-3 (c .before .before .before .before)) (column-ill _ 3 (sym (c .before .before .before .read-flag .ensures) ∙ c .before .enum-told4 .given .1)) (c .faulty4 .ensures)
+    fault-row _ 3 _ (omega arith) (read-3 (c .before .before .before .before))
+    (column-ill _ 3 (sym (c .before .before .before .read-flag .ensures) ∙ c .before .enum-told4 .given .1)) (c .faulty4 .ensures)
 
 read-rate-requires : tie.Need-read-rate-requires
 read-rate-requires c κs = search needs
@@ -115,7 +118,8 @@ faulty-requires-5 c κs = search needs
 
 returns-5 : tie.Need-returns-5
 returns-5 c =
-    fault-row _ 4 _ (omega arith) (read-4 (c .before .before .before .before)) (column-ill _ 4 (sym (c .before .before .before .read-rate .ensures) ∙ c .before .enum-told5 .given .1)) (c .faulty5 .ensures)
+    fault-row _ 4 _ (omega arith) (read-4 (c .before .before .before .before))
+    (column-ill _ 4 (sym (c .before .before .before .read-rate .ensures) ∙ c .before .enum-told5 .given .1)) (c .faulty5 .ensures)
 
 read-amount-requires : tie.Need-read-amount-requires
 read-amount-requires c κs = search needs
@@ -131,21 +135,29 @@ faulty-requires-6 c κs = search needs
 
 returns-6 : tie.Need-returns-6
 returns-6 c =
-    fault-row _ 5 _ (omega arith) (read-5 (c .before .before .before .before)) (column-ill _ 5 (sym (c .before .before .before .read-amount .ensures) ∙ c .before .enum-told6 .given .1)) (c .faulty6 .ensures)
+    fault-row _ 5 _ (omega arith) (read-5 (c .before .before .before .before))
+    (column-ill _ 5 (sym (c .before .before .before .read-amount .ensures) ∙ c .before .enum-told6 .given .1)) (c .faulty6 .ensures)
+
+new-requires : tie.Need-new-requires
+new-requires c κs = tt
+
+new-requires-2 : tie.Need-new-requires-2
+new-requires-2 c κs = tt
 
 returns-7 : tie.Need-returns-7
 returns-7 c =
-    let r5 = c .before .before .before .before in
+    let r6 = c .before .before in
+    let r5 = r6 .before .before .before .before in
     let r4 = r5 .before .before .before .before in
     let r3 = r4 .before .before .before in
     let r1 = r3 .before .before .before .before .before .before in (
-      sought-end _ _ _ (read-6 c) (omega arith) ∙ fault-first _,
+      sought-end _ _ _ (read-6 r6) (omega arith) ∙ fault-first _,
       λ _.
           component-is _ (r1 .before .before .before .before .flag-of .ensures)
           (column-known _ 0 (sym (r1 .before .before .before .read-code .ensures) ∙ r1 .before .code .given .1) .1)
           (column-known _ 2 (sym (r3 .before .before .before .read-quantity .ensures) ∙ r3 .before .quantity .given .1) .1)
-          (column-known _ 4 (sym (r5 .before .before .before .read-rate .ensures) ∙ r5 .before .rate .given .1) .1)
-          (column-known _ 5 (sym (c .before .before .before .read-amount .ensures) ∙ c .before .amount .given .1) .1),
+          (c .before .new .ensures ∙ column-known _ 4 (sym (r5 .before .before .before .read-rate .ensures) ∙ r5 .before .rate .given .1) .1)
+          (c .new2 .ensures ∙ column-known _ 5 (sym (r6 .before .before .before .read-amount .ensures) ∙ r6 .before .amount .given .1) .1),
     )
 
 pub read-row-spec : {M : Type 1} → statement M
@@ -181,4 +193,6 @@ read-row-spec =
     enum-told-6
     faulty-requires-6
     returns-6
+    new-requires
+    new-requires-2
     returns-7)

@@ -35,7 +35,8 @@ wrong-at-requires c κs = search needs
 
 returns : tie.Need-returns
 returns c =
-    shaped-at _ _ _ (c .wrong-at .ensures) (shaped-end _ _ (c .before .before .before .before .before .pre .0) (end (c .before .before .before)) (sym (c .before .before .end-stands .ensures) ∙ not-true _ (c .before .if1 .taken)))
+    shaped-at _ _ _ (c .wrong-at .ensures) (shaped-end _ _ (c .before .before .before .before .before .pre .0) (end (c .before .before .before))
+    (sym (c .before .before .end-stands .ensures) ∙ not-true _ (c .before .if1 .taken)))
 
 add-behind : tie.Need-add-behind
 add-behind c = search needs
@@ -45,7 +46,8 @@ wrong-at-requires-2 c κs = search needs
 
 returns-2 : tie.Need-returns-2
 returns-2 c =
-    shaped-at _ _ _ (c .wrong-at2 .ensures) (shaped-behind _ _ (c .before .before .before .before .before .before .pre .0) (end (c .before .before .before .before)) (ends (c .before .before)) (c .before .if2 .taken))
+    shaped-at _ _ _ (c .wrong-at2 .ensures) (shaped-behind _ _ (c .before .before .before .before .before .before .pre .0) (end (c .before .before .before .before))
+    (ends (c .before .before)) (c .before .if2 .taken))
 
 returns-3 : tie.Need-returns-3
 returns-3 c =

@@ -35,7 +35,8 @@ refused-requires c κs = search needs
 returns : tie.Need-returns
 returns c =
     refused-with _ _ _ _ (c .refused .ensures)
-    (count-reply _ _ _ _ (c .before .before .before .before .before .before .pre .0) _ (figure (c .before .before .before .before .before .before) 5 (omega arith)) _ (sym (c .before .before .is-counted .ensures) ∙ not-true _ (c .before .if1 .taken)))
+    (count-reply _ _ _ _ (c .before .before .before .before .before .before .pre .0) _ (figure (c .before .before .before .before .before .before) 5 (omega arith)) _
+    (sym (c .before .before .is-counted .ensures) ∙ not-true _ (c .before .if1 .taken)))
 
 element-copy-out-if2 : tie.Need-element-copy-out-if2
 element-copy-out-if2 c = search needs
@@ -46,7 +47,9 @@ refused-requires-2 c κs = search needs
 returns-2 : tie.Need-returns-2
 returns-2 c =
     refused-with _ _ _ _ (c .refused2 .ensures)
-    (first-reply _ _ _ _ (c .before .before .before .before .before .before .before .pre .0) _ (figure (c .before .before .before .before .before .before .before) 5 (omega arith)) (counted (c .before .before)) _ _ (figure (c .before .before .before .before .before .before .before) 0 (omega arith)) (c .before .if2 .taken))
+    (first-reply _ _ _ _ (c .before .before .before .before .before .before .before .pre .0) _
+    (figure (c .before .before .before .before .before .before .before) 5 (omega arith)) (counted (c .before .before)) _ _
+    (figure (c .before .before .before .before .before .before .before) 0 (omega arith)) (c .before .if2 .taken))
 
 fields-of-requires : tie.Need-fields-of-requires
 fields-of-requires c κs = (c .if2 .left, figures-capped _ _ _ _ (c .before .before .before .before .before .before .pre .0))
@@ -60,7 +63,10 @@ refused-requires-3 c κs = search needs
 returns-3 : tie.Need-returns-3
 returns-3 c =
     refused-with _ _ _ _ (c .refused3 .ensures)
-    (range-reply _ _ _ _ (c .before .before .before .before .before .before .before .before .before .before .pre .0) _ (figure (c .before .before .before .before .before .before .before .before .before .before) 5 (omega arith)) (counted (c .before .before .before .before .before)) _ (figure (c .before .before .before .before .before .before .before .before .before .before) 0 (omega arith)) (c .before .before .before .before .if2 .left) _ (fields (c .before .before .before)) _
+    (range-reply _ _ _ _ (c .before .before .before .before .before .before .before .before .before .before .pre .0) _
+    (figure (c .before .before .before .before .before .before .before .before .before .before) 5 (omega arith)) (counted (c .before .before .before .before .before)) _
+    (figure (c .before .before .before .before .before .before .before .before .before .before) 0 (omega arith)) (c .before .before .before .before .if2 .left) _
+    (fields (c .before .before .before)) _
     (sym (c .before .before .fields-in-range .ensures) ∙ not-true _ (c .before .if3 .taken)))
 
 read-components-requires : tie.Need-read-components-requires

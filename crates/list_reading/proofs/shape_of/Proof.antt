@@ -11,7 +11,9 @@ wrong-at-requires : tie.Need-wrong-at-requires
 wrong-at-requires c κs = search needs
 
 returns : tie.Need-returns
-returns c = shaped-at _ _ _ (c .wrong-at .ensures) (shaped-head _ _ _ (c .before .before .before .head-shape .ensures .0) (c .before .before .before .head-shape .ensures .1 .0) (c .before .if1 .taken))
+returns c =
+    shaped-at _ _ _ (c .wrong-at .ensures) (shaped-head _ _ _ (c .before .before .before .head-shape .ensures .0) (c .before .before .before .head-shape .ensures .1 .0)
+    (c .before .if1 .taken))
 
 body-shape-requires : tie.Need-body-shape-requires
 body-shape-requires c κs = let e = c .before .before .head-shape .ensures in head-whole _ _ _ (e .0) (e .1 .0) (e .1 .1) (c .if1 .left)

@@ -21,11 +21,14 @@ fine : (c : tie.Start) → Passing (list c)
 fine c = passing (list c) (c .pre .0)
 
 -- the head's figures are the list's
-head : (c : tie.After-figures-of) → headBytes (c .before .before .before .before .before .args .letters .now) (c .figures-of .result) 22 ≡ headText (list (c .before .before .before .before .before)) 22
+head : (c : tie.After-figures-of)
+    → headBytes (c .before .before .before .before .before .args .letters .now) (c .figures-of .result) 22 ≡ headText (list (c .before .before .before .before .before)) 22
 head c = ap (λ (z : List Figure). headBytes (c .before .before .before .before .before .args .letters .now) z 22) (c .figures-of .ensures) ∙ head-is (list (c .before .before .before .before .before))
 
 -- what is written of the head and of the component lines
-headed : (c : tie.After-put-head) → Written (c .before .before .before .before .before .before .before .args .output .now) 0 (headText (list (c .before .before .before .before .before .before .before)) 22) (c .put-head .last .0) (c .put-head .result)
+headed : (c : tie.After-put-head)
+    → Written (c .before .before .before .before .before .before .before .args .output .now) 0
+    (headText (list (c .before .before .before .before .before .before .before)) 22) (c .put-head .last .0) (c .put-head .result)
 headed c = rw (head (c .before .before)) at (c .put-head .ensures)
 
 rowed : (c : tie.After-put-rows) → let l = list (c .before .before .before .before .before .before .before .before .before .before .before) in
@@ -36,25 +39,44 @@ figures-of-requires : tie.Need-figures-of-requires
 figures-of-requires c κs = fine (c .before .before .before .before) .ranges
 
 put-head-requires : tie.Need-put-head-requires
-put-head-requires c κs = rw (head (c .before)) (head-room (list (c .before .before .before .before .before .before)) (c .before .before .before .before .before .before .args .output .now) (c .before .before .before .before .before .before .pre .1))
+put-head-requires c κs =
+    rw (head (c .before)) (head-room (list (c .before .before .before .before .before .before)) (c .before .before .before .before .before .before .args .output .now)
+    (c .before .before .before .before .before .before .pre .1))
 
 put-rows-requires : tie.Need-put-rows-requires
 put-rows-requires c κs =
-    let f = fine (c .before .before .before .before .before .before .before .before .before .before) in
-    ((le-of-eq (sym (f .run-length)), le-of-eq (sym (f .names-length))), (numbers-fit _ f, rw (rows-are (list (c .before .before .before .before .before .before .before .before .before .before))) (rows-room (list (c .before .before .before .before .before .before .before .before .before .before)) (c .before .before .before .before .before .before .before .before .before .before .args .output .now) (c .before .before .before .before .before .before .before .before .before .before .pre .1) (headed (c .before .before .before)))))
+    let f = fine (c .before .before .before .before .before .before .before .before .before .before) in (
+      (le-of-eq (sym (f .run-length)), le-of-eq (sym (f .names-length))),
+      (
+        numbers-fit _ f,
+        rw (rows-are (list (c .before .before .before .before .before .before .before .before .before .before)))
+            (rows-room (list (c .before .before .before .before .before .before .before .before .before .before))
+            (c .before .before .before .before .before .before .before .before .before .before .args .output .now)
+            (c .before .before .before .before .before .before .before .before .before .before .pre .1) (headed (c .before .before .before))),
+      ),
+    )
 
 slice-aggregate-put-bytes : tie.Need-slice-aggregate-put-bytes
 slice-aggregate-put-bytes c = search needs
 
 put-bytes-requires : tie.Need-put-bytes-requires
-put-bytes-requires c κs = end-room (list (c .before .before .before .before .before .before .before .before .before .before .before .before .before .before .before)) (c .before .before .before .before .before .before .before .before .before .before .before .before .before .before .before .args .output .now) (c .before .before .before .before .before .before .before .before .before .before .before .before .before .before .before .pre .1) (headed (c .before .before .before .before .before .before .before .before)) (rowed (c .before .before .before .before))
+put-bytes-requires c κs =
+    end-room (list (c .before .before .before .before .before .before .before .before .before .before .before .before .before .before .before))
+    (c .before .before .before .before .before .before .before .before .before .before .before .before .before .before .before .args .output .now)
+    (c .before .before .before .before .before .before .before .before .before .before .before .before .before .before .before .pre .1)
+    (headed (c .before .before .before .before .before .before .before .before)) (rowed (c .before .before .before .before))
 
 same-length : tie.Need-same-length
 same-length c = search needs
 
 returns : tie.Need-returns
 unfolding lineText
-returns c = text-put (list (c .before .before .before .before .before .before .before .before .before .before .before .before .before .before .before .before .before .before)) (c .before .before .before .before .before .before .before .before .before .before .before .before .before .before .before .before .before .before .args .output .now) (c .before .before .before .before .before .before .before .before .before .before .before .before .before .before .before .before .before .before .pre .1) (headed (c .before .before .before .before .before .before .before .before .before .before .before)) (rowed (c .before .before .before .before .before .before .before)) (c .before .before .put-bytes .ensures)
+returns c =
+    text-put (list (c .before .before .before .before .before .before .before .before .before .before .before .before .before .before .before .before .before .before))
+    (c .before .before .before .before .before .before .before .before .before .before .before .before .before .before .before .before .before .before .args .output .now)
+    (c .before .before .before .before .before .before .before .before .before .before .before .before .before .before .before .before .before .before .pre .1)
+    (headed (c .before .before .before .before .before .before .before .before .before .before .before))
+    (rowed (c .before .before .before .before .before .before .before)) (c .before .before .put-bytes .ensures)
 
 pub put-list-spec : {M : Type 1} → statement M
 put-list-spec =

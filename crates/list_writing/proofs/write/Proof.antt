@@ -16,7 +16,9 @@ enum-told : tie.Need-enum-told
 enum-told c = search needs
 
 put-list-requires : tie.Need-put-list-requires
-put-list-requires c κs = accepted-list (list (c .before .before .before .before .before .before .before .before)) (c .before .before .before .before .before .before .before .before .args .output .now) _ (c .before .before .before .write-answer .ensures) _ (c .before .enum-told .given .1)
+put-list-requires c κs =
+    accepted-list (list (c .before .before .before .before .before .before .before .before))
+    (c .before .before .before .before .before .before .before .before .args .output .now) _ (c .before .before .before .write-answer .ensures) _ (c .before .enum-told .given .1)
 
 enum-told-2 : tie.Need-enum-told-2
 enum-told-2 c = search needs
@@ -25,7 +27,9 @@ same-length : tie.Need-same-length
 same-length c = search needs
 
 returns : tie.Need-returns
-returns c = outcome-written (list (c .before .before .before .before .before .before .before .before .before .before .before)) _ _ (c .before .before .before .before .before .before .write-answer .ensures) _ _ (c .before .before .before .before .enum-told .given .1) (c .before .before .put-list .ensures)
+returns c =
+    outcome-written (list (c .before .before .before .before .before .before .before .before .before .before .before)) _ _
+    (c .before .before .before .before .before .before .write-answer .ensures) _ _ (c .before .before .before .before .enum-told .given .1) (c .before .before .put-list .ensures)
 
 returns-2 : tie.Need-returns-2
 returns-2 c = outcome-refused (list (c .before .before .before .before .before .before .before)) _ _ (c .before .before .write-answer .ensures) _ (c .enum-told2 .given .1)

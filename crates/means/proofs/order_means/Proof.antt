@@ -41,7 +41,9 @@ returns-2 : tie.Need-returns-2
 returns-2 c =
     let p = c .before .before .before .before .before .before .before .before .before .before .before .before .pre in
     let answered = rw (c .before .before .before .before .before .before .cash-held .ensures) at (c .before .before .before .before .order-from .ensures) in
-    let stopped = ap orderReply (sym (c .before .before .why .given .1)) ∙ answered ∙ means-done _ _ _ _ _ _ _ _ (c .before .before .before .before .before .before .before .order-scan .ensures) (p .1 .1 .0 .0) (p .0) in
+    let stopped =
+    ap orderReply (sym (c .before .before .why .given .1)) ∙ answered ∙ means-done _ _ _ _ _ _ _ _
+    (c .before .before .before .before .before .before .before .order-scan .ensures) (p .1 .1 .0 .0) (p .0) in
     (ap orderReply (c .turned-back .ensures .0) ∙ stopped, c .turned-back .ensures .1 ∙ leaves-before _ _ (c .before .before .why .given .0 .0) _ stopped)
 
 pub order-means-spec : {M : Type 1} → statement M

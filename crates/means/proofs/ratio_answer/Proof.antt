@@ -23,7 +23,11 @@ enum-known-v : tie.Need-enum-known-v
 enum-known-v c = search needs
 
 -- the value is the day's
-worth : (c : tie.After-known-told) → (hasValue (dayOf (c .before .before .before .before .before .before .before .before .args .d) (now (c .before .before .before .before .before .before .before .before .args .basket))) (now (c .before .before .before .before .before .before .before .before .args .prices)) ≡ true) × (c .before .v .given .0 .0 .0 ≡ referenceValue (dayOf (c .before .before .before .before .before .before .before .before .args .d) (now (c .before .before .before .before .before .before .before .before .args .basket))) (now (c .before .before .before .before .before .before .before .before .args .prices))) × (c .before .v .given .0 .0 .0 ≤ 9_999_999)
+worth : (c : tie.After-known-told)
+    → let a = c .before .before .before .before .before .before .before .before .args in
+    (hasValue (dayOf (a .d) (now (a .basket))) (now (a .prices)) ≡ true)
+    × (c .before .v .given .0 .0 .0 ≡ referenceValue (dayOf (a .d) (now (a .basket))) (now (a .prices)))
+    × (c .before .v .given .0 .0 .0 ≤ 9_999_999)
 worth c = worth-facts _ _ _ (ap valueReply (sym (c .before .v .given .1)) ∙ c .before .before .before .reference-value .ensures)
 
 ratio-passed-requires : tie.Need-ratio-passed-requires

@@ -1,7 +1,7 @@
 -- `opening::clear` meets its contract. The loop's invariant: the first `i` prices are 0, the others as they were.
 use mathlib.Core.Path.{_≡_, refl, ap, _∙_}
 use mathlib.Core.List.{List, _++_, append-nil}
-use Prim.Native.Nat.{ℕ, _+_, _-_, _≤_}
+use Prim.Native.Nat.{ℕ, _-_, _≤_}
 use native.Mathlib.Omega.{arith}
 use lib.ListN.{length, set, drop, replicate, length-set, drop-of-length-le}
 use borrow.Author.Fill.{fill-none, fill-more}

@@ -24,17 +24,17 @@ loop-holds c = (omega arith, fronted-none _ _ _ _ (c .before .before .before .be
 add-loop : tie.Need-add-loop Inv-loop μ-loop
 add-loop c = omega arith
 
-mul-put-three : tie.Need-mul-put-three Inv-loop μ-loop
-mul-put-three c = omega arith
+mul-at : tie.Need-mul-at Inv-loop μ-loop
+mul-at c = omega arith
+
+add-at : tie.Need-add-at Inv-loop μ-loop
+add-at c = omega arith
 
 add-put-three : tie.Need-add-put-three Inv-loop μ-loop
 add-put-three c = omega arith
 
-add-put-three-2 : tie.Need-add-put-three-2 Inv-loop μ-loop
-add-put-three-2 c = omega arith
-
-mul-put-three-2 : tie.Need-mul-put-three-2 Inv-loop μ-loop
-mul-put-three-2 c = omega arith
+mul-put-three : tie.Need-mul-put-three Inv-loop μ-loop
+mul-put-three c = omega arith
 
 shared-slice-read-put-three-2 : tie.Need-shared-slice-read-put-three-2 Inv-loop μ-loop
 shared-slice-read-put-three-2 c = omega arith
@@ -67,10 +67,10 @@ open-account-spec =
     put-three-requires
     loop-holds
     add-loop
-    mul-put-three
+    mul-at
+    add-at
     add-put-three
-    add-put-three-2
-    mul-put-three-2
+    mul-put-three
     shared-slice-read-put-three-2
     put-three-requires-2
     add-l

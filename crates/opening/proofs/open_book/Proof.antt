@@ -19,8 +19,10 @@ loop-holds c = (omega arith, filled-none _ _ _ _ (c .before .before .pre .0 .1))
 open-part-requires : tie.Need-open-part-requires Inv-loop μ-loop
 open-part-requires c κs =
     let a = c .before .before .before .before .before .args in
-    let l = c .before .before .loop in
-    ((c .before .before .before .before .before .pre .0 .0, filled-in _ _ _ _ _ (c .before .loop-test .taken) (l .inv .1)), omega (arith, within (a .count + 2) (l .a) (a .accounts) (c .before .loop-test .taken)))
+    let l = c .before .before .loop in (
+      (c .before .before .before .before .before .pre .0 .0, filled-in _ _ _ _ _ (c .before .loop-test .taken) (l .inv .1)),
+      omega (arith, within (a .count + 2) (l .a) (a .accounts) (c .before .loop-test .taken)),
+    )
 
 add-a : tie.Need-add-a Inv-loop μ-loop
 add-a c = omega arith

@@ -8,6 +8,7 @@ use borrow.Author.Needs.{needs}
 use borrow.Author.Tests.{eq-eqb, eqb-true, not-true, not-false}
 use Rattle.lists.specs.Every.{same-test}
 use Rattle.units.proofs.Laws.{under}
+use Rattle.layout.specs.Places.{mostComponents}
 use Rattle.rules.proofs.SoundDay.{DaySizes, sizes-true, sizes-facts}
 use Rattle.opening.proofs.Sizes.{lent-true, lent-facts, lent-false}
 use Rattle.opening.proofs.sizes_fit.Statement.{statement}
@@ -36,7 +37,7 @@ mul-if3 : tie.Need-mul-if3
 mul-if3 c =
     let a = c .before .before .before .args in
     let s = day (c .before) in
-    omega (arith, under 64 302 {a = a .accounts} {b = a .count + 2} (s .accounts-high) (omega (arith, s .count-high)))
+    omega (arith, under 64 (mostComponents + 2) {a = a .accounts} {b = a .count + 2} (s .accounts-high) (omega (arith, s .count-high)))
 
 returns-3 : tie.Need-returns-3
 returns-3 c = sym (lent-false _ _ _ _ _ _ _ (λ s. c .if3 .taken (s .holdings-size)))

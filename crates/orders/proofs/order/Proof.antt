@@ -31,7 +31,9 @@ settle-requires c κs =
     let p = c .before .before .before .before .before .before .before .before .before .before .before .before .before .before .pre in
     let made = ap orderReply (sym (c .before .before .before .answer .given .1)) ∙ c .before .before .before .before .before .before .tested-in .ensures .0 in
     let paid = c .before .before .before .before .before .before .tested-in .ensures .1 ∙ sym (leaves-after _ _ _ _ made) in
-    let ready = order-makes _ _ _ _ (now (c .before .before .before .before .before .before .before .before .before .before .before .before .before .before .args .list)) (p .1 .0) (p .0) _ made _ refl _ paid in
+    let ready =
+    order-makes _ _ _ _ (now (c .before .before .before .before .before .before .before .before .before .before .before .before .before .before .args .list)) (p .1 .0)
+    (p .0) _ made _ refl _ paid in
     (ready .0, (ready .1, p .1 .1))
 
 enum-known-answer-2 : tie.Need-enum-known-answer-2

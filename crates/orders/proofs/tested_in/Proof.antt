@@ -36,13 +36,18 @@ turned-back-requires c κs = search needs
 returns : tie.Need-returns
 returns c =
     let a = c .before .before .before .before .before .before .before .before .args in
-    let passed = form-passed (dayOf (a .d) (now (a .basket))) (now (a .book)) (now (a .prices)) (a .room) (a .ask) (c .before .before .before .before .before .before .before .before .pre .1 .0) (ap answerReply (sym (c .before .enum-told .given .1)) ∙ c .before .before .before .order-form .ensures) in
+    let passed =
+    form-passed (dayOf (a .d) (now (a .basket))) (now (a .book)) (now (a .prices)) (a .room) (a .ask)
+    (c .before .before .before .before .before .before .before .before .pre .1 .0)
+    (ap answerReply (sym (c .before .enum-told .given .1)) ∙ c .before .before .before .order-form .ensures) in
     rw passed at (c .order-stage .ensures)
 
 returns-2 : tie.Need-returns-2
 returns-2 c =
     let why = c .before .before .why .given .0 .0 in
-    let stopped = form-stopped _ _ _ _ _ (c .before .before .before .before .before .before .before .before .before .pre .1 .0) why (ap answerReply (sym (c .before .before .why .given .1)) ∙ c .before .before .before .before .order-form .ensures) in
+    let stopped =
+    form-stopped _ _ _ _ _ (c .before .before .before .before .before .before .before .before .before .pre .1 .0) why
+    (ap answerReply (sym (c .before .before .why .given .1)) ∙ c .before .before .before .before .order-form .ensures) in
     (ap orderReply (c .turned-back .ensures .0) ∙ stopped, c .turned-back .ensures .1 ∙ leaves-before _ _ why _ stopped)
 
 pub tested-in-spec : {M : Type 1} → statement M

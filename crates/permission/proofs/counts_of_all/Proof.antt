@@ -6,6 +6,7 @@ use native.Mathlib.Omega.{arith}
 use lib.ListN.{length, getD}
 use denote.Ref.{now}
 use Rattle.fund.specs.Fund.{ceiling}
+use Rattle.layout.specs.Places.{linesFrom}
 use Rattle.layout.specs.Book.{widthOf, counter}
 use Rattle.permission.specs.Form.{headSum}
 use Rattle.permission.proofs.Laws.{head-none, head-more, head-grows, slot, all-counts}
@@ -35,17 +36,27 @@ loop-holds : tie.Need-loop-holds Inv-loop μ-loop
 loop-holds c = (omega arith, c .width-of .ensures, sym (head-none _ _ _), sym (head-none _ _ _))
 
 -- the account's place
-place : (c : tie.In-loop Inv-loop μ-loop) → (c .before .loop .a * c .before .before .width-of .result + c .before .before .width-of .result ≤ length (now (c .before .before .before .before .args .book))) × (6 ≤ c .before .before .width-of .result)
+place : (c : tie.In-loop Inv-loop μ-loop)
+    → (c .before .loop .a * c .before .before .width-of .result + c .before .before .width-of .result ≤ length (now (c .before .before .before .before .args .book)))
+    × (widthOf 0 ≤ c .before .before .width-of .result)
 place c = slot _ _ (now (c .before .before .before .before .args .book)) _ _ (c .before .before .before .before .pre .0 .3) (c .before .before .width-of .ensures) (c .loop-test .taken)
 
 -- the next sum of a place, which the whole sum bounds
-next : (c : tie.In-loop Inv-loop μ-loop) (p sum : ℕ) → p < 3 → sum ≡ headSum (c .before .loop .a) (c .before .before .before .before .args .count) (now (c .before .before .before .before .args .book)) p
-    → sum + getD (now (c .before .before .before .before .args .book)) (c .before .loop .a * c .before .before .width-of .result + p) 0 ≡ headSum (c .before .loop .a + 1) (c .before .before .before .before .args .count) (now (c .before .before .before .before .args .book)) p
+next : (c : tie.In-loop Inv-loop μ-loop) (p sum : ℕ) → p < linesFrom
+    → sum ≡ headSum (c .before .loop .a) (c .before .before .before .before .args .count) (now (c .before .before .before .before .args .book)) p
+    → sum + getD (now (c .before .before .before .before .args .book)) (c .before .loop .a * c .before .before .width-of .result + p) 0
+    ≡ headSum (c .before .loop .a + 1) (c .before .before .before .before .args .count) (now (c .before .before .before .before .args .book)) p
 next c p sum h e = rw e (sym (head-more _ _ _ _ _ (c .before .loop .inv .1) h))
 
-bounded : (c : tie.In-loop Inv-loop μ-loop) (p : ℕ) → headSum (c .before .before .before .before .args .accounts) (c .before .before .before .before .args .count) (now (c .before .before .before .before .args .book)) p ≤ ceiling
+bounded : (c : tie.In-loop Inv-loop μ-loop) (p : ℕ)
+    → headSum (c .before .before .before .before .args .accounts) (c .before .before .before .before .args .count) (now (c .before .before .before .before .args .book)) p ≤ ceiling
     → headSum (c .before .loop .a + 1) (c .before .before .before .before .args .count) (now (c .before .before .before .before .args .book)) p ≤ ceiling
-bounded c p h = omega (arith, head-grows (c .before .loop .a + 1) (c .before .before .before .before .args .accounts) (c .before .before .before .before .args .count) (now (c .before .before .before .before .args .book)) p (omega arith))
+bounded c p h =
+    omega (
+      arith,
+      head-grows (c .before .loop .a + 1) (c .before .before .before .before .args .accounts) (c .before .before .before .before .args .count)
+          (now (c .before .before .before .before .args .book)) p (omega arith),
+    )
 
 mul-made : tie.Need-mul-made Inv-loop μ-loop
 mul-made c = omega (arith, place c)
@@ -75,7 +86,12 @@ shared-slice-read-reverse : tie.Need-shared-slice-read-reverse Inv-loop μ-loop
 shared-slice-read-reverse c = omega (arith, place (c .before .before))
 
 add-reverse-2 : tie.Need-add-reverse-2 Inv-loop μ-loop
-add-reverse-2 c = omega (arith, next (c .before .before) _ _ (omega arith) (c .before .before .before .loop .inv .3), bounded (c .before .before) _ (c .before .before .before .before .before .before .pre .1 .1))
+add-reverse-2 c =
+    omega (
+      arith,
+      next (c .before .before) _ _ (omega arith) (c .before .before .before .loop .inv .3),
+      bounded (c .before .before) _ (c .before .before .before .before .before .before .pre .1 .1),
+    )
 
 add-a : tie.Need-add-a Inv-loop μ-loop
 add-a c = omega arith
@@ -84,7 +100,12 @@ loop-less : tie.Need-loop-less Inv-loop μ-loop
 loop-less c = omega arith
 
 loop-again : tie.Need-loop-again Inv-loop μ-loop
-loop-again c = (omega arith, c .before .before .before .loop .inv .1, next (c .before .before) _ _ (omega arith) (c .before .before .before .loop .inv .2), next (c .before .before) _ _ (omega arith) (c .before .before .before .loop .inv .3))
+loop-again c = (
+  omega arith,
+  c .before .before .before .loop .inv .1,
+  next (c .before .before) _ _ (omega arith) (c .before .before .before .loop .inv .2),
+  next (c .before .before) _ _ (omega arith) (c .before .before .before .loop .inv .3),
+)
 
 returns : tie.Need-returns Inv-loop μ-loop
 returns c =

@@ -47,10 +47,14 @@ limits-held-requires c κs =
     (p .0, (p .1 .0, investor-in _ _ (p .0 .accounts-low) (account-in (c .before .before .before .before)), units-small _ _ (p .0 .basket-high) (units-whole (c .before .before))))
 
 returns-4 : tie.Need-returns-4
-returns-4 c = limit-passed _ _ _ _ _ (account-in (c .before .before .before .before .before .before)) (units-whole (c .before .before .before .before)) (switch-open (c .before .before)) (sym (c .before .limits-held .ensures) ∙ not-true _ (c .if4 .taken))
+returns-4 c =
+    limit-passed _ _ _ _ _ (account-in (c .before .before .before .before .before .before)) (units-whole (c .before .before .before .before))
+    (switch-open (c .before .before)) (sym (c .before .limits-held .ensures) ∙ not-true _ (c .if4 .taken))
 
 returns-5 : tie.Need-returns-5
-returns-5 c = form-done _ _ _ _ _ (account-in (c .before .before .before .before .before .before)) (units-whole (c .before .before .before .before)) (switch-open (c .before .before)) (sym (c .before .limits-held .ensures) ∙ not-false _ (c .if4 .left))
+returns-5 c =
+    form-done _ _ _ _ _ (account-in (c .before .before .before .before .before .before)) (units-whole (c .before .before .before .before))
+    (switch-open (c .before .before)) (sym (c .before .limits-held .ensures) ∙ not-false _ (c .if4 .left))
 
 pub order-form-spec : {M : Type 1} → statement M
 order-form-spec =

@@ -28,14 +28,23 @@ record-of-requires c κs = omega arith
 
 put-record-requires : tie.Need-put-record-requires
 unfolding recordsAfterStock
-put-record-requires c κs = fits-one (fits-next (c .before .before .before .before .put-cash2 .ensures) (fits-next (c .before .before .before .before .before .before .before .before .put-cash .ensures) (c .before .before .before .before .before .before .before .before .before .before .before .pre .1)))
+put-record-requires c κs =
+    fits-one (fits-next (c .before .before .before .before .put-cash2 .ensures)
+    (fits-next (c .before .before .before .before .before .before .before .before .put-cash .ensures)
+    (c .before .before .before .before .before .before .before .before .before .before .before .pre .1)))
 
 same-length : tie.Need-same-length
-same-length c = wrote-length (c .before .before .put-record .ensures) ∙ wrote-length (c .before .before .before .before .before .before .before .put-cash2 .ensures) ∙ wrote-length (c .before .before .before .before .before .before .before .before .before .before .before .put-cash .ensures)
+same-length c =
+    wrote-length (c .before .before .put-record .ensures)
+    ∙ wrote-length (c .before .before .before .before .before .before .before .put-cash2 .ensures)
+    ∙ wrote-length (c .before .before .before .before .before .before .before .before .before .before .before .put-cash .ensures)
 
 returns : tie.Need-returns
 unfolding recordsAfterStock
-returns c = wrote-then (c .before .before .before .before .before .before .before .before .before .before .before .put-cash .ensures) (wrote-then (c .before .before .before .before .before .before .before .put-cash2 .ensures) (wrote-one (c .before .before .before .before .record-of .ensures) (c .before .before .put-record .ensures)))
+returns c =
+    wrote-then (c .before .before .before .before .before .before .before .before .before .before .before .put-cash .ensures)
+    (wrote-then (c .before .before .before .before .before .before .before .put-cash2 .ensures)
+    (wrote-one (c .before .before .before .before .record-of .ensures) (c .before .before .put-record .ensures)))
 
 pub put-after-stock-spec : {M : Type 1} → statement M
 put-after-stock-spec =

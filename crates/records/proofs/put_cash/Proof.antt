@@ -12,13 +12,17 @@ record-of-requires : tie.Need-record-of-requires
 record-of-requires c κs = omega arith
 
 put-record-requires : tie.Need-put-record-requires
-put-record-requires c κs = fits-one (fits-as (cash-one _ _ _ (c .before .before .before .before .before .if1 .left) (c .before .before .if2 .taken)) (c .before .before .before .before .before .before .before .before .pre))
+put-record-requires c κs =
+    fits-one (fits-as (cash-one _ _ _ (c .before .before .before .before .before .if1 .left) (c .before .before .if2 .taken))
+    (c .before .before .before .before .before .before .before .before .pre))
 
 same-length : tie.Need-same-length
 same-length c = wrote-length (c .before .before .put-record .ensures)
 
 returns-2 : tie.Need-returns-2
-returns-2 c = wrote-as (sym (cash-one _ _ _ (c .before .before .before .before .before .before .before .before .if1 .left) (c .before .before .before .before .before .if2 .taken))) (wrote-one (c .before .before .before .before .record-of .ensures) (c .before .before .put-record .ensures))
+returns-2 c =
+    wrote-as (sym (cash-one _ _ _ (c .before .before .before .before .before .before .before .before .if1 .left) (c .before .before .before .before .before .if2 .taken)))
+    (wrote-one (c .before .before .before .before .record-of .ensures) (c .before .before .put-record .ensures))
 
 div-t14 : tie.Need-div-t14
 div-t14 c = omega arith
@@ -27,7 +31,9 @@ record-of-requires-2 : tie.Need-record-of-requires-2
 record-of-requires-2 c κs = omega arith
 
 put-record-requires-2 : tie.Need-put-record-requires-2
-put-record-requires-2 c κs = fits-one (fits-first _ (fits-as (cash-two _ _ _ (c .before .before .before .before .before .before .before .if1 .left) (c .before .before .before .before .if2 .left)) (c .before .before .before .before .before .before .before .before .before .before .pre)))
+put-record-requires-2 c κs =
+    fits-one (fits-first _ (fits-as (cash-two _ _ _ (c .before .before .before .before .before .before .before .if1 .left) (c .before .before .before .before .if2 .left))
+    (c .before .before .before .before .before .before .before .before .before .before .pre)))
 
 rem-t14 : tie.Need-rem-t14
 rem-t14 c = omega arith
@@ -36,13 +42,23 @@ record-of-requires-3 : tie.Need-record-of-requires-3
 record-of-requires-3 c κs = omega arith
 
 put-record-requires-3 : tie.Need-put-record-requires-3
-put-record-requires-3 c κs = fits-one (fits-next (wrote-one (c .before .before .before .before .before .before .before .before .record-of2 .ensures) (c .before .before .before .before .before .before .put-record2 .ensures)) (fits-as (cash-two _ _ _ (c .before .before .before .before .before .before .before .before .before .before .before .before .before .before .if1 .left) (c .before .before .before .before .before .before .before .before .before .before .before .if2 .left)) (c .before .before .before .before .before .before .before .before .before .before .before .before .before .before .before .before .before .pre)))
+put-record-requires-3 c κs =
+    fits-one (fits-next (wrote-one (c .before .before .before .before .before .before .before .before .record-of2 .ensures)
+    (c .before .before .before .before .before .before .put-record2 .ensures))
+    (fits-as (cash-two _ _ _ (c .before .before .before .before .before .before .before .before .before .before .before .before .before .before .if1 .left)
+    (c .before .before .before .before .before .before .before .before .before .before .before .if2 .left))
+    (c .before .before .before .before .before .before .before .before .before .before .before .before .before .before .before .before .before .pre)))
 
 same-length-2 : tie.Need-same-length-2
 same-length-2 c = wrote-length (c .before .before .put-record3 .ensures) ∙ wrote-length (c .before .before .before .before .before .before .before .before .before .put-record2 .ensures)
 
 returns-3 : tie.Need-returns-3
-returns-3 c = wrote-as (sym (cash-two _ _ _ (c .before .before .before .before .before .before .before .before .before .before .before .before .before .before .before .before .before .if1 .left) (c .before .before .before .before .before .before .before .before .before .before .before .before .before .before .if2 .left))) (wrote-then (wrote-one (c .before .before .before .before .before .before .before .before .before .before .before .record-of2 .ensures) (c .before .before .before .before .before .before .before .before .before .put-record2 .ensures)) (wrote-one (c .before .before .before .before .record-of3 .ensures) (c .before .before .put-record3 .ensures)))
+returns-3 c =
+    wrote-as (sym (cash-two _ _ _ (c .before .before .before .before .before .before .before .before .before .before .before .before .before .before .before .before .before .if1 .left)
+    (c .before .before .before .before .before .before .before .before .before .before .before .before .before .before .if2 .left)))
+    (wrote-then (wrote-one (c .before .before .before .before .before .before .before .before .before .before .before .record-of2 .ensures)
+    (c .before .before .before .before .before .before .before .before .before .put-record2 .ensures))
+    (wrote-one (c .before .before .before .before .record-of3 .ensures) (c .before .before .put-record3 .ensures)))
 
 pub put-cash-spec : {M : Type 1} → statement M
 put-cash-spec =

@@ -18,7 +18,9 @@ same-length : tie.Need-same-length
 same-length c = wrote-length (c .before .before .put-record .ensures)
 
 returns-2 : tie.Need-returns-2
-returns-2 c = wrote-as (sym (line-one _ _ _ (c .before .before .before .before .before .if1 .left))) (wrote-one (c .before .before .before .before .record-of .ensures) (c .before .before .put-record .ensures))
+returns-2 c =
+    wrote-as (sym (line-one _ _ _ (c .before .before .before .before .before .if1 .left)))
+    (wrote-one (c .before .before .before .before .record-of .ensures) (c .before .before .put-record .ensures))
 
 pub put-line-spec : {M : Type 1} → statement M
 put-line-spec =

@@ -3,6 +3,7 @@ use mathlib.Core.Path.{_≡_, _∙_}
 use Prim.Native.Nat.{ℕ, _-_, _≤_, _<_, zero-le}
 use native.Mathlib.Omega.{arith}
 use denote.Ref.{now}
+use Rattle.layout.specs.Places.{mostComponents}
 use Rattle.layout.specs.Components.{componentAt, placesOf}
 use Rattle.rules.specs.Lines.{priceOf}
 use Rattle.layout.specs.Day.{dayOf}
@@ -14,7 +15,7 @@ use Rattle.scan.proofs.order_scan.Statement.{statement}
 use Rattle.scan.proofs.order_scan.Tie as tie
 
 abbrev Inv-loop : tie.InvT-loop
-Inv-loop kind basket stretch fund prices m n t₀ i₀ t i = (i ≤ n) × (t ≡ scanBelow (orderLines kind (placesOf (componentAt basket) 300) stretch fund prices m) i)
+Inv-loop kind basket stretch fund prices m n t₀ i₀ t i = (i ≤ n) × (t ≡ scanBelow (orderLines kind (placesOf (componentAt basket) mostComponents) stretch fund prices m) i)
 
 abbrev μ-loop : tie.MeasureT-loop
 μ-loop kind basket stretch fund prices m n t₀ i₀ t i = n - i
@@ -41,11 +42,13 @@ shared-slice-read-order-turn c = omega (arith, c .before .before .before .before
 
 -- the components' lines
 abbrev lines : tie.Start Inv-loop μ-loop → ℕ → Line
-lines c = orderLines (c .args .kind) (placesOf (componentAt (now (c .args .basket))) 300) (now (c .args .stretch)) (now (c .args .fund)) (now (c .args .prices)) (c .args .m)
+lines c = orderLines (c .args .kind) (placesOf (componentAt (now (c .args .basket))) mostComponents) (now (c .args .stretch)) (now (c .args .fund)) (now (c .args .prices)) (c .args .m)
 
 -- the line of what the turn reads is that of the component at the loop's index
 found : (c : tie.After-shared-slice-known5 Inv-loop μ-loop) →
-    orderLine (c .before .before .before .before .before .before .before .before .before .before .args .kind) (c .before .before .component-of .result) (c .before .held-at .result) (priceOf (now (c .before .before .before .before .before .before .before .before .before .before .args .prices)) (c .before .before .before .before .loop .i)) (c .before .before .before .before .before .before .before .before .before .before .args .m)
+    orderLine (c .before .before .before .before .before .before .before .before .before .before .args .kind) (c .before .before .component-of .result)
+    (c .before .held-at .result) (priceOf (now (c .before .before .before .before .before .before .before .before .before .before .args .prices))
+    (c .before .before .before .before .loop .i)) (c .before .before .before .before .before .before .before .before .before .before .args .m)
     ≡ lines (c .before .before .before .before .before .before .before .before .before .before) (c .before .before .before .before .loop .i)
 unfolding orderLines
 found c = rw (c .before .held-at .ensures, c .before .before .component-of .ensures)

@@ -29,7 +29,9 @@ put-after-stock-requires : tie.Need-put-after-stock-requires
 put-after-stock-requires c κs =
     let unit = c .before .before .before .before .before .before .before .before .before .before .before .before in
     let w = unit .before .before .before .before .before .pre .1 .0 in
-    let fits = fits-next (c .before .before .before .before .before .before .before .before .before .before .put-record .ensures) (order-fits (unit .before .rest-side .ensures) (unit .record-of .ensures) w) in
+    let fits =
+    fits-next (c .before .before .before .before .before .before .before .before .before .before .put-record .ensures)
+    (order-fits (unit .before .rest-side .ensures) (unit .record-of .ensures) w) in
     (w .first-code, fits-next (c .before .before .before .before .before .settle-stock .ensures .0) fits)
 
 total-requires : tie.Need-total-requires
@@ -50,7 +52,9 @@ same-length c = search needs
 same-length-2 : tie.Need-same-length-2
 same-length-2 c =
     let stock = c .before .before .before .before .before .before .before .before .before .before .before .before .before in
-    wrote-length (c .before .before .before .before .before .before .before .put-after-stock .ensures) ∙ wrote-length (stock .settle-stock .ensures .0) ∙ wrote-length (stock .before .before .before .before .before .put-record .ensures)
+    wrote-length (c .before .before .before .before .before .before .before .put-after-stock .ensures)
+    ∙ wrote-length (stock .settle-stock .ensures .0)
+    ∙ wrote-length (stock .before .before .before .before .before .put-record .ensures)
 
 returns : tie.Need-returns
 returns c =
@@ -59,7 +63,9 @@ returns c =
     let start = unit .before .before .before .before .before in
     let d = dayOf (start .args .d) (start .args .basket .now) in
     let rest = rw (c .before .before .before .total .ensures) at (c .before .before .move-rest .ensures) in
-    let written = wrote-then (stock .before .before .before .before .before .put-record .ensures) (wrote-then (stock .settle-stock .ensures .0) (c .before .before .before .before .before .before .before .put-after-stock .ensures)) in (
+    let written =
+    wrote-then (stock .before .before .before .before .before .put-record .ensures)
+    (wrote-then (stock .settle-stock .ensures .0) (c .before .before .before .before .before .before .before .put-after-stock .ensures)) in (
       order-is (start .args .ask .kind) d _ _ _ _ _ _ (start .pre .0) (stock .settle-stock .ensures .1) _ rest,
       order-written (unit .before .rest-side .ensures) (unit .record-of .ensures) (start .pre .1 .0) written,
     )

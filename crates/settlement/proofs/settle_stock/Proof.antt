@@ -40,7 +40,8 @@ move-line-requires c κs =
     let a = c .before .before .before .before .before .before .before .before .before .before .args in
     let p = c .before .before .before .before .before .before .before .before .before .before .pre in
     rw (c .before .component-of .ensures)
-    (line-ready (a .ask .kind) (dayOf (a .d) (a .basket .now)) _ _ _ (p .0 .0) (p .0 .1) _ _ (c .before .before .before .before .loop .inv .1 .0) _ (c .before .before .before .before .before .before .width-of .ensures) (p .1 .0) (p .1 .1 .0) (c .before .before .if1 .taken))
+    (line-ready (a .ask .kind) (dayOf (a .d) (a .basket .now)) _ _ _ (p .0 .0) (p .0 .1) _ _ (c .before .before .before .before .loop .inv .1 .0) _
+    (c .before .before .before .before .before .before .width-of .ensures) (p .1 .0) (p .1 .1 .0) (c .before .before .if1 .taken))
 
 put-line-requires : tie.Need-put-line-requires Inv-loop μ-loop
 put-line-requires c κs =
@@ -48,8 +49,11 @@ put-line-requires c κs =
     let p = c .before .before .before .before .before .before .before .before .before .before .before .before .before .before .pre in
     let l = c .before .before .before .before .before .before .before .before .loop in
     let d = dayOf (a .d) (a .basket .now) in
-    let q : c .before .before .before .move-line .result ≡ movedBy (a .ask .kind) d (account d (a .book .now) (a .ask .account)) (a .m) (l .i) = (rw (c .before .before .before .before .before .component-of .ensures) at (c .before .before .before .move-line .ensures .0)) ∙ moved-here (a .ask .kind) d _ _ _ (p .0 .0) (p .0 .1) _ _ (l .inv .1 .0) _ (c .before .before .before .before .before .before .before .before .before .before .width-of .ensures) in
-    rw (c .before .before .before .before .before .component-of .ensures, c .before .before .before .before .before .before .before .before .before .stock-side .ensures, q) (line-room (a .ask .kind) d _ _ (c .before .before .before .before .before .before .if1 .taken) (p .1 .1 .1 .0) (l .inv .1 .1))
+    let q : c .before .before .before .move-line .result ≡ movedBy (a .ask .kind) d (account d (a .book .now) (a .ask .account)) (a .m) (l .i) =
+    (rw (c .before .before .before .before .before .component-of .ensures) at (c .before .before .before .move-line .ensures .0)) ∙ moved-here (a .ask .kind) d _ _ _
+    (p .0 .0) (p .0 .1) _ _ (l .inv .1 .0) _ (c .before .before .before .before .before .before .before .before .before .before .width-of .ensures) in
+    rw (c .before .before .before .before .before .component-of .ensures, c .before .before .before .before .before .before .before .before .before .stock-side .ensures, q)
+    (line-room (a .ask .kind) d _ _ (c .before .before .before .before .before .before .if1 .taken) (p .1 .1 .1 .0) (l .inv .1 .1))
 
 add-i : tie.Need-add-i Inv-loop μ-loop
 add-i c = search needs
@@ -65,8 +69,21 @@ loop-again c =
     let d = dayOf (a .d) (a .basket .now) in
     let moved = c .before .before .before .before .before .before .move-line .ensures in
     let of = rw (c .before .before .before .before .before .before .before .before .component-of .ensures) at (moved .0) in
-    let q : c .before .before .before .before .before .before .move-line .result ≡ movedBy (a .ask .kind) d (account d (a .book .now) (a .ask .account)) (a .m) (l .i) = of ∙ moved-here (a .ask .kind) d _ _ _ (p .0 .0) (p .0 .1) _ _ (l .inv .1 .0) _ (c .before .before .before .before .before .before .before .before .before .before .before .before .before .width-of .ensures) in
-    (omega arith, (lines-more (a .ask .kind) d _ _ _ (p .0 .0) (p .0 .1) _ _ (l .inv .1 .0) _ (c .before .before .before .before .before .before .before .before .before .before .before .before .before .width-of .ensures) _ _ of (moved .1), wrote-as (sym (stock-more (a .ask .kind) d _ _ _)) (wrote-then (l .inv .1 .1) (rw (c .before .before .before .before .before .before .before .before .component-of .ensures, c .before .before .before .before .before .before .before .before .before .before .before .before .stock-side .ensures, q) at (c .before .before .put-line .ensures)))))
+    let q : c .before .before .before .before .before .before .move-line .result ≡ movedBy (a .ask .kind) d (account d (a .book .now) (a .ask .account)) (a .m) (l .i) =
+    of ∙ moved-here (a .ask .kind) d _ _ _ (p .0 .0) (p .0 .1) _ _ (l .inv .1 .0) _
+    (c .before .before .before .before .before .before .before .before .before .before .before .before .before .width-of .ensures) in (
+      omega arith,
+      (
+        lines-more (a .ask .kind) d _ _ _ (p .0 .0) (p .0 .1) _ _ (l .inv .1 .0) _
+            (c .before .before .before .before .before .before .before .before .before .before .before .before .before .width-of .ensures) _ _ of (moved .1),
+        wrote-as (sym (stock-more (a .ask .kind) d _ _ _)) (wrote-then (l .inv .1 .1)
+            (rw (
+              c .before .before .before .before .before .before .before .before .component-of .ensures,
+              c .before .before .before .before .before .before .before .before .before .before .before .before .stock-side .ensures,
+              q,
+            ) at (c .before .before .put-line .ensures))),
+      ),
+    )
 
 same-length : tie.Need-same-length Inv-loop μ-loop
 same-length c =

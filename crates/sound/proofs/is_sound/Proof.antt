@@ -12,6 +12,7 @@ use denote.Ref.{now}
 use borrow.Author.Tests.{not-true, not-false}
 use Rattle.lists.specs.Below.{first-le}
 use Rattle.lists.specs.Every.{same-test}
+use Rattle.layout.specs.Places.{mostComponents}
 use Rattle.layout.specs.declared.Component.{Component}
 use Rattle.fund.specs.Components.{faultAt, componentFault}
 use Rattle.layout.specs.Components.{componentAt, placesOf}
@@ -32,7 +33,7 @@ no-fault g cs n e h = le-antisymm (first-le (faultAt g cs) n) (omega arith)
 -- the search in the basket is the search in the day's places
 faults : (c : tie.Else2) {r : ℕ} → let a = c .before .before .before .before .before .before .before .before .args in
     r ≡ componentFault (a .d .fund .«first_code») (placesOf (componentAt (now (a .basket))) (a .d .count)) (a .d .count)
-    → r ≡ componentFault (a .d .fund .«first_code») (placesOf (componentAt (now (a .basket))) 300) (a .d .count)
+    → r ≡ componentFault (a .d .fund .«first_code») (placesOf (componentAt (now (a .basket))) mostComponents) (a .d .count)
 faults c e = e ∙ fault-places _ (componentAt (now (c .before .before .before .before .before .before .before .before .args .basket))) _ (sizes (c .before .before) .count-high)
 
 sizes-fit-requires : tie.Need-sizes-fit-requires

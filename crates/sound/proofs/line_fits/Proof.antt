@@ -1,5 +1,5 @@
 -- `sound::line_fits` meets its contract: three totals of at most 2^62 add up without wrapping.
-use Prim.Native.Nat.{_+_, _*_, _≤_}
+use Prim.Native.Nat.{_+_, _≤_}
 use native.Mathlib.Omega.{arith}
 use lib.ListN.{getD}
 use borrow.Author.Needs.{needs}

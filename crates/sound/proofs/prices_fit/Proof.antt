@@ -40,7 +40,11 @@ loop-less c = omega arith
 
 loop-again : tie.Need-loop-again Inv-loop μ-loop
 unfolding priceFits priceOf
-loop-again c = (omega arith, below-more _ _ (c .before .before .before .loop .inv .1) (le-leb (getD (c .before .before .before .before .args .prices .now) (c .before .before .before .loop .i) 0) _ (omega arith)))
+loop-again c = (
+  omega arith,
+  below-more _ _ (c .before .before .before .loop .inv .1)
+      (le-leb (getD (c .before .before .before .before .args .prices .now) (c .before .before .before .loop .i) 0) _ (omega arith)),
+)
 
 returns-2 : tie.Need-returns-2 Inv-loop μ-loop
 returns-2 c = sym (all-true _ _ (λ k h. c .before .loop .inv .1 k (omega arith)))

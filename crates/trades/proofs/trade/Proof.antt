@@ -13,10 +13,14 @@ trade-answer-requires c κs = search needs
 enum-told : tie.Need-enum-told
 enum-told c = search needs
 
+new-requires : tie.Need-new-requires
+new-requires c κs = tt
+
 move-trade-requires : tie.Need-move-trade-requires
 move-trade-requires c κs =
-    let b = c .before .before .before .before .before .before in
-    tradable _ _ _ _ _ _ _ _ (b .pre) (ap answerReply (sym (c .before .enum-told .given .1)) ∙ c .before .before .before .trade-answer .ensures)
+    let b = c .before .before .before .before .before .before .before in
+    let e = ap answerReply (sym (c .before .before .enum-told .given .1)) ∙ c .before .before .before .before .trade-answer .ensures in
+    rw (c .new .ensures) (tradable _ _ _ _ _ _ _ _ (b .pre) e)
 
 enum-known-answer : tie.Need-enum-known-answer
 enum-known-answer c = search needs
@@ -26,8 +30,9 @@ same-length c = search needs
 
 returns : tie.Need-returns
 returns c =
-    let e = ap answerReply (sym (c .before .before .before .before .enum-told .given .1)) ∙ c .before .before .before .before .before .before .trade-answer .ensures in
-    (e, c .before .before .move-trade .ensures ∙ leaves-after _ _ 0 _ e)
+    let made = c .before .before .before in
+    let e = ap answerReply (sym (made .before .before .enum-told .given .1)) ∙ made .before .before .before .before .trade-answer .ensures in
+    (e, c .before .before .move-trade .ensures ∙ rw (made .new .ensures) (leaves-after _ _ 0 _ e))
 
 same-length-2 : tie.Need-same-length-2
 same-length-2 c = search needs
@@ -43,6 +48,7 @@ trade-spec =
     (tie.spec
     trade-answer-requires
     enum-told
+    new-requires
     move-trade-requires
     enum-known-answer
     same-length

@@ -21,10 +21,13 @@ quantity-in c = sym (c .before .is-inside .ensures) ∙ not-false _ (c .if2 .lef
 price-in : (c : tie.Else3) → inside 1 mostPrice (c .before .before .before .before .before .before .args .price) ≡ true
 price-in c = sym (c .before .is-inside2 .ensures) ∙ not-false _ (c .if3 .left)
 
-seller-in : (c : tie.Else4) → isInvestor (c .before .before .before .before .before .before .before .before .args .accounts) (c .before .before .before .before .before .before .before .before .args .seller) ≡ true
+seller-in : (c : tie.Else4)
+    → isInvestor (c .before .before .before .before .before .before .before .before .args .accounts) (c .before .before .before .before .before .before .before .before .args .seller) ≡ true
 seller-in c = sym (c .before .is-investor .ensures) ∙ not-false _ (c .if4 .left)
 
-buyer-in : (c : tie.Else5) → isInvestor (c .before .before .before .before .before .before .before .before .before .before .args .accounts) (c .before .before .before .before .before .before .before .before .before .before .args .buyer) ≡ true
+buyer-in : (c : tie.Else5)
+    → isInvestor (c .before .before .before .before .before .before .before .before .before .before .args .accounts)
+    (c .before .before .before .before .before .before .before .before .before .before .args .buyer) ≡ true
 buyer-in c = sym (c .before .is-investor2 .ensures) ∙ not-false _ (c .if5 .left)
 
 is-inside-requires : tie.Need-is-inside-requires
@@ -43,16 +46,24 @@ is-investor-requires : tie.Need-is-investor-requires
 is-investor-requires c κs = search needs
 
 returns-4 : tie.Need-returns-4
-returns-4 c = trade-no-seller _ _ _ _ _ _ _ _ (c .before .before .before .before .before .before .if1 .left) (quantity-in (c .before .before .before .before)) (price-in (c .before .before)) (sym (c .before .is-investor .ensures) ∙ not-true _ (c .if4 .taken))
+returns-4 c =
+    trade-no-seller _ _ _ _ _ _ _ _ (c .before .before .before .before .before .before .if1 .left) (quantity-in (c .before .before .before .before))
+    (price-in (c .before .before)) (sym (c .before .is-investor .ensures) ∙ not-true _ (c .if4 .taken))
 
 is-investor-requires-2 : tie.Need-is-investor-requires-2
 is-investor-requires-2 c κs = search needs
 
 returns-5 : tie.Need-returns-5
-returns-5 c = trade-no-buyer _ _ _ _ _ _ _ _ (c .before .before .before .before .before .before .before .before .if1 .left) (quantity-in (c .before .before .before .before .before .before)) (price-in (c .before .before .before .before)) (seller-in (c .before .before)) (sym (c .before .is-investor2 .ensures) ∙ not-true _ (c .if5 .taken))
+returns-5 c =
+    trade-no-buyer _ _ _ _ _ _ _ _ (c .before .before .before .before .before .before .before .before .if1 .left)
+    (quantity-in (c .before .before .before .before .before .before)) (price-in (c .before .before .before .before)) (seller-in (c .before .before))
+    (sym (c .before .is-investor2 .ensures) ∙ not-true _ (c .if5 .taken))
 
 returns-6 : tie.Need-returns-6
-returns-6 c = trade-one _ _ _ _ _ _ _ _ (c .before .before .before .before .before .before .before .before .before .if1 .left) (quantity-in (c .before .before .before .before .before .before .before)) (price-in (c .before .before .before .before .before)) (seller-in (c .before .before .before)) (buyer-in (c .before)) (c .if6 .taken)
+returns-6 c =
+    trade-one _ _ _ _ _ _ _ _ (c .before .before .before .before .before .before .before .before .before .if1 .left)
+    (quantity-in (c .before .before .before .before .before .before .before)) (price-in (c .before .before .before .before .before))
+    (seller-in (c .before .before .before)) (buyer-in (c .before)) (c .if6 .taken)
 
 mul-t17 : tie.Need-mul-t17
 mul-t17 c =
@@ -69,7 +80,9 @@ trade-means-requires c κs =
 returns-7 : tie.Need-returns-7
 returns-7 c =
     c .trade-means .ensures
-    ∙ trade-rest _ _ _ _ _ _ _ _ (c .before .before .before .before .before .before .before .before .before .before .if1 .left) (quantity-in (c .before .before .before .before .before .before .before .before)) (price-in (c .before .before .before .before .before .before)) (seller-in (c .before .before .before .before)) (buyer-in (c .before .before)) (c .before .if6 .left)
+    ∙ trade-rest _ _ _ _ _ _ _ _ (c .before .before .before .before .before .before .before .before .before .before .if1 .left)
+    (quantity-in (c .before .before .before .before .before .before .before .before)) (price-in (c .before .before .before .before .before .before))
+    (seller-in (c .before .before .before .before)) (buyer-in (c .before .before)) (c .before .if6 .left)
 
 pub trade-answer-spec : {M : Type 1} → statement M
 trade-answer-spec =

@@ -1,8 +1,6 @@
 -- `trades::trade_means` meets its contract: the seller's lots and the buyer's cash are read off their stretches.
-use mathlib.Core.Path.{_∙_, sym, ap}
 use native.Mathlib.Omega.{arith}
 use borrow.Author.Needs.{needs}
-use Rattle.lots.specs.Lots.{sellable}
 use Rattle.trades.proofs.Laws.{means-short, means-cash, means-done}
 use Rattle.trades.proofs.trade_means.Statement.{statement}
 use Rattle.trades.proofs.trade_means.Tie as tie
@@ -25,13 +23,15 @@ returns-2 : tie.Need-returns-2
 returns-2 c =
     let own = c .before .before in
     let held = own .before .before in
-    means-cash _ _ _ _ _ _ _ _ _ _ (held .before .before .width-of .ensures) (held .before .lots-of .ensures) (held .sellable .ensures) _ (own .head-of .ensures) (own .before .if1 .left) (c .if2 .taken)
+    means-cash _ _ _ _ _ _ _ _ _ _ (held .before .before .width-of .ensures) (held .before .lots-of .ensures) (held .sellable .ensures) _ (own .head-of .ensures)
+    (own .before .if1 .left) (c .if2 .taken)
 
 returns-3 : tie.Need-returns-3
 returns-3 c =
     let own = c .before .before in
     let held = own .before .before in
-    means-done _ _ _ _ _ _ _ _ _ _ (held .before .before .width-of .ensures) (held .before .lots-of .ensures) (held .sellable .ensures) _ (own .head-of .ensures) (own .before .if1 .left) (c .if2 .left)
+    means-done _ _ _ _ _ _ _ _ _ _ (held .before .before .width-of .ensures) (held .before .lots-of .ensures) (held .sellable .ensures) _ (own .head-of .ensures)
+    (own .before .if1 .left) (c .if2 .left)
 
 pub trade-means-spec : {M : Type 1} → statement M
 trade-means-spec =

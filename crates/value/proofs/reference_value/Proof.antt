@@ -62,7 +62,9 @@ more : (c : tie.After-worth-of Inv-loop μ-loop) →
     c .before .before .before .before .before .before .loop .sum .0 + c .worth-of .result .0
     ≡ sumBelow (worths (c .before .before .before .before .before .before .before .before .before)) (c .before .before .before .before .before .before .loop .i + 1)
 unfolding priceOf
-more c = rw (c .before .before .before .before .before .before .loop .inv .2, c .worth-of .ensures, c .before .before .before .before .component-of .ensures) (sum-next (day (c .before .before .before .before .before .before .before .before .before)) _ _)
+more c =
+    rw (c .before .before .before .before .before .before .loop .inv .2, c .worth-of .ensures, c .before .before .before .before .component-of .ensures)
+    (sum-next (day (c .before .before .before .before .before .before .before .before .before)) _ _)
 
 returns : tie.Need-returns Inv-loop μ-loop
 unfolding priceOf
@@ -119,7 +121,8 @@ returns-2 c =
     let at = c .before .before .before .before .before in
     let e : at .loop .i ≡ at .before .before .before .args .d .count = omega arith in
     c .value-with .ensures
-    ∙ rw (at .loop .inv .2, added (c .before .before), c .before .cash-taken .ensures, back (c .before .before .before), e) (priced-all (day (at .before .before .before)) _ (rw e at (at .loop .inv .1)))
+    ∙ rw (at .loop .inv .2, added (c .before .before), c .before .cash-taken .ensures, back (c .before .before .before), e)
+    (priced-all (day (at .before .before .before)) _ (rw e at (at .loop .inv .1)))
 
 pub reference-value-spec : {M : Type 1} → statement M
 reference-value-spec =
