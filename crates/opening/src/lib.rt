@@ -1,4 +1,4 @@
-// Opening: its tests, refusals 1 to 4, and the book and prices that an accepted opening leaves.
+// Opening: its tests, refusals 1 to 4, and the book, prices and day that an accepted opening leaves.
 ghost use mathlib.Core.Path.{_≡_};
 ghost use Prim.Native.Nat.{_+_, _*_, _≤_, _<_};
 ghost use lib.ListN.{length, replicate};
