@@ -6,7 +6,8 @@ use Prim.Native.Nat.{ℕ, _-_, _≤_, _<_}
 use native.Mathlib.Decide.{ℕ-discrete}
 use native.Mathlib.Omega.{arith}
 use Rattle.lists.specs.Checks.{isAccepted}
-use Rattle.lists.specs.Same.{whenSame, when-same, when-other}
+use Rattle.lists.specs.Same.{whenSame}
+use Rattle.lists.proofs.Same.{when-same, when-other}
 use Rattle.layout.specs.declared.Fund.{Fund}
 use Rattle.fund.specs.Fund.{limitOf, cumulativeLimit, cumulativeLimitEach, netLimit, netLimitEach}
 use Rattle.rules.specs.Orders.{creation, redemption}

@@ -1,17 +1,24 @@
 -- The stock record of a component among the records that an order wrote: its quantity, and that there is at most one.
 use mathlib.Core.Path.{_≡_, refl, _∙_}
 use mathlib.Core.List.{List, _++_}
-use Prim.Native.Nat.{ℕ, suc, _+_, _≤_, _<_}
+use Prim.Native.Nat.{ℕ, suc, _+_, _≤_, _<_, _*_}
 use native.Mathlib.Omega.{arith}
 use lib.ListN.{length, getD}
+use Rattle.lists.specs.Below.{sumBelow}
+use Rattle.lists.specs.Same.{whenSame}
 use Rattle.layout.specs.Day.{Day}
 use Rattle.layout.specs.declared.Record.{Record}
 use Rattle.rules.specs.Lines.{codeOf}
 use Rattle.rules.specs.Records.{orderRecords}
 use Rattle.layout.specs.Records.{recordNumbers, withRecords}
+use Rattle.layout.specs.Places.{recordWidth}
 use Rattle.rules.proofs.SoundDay.{SoundDay}
 use Rattle.rules.proofs.Stock.{list-tally, stock-moved, stock-once}
-use Rattle.balance.specs.Counts.{stockQuantity, stockRecords}
+use Rattle.balance.specs.Counts.{stockQuantity}
+
+-- how many of the first n records of a list have a component's code
+unfoldable pub stockRecords : ℕ → List ℕ → ℕ → ℕ
+stockRecords code list n = sumBelow (λ k. whenSame (getD list (recordWidth * k) 0) code 1) n
 
 -- the third number of a record is its quantity
 quantity-later : (r : Record) (xs : List ℕ) (p : ℕ) → getD (recordNumbers r ++ xs) (5 + p + 2) 0 ≡ getD xs (p + 2) 0

@@ -18,10 +18,6 @@ unfoldable pub stockQuantity : ℕ → List ℕ → ℕ → ℕ
 stockQuantity code list n =
     sumBelow (λ k. whenSame (getD list (recordWidth * k) 0) code (getD list (recordWidth * k + 2) 0)) n
 
--- how many of those records have that code: one at most, so the quantity is that of one record
-unfoldable pub stockRecords : ℕ → List ℕ → ℕ → ℕ
-stockRecords code list n = sumBelow (λ k. whenSame (getD list (recordWidth * k) 0) code 1) n
-
 -- counts of one call (call..): the quantity of line l that account a sold by it
 unfoldable pub callSold : ℕ → ℕ → Call → ℕ
 callSold a l (price line p) = 0

@@ -1,3 +1,4 @@
+pub mod Moved
 pub mod Stock
 pub mod Trade
 pub mod Sides

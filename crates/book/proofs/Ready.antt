@@ -6,8 +6,9 @@ use Prim.Native.Nat.{ℕ, _+_, _*_, _≤_, _<_}
 use native.Mathlib.Nat.{eq-or-lt-of-le}
 use native.Mathlib.Omega.{arith}
 use lib.ListN.{length}
-use Rattle.lists.specs.Below.{sum-part}
-use Rattle.lists.specs.Stretch.{over, within, stretch-length}
+use Rattle.lists.specs.Stretch.{over}
+use Rattle.lists.proofs.Below.{sum-part}
+use Rattle.lists.proofs.Stretch.{within, stretch-length}
 use Rattle.units.proofs.Laws.{under}
 use Rattle.lots.specs.Lots.{handable, lotsTotal}
 use Rattle.fund.specs.Fund.{ceiling}

@@ -6,17 +6,19 @@ use Prim.Native.Nat.{ℕ, _+_, _*_, _≤_, _<_}
 use native.Mathlib.Omega.{arith}
 use lib.ListN.{length}
 use lib.Seq.{set-getD}
-use Rattle.lists.specs.Stretch.{stretchOf, onStretch, stretch-length}
+use Rattle.lists.specs.Stretch.{stretchOf, onStretch}
+use Rattle.lists.proofs.Stretch.{stretch-length}
 use Rattle.lots.specs.declared.Lots.{Lots}
 use Rattle.layout.specs.Day.{Day}
 use Rattle.layout.specs.Book.{width, account, lotsAt, putLots, onLine, eachLine}
 use Rattle.rules.specs.Lines.{componentOf}
 use Rattle.rules.specs.Kinds.{movedBy, stockLots, fundLots}
 use Rattle.layout.proofs.Account.{on-length, each-length, each-later, each-more}
-use Rattle.book.specs.Moved.{movedOf, moved-of, stockBy, fundBy, withSides, lineMoves, stockMoves}
+use Rattle.book.specs.Moved.{movedOf, stockBy, fundBy, withSides, lineMoves, stockMoves}
 use Rattle.book.specs.Ready.{LineReady, StockReady, FundReady}
 use Rattle.book.proofs.Stock.{stock-zero, fund-zero}
 use Rattle.book.proofs.Sides.{sides-length, sides-account, sides-fund, sides-again, sides-back, sides-by}
+use Rattle.book.proofs.Moved.{moved-of}
 
 -- One line.
 

@@ -1,6 +1,5 @@
 -- The stock of one component that an order moves, read off the component and the account's lots of it; and the book part by part.
 use Prim.Native.Nat.{ℕ, _+_, _*_, min}
-use mathlib.Core.Path.{_≡_, refl}
 use mathlib.Core.Bool.{cond}
 use mathlib.Core.List.{List}
 use Rattle.lists.specs.Stretch.{stretchOf, putStretch}
@@ -9,11 +8,7 @@ use Rattle.lots.specs.Lots.{handable}
 use Rattle.flags.specs.Table
 use Rattle.layout.specs.declared.Component.{Component}
 use Rattle.layout.specs.Day.{Day}
-use Rattle.layout.specs.Book.{cash, widthOf, width, account, headAt, putHead, lotsAt, onLine, eachLine, counter}
-use Rattle.rules.specs.Lines.{componentOf, quantity, column}
-use Rattle.rules.specs.Orders.{need}
-use Rattle.rules.specs.Creation.{available, handedIn}
-use Rattle.rules.specs.Redemption.{delivered}
+use Rattle.layout.specs.Book.{cash, widthOf, width, account, headAt, putHead, onLine, eachLine, counter}
 use Rattle.rules.specs.Kinds.{byKind, movedBy, stockLots, fundLots, unitLots, accountCash, fundCash}
 
 unfoldable pub movedOf : ℕ → Component → ℕ → Lots → ℕ
@@ -21,11 +16,6 @@ movedOf kind c m x =
     byKind kind
     (cond (Table.entry (c .flag) Table.stockMoves) (min (m * c .quantity) (handable x)) 0)
     (cond (Table.entry (c .flag) Table.stockMoves) (m * c .quantity) 0)
-
--- it is what the rules say
-pub moved-of : (kind : ℕ) (d : Day) (s : List ℕ) (m i : ℕ) → movedBy kind d s m i ≡ movedOf kind (componentOf d i) m (lotsAt s i)
-unfolding movedBy handedIn delivered need available quantity column movedOf
-moved-of kind d s m i = refl
 
 -- what that makes of the account's lots on line i, and of the fund's, for an account with the stretch s before the order
 abbrev pub stockBy : ℕ → Day → List ℕ → ℕ → ℕ → Lots → Lots

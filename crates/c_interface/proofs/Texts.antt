@@ -7,8 +7,8 @@ use lib.Dec.{eqb}
 use lib.IntN.{natAbs}
 use lib.ListN.{length}
 use borrow.Author.Tests.{eq-eqb, ne-eqb, eqb-true, eqb-false}
-use Rattle.lists.specs.Below.{table-length}
 use Rattle.lists.specs.Checks.{Reply, reply, isAccepted}
+use Rattle.lists.proofs.Below.{table-length}
 use Rattle.digits.specs.Digits.{cap}
 use Rattle.layout.specs.Places.{limitCount}
 use Rattle.fund.specs.Fund.{cashInRange}

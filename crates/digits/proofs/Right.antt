@@ -6,12 +6,18 @@ use native.Mathlib.Nat.{div-one, pow-suc, pow-succ', div-div-eq-div-mul, div-eq-
 use native.Mathlib.Omega.{arith}
 use lib.ListN.{length, set, replicate, length-set, length-append, length-replicate}
 use borrow.Author.Tests.{eq-eqb, ne-eqb}
+use mathlib.Core.Bool.{false}
 use Rattle.digits.specs.Digits.{plain, fixed, tens, decimal, wholeText, plainText, signedText, numberText}
-use Rattle.digits.specs.Right.{alignedForm, digitsForm, digitOrBlank}
+use Rattle.digits.specs.Right.{alignedForm, digitOrBlank}
 use Rattle.digits.specs.Written.{put, Written}
+use Rattle.digits.specs.declared.Form.{Form}
 use Rattle.digits.proofs.Read.{compare}
 use Rattle.digits.proofs.Put.{put-nil, put-before, written-then, written-length}
 use Rattle.digits.proofs.Count.{power-positive, fixed-length, decimal-length, wide-unique, tens-wide}
+
+-- so many digits, which fill the field
+abbrev pub digitsForm : ℕ → Form
+digitsForm width = record { digits = width; decimals = 0; signed = false; width = width }
 
 -- what is left of a number
 pub blank-here : (m : ℕ) → m ≡ 0 → 32 ≡ digitOrBlank m

@@ -8,10 +8,6 @@ use Rattle.digits.specs.declared.Form.{Form}
 abbrev pub alignedForm : ℕ → ℕ → Form
 alignedForm width decimals = record { digits = 0; decimals = decimals; signed = false; width = width }
 
--- so many digits, which fill the field
-abbrev pub digitsForm : ℕ → Form
-digitsForm width = record { digits = width; decimals = 0; signed = false; width = width }
-
 -- the last digit of what is left of a number, and a blank where nothing is left
 unfoldable pub digitOrBlank : ℕ → ℕ
 digitOrBlank m = cond (eqb m 0) 32 (48 + m % 10)

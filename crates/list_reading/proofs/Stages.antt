@@ -7,8 +7,8 @@ use native.Mathlib.Omega.{arith}
 use native.Mathlib.Nat.{le-antisymm}
 use lib.ListN.{length, drop}
 use borrow.Author.Tests.{lt-ltb, le-ltb}
-use Rattle.lists.specs.Below.{first-le}
 use Rattle.lists.specs.Checks.{reply, isAccepted}
+use Rattle.lists.proofs.Below.{first-le}
 use Rattle.layout.specs.Places.{componentWidth}
 use Rattle.rules.specs.declared.Refusal.{Refusal}
 use Rattle.rules.specs.Replies.{refusalReply}
@@ -20,8 +20,12 @@ use Rattle.list_rules.specs.declared.ListAnswer.the-variants.{Done}
 use Rattle.list_rules.specs.Head.{endWord}
 use Rattle.list_rules.specs.Reading.{startOf, lineOf, lineStands, wrongLine, rowStart, rowCount, endStart, fieldsRead, readReply, componentsRun, fieldsHanded, firstHanded, runAfter}
 use Rattle.list_reading.specs.declared.Shape.{Shape}
-use Rattle.list_reading.specs.Outcome.{ReadOutcome, Shaped, wrongAt, rowsAt, refusedRead}
+use Rattle.list_reading.specs.Outcome.{ReadOutcome, Shaped, wrongAt, refusedRead}
 use Rattle.list_reading.proofs.Replies.{lineWrong, endMissing, shape-passes, line-stops, end-stops, more-stops}
+
+-- what is found of a text whose component lines stand
+abbrev pub rowsAt : ℕ → ℕ → Shape
+rowsAt start count = record { wrong = false; place = 0; start = start; count = count }
 
 -- a refusal hands back blank fields and leaves the run
 pub outcome-refused : (text run : List ℕ) (why : Refusal) → refusalReply why ≡ readReply text (length run) → ReadOutcome text run (refusedRead why) run

@@ -42,9 +42,6 @@ pub record Shaped (text : List ℕ) (s : Shape) : Type 0 where
 abbrev pub wrongAt : ℕ → Shape
 wrongAt place = record { wrong = true; place = place; start = 0; count = 0 }
 
-abbrev pub rowsAt : ℕ → ℕ → Shape
-rowsAt start count = record { wrong = false; place = 0; start = start; count = count }
-
 -- the numbers of the text's components stand at the front of an array, where they are not too many
 pub record Found (text : List ℕ) (count : ℕ) (numbers : List ℕ) : Type 0 where
   pub long : length numbers ≡ basketWidth

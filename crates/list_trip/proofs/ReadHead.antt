@@ -11,7 +11,8 @@ use lib.ListN.{length, getD, take, drop, length-take, length-drop, take-append-d
 use lib.Seq.{length-take-le, split-at, getD-drop, drop-at}
 use borrow.Author.Tests.{lt-ltb, ne-eqb, eqb-true}
 use Rattle.lists.specs.Below.{allBelow}
-use Rattle.lists.specs.Every.{every-at, inside, inside-true, inside-facts}
+use Rattle.lists.specs.Every.{inside}
+use Rattle.lists.proofs.Every.{every-at, inside-true, inside-facts}
 use Rattle.digits.specs.declared.Figure.{Figure}
 use Rattle.digits.specs.Digits.{cap, isNumber, numberText}
 use Rattle.lines.specs.Lines.{letterByte, allBytes, isNamed}

@@ -9,9 +9,10 @@ use lib.Dec.{leb, ltb}
 use lib.ListN.{length}
 use borrow.Author.Tests.{lt-ltb, le-ltb, le-leb, eq-eqb}
 use Rattle.lists.specs.Below.{joinBelow}
-use Rattle.lists.specs.Every.{inside-true}
-use Rattle.lists.specs.Checks.{check, reply, passes, passes-all, answered-passed, answered-next}
-use Rattle.lists.specs.Stretch.{join-ext}
+use Rattle.lists.specs.Checks.{check, reply, passes}
+use Rattle.lists.proofs.Every.{inside-true}
+use Rattle.lists.proofs.Checks.{passes-all, answered-passed, answered-next}
+use Rattle.lists.proofs.Stretch.{join-ext}
 use Rattle.fund.specs.Components.{componentFault}
 use Rattle.layout.specs.Places.{mostComponents, componentWidth}
 use Rattle.layout.specs.Components.{componentAt, componentNumbers, placesOf}

@@ -3,4 +3,3 @@ pub mod Every
 pub mod Checks
 pub mod Stretch
 pub mod Same
-pub mod Runs

@@ -6,7 +6,8 @@ use Prim.Native.Nat.{ℕ, _≤_, _<_}
 use lib.Dec.{T, ltb}
 use lib.ListN.{length}
 use borrow.Author.Tests.{lt-ltb, le-ltb, eq-eqb, ne-eqb}
-use Rattle.lists.specs.Checks.{Check, reply, answered, numbered}
+use Rattle.lists.specs.Checks.{Check, reply, answered}
+use Rattle.lists.proofs.Checks.{numbered}
 use Rattle.units.specs.Units.{ratioBound}
 use Rattle.layout.specs.Places.{mostComponents}
 use Rattle.layout.specs.Day.{Day}

@@ -5,7 +5,8 @@ use Prim.Native.Nat.{ℕ, suc, _+_, _*_, _≤_, _<_}
 use native.Mathlib.Omega.{arith}
 use lib.ListN.{length, getD, take, drop, length-set, length-append}
 use lib.Seq.{sets-eq, take-at, take-all, length-take-le}
-use Rattle.lists.specs.Below.{joinBelow, join-none, join-more}
+use Rattle.lists.specs.Below.{joinBelow}
+use Rattle.lists.proofs.Below.{join-none, join-more}
 use Rattle.layout.specs.Places.{lineWidth}
 use Rattle.layout.specs.Book.{widthOf, lineFrom}
 use Rattle.rules.specs.Opening.{cashOpened, heldOpened, openedStretch}

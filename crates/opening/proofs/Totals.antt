@@ -7,9 +7,10 @@ use native.Mathlib.Omega.{arith}
 use lib.Dec.{ltb}
 use lib.ListN.{getD}
 use borrow.Author.Tests.{lt-ltb, le-ltb, ltb-true}
-use Rattle.lists.specs.Below.{first-same, sum-same}
-use Rattle.lists.specs.Every.{same-test}
-use Rattle.lists.specs.Stretch.{over, stretchOf, stretch-at}
+use Rattle.lists.specs.Stretch.{over, stretchOf}
+use Rattle.lists.proofs.Below.{first-same, sum-same}
+use Rattle.lists.proofs.Every.{same-test}
+use Rattle.lists.proofs.Stretch.{stretch-at}
 use Rattle.totals.specs.Totals.{top, placeAt, total, cappedTotal}
 use Rattle.totals.proofs.Rows.{capped-is}
 use Rattle.rules.specs.Opening.{cashOpened, heldOpened, mostOfLine, mostCash, overAt, totalFault}

@@ -6,8 +6,9 @@ use Prim.Native.Nat.{ℕ, _+_, _*_, _≤_, _<_}
 use native.Mathlib.Omega.{arith}
 use lib.ListN.{length}
 use borrow.Author.Tests.{not-false}
-use Rattle.lists.specs.Checks.{Check, reply, answered, isAccepted, all-passed}
-use Rattle.lists.specs.Stretch.{within}
+use Rattle.lists.specs.Checks.{Check, reply, answered, isAccepted}
+use Rattle.lists.proofs.Checks.{all-passed}
+use Rattle.lists.proofs.Stretch.{within}
 use Rattle.fund.proofs.Laws.{FundRanges, fund-sound}
 use Rattle.layout.specs.Day.{Day}
 use Rattle.rules.specs.declared.Ask.{Ask}

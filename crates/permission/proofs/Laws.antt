@@ -8,10 +8,13 @@ use native.Mathlib.Omega.{arith}
 use lib.Dec.{leb, eqb}
 use lib.ListN.{length, getD}
 use borrow.Author.Tests.{eqb-true}
-use Rattle.lists.specs.Below.{sumBelow, sum-none, sum-more, sum-grows, sum-part}
+use Rattle.lists.specs.Below.{sumBelow}
 use Rattle.lists.specs.Checks.{reply, answered}
-use Rattle.lists.specs.Every.{every, every-at, inside, inside-facts}
-use Rattle.lists.specs.Stretch.{stretchOf, over, within, stretch-at}
+use Rattle.lists.specs.Every.{every, inside}
+use Rattle.lists.specs.Stretch.{stretchOf, over}
+use Rattle.lists.proofs.Below.{sum-none, sum-more, sum-grows, sum-part}
+use Rattle.lists.proofs.Every.{every-at, inside-facts}
+use Rattle.lists.proofs.Stretch.{within, stretch-at}
 use Rattle.layout.specs.Places.{linesFrom}
 use Rattle.layout.specs.declared.Fund.{Fund}
 use Rattle.fund.specs.Fund.{ceiling, limitOf, cumulativeLimit, cumulativeLimitEach, netLimit, netLimitEach}

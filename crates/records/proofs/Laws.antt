@@ -6,8 +6,9 @@ use native.Mathlib.Omega.{arith}
 use lib.ListN.{length, drop, length-append}
 use lib.Seq.{sets, length-sets}
 use borrow.Author.Tests.{lt-ltb, le-ltb, eq-eqb, ne-eqb}
-use Rattle.lists.specs.Below.{joinBelow, join-none, join-more}
-use Rattle.lists.specs.Runs.{sets-append, sets-front, join-grows}
+use Rattle.lists.specs.Below.{joinBelow}
+use Rattle.lists.proofs.Below.{join-none, join-more}
+use Rattle.lists.proofs.Runs.{sets-append, sets-front, join-grows}
 use Rattle.units.specs.Units.{splitSize}
 use Rattle.layout.specs.Day.{Day}
 use Rattle.rules.specs.declared.Ask.{Ask}

@@ -6,11 +6,14 @@ use Prim.Native.Nat.{ℕ, suc, _+_, _*_, _<_}
 use native.Mathlib.Nat.{add-zero}
 use native.Mathlib.Omega.{arith}
 use lib.ListN.{length, getD, replicate, length-replicate, getD-replicate}
-use Rattle.lists.specs.Below.{joinBelow, join-length, sum-same, sum-zero}
-use Rattle.lists.specs.Every.{every-at}
-use Rattle.lists.specs.Checks.{isAccepted, all-passed}
+use Rattle.lists.specs.Below.{joinBelow}
+use Rattle.lists.specs.Checks.{isAccepted}
 use borrow.Author.Tests.{eqb-true}
-use Rattle.lists.specs.Stretch.{stretchOf, over, stretch-join, stretch-at}
+use Rattle.lists.specs.Stretch.{stretchOf, over}
+use Rattle.lists.proofs.Below.{join-length, sum-same, sum-zero}
+use Rattle.lists.proofs.Every.{every-at}
+use Rattle.lists.proofs.Checks.{all-passed}
+use Rattle.lists.proofs.Stretch.{stretch-join, stretch-at}
 use Rattle.lots.specs.declared.Lots.{Lots}
 use Rattle.lots.specs.Lots.{lotsTotal}
 use Rattle.lots.proofs.Laws.{lots, lots-eq}

@@ -7,7 +7,8 @@ use lib.Dec.{eqb}
 use borrow.Author.Tests.{eq-eqb, ne-eqb, eqb-true}
 use Rattle.layout.specs.Places.{rowWidth, answerWidth}
 use Rattle.lists.specs.Checks.{reply, answered}
-use Rattle.lists.specs.Every.{every, every-at}
+use Rattle.lists.specs.Every.{every}
+use Rattle.lists.proofs.Every.{every-at}
 use Rattle.run.specs.Batch.{Batch, runFrom, rowsIn, rowsFit, fits, runReply, ran}
 
 and-true : (b : Bool) → b ≡ b && true

@@ -6,7 +6,8 @@ use Prim.Native.Nat.{ℕ, zero, suc, _+_, _≤_, _<_}
 use native.Mathlib.Omega.{arith}
 use lib.Dec.{ltb, eqb, lit≤}
 use lib.ListN.{length, length-append, length-map}
-use Rattle.lists.specs.Below.{sumBelow, joinBelow, sum-le, cond-le}
+use Rattle.lists.specs.Below.{sumBelow, joinBelow}
+use Rattle.lists.proofs.Below.{sum-le, cond-le}
 use Rattle.units.specs.Units.{splitSize}
 use Rattle.layout.specs.Places.{mostComponents}
 use Rattle.layout.specs.Day.{Day}

@@ -7,7 +7,8 @@ use native.Mathlib.Numerals.{add-one}
 use native.Mathlib.Omega.{arith}
 use lib.Dec.{ltb, lit≤}
 use lib.ListN.{getD}
-use Rattle.lists.specs.Below.{sumBelow, anyBelow, firstBelow, sum-none, sum-more, sum-le, any-none, any-more, first-none, cond-le}
+use Rattle.lists.specs.Below.{sumBelow, anyBelow, firstBelow}
+use Rattle.lists.proofs.Below.{sum-none, sum-more, sum-le, any-none, any-more, first-none, cond-le}
 use Rattle.layout.specs.Places.{mostComponents}
 use Rattle.layout.specs.declared.Component.{Component}
 use Rattle.layout.specs.Components.{blank}
@@ -20,10 +21,21 @@ use Rattle.rules.specs.Kinds.{movedBy, cashBy}
 use Rattle.rules.proofs.Asked.{by-kind}
 use Rattle.scan.specs.declared.Line.{Line}
 use Rattle.scan.specs.declared.Scan.{Scan}
-use Rattle.scan.specs.Lines.{missingOf, worthOf, creationLine, redemptionLine, orderLine, heldOf, otherOf, shanghaiOf, stockCount, scanBelow, nextShort, withCash, withLine, noLines}
+use Rattle.scan.specs.Lines.{missingOf, worthOf, creationLine, redemptionLine, orderLine, heldOf, otherOf, shanghaiOf, stockCount, nextShort, withCash, withLine, noLines, money}
 use Rattle.scan.specs.Scans.{orderScan}
 use Rattle.scan.specs.Ready.{Room}
 use Rattle.scan.proofs.OneLine.{Small}
+
+-- the scan of the lines below an index
+unfoldable pub scanBelow : (ℕ → Line) → ℕ → Scan
+scanBelow f n =
+    record {
+      short = firstBelow (λ i. f i .short) n;
+      missing = anyBelow (λ i. ltb 0 (f i .missing)) n;
+      «missing_worth» = money (sumBelow (λ i. f i .worth .0) n);
+      cash = record { shanghai = money (sumBelow (λ i. shanghaiOf (f i)) n); other = money (sumBelow (λ i. otherOf (f i)) n) };
+      «stock_records» = sumBelow (λ i. stockCount (f i .moved)) n;
+    }
 
 -- the first that passes of i + 1
 first-next : (f : ℕ → Bool) (i : ℕ) → nextShort (firstBelow f i) i (f i) ≡ firstBelow f (i + 1)

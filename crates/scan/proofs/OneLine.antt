@@ -7,8 +7,9 @@ use native.Mathlib.Nat.{le-trans, sub-le, add-zero, zero-mul}
 use native.Mathlib.Omega.{arith}
 use lib.Dec.{leb, ltb, lit≤}
 use borrow.Author.Tests.{leb-true, le-ltb}
-use Rattle.lists.specs.Below.{cond-le}
-use Rattle.lists.specs.Every.{every, every-at}
+use Rattle.lists.specs.Every.{every}
+use Rattle.lists.proofs.Below.{cond-le}
+use Rattle.lists.proofs.Every.{every-at}
 use Rattle.units.specs.declared.Money.{Money}
 use Rattle.units.specs.Units.{rounded, premium, discount}
 use Rattle.units.proofs.Laws.{under, premium-le, discount-le}

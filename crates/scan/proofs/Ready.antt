@@ -5,8 +5,10 @@ use mathlib.Core.List.{List}
 use Prim.Native.Nat.{ℕ, zero, suc, _+_, _≤_, _<_}
 use native.Mathlib.Omega.{arith}
 use lib.ListN.{length}
-use Rattle.lists.specs.Below.{sumBelow, sum-part, sum-le}
-use Rattle.lists.specs.Stretch.{stretchOf, over, within, stretch-length}
+use Rattle.lists.specs.Below.{sumBelow}
+use Rattle.lists.specs.Stretch.{stretchOf, over}
+use Rattle.lists.proofs.Below.{sum-part, sum-le}
+use Rattle.lists.proofs.Stretch.{within, stretch-length}
 use Rattle.lots.specs.Lots.{lotsTotal}
 use Rattle.fund.proofs.Laws.{components-fine}
 use Rattle.layout.specs.Places.{mostComponents}

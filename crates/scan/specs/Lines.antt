@@ -3,7 +3,6 @@ use mathlib.Core.Bool.{Bool, true, false, cond, not, _||_}
 use mathlib.Core.List.{List, [], _∷_}
 use Prim.Native.Nat.{ℕ, _+_, _-_, _*_, min}
 use lib.Dec.{ltb, eqb}
-use Rattle.lists.specs.Below.{sumBelow, anyBelow, firstBelow}
 use Rattle.lists.specs.Every.{every}
 use Rattle.units.specs.declared.Money.{Money}
 use Rattle.units.specs.Units.{splitSize, premium, discount}
@@ -76,17 +75,6 @@ shanghaiOf x = cond (x .shanghai) (x .cash .0) 0
 -- one record for stock that moved
 abbrev pub stockCount : ℕ → ℕ
 stockCount moved = cond (ltb 0 moved) 1 0
-
--- the scan of the lines below an index
-unfoldable pub scanBelow : (ℕ → Line) → ℕ → Scan
-scanBelow f n =
-    record {
-      short = firstBelow (λ i. f i .short) n;
-      missing = anyBelow (λ i. ltb 0 (f i .missing)) n;
-      «missing_worth» = money (sumBelow (λ i. f i .worth .0) n);
-      cash = record { shanghai = money (sumBelow (λ i. shanghaiOf (f i)) n); other = money (sumBelow (λ i. otherOf (f i)) n) };
-      «stock_records» = sumBelow (λ i. stockCount (f i .moved)) n;
-    }
 
 -- the first short one of i + 1, from the first of i
 unfoldable pub nextShort : ℕ → ℕ → Bool → ℕ

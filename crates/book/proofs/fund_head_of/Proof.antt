@@ -1,6 +1,7 @@
 -- `book::fund_head_of` meets its contract: the part lent is the fund's stretch, and what comes back stands in its place.
 use native.Mathlib.Nat.{add-sub-cancel-left}
-use Rattle.lists.specs.Stretch.{stretchOf, putStretch, part-is, stretch-length}
+use Rattle.lists.specs.Stretch.{stretchOf, putStretch}
+use Rattle.lists.proofs.Stretch.{part-is, stretch-length}
 use borrow.Author.Needs.{needs}
 use native.Mathlib.Omega.{arith}
 use Rattle.book.proofs.fund_head_of.Statement.{statement}

@@ -1,5 +1,5 @@
 -- `book::lots_of` meets its contract: the part lent is the account's stretch.
-use Rattle.lists.specs.Stretch.{part-is}
+use Rattle.lists.proofs.Stretch.{part-is}
 use borrow.Author.Needs.{needs}
 use Rattle.book.proofs.lots_of.Statement.{statement}
 use Rattle.book.proofs.lots_of.Tie as tie

@@ -7,7 +7,7 @@ use mir.Syntax.{w64}
 use mir.Val.{toZ, ofZ}
 use borrow.Author.Needs.{needs}
 use borrow.Author.Tests.{not-true, not-false}
-use Rattle.lists.specs.Every.{same-test}
+use Rattle.lists.proofs.Every.{same-test}
 use Rattle.fund.specs.Fund.{cashInRange}
 use Rattle.fund.proofs.Laws.{fund-true, fund-sound, fund-false}
 use Rattle.fund.proofs.fund_in_range.Statement.{statement}

@@ -8,7 +8,7 @@ use native.Mathlib.Omega.{arith}
 use lib.ListN.{getD}
 use borrow.Author.Count.{below-more}
 use borrow.Author.Tests.{not-true, not-false}
-use Rattle.lists.specs.Below.{all-true, all-false}
+use Rattle.lists.proofs.Below.{all-true, all-false}
 use Rattle.layout.specs.Places.{limitCount}
 use Rattle.fund.specs.Fund.{limitInRange, limitsInRange}
 use Rattle.fund.proofs.limits_in_range.Statement.{statement}

@@ -6,7 +6,8 @@ use mathlib.Core.List.{List}
 use Prim.Native.Nat.{ℕ, _≤_, _<_, _-_}
 use native.Mathlib.Omega.{arith}
 use lib.ListN.{getD}
-use Rattle.lists.specs.Below.{firstBelow, first-none}
+use Rattle.lists.specs.Below.{firstBelow}
+use Rattle.lists.proofs.Below.{first-none}
 use Rattle.layout.specs.Places.{mostComponents}
 use Rattle.layout.specs.declared.Component.{Component}
 use Rattle.layout.specs.Components.{blank, componentAt, placesOf}

@@ -2,7 +2,8 @@
 use mathlib.Core.Path.{_≡_, sym, _∙_}
 use Prim.Native.Nat.{_+_, _-_, _≤_}
 use native.Mathlib.Omega.{arith}
-use Rattle.lists.specs.Below.{firstBelow, first-none, first-more, first-here}
+use Rattle.lists.specs.Below.{firstBelow}
+use Rattle.lists.proofs.Below.{first-none, first-more, first-here}
 use Rattle.rules.specs.Opening.{overAt, totalFault}
 use Rattle.opening.specs.Given.{totalsIn}
 use Rattle.opening.proofs.first_over.Statement.{statement}

@@ -2,7 +2,7 @@
 use mathlib.Core.Path.{sym, _∙_}
 use Prim.Native.Nat.{_+_, _-_, _≤_}
 use native.Mathlib.Omega.{arith}
-use Rattle.lists.specs.Stretch.{within}
+use Rattle.lists.proofs.Stretch.{within}
 use Rattle.opening.proofs.Filled.{Filled, filled-none, filled-in, filled-more, filled-all}
 use Rattle.opening.proofs.open_book.Statement.{statement}
 use Rattle.opening.proofs.open_book.Tie as tie

@@ -6,7 +6,7 @@ use Prim.Native.Nat.{_+_}
 use native.Mathlib.Omega.{arith}
 use borrow.Author.Needs.{needs}
 use borrow.Author.Tests.{eq-eqb, eqb-true, not-true, not-false}
-use Rattle.lists.specs.Every.{same-test}
+use Rattle.lists.proofs.Every.{same-test}
 use Rattle.units.proofs.Laws.{under}
 use Rattle.layout.specs.Places.{mostComponents}
 use Rattle.rules.proofs.SoundDay.{DaySizes, sizes-true, sizes-facts}

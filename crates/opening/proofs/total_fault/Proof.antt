@@ -4,7 +4,7 @@ use Prim.Native.Nat.{_+_}
 use native.Mathlib.Omega.{arith}
 use lib.ListN.{getD-replicate}
 use borrow.Author.Needs.{needs}
-use Rattle.lists.specs.Stretch.{within}
+use Rattle.lists.proofs.Stretch.{within}
 use Rattle.totals.specs.Totals.{widest}
 use Rattle.opening.proofs.Totals.{fault-same}
 use Rattle.opening.proofs.total_fault.Statement.{statement}

@@ -3,7 +3,7 @@ use mathlib.Core.Path.{_≡_, ap}
 use Prim.Native.Nat.{ℕ, _*_}
 use native.Mathlib.Omega.{arith}
 use borrow.Author.Needs.{needs}
-use Rattle.lists.specs.Stretch.{part-is}
+use Rattle.lists.proofs.Stretch.{part-is}
 use Rattle.layout.specs.Book.{widthOf}
 use Rattle.orders.proofs.part_of.Statement.{statement}
 use Rattle.orders.proofs.part_of.Tie as tie

@@ -8,9 +8,9 @@ use Rattle.layout.specs.Components.{componentAt, placesOf}
 use Rattle.rules.specs.Lines.{priceOf}
 use Rattle.layout.specs.Day.{dayOf}
 use Rattle.scan.specs.declared.Line.{Line}
-use Rattle.scan.specs.Lines.{orderLine, scanBelow}
+use Rattle.scan.specs.Lines.{orderLine}
 use Rattle.scan.proofs.OneLine.{Small, order-small}
-use Rattle.scan.proofs.Lines.{orderLines, scan-none, scan-more, scan-room, scan-is}
+use Rattle.scan.proofs.Lines.{orderLines, scan-none, scan-more, scan-room, scan-is, scanBelow}
 use Rattle.scan.proofs.order_scan.Statement.{statement}
 use Rattle.scan.proofs.order_scan.Tie as tie
 

@@ -5,7 +5,7 @@ use Prim.Native.Nat.{ℕ, _*_, _<_, min}
 use native.Mathlib.Omega.{arith}
 use lib.ListN.{getD, getD-replicate}
 use borrow.Author.Needs.{needs}
-use Rattle.lists.specs.Every.{same-test}
+use Rattle.lists.proofs.Every.{same-test}
 use Rattle.totals.specs.Totals.{widest, top, numberAt, total, cappedTotal, Capped}
 use Rattle.totals.proofs.Rows.{capped-is}
 use Rattle.layout.specs.Book.{widthOf}

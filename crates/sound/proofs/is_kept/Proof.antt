@@ -3,7 +3,7 @@ use mathlib.Core.Path.{sym, _∙_}
 use mathlib.Core.Bool.{true≢false}
 use borrow.Author.Needs.{needs}
 use borrow.Author.Tests.{le-leb, leb-true, not-true, not-false}
-use Rattle.lists.specs.Every.{same-test}
+use Rattle.lists.proofs.Every.{same-test}
 use Rattle.layout.specs.Day.{dayOf}
 use Rattle.rules.proofs.SoundDay.{SoundDay, sound-facts, sound-true, kept-facts, kept-true}
 use Rattle.sound.proofs.Limits.{fits-true}

@@ -10,8 +10,8 @@ use lib.ListN.{length}
 use borrow.Author.Needs.{needs}
 use denote.Ref.{now}
 use borrow.Author.Tests.{not-true, not-false}
-use Rattle.lists.specs.Below.{first-le}
-use Rattle.lists.specs.Every.{same-test}
+use Rattle.lists.proofs.Below.{first-le}
+use Rattle.lists.proofs.Every.{same-test}
 use Rattle.layout.specs.Places.{mostComponents}
 use Rattle.layout.specs.declared.Component.{Component}
 use Rattle.fund.specs.Components.{faultAt, componentFault}

@@ -3,7 +3,7 @@ use mathlib.Core.Path.{sym}
 use native.Mathlib.Omega.{arith}
 use borrow.Author.Needs.{needs}
 use borrow.Author.Tests.{eq-eqb, eqb-true}
-use Rattle.lists.specs.Every.{false-of, same-test}
+use Rattle.lists.proofs.Every.{false-of, same-test}
 use Rattle.sound.proofs.Limits.{line-still, still-line}
 use Rattle.sound.proofs.line_still.Statement.{statement}
 use Rattle.sound.proofs.line_still.Tie as tie

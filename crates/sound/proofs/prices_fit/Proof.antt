@@ -7,7 +7,7 @@ use native.Mathlib.Omega.{arith}
 use lib.ListN.{getD}
 use borrow.Author.Count.{below-more}
 use borrow.Author.Tests.{le-leb, lt-leb}
-use Rattle.lists.specs.Below.{all-true, all-false}
+use Rattle.lists.proofs.Below.{all-true, all-false}
 use Rattle.rules.specs.Lines.{priceOf}
 use Rattle.sound.specs.Parts.{priceFits}
 use Rattle.sound.proofs.prices_fit.Statement.{statement}

@@ -4,7 +4,7 @@ use Prim.Native.Nat.{ℕ, _*_}
 use native.Mathlib.Omega.{arith}
 use borrow.Author.Needs.{needs}
 use borrow.Author.Tests.{eq-eqb, eqb-true}
-use Rattle.lists.specs.Every.{same-test}
+use Rattle.lists.proofs.Every.{same-test}
 use Rattle.units.proofs.Laws.{under}
 use Rattle.totals.specs.Totals.{widest}
 use Rattle.rules.proofs.SoundDay.{sizes-true, sizes-facts}

@@ -5,7 +5,7 @@ use Prim.Native.Nat.{_+_, _-_, _*_, _≤_}
 use native.Mathlib.Nat.{le-trans, le-of-eq}
 use native.Mathlib.Omega.{arith}
 use borrow.Author.Tests.{not-true, not-false}
-use Rattle.lists.specs.Stretch.{within}
+use Rattle.lists.proofs.Stretch.{within}
 use Rattle.totals.proofs.Rows.{Counted, counted-low, counted-one, reached-one, answer-true, answer-false, started}
 use Rattle.totals.proofs.add_all.Statement.{statement}
 use Rattle.totals.proofs.add_all.Tie as tie

@@ -4,7 +4,7 @@ use mathlib.Core.Path.{_≡_, refl, sym}
 use Prim.Native.Nat.{_-_, _%_, _≤_, zero-le}
 use native.Mathlib.Nat.{le-trans, le-of-eq}
 use native.Mathlib.Omega.{arith}
-use Rattle.lists.specs.Stretch.{within}
+use Rattle.lists.proofs.Stretch.{within}
 use Rattle.totals.proofs.Rows.{Quick, quick-none, quick-eight, quick-end, within-eight, counted-none, start-at}
 use Rattle.totals.proofs.add_eights.Statement.{statement}
 use Rattle.totals.proofs.add_eights.Tie as tie

@@ -7,7 +7,7 @@ use native.Mathlib.Omega.{arith}
 use lib.Bits.{bitOr}
 use lib.ListN.{getD}
 use borrow.Author.Needs.{needs}
-use Rattle.lists.specs.Below.{any-none}
+use Rattle.lists.proofs.Below.{any-none}
 use Rattle.totals.specs.Totals.{plusOne, reaches}
 use Rattle.totals.proofs.Top.{or-one}
 use Rattle.totals.proofs.Pass.{Pass, Seen, pass-none, pass-more, pass-end, seen-more, seen-end}

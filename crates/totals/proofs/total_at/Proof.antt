@@ -2,7 +2,7 @@
 use mathlib.Core.Path.{_≡_, sym, ap, _∙_}
 use Prim.Native.Nat.{ℕ, _+_, _-_, _*_, _≤_}
 use native.Mathlib.Omega.{arith}
-use Rattle.lists.specs.Stretch.{within}
+use Rattle.lists.proofs.Stretch.{within}
 use Rattle.totals.specs.Totals.{cappedTotal}
 use Rattle.totals.proofs.Rows.{capped-none, capped-more, capped-le}
 use Rattle.totals.proofs.total_at.Statement.{statement}

@@ -8,7 +8,8 @@ use borrow.Author.Needs.{needs}
 use denote.Ref.{now}
 use mir.Syntax.{w64}
 use mir.Val.{toZ, ofZ}
-use Rattle.lists.specs.Below.{sumBelow, anyBelow, sum-none, any-none}
+use Rattle.lists.specs.Below.{sumBelow, anyBelow}
+use Rattle.lists.proofs.Below.{sum-none, any-none}
 use Rattle.layout.specs.Day.{Day, dayOf}
 use Rattle.rules.specs.Lines.{priceOf}
 use Rattle.rules.specs.Value.{worthAt, lacksPrice, worthBefore, cashAdded}

@@ -1,0 +1,6 @@
+pub mod Below
+pub mod Every
+pub mod Checks
+pub mod Stretch
+pub mod Same
+pub mod Runs
