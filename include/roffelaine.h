@@ -4,7 +4,7 @@
  * Every call takes numbers and lent runs of numbers, returns on every input, and answers three numbers: it returns the refusal's
  * number, ROFFELAINE_ACCEPTED where there is none, puts the refusal's place at `place` (0 where it has none) and the value of
  * an accepted call at `value` (0 where it has none). A refused call changes nothing lent but these two. What each call answers
- * and leaves is proved, for the same call of the Rattle crates `day`, `run`, `list_reading` and `list_writing` on the day and the
+ * and leaves is proved, for the same call of the Rattle crates `day`, `driver`, `list_reading` and `list_writing` on the day and the
  * fields that the runs say.
  *
  * A run is a pointer and a count of its numbers (of its bytes for text). The caller sees to it that the pointer is not null, also

@@ -7,7 +7,7 @@ Each folder VECTORS has texts.jsonl, parts.jsonl and writings.jsonl, or some of 
 (vectors/README.md says what is in them). The script writes stdin and stdout to the folders TEXTS and LISTS. What is expected
 comes from the vectors alone.
 
-The input is items, as in vector_text.py; the library crate `texts` reads them. Bytes are numbers.
+The input is items, as in vector_text.py; the library crate `program_texts` reads them. Bytes are numbers.
 
     1  a text that is given whole: row, length of the lent component run, its bytes
     2  a change of the last text that was given whole: row, length of the lent component run, the place of the bytes that go,

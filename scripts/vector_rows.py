@@ -18,7 +18,7 @@ import shutil
 from pathlib import Path
 
 # The crates whose definitions are computed: what `rows` may use.
-CRATES = ["lists", "units", "lots", "flags", "fund", "rules", "balance"]
+CRATES = ["sequences", "units", "lots", "flags", "fund", "rules", "balance"]
 
 FILES = ["openings", "days", "broken_days"]
 
@@ -31,7 +31,7 @@ use mathlib.Core.List.{List, [], _∷_, _++_}
 use lib.Dec.{eqb}
 use lib.IntN.{ℤ}
 use lib.ListN.{length, take, drop, replicate}
-use Rattle.lists.specs.Checks.{Reply}
+use Rattle.sequences.specs.Checks.{Reply}
 use Rattle.fund.specs.declared.Fund.{Fund}
 use Rattle.fund.specs.declared.Component.{Component}
 use Rattle.rules.specs.declared.Day.{Day}

@@ -6,7 +6,7 @@
 VECTORS has openings.jsonl, days.jsonl, broken_days.jsonl and chains.jsonl, or some of them, one JSON object to a line.
 The script writes OUT/stdin and OUT/stdout. What is expected comes from the vectors alone.
 
-The input is items of unsigned numbers: a tag, how many numbers follow, and these (the library crate `replayer` reads
+The input is items of unsigned numbers: a tag, how many numbers follow, and these (the library crate `program_replay` reads
 them). An opening and a state start with a head: row, accounts, count, first code, basket size, maximum cash ratio,
 switch, estimated cash as sign (1 is minus) and size, eight limits, and the lengths of components, book and prices.
 

@@ -7,8 +7,8 @@ use native.Mathlib.Omega.{arith}
 use lib.Dec.{ltb}
 use lib.ListN.{length}
 use borrow.Author.Tests.{lt-ltb, le-ltb}
-use Rattle.lists.specs.Same.{whenSame}
-use Rattle.lists.proofs.Same.{when-same, when-other}
+use Rattle.sequences.specs.Same.{whenSame}
+use Rattle.sequences.proofs.Same.{when-same, when-other}
 use Rattle.lots.specs.Lots.{handInOf, getOf, takeInOf, handable}
 use Rattle.layout.specs.Day.{Day}
 use Rattle.layout.specs.Book.{cash, headAt, lotsAt, account}

@@ -5,9 +5,9 @@ use mathlib.Core.List.{List, [], _∷_}
 use Prim.Native.Nat.{ℕ, _-_, _≤_, _<_}
 use native.Mathlib.Decide.{ℕ-discrete}
 use native.Mathlib.Omega.{arith}
-use Rattle.lists.specs.Checks.{isAccepted}
-use Rattle.lists.specs.Same.{whenSame}
-use Rattle.lists.proofs.Same.{when-same, when-other}
+use Rattle.sequences.specs.Checks.{isAccepted}
+use Rattle.sequences.specs.Same.{whenSame}
+use Rattle.sequences.proofs.Same.{when-same, when-other}
 use Rattle.layout.specs.declared.Fund.{Fund}
 use Rattle.fund.specs.Fund.{limitOf, cumulativeLimit, cumulativeLimitEach, netLimit, netLimitEach}
 use Rattle.rules.specs.Orders.{creation, redemption}

@@ -6,8 +6,8 @@ use Prim.Native.Nat.{ℕ, _+_, _-_, _<_}
 use native.Mathlib.Omega.{arith}
 use lib.Dec.{ltb}
 use borrow.Author.Tests.{lt-ltb, le-ltb}
-use Rattle.lists.specs.Same.{whenSame}
-use Rattle.lists.proofs.Same.{when-same, when-other}
+use Rattle.sequences.specs.Same.{whenSame}
+use Rattle.sequences.proofs.Same.{when-same, when-other}
 use Rattle.lots.specs.Lots.{handInOf, getOf, payOutOf}
 use Rattle.layout.specs.Day.{Day}
 use Rattle.layout.specs.Book.{cash, headAt, lotsAt, account}

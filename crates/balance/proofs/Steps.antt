@@ -1,7 +1,7 @@
 -- One call of any kind, accepted or refused.
 use mathlib.Core.Path.{_≡_, refl}
 use mathlib.Core.Bool.{Bool, true, false}
-use Rattle.lists.specs.Checks.{isAccepted}
+use Rattle.sequences.specs.Checks.{isAccepted}
 use Rattle.rules.specs.Price.{pricedPrices}
 use Rattle.rules.specs.Trade.{tradedBook}
 use Rattle.rules.specs.Creation.{createdBook, createdList}

@@ -4,8 +4,8 @@ use mathlib.Core.List.{List, _++_}
 use Prim.Native.Nat.{ℕ, suc, _+_, _≤_, _<_, _*_}
 use native.Mathlib.Omega.{arith}
 use lib.ListN.{length, getD}
-use Rattle.lists.specs.Below.{sumBelow}
-use Rattle.lists.specs.Same.{whenSame}
+use Rattle.sequences.specs.Below.{sumBelow}
+use Rattle.sequences.specs.Same.{whenSame}
 use Rattle.layout.specs.Day.{Day}
 use Rattle.layout.specs.declared.Record.{Record}
 use Rattle.rules.specs.Lines.{codeOf}

@@ -5,8 +5,8 @@ use mathlib.Core.Bool.{true}
 use mathlib.Core.List.{List, [], _∷_}
 use Prim.Native.Nat.{ℕ}
 use lib.Dec.{T}
-use Rattle.lists.specs.Checks.{Check, isAccepted, answered}
-use Rattle.lists.proofs.Checks.{avoids, never-answered}
+use Rattle.sequences.specs.Checks.{Check, isAccepted, answered}
+use Rattle.sequences.proofs.Checks.{avoids, never-answered}
 use Rattle.layout.specs.Day.{Day}
 use Rattle.rules.specs.Sound.{isSound, onSoundDay}
 use Rattle.rules.specs.Opening.{Opening, openingReply}

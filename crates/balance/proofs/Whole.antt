@@ -6,8 +6,8 @@ use Prim.Native.Nat.{ℕ, _+_, _≤_, _<_}
 use native.Mathlib.Decide.{ℕ-discrete}
 use native.Mathlib.Omega.{arith}
 use lib.ListN.{getD}
-use Rattle.lists.specs.Checks.{isAccepted}
-use Rattle.lists.specs.Stretch.{stretchOf}
+use Rattle.sequences.specs.Checks.{isAccepted}
+use Rattle.sequences.specs.Stretch.{stretchOf}
 use Rattle.lots.specs.declared.Lots.{Lots}
 use Rattle.lots.proofs.Laws.{lots}
 use Rattle.layout.specs.declared.Fund.{Fund}

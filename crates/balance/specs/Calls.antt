@@ -2,7 +2,7 @@
 use Prim.Native.Nat.{ℕ}
 use mathlib.Core.Path.{_≡_}
 use mathlib.Core.List.{List, [], _∷_}
-use Rattle.lists.specs.Checks.{Reply}
+use Rattle.sequences.specs.Checks.{Reply}
 use Rattle.layout.specs.Day.{Day}
 use Rattle.rules.specs.Price.{priceReply, pricedPrices}
 use Rattle.rules.specs.Trade.{tradeReply, tradedBook}

@@ -4,9 +4,9 @@ use mathlib.Core.Bool.{cond}
 use mathlib.Core.List.{List, [], _∷_}
 use lib.Dec.{ltb}
 use lib.ListN.{getD}
-use Rattle.lists.specs.Below.{sumBelow}
-use Rattle.lists.specs.Checks.{isAccepted}
-use Rattle.lists.specs.Same.{whenSame}
+use Rattle.sequences.specs.Below.{sumBelow}
+use Rattle.sequences.specs.Checks.{isAccepted}
+use Rattle.sequences.specs.Same.{whenSame}
 use Rattle.layout.specs.Day.{Day}
 use Rattle.rules.specs.Lines.{codeOf, quantity, movesStock}
 use Rattle.rules.specs.Orders.{baskets}

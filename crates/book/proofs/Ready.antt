@@ -6,9 +6,9 @@ use Prim.Native.Nat.{ℕ, _+_, _*_, _≤_, _<_}
 use native.Mathlib.Nat.{eq-or-lt-of-le}
 use native.Mathlib.Omega.{arith}
 use lib.ListN.{length}
-use Rattle.lists.specs.Stretch.{over}
-use Rattle.lists.proofs.Below.{sum-part}
-use Rattle.lists.proofs.Stretch.{within, stretch-length}
+use Rattle.sequences.specs.Stretch.{over}
+use Rattle.sequences.proofs.Below.{sum-part}
+use Rattle.sequences.proofs.Stretch.{within, stretch-length}
 use Rattle.units.proofs.Laws.{under}
 use Rattle.lots.specs.Lots.{handable, lotsTotal}
 use Rattle.fund.specs.Fund.{ceiling}

@@ -6,8 +6,8 @@ use native.Mathlib.Nat.{zero-mul}
 use native.Mathlib.Omega.{arith}
 use lib.ListN.{length, take, drop, length-append, length-drop, take-append-drop}
 use lib.Seq.{length-take-le, take-at, drop-at, drop-append-le}
-use Rattle.lists.specs.Stretch.{stretchOf, putStretch, onStretch}
-use Rattle.lists.proofs.Stretch.{within, put-length, put-back, put-again, stretch-put-same, stretch-put-other}
+use Rattle.sequences.specs.Stretch.{stretchOf, putStretch, onStretch}
+use Rattle.sequences.proofs.Stretch.{within, put-length, put-back, put-again, stretch-put-same, stretch-put-other}
 use Rattle.book.specs.Moved.{withSides}
 
 -- g in the place of the first w of p, and s in the place of the first w of r, which stands behind p: in either order

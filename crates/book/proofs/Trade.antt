@@ -4,8 +4,8 @@ use mathlib.Core.List.{List}
 use Prim.Native.Nat.{ℕ, _+_, _*_, _^_, _≤_, _<_}
 use native.Mathlib.Omega.{arith}
 use lib.ListN.{length}
-use Rattle.lists.specs.Stretch.{stretchOf, putStretch, onStretch}
-use Rattle.lists.proofs.Stretch.{stretch-length, put-length, stretch-put-other}
+use Rattle.sequences.specs.Stretch.{stretchOf, putStretch, onStretch}
+use Rattle.sequences.proofs.Stretch.{stretch-length, put-length, stretch-put-other}
 use Rattle.lots.specs.Lots.{sellOf}
 use Rattle.layout.specs.Book.{cash, headAt, lotsAt, widthOf, behindLine}
 use Rattle.rules.specs.Trade.{sellSide}

@@ -6,8 +6,8 @@ use Prim.Native.Nat.{ℕ, _+_, _*_, _≤_, _<_}
 use native.Mathlib.Omega.{arith}
 use lib.ListN.{length}
 use lib.Seq.{set-getD}
-use Rattle.lists.specs.Stretch.{stretchOf, onStretch}
-use Rattle.lists.proofs.Stretch.{stretch-length}
+use Rattle.sequences.specs.Stretch.{stretchOf, onStretch}
+use Rattle.sequences.proofs.Stretch.{stretch-length}
 use Rattle.lots.specs.declared.Lots.{Lots}
 use Rattle.layout.specs.Day.{Day}
 use Rattle.layout.specs.Book.{width, account, lotsAt, putLots, onLine, eachLine}

@@ -4,8 +4,8 @@ use mathlib.Core.List.{List}
 use Prim.Native.Nat.{ℕ, _+_, _*_, _^_, _≤_, _<_}
 use native.Mathlib.Omega.{arith}
 use lib.ListN.{length}
-use Rattle.lists.specs.Stretch.{stretchOf, onStretch}
-use Rattle.lists.proofs.Stretch.{stretch-length, put-length}
+use Rattle.sequences.specs.Stretch.{stretchOf, onStretch}
+use Rattle.sequences.proofs.Stretch.{stretch-length, put-length}
 use Rattle.lots.specs.declared.Lots.{Lots}
 use Rattle.lots.specs.Lots.{handable}
 use Rattle.layout.specs.Places.{linesFrom}

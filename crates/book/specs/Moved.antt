@@ -2,7 +2,7 @@
 use Prim.Native.Nat.{ℕ, _+_, _*_, min}
 use mathlib.Core.Bool.{cond}
 use mathlib.Core.List.{List}
-use Rattle.lists.specs.Stretch.{stretchOf, putStretch}
+use Rattle.sequences.specs.Stretch.{stretchOf, putStretch}
 use Rattle.lots.specs.declared.Lots.{Lots}
 use Rattle.lots.specs.Lots.{handable}
 use Rattle.flags.specs.Table

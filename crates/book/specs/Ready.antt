@@ -3,7 +3,7 @@ use Prim.Native.Nat.{ℕ, _+_, _*_, _^_, _≤_, _<_}
 use mathlib.Core.Path.{_≡_}
 use mathlib.Core.List.{List}
 use lib.ListN.{length}
-use Rattle.lists.specs.Stretch.{stretchOf}
+use Rattle.sequences.specs.Stretch.{stretchOf}
 use Rattle.lots.specs.Lots.{sellable, handable, lotsTotal}
 use Rattle.layout.specs.Places.{mostComponents}
 use Rattle.layout.specs.declared.Component.{Component}

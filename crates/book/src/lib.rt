@@ -2,7 +2,7 @@
 ghost use mathlib.Core.Path.{_≡_};
 ghost use Prim.Native.Nat.{_+_, _*_, _≤_, _<_, _^_};
 ghost use lib.ListN.{length};
-ghost use Rattle.lists.specs.Stretch.{stretchOf, onStretch};
+ghost use Rattle.sequences.specs.Stretch.{stretchOf, onStretch};
 ghost use Rattle.lots.specs.Lots.{sellable, handable};
 ghost use Rattle.layout.specs.Places.{linesFrom};
 ghost use Rattle.layout.specs.Book.{behindLine, cash, counter, headAt, putHead, lotsAt, putLots, onLine};

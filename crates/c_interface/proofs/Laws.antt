@@ -2,8 +2,8 @@
 use mathlib.Core.Path.{_≡_, refl, subst}
 use mathlib.Core.Bool.{Bool, true, false, cond, false≢true}
 use Prim.Native.Nat.{ℕ}
-use Rattle.lists.specs.Checks.{Reply, reply, isAccepted}
-use Rattle.numbers.specs.Numbers.{Told}
+use Rattle.sequences.specs.Checks.{Reply, reply, isAccepted}
+use Rattle.answers.specs.Numbers.{Told}
 
 -- an answer told is told of any equal answer
 pub told-as : {a b : Reply} {number place value : ℕ} → a ≡ b → Told a number place value → Told b number place value

@@ -1,23 +1,23 @@
 -- Opening with the fund as a run of numbers: its outcome from that of opening.
-use mathlib.Core.Path.{_≡_, refl, sym, _∙_, subst}
-use mathlib.Core.Bool.{Bool, true, false}
+use mathlib.Core.Path.{_≡_, sym, _∙_, subst}
+use mathlib.Core.Bool.{true}
 use mathlib.Core.List.{List}
 use Prim.Native.Nat.{ℕ}
 use native.Mathlib.Decide.{ℕ-discrete}
 use lib.ListN.{length}
 use borrow.Author.Tests.{eq-eqb, ne-eqb}
-use Rattle.lists.specs.Checks.{reply, isAccepted}
+use Rattle.sequences.specs.Checks.{reply, isAccepted}
 use Rattle.layout.specs.declared.Fund.{Fund}
 use Rattle.layout.specs.Places.{fundWidth}
 use Rattle.layout.specs.Day.{dayAt}
 use Rattle.rules.specs.declared.Answer.{Answer}
 use Rattle.rules.specs.Replies.{answerReply}
-use Rattle.rules.specs.Opening.{Opening, openingReply, openedDay, openedRun, openedBook, openedPrices}
+use Rattle.rules.specs.Opening.{Opening, openingReply, openedRun, openedBook, openedPrices}
 use Rattle.balance.specs.Balanced.{opened}
-use Rattle.run.specs.Batch.{stateOf}
+use Rattle.driver.specs.Batch.{stateOf}
 use Rattle.opening.specs.Given.{given, Outcome}
-use Rattle.numbers.specs.declared.Numbers.{Numbers}
-use Rattle.numbers.specs.Numbers.{replyOf, Told}
+use Rattle.answers.specs.declared.Numbers.{Numbers}
+use Rattle.answers.specs.Numbers.{replyOf, Told}
 use Rattle.c_interface.specs.Opening.{flatReply, FlatOutcome}
 use Rattle.c_interface.proofs.Laws.{told-as, kept, sizes-refuse}
 

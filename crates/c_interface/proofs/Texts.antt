@@ -7,14 +7,14 @@ use lib.Dec.{eqb}
 use lib.IntN.{natAbs}
 use lib.ListN.{length}
 use borrow.Author.Tests.{eq-eqb, ne-eqb, eqb-true, eqb-false}
-use Rattle.lists.specs.Checks.{Reply, reply, isAccepted}
-use Rattle.lists.proofs.Below.{table-length}
+use Rattle.sequences.specs.Checks.{Reply, reply, isAccepted}
+use Rattle.sequences.proofs.Below.{table-length}
 use Rattle.digits.specs.Digits.{cap}
 use Rattle.layout.specs.Places.{limitCount}
 use Rattle.fund.specs.Fund.{cashInRange}
 use Rattle.fund.proofs.Laws.{fund-sound, cash-size}
-use Rattle.numbers.specs.declared.Numbers.{Numbers}
-use Rattle.numbers.specs.Numbers.{replyOf, Told}
+use Rattle.answers.specs.declared.Numbers.{Numbers}
+use Rattle.answers.specs.Numbers.{replyOf, Told}
 use Rattle.list_rules.specs.declared.ListFields.{ListFields}
 use Rattle.list_rules.specs.declared.ListRead.{ListRead}
 use Rattle.list_rules.specs.declared.ListAnswer.{ListAnswer}

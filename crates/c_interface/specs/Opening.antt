@@ -5,14 +5,14 @@ use mathlib.Core.Bool.{true, cond}
 use mathlib.Core.List.{List}
 use lib.Dec.{eqb}
 use lib.ListN.{length}
-use Rattle.lists.specs.Checks.{Reply, reply, isAccepted}
+use Rattle.sequences.specs.Checks.{Reply, reply, isAccepted}
 use Rattle.layout.specs.Places.{fundWidth}
 use Rattle.layout.specs.Fund.{fundAt}
 use Rattle.layout.specs.Day.{dayAt}
 use Rattle.rules.specs.Replies.{ifAccepted}
 use Rattle.rules.specs.Opening.{Opening, openingReply, openedDay, openedRun, openedBook, openedPrices}
 use Rattle.opening.specs.Given.{given}
-use Rattle.numbers.specs.Numbers.{Told}
+use Rattle.answers.specs.Numbers.{Told}
 
 -- opening's arguments, with the fund that its numbers say
 abbrev pub flatGiven : ℕ → ℕ → List ℕ → List ℕ → List ℕ → List ℕ → List ℕ → List ℕ → Opening

@@ -6,12 +6,12 @@ use mathlib.Core.Bool.{cond}
 use mathlib.Core.List.{List}
 use lib.Dec.{eqb}
 use lib.ListN.{length}
-use Rattle.lists.specs.Checks.{Reply, reply}
+use Rattle.sequences.specs.Checks.{Reply, reply}
 use Rattle.rules.specs.Replies.{ifAccepted}
 use Rattle.list_rules.specs.Reading.{readReply, fieldsHanded, firstHanded, runAfter}
 use Rattle.list_rules.specs.Writing.{Listing, writeReply, outputAfter}
 use Rattle.list_layout.specs.Run.{fieldsWidth, fieldsNumbers}
-use Rattle.numbers.specs.Numbers.{Told}
+use Rattle.answers.specs.Numbers.{Told}
 
 -- what reading is lent besides the text: the component run, the run that takes the fields, and the number that takes the place of
 -- the first component line

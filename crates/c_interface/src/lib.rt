@@ -14,17 +14,17 @@ ghost use Rattle.layout.specs.Places.{recordWidth};
 ghost use Rattle.layout.specs.Records.{roomIn};
 ghost use Rattle.rules.specs.Creation.{creationReply, createdBook, createdList};
 ghost use Rattle.rules.specs.Redemption.{redemptionReply, redeemedBook, redeemedList};
-ghost use Rattle.numbers.specs.Numbers.{replyOf, Told};
-ghost use Rattle.run.specs.Batch.{stateOf, batchOf, runReply, ran, eventsOf, Demand3};
+ghost use Rattle.answers.specs.Numbers.{replyOf, Told};
+ghost use Rattle.driver.specs.Batch.{stateOf, batchOf, runReply, ran, eventsOf, Demand3};
 ghost use Rattle.list_rules.specs.Replies.{listReply};
 ghost use Rattle.list_rules.specs.Writing.{listing};
 ghost use Rattle.layout.specs.Day.{dayAt};
 ghost use Rattle.list_layout.specs.Run.{fieldsWidth, fieldsAt, fieldsNumbers};
 ghost use Rattle.c_interface.specs.Opening.{flatGiven, FlatOutcome};
 ghost use Rattle.c_interface.specs.Text.{taking, TextRead, TextWritten};
+use answers::Numbers;
 use list_rules::ListAnswer;
 use list_rules::ListFields;
-use numbers::Numbers;
 use rules::Refusal;
 
 // An answer's three numbers: the place and the value where the caller points, and the number handed back.
@@ -53,11 +53,11 @@ pub extern "C" fn roffelaine_open(
     ensures { λ r. ⌜ FlatOutcome (now (fund .entry)) (flatGiven accounts count (now (fund .entry)) (now (components .entry)) (now (holdings .entry)) (now (book .entry)) (now (prices .entry)) (now (day .entry))) r (now (place .exit)) (now (value .exit)) (now (book .exit)) (now (prices .exit)) (now (day .exit)) ⌝ }
 {
     if fund.len() != layout::FUND_WIDTH {
-        return tell(numbers::of_refusal(Refusal::Sizes), place, value);
+        return tell(answers::of_refusal(Refusal::Sizes), place, value);
     }
     let f = layout::fund_of(fund, 0);
     let answer = day::open(accounts, count, f, components, holdings, book, prices, day);
-    tell(numbers::of_answer(answer), place, value)
+    tell(answers::of_answer(answer), place, value)
 }
 
 // Sets a component's price.
@@ -75,7 +75,7 @@ pub extern "C" fn roffelaine_price(
     ensures prices { λ r. ⌜ now (prices .exit) ≡ pricedPrices (dayAt (now (day .entry))) (now (book .entry)) (now (prices .entry)) line price ⌝ }
 {
     let answer = day::price(day, book, prices, line, price);
-    tell(numbers::of_answer(answer), place, value)
+    tell(answers::of_answer(answer), place, value)
 }
 
 // Trades a quantity of a line at a price.
@@ -96,7 +96,7 @@ pub extern "C" fn roffelaine_trade(
     ensures book { λ r. ⌜ now (book .exit) ≡ tradedBook (dayAt (now (day .entry))) (now (book .entry)) (now (prices .entry)) line quantity price seller buyer ⌝ }
 {
     let answer = day::trade(day, book, prices, line, quantity, price, seller, buyer);
-    tell(numbers::of_answer(answer), place, value)
+    tell(answers::of_answer(answer), place, value)
 }
 
 // The reference value at this moment.
@@ -111,7 +111,7 @@ pub extern "C" fn roffelaine_reference_value(
     ensures { λ r. ⌜ Told (worthReply (dayAt (now (day .entry))) (now (book .entry)) (now (prices .entry))) r (now (place .exit)) (now (value .exit)) ⌝ }
 {
     let answer = day::reference_value(day, book, prices);
-    tell(numbers::of_value(answer), place, value)
+    tell(answers::of_value(answer), place, value)
 }
 
 // Creates units for an account; the records go to the lent list.
@@ -131,7 +131,7 @@ pub extern "C" fn roffelaine_create(
     ensures list { λ r. ⌜ now (list .exit) ≡ createdList (dayAt (now (day .entry))) (now (book .entry)) (now (prices .entry)) account units (now (list .entry)) ⌝ }
 {
     let answer = day::create(day, book, prices, account, units, list);
-    tell(numbers::of_order(answer), place, value)
+    tell(answers::of_order(answer), place, value)
 }
 
 // Redeems units of an account; the records go to the lent list.
@@ -151,7 +151,7 @@ pub extern "C" fn roffelaine_redeem(
     ensures list { λ r. ⌜ now (list .exit) ≡ redeemedList (dayAt (now (day .entry))) (now (book .entry)) (now (prices .entry)) account units (now (list .entry)) ⌝ }
 {
     let answer = day::redeem(day, book, prices, account, units, list);
-    tell(numbers::of_order(answer), place, value)
+    tell(answers::of_order(answer), place, value)
 }
 
 // The tests of a creation alone, with the length of the list.
@@ -169,7 +169,7 @@ pub extern "C" fn roffelaine_creation_test(
     ensures { λ r. ⌜ Told (creationReply (dayAt (now (day .entry))) (now (book .entry)) (now (prices .entry)) account units (length / recordWidth)) r (now (place .exit)) (now (value .exit)) ⌝ }
 {
     let answer = day::creation_test(day, book, prices, account, units, length);
-    tell(numbers::of_order(answer), place, value)
+    tell(answers::of_order(answer), place, value)
 }
 
 // The tests of a redemption alone.
@@ -187,7 +187,7 @@ pub extern "C" fn roffelaine_redemption_test(
     ensures { λ r. ⌜ Told (redemptionReply (dayAt (now (day .entry))) (now (book .entry)) (now (prices .entry)) account units (length / recordWidth)) r (now (place .exit)) (now (value .exit)) ⌝ }
 {
     let answer = day::redemption_test(day, book, prices, account, units, length);
-    tell(numbers::of_order(answer), place, value)
+    tell(answers::of_order(answer), place, value)
 }
 
 // The driver: a list of calls as rows, with one test of the day where every call keeps it sound.
@@ -206,8 +206,8 @@ pub extern "C" fn roffelaine_run(
     ensures left { λ r. ⌜ batchOf (dayAt (now (day .entry))) (now (book .exit)) (now (prices .exit)) (now (records .exit)) (now (answers .exit)) ≡ ran (now (rows .entry)) (batchOf (dayAt (now (day .entry))) (now (book .entry)) (now (prices .entry)) (now (records .entry)) (now (answers .entry))) ⌝ }
     ensures demand { λ r. ⌜ Demand3 (stateOf (dayAt (now (day .entry))) (now (book .entry)) (now (prices .entry))) (eventsOf (now (rows .entry)) (batchOf (dayAt (now (day .entry))) (now (book .entry)) (now (prices .entry)) (now (records .entry)) (now (answers .entry)))) (stateOf (dayAt (now (day .entry))) (now (book .exit)) (now (prices .exit))) ⌝ }
 {
-    let answer = run::run(day, book, prices, rows, records, answers);
-    tell(numbers::of_answer(answer), place, value)
+    let answer = driver::run(day, book, prices, rows, records, answers);
+    tell(answers::of_answer(answer), place, value)
 }
 
 // The same list of calls made one by one: each tests the day, as the calls above do.
@@ -226,8 +226,8 @@ pub extern "C" fn roffelaine_run_public(
     ensures left { λ r. ⌜ batchOf (dayAt (now (day .entry))) (now (book .exit)) (now (prices .exit)) (now (records .exit)) (now (answers .exit)) ≡ ran (now (rows .entry)) (batchOf (dayAt (now (day .entry))) (now (book .entry)) (now (prices .entry)) (now (records .entry)) (now (answers .entry))) ⌝ }
     ensures demand { λ r. ⌜ Demand3 (stateOf (dayAt (now (day .entry))) (now (book .entry)) (now (prices .entry))) (eventsOf (now (rows .entry)) (batchOf (dayAt (now (day .entry))) (now (book .entry)) (now (prices .entry)) (now (records .entry)) (now (answers .entry)))) (stateOf (dayAt (now (day .entry))) (now (book .exit)) (now (prices .exit))) ⌝ }
 {
-    let answer = run::run_public(day, book, prices, rows, records, answers);
-    tell(numbers::of_answer(answer), place, value)
+    let answer = driver::run_public(day, book, prices, rows, records, answers);
+    tell(answers::of_answer(answer), place, value)
 }
 
 // The answer of reading and writing as the paper's three numbers.
@@ -240,7 +240,7 @@ fn of_list(answer: ListAnswer) -> Numbers
             place: 0,
             value: count as u64,
         },
-        ListAnswer::Refused(why) => numbers::of_refusal(why),
+        ListAnswer::Refused(why) => answers::of_refusal(why),
     }
 }
 
@@ -277,7 +277,7 @@ pub extern "C" fn roffelaine_read(
     ensures { λ r. ⌜ TextRead (now (text .entry)) (taking (now (run .entry)) (now (fields .entry)) (now («first_row» .entry))) r (now (place .exit)) (now (value .exit)) (taking (now (run .exit)) (now (fields .exit)) (now («first_row» .exit))) ⌝ }
 {
     if fields.len() != list_layout::FIELDS_WIDTH {
-        return tell(numbers::of_refusal(Refusal::Sizes), place, value);
+        return tell(answers::of_refusal(Refusal::Sizes), place, value);
     }
     let read = list_reading::read(text, run);
     let answer = read.answer;
@@ -302,7 +302,7 @@ pub extern "C" fn roffelaine_write(
     ensures { λ r. ⌜ TextWritten (now (fields .entry)) (listing (fieldsAt (now (fields .entry))) (now (run .entry)) (now (names .entry)) (now (letters .entry))) (now (output .entry)) r (now (place .exit)) (now (value .exit)) (now (output .exit)) ⌝ }
 {
     if fields.len() != list_layout::FIELDS_WIDTH {
-        return tell(numbers::of_refusal(Refusal::Sizes), place, value);
+        return tell(answers::of_refusal(Refusal::Sizes), place, value);
     }
     let l = list_layout::fields_at(fields);
     let answer = list_writing::write(l, run, names, letters, output);

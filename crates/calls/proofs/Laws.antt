@@ -4,7 +4,7 @@ use mathlib.Core.Bool.{true, false}
 use mathlib.Core.List.{List}
 use Prim.Native.Nat.{ℕ}
 use lib.ListN.{set}
-use Rattle.lists.specs.Checks.{Check, Reply, reply, answered}
+use Rattle.sequences.specs.Checks.{Check, Reply, reply, answered}
 use Rattle.layout.specs.Day.{Day}
 use Rattle.rules.specs.declared.Ask.{Ask}
 use Rattle.rules.specs.declared.Refusal.the-variants.{UnsoundDay}

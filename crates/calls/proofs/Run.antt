@@ -5,8 +5,8 @@ use mathlib.Core.List.{List}
 use Prim.Native.Nat.{ℕ}
 use native.Mathlib.Decide.{ℕ-discrete}
 use lib.ListN.{length}
-use Rattle.lists.specs.Checks.{passes}
-use Rattle.lists.specs.Every.{every, inside}
+use Rattle.sequences.specs.Checks.{passes}
+use Rattle.sequences.specs.Every.{every, inside}
 use Rattle.layout.specs.declared.DayHead.{DayHead}
 use Rattle.layout.specs.Places.{basketWidth, dayWidth}
 use Rattle.layout.specs.Day.{Day, dayOf, dayHeadAt, basketAt, blankDay, dayAt}

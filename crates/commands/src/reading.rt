@@ -1,7 +1,7 @@
 // Standard input, in pieces: the list text, and the lines behind it.
 ghost use Rattle.io.specs.Counts.{Counts};
-use items::input;
-use items::input::Cursor;
+use program_io::input;
+use program_io::input::Cursor;
 
 // What was taken into a buffer so far.
 pub struct Taken {

@@ -1,6 +1,6 @@
 // A reply, the paper's number, place and value, as it is printed.
-use items::output;
-use numbers::Numbers;
+use answers::Numbers;
+use program_io::output;
 
 // A word and a reply, on a line.
 pub fn print(word: &[u8], r: Numbers) {

@@ -1,11 +1,11 @@
 // The day, book and prices that calls are made on, and the items that give them: an opening, or a state written out.
 ghost use Prim.Native.Nat.{_<_};
 use crate::replies;
-use items::input::Cursor;
-use items::output;
-use items::runs;
+use answers::Numbers;
 use layout::Fund;
-use numbers::Numbers;
+use program_io::input::Cursor;
+use program_io::output;
+use program_io::runs;
 use rules::Answer;
 use units::Rate;
 
@@ -202,7 +202,7 @@ fn open_on(item: &[u64], body: &[u64], day: &mut [u64], book: &mut [u64], prices
     let n = runs::cut(size_at(item, COMPONENTS_LENGTH), body);
     let answer = open_marked(item, &body[..n], &body[n..], day, book, prices);
     print_row(item);
-    after_opening(numbers::of_answer(answer), day, book, prices);
+    after_opening(answers::of_answer(answer), day, book, prices);
 }
 
 pub fn opening_item(

@@ -11,8 +11,8 @@ use lib.ListN.{length, getD, take, drop, drop-of-length-le}
 use lib.Seq.{drop-cons}
 use lib.Dec.{leb, eqb, eqb·suc-zero, eqb·zero-suc}
 use borrow.Author.Tests.{le-leb, lt-leb, eq-eqb, ne-eqb}
-use Rattle.lists.specs.Every.{every, inside}
-use Rattle.lists.proofs.Every.{every-at, inside-true, inside-facts}
+use Rattle.sequences.specs.Every.{every, inside}
+use Rattle.sequences.proofs.Every.{every-at, inside-true, inside-facts}
 use Rattle.digits.specs.declared.Form.{Form}
 use Rattle.digits.specs.declared.Size.the-variants.{Known, Ill as NoSize}
 use Rattle.digits.specs.Digits.{isDigit, allDigits, from, spare, cap, capped, isWhole, pointAt, isPlain, plainSize, sizeReading, readOn}

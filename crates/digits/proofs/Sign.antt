@@ -9,7 +9,7 @@ use lib.ListN.{length, getD, take, drop, drop-of-length-le, List·getD-eq-defaul
 use lib.Seq.{drop-cons}
 use lib.Dec.{eqb}
 use borrow.Author.Tests.{eq-eqb, ne-eqb}
-use Rattle.lists.specs.Every.{every}
+use Rattle.sequences.specs.Every.{every}
 use Rattle.digits.specs.declared.Form.{Form}
 use Rattle.digits.specs.declared.Reading.the-variants.{Good, Ill}
 use Rattle.digits.specs.Digits.{plain, blanks, allBlank, minusFigure, isPlain, plainSize, hasMinus, isSigned}

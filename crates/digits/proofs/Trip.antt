@@ -12,8 +12,8 @@ use lib.Seq.{take-at, drop-at, drop-append-add, getD-at, split-at, drop-length}
 use lib.Arith.{digits-div}
 use lib.Dec.{eqb}
 use borrow.Author.Tests.{eq-eqb, ne-eqb, eqb-true, eqb-false, not-true}
-use Rattle.lists.specs.Every.{every}
-use Rattle.lists.proofs.Every.{every-at}
+use Rattle.sequences.specs.Every.{every}
+use Rattle.sequences.proofs.Every.{every-at}
 use Rattle.digits.specs.declared.Form.{Form}
 use Rattle.digits.specs.declared.Figure.{Figure}
 use Rattle.digits.specs.Digits.{plain, fixed, tens, decimal, wholeText, plainText, signedText, numberText, allDigits, from, spare, cap, capped}

@@ -9,10 +9,10 @@ use native.Mathlib.Omega.{arith}
 use lib.Dec.{lit≤, eqb}
 use lib.ListN.{length, getD, List·getD-eq-default}
 use borrow.Author.Tests.{not-true, ne-eqb}
-use Rattle.lists.specs.Below.{allBelow}
-use Rattle.lists.specs.Every.{every}
-use Rattle.lists.proofs.Below.{all-at}
-use Rattle.lists.proofs.Every.{every-at}
+use Rattle.sequences.specs.Below.{allBelow}
+use Rattle.sequences.specs.Every.{every}
+use Rattle.sequences.proofs.Below.{all-at}
+use Rattle.sequences.proofs.Every.{every-at}
 use Rattle.flags.specs.Table.{flagTable, entry, stockMoves, amountUsed, shanghai, priced}
 
 -- past the table every entry is false

@@ -13,9 +13,9 @@ use lib.IntN.{ℤ, pos, negsuc, natAbs}
 use lib.Signed.{leZ, mag}
 use lib.ListN.{length, getD, List·getD-eq-default}
 use borrow.Author.Tests.{lt-ltb, le-ltb, le-leb, leb-true, leb-false, ltb-true, eqb-true, ne-eqb, not-false}
-use Rattle.lists.specs.Every.{every}
-use Rattle.lists.proofs.Below.{all-at, first-all}
-use Rattle.lists.proofs.Every.{every-none, every-more, every-at, false-of, inside-true, inside-facts}
+use Rattle.sequences.specs.Every.{every}
+use Rattle.sequences.proofs.Below.{all-at, first-all}
+use Rattle.sequences.proofs.Every.{every-none, every-more, every-at, false-of, inside-true, inside-facts}
 use Rattle.flags.specs.Table.{entry, rateUsed, amountUsed}
 use Rattle.digits.specs.Digits.{cap}
 use Rattle.layout.specs.Places.{limitCount}

@@ -4,8 +4,8 @@ use mathlib.Core.Bool.{Bool, not, _||_}
 use mathlib.Core.List.{List, [], _∷_}
 use lib.Dec.{leb, ltb, eqb}
 use lib.ListN.{getD}
-use Rattle.lists.specs.Below.{firstBelow}
-use Rattle.lists.specs.Every.{every}
+use Rattle.sequences.specs.Below.{firstBelow}
+use Rattle.sequences.specs.Every.{every}
 use Rattle.flags.specs.Table.{entry, rateUsed, amountUsed}
 use Rattle.layout.specs.declared.Component.{Component}
 use Rattle.layout.specs.Components.{blank}

@@ -5,8 +5,8 @@ use mathlib.Core.List.{List, [], _∷_}
 use lib.Dec.{leb, ltb, eqb}
 use lib.IntN.{ℤ, pos, negsuc}
 use lib.ListN.{getD}
-use Rattle.lists.specs.Below.{allBelow}
-use Rattle.lists.specs.Every.{every, inside}
+use Rattle.sequences.specs.Below.{allBelow}
+use Rattle.sequences.specs.Every.{every, inside}
 use Rattle.layout.specs.declared.Fund.{Fund}
 use Rattle.layout.specs.Places.{limitCount}
 

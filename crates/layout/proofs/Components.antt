@@ -10,9 +10,9 @@ use lib.Dec.{ltb}
 use lib.ListN.{length, getD, set}
 use lib.Seq.{sets}
 use borrow.Author.Tests.{lt-ltb}
-use Rattle.lists.specs.Stretch.{stretchOf}
-use Rattle.lists.proofs.Below.{table-at}
-use Rattle.lists.proofs.Stretch.{stretch-at}
+use Rattle.sequences.specs.Stretch.{stretchOf}
+use Rattle.sequences.proofs.Below.{table-at}
+use Rattle.sequences.proofs.Stretch.{stretch-at}
 use Rattle.layout.specs.declared.Component.{Component}
 use Rattle.layout.specs.Places.{mostComponents, componentWidth}
 use Rattle.layout.specs.Components.{blank, componentAt, componentNumbers, placesOf}

@@ -11,8 +11,8 @@ use lib.IntN.{ℤ, natAbs, pos, negsuc}
 use lib.ListN.{length, getD, drop, replicate, length-drop, List·getD-append, List·getD-eq-default}
 use lib.Seq.{getD-drop, getD-append-add, drop-at}
 use borrow.Author.Tests.{eq-eqb, ne-eqb, lt-ltb, le-ltb}
-use Rattle.lists.specs.Below.{tabulate}
-use Rattle.lists.proofs.Below.{table-length, table-at, table-ext}
+use Rattle.sequences.specs.Below.{tabulate}
+use Rattle.sequences.proofs.Below.{table-length, table-at, table-ext}
 use Rattle.digits.specs.Digits.{cap}
 use Rattle.digits.specs.Signed.{figureSigned}
 use Rattle.digits.proofs.Read.{capped-small}

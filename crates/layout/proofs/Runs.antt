@@ -5,9 +5,9 @@ use Prim.Native.Nat.{ℕ, _+_, _*_, _≤_}
 use native.Mathlib.Omega.{arith}
 use lib.ListN.{length, drop}
 use lib.Seq.{sets, length-sets}
-use Rattle.lists.specs.Below.{joinBelow}
-use Rattle.lists.proofs.Below.{join-none, join-more, join-length}
-use Rattle.lists.proofs.Runs.{sets-append, sets-front}
+use Rattle.sequences.specs.Below.{joinBelow}
+use Rattle.sequences.proofs.Below.{join-none, join-more, join-length}
+use Rattle.sequences.proofs.Runs.{sets-append, sets-front}
 use Rattle.layout.specs.declared.Component.{Component}
 use Rattle.layout.specs.Components.{componentNumbers}
 use Rattle.layout.specs.Places.{componentWidth}

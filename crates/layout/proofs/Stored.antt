@@ -10,9 +10,9 @@ use lib.IntN.{ℤ}
 use lib.ListN.{length, getD, drop, take, set, replicate, length-append, length-set, length-take, length-drop, length-replicate, getD-replicate, drop-of-length-le}
 use lib.Seq.{sets, sets-eq, length-sets, take-at}
 use mir.Val.{boolByte}
-use Rattle.lists.specs.Below.{tabulate}
-use Rattle.lists.proofs.Below.{table-length, table-ext}
-use Rattle.lists.proofs.Runs.{sets-append, sets-front}
+use Rattle.sequences.specs.Below.{tabulate}
+use Rattle.sequences.proofs.Below.{table-length, table-ext}
+use Rattle.sequences.proofs.Runs.{sets-append, sets-front}
 use Rattle.digits.specs.Signed.{figureSigned}
 use Rattle.layout.specs.declared.Fund.{Fund}
 use Rattle.layout.specs.Places.{basketWidth, limitCount, cashPlace, limitsFrom, fundWidth, fundFrom, basketFrom, dayWidth}

@@ -2,7 +2,7 @@
 use Prim.Native.Nat.{ℕ, _+_, _*_}
 use mathlib.Core.List.{List}
 use lib.ListN.{set}
-use Rattle.lists.specs.Checks.{Reply}
+use Rattle.sequences.specs.Checks.{Reply}
 use Rattle.layout.specs.Places.{answerWidth}
 
 -- the i-th answer put into the answers

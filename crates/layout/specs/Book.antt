@@ -2,7 +2,7 @@
 use Prim.Native.Nat.{ℕ, zero, suc, _+_, _*_}
 use mathlib.Core.List.{List}
 use lib.ListN.{getD, set}
-use Rattle.lists.specs.Stretch.{stretchOf, over}
+use Rattle.sequences.specs.Stretch.{stretchOf, over}
 use Rattle.lots.specs.declared.Lots.{Lots}
 use Rattle.lots.specs.Lots.{lotsTotal}
 use Rattle.layout.specs.Places.{linesFrom, lineWidth}

@@ -4,7 +4,7 @@ use mathlib.Core.Bool.{cond}
 use mathlib.Core.List.{List, [], _∷_}
 use lib.Dec.{ltb}
 use lib.ListN.{getD}
-use Rattle.lists.specs.Below.{tabulate}
+use Rattle.sequences.specs.Below.{tabulate}
 use Rattle.layout.specs.declared.Component.{Component}
 use Rattle.layout.specs.Places.{mostComponents, componentWidth}
 

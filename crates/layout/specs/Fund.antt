@@ -5,7 +5,7 @@ use mathlib.Core.List.{List, [], _∷_, _++_}
 use lib.Dec.{eqb}
 use lib.IntN.{ℤ, pos}
 use lib.ListN.{getD, replicate}
-use Rattle.lists.specs.Below.{tabulate}
+use Rattle.sequences.specs.Below.{tabulate}
 use Rattle.digits.specs.Digits.{capped}
 use Rattle.digits.specs.Signed.{signedOf, figureSigned}
 use Rattle.layout.specs.declared.Fund.{Fund}

@@ -6,7 +6,7 @@ use Prim.Native.Nat.{ℕ, _+_, _≤_, _<_}
 use lib.Dec.{leb, eqb}
 use lib.ListN.{length, getD, take, List·getD-eq-default}
 use borrow.Author.Tests.{le-leb, lt-leb, eq-eqb, ne-eqb, lt-ltb, le-ltb}
-use Rattle.lists.specs.Every.{every, inside}
+use Rattle.sequences.specs.Every.{every, inside}
 use Rattle.lines.specs.Lines.{endAt, lower, sameInAnyCase, isNamed, nameByte, letterByte}
 
 -- 0D 0A at a place.

@@ -10,8 +10,8 @@ use lib.Dec.{eqb}
 use lib.ListN.{length, getD, take, drop, length-append, length-take, length-drop, take-append-drop}
 use lib.Seq.{length-take-le, take-all, take-append-seam, getD-append-seam, drop-append-add, split-at}
 use borrow.Author.Tests.{lt-ltb, le-ltb, ltb-true, eq-eqb, ne-eqb, eqb-true, not-true}
-use Rattle.lists.specs.Every.{inside}
-use Rattle.lists.proofs.Every.{every-none, every-more, every-at}
+use Rattle.sequences.specs.Every.{inside}
+use Rattle.sequences.proofs.Every.{every-none, every-more, every-at}
 use Rattle.lines.specs.Lines.{endAt, lenAfter, lineLen, otherByte, ended, firstLine, nextAt, lineText, lower, sameBy, same, sameInAnyCase, isNamed, nameByte, letterByte, allBytes}
 
 -- both tests, where both pass

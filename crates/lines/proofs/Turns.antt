@@ -10,7 +10,7 @@ use lib.Dec.{eqb}
 use lib.ListN.{length, getD, drop, drop-of-length-le}
 use lib.Seq.{drop-cons, getD-drop}
 use borrow.Author.Tests.{eq-eqb, ne-eqb}
-use Rattle.lists.proofs.Every.{false-of}
+use Rattle.sequences.proofs.Every.{false-of}
 use Rattle.lines.specs.Lines.{endAt, lenAfter, lineLen, sameBy, allBytes}
 use Rattle.lines.proofs.Laws.{same-length}
 

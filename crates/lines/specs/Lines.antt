@@ -4,7 +4,7 @@ use mathlib.Core.Bool.{Bool, true, false, cond, not, _&&_, _||_}
 use mathlib.Core.List.{List, [], _∷_, _++_}
 use lib.Dec.{ltb, eqb}
 use lib.ListN.{length, getD, take, drop}
-use Rattle.lists.specs.Every.{every, inside}
+use Rattle.sequences.specs.Every.{every, inside}
 
 -- 0D 0A stands at i
 unfoldable pub endAt : List ℕ → ℕ → Bool

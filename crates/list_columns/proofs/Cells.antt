@@ -9,8 +9,8 @@ use lib.Dec.{eqb}
 use lib.ListN.{length, getD, take, drop, length-drop}
 use lib.Seq.{length-take-le}
 use borrow.Author.Tests.{lt-ltb, le-ltb, eq-eqb, ne-eqb}
-use Rattle.lists.specs.Below.{allBelow, firstBelow}
-use Rattle.lists.proofs.Below.{all-none, all-more, all-false}
+use Rattle.sequences.specs.Below.{allBelow, firstBelow}
+use Rattle.sequences.proofs.Below.{all-none, all-more, all-false}
 use Rattle.flags.specs.Table.{entry}
 use Rattle.layout.specs.declared.Component.{Component}
 use Rattle.digits.specs.declared.Size.{Size}

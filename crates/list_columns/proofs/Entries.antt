@@ -5,10 +5,10 @@ use mathlib.Core.Bool.{Bool, true}
 use mathlib.Core.List.{List, [], _∷_}
 use lib.Dec.{leb, ltb}
 use borrow.Author.Tests.{leb-true, ltb-true}
-use Rattle.lists.specs.Below.{allBelow}
-use Rattle.lists.specs.Every.{every}
-use Rattle.lists.proofs.Below.{all-at}
-use Rattle.lists.proofs.Every.{every-at}
+use Rattle.sequences.specs.Below.{allBelow}
+use Rattle.sequences.specs.Every.{every}
+use Rattle.sequences.proofs.Below.{all-at}
+use Rattle.sequences.proofs.Every.{every-at}
 use Rattle.list_rules.specs.Columns.{columnCount, rowWidth, columnTable, columnEntry}
 
 -- the column stands within the line, and its number is short

@@ -6,8 +6,8 @@ use mathlib.Core.List.{List, [], _∷_, _++_}
 use native.Mathlib.Nat.{div-lt-iff-lt-mul}
 use native.Mathlib.Omega.{arith}
 use lib.ListN.{length, getD, replicate, length-replicate, length-append}
-use Rattle.lists.specs.Below.{joinBelow, tabulate}
-use Rattle.lists.proofs.Below.{table-ext}
+use Rattle.sequences.specs.Below.{joinBelow, tabulate}
+use Rattle.sequences.proofs.Below.{table-ext}
 use Rattle.flags.specs.Table.{entry, rateUsed, amountUsed}
 use Rattle.layout.specs.declared.Component.{Component}
 use Rattle.digits.specs.Digits.{plain, fixed, numberText}

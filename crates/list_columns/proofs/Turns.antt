@@ -5,9 +5,9 @@ use mathlib.Core.Bool.{Bool, true, false}
 use mathlib.Core.List.{List}
 use native.Mathlib.Omega.{arith}
 use lib.ListN.{length, length-append}
-use Rattle.lists.specs.Below.{firstBelow, joinBelow}
-use Rattle.lists.proofs.Below.{first-none, first-more, first-here, join-none, join-more}
-use Rattle.lists.proofs.Runs.{join-grows}
+use Rattle.sequences.specs.Below.{firstBelow, joinBelow}
+use Rattle.sequences.proofs.Below.{first-none, first-more, first-here, join-none, join-more}
+use Rattle.sequences.proofs.Runs.{join-grows}
 use Rattle.digits.specs.Written.{Written}
 use Rattle.digits.proofs.Put.{put-nil, written-then, written-length}
 

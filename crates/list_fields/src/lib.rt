@@ -3,7 +3,7 @@ ghost use mathlib.Core.Path.{_≡_};
 ghost use Prim.Native.Nat.{ℕ, _+_, _≤_, _<_};
 ghost use mathlib.Core.Bool.{true};
 ghost use lib.ListN.{getD};
-ghost use Rattle.lists.specs.Below.{tabulate};
+ghost use Rattle.sequences.specs.Below.{tabulate};
 ghost use Rattle.digits.specs.Digits.{cap, plain};
 ghost use Rattle.list_rules.specs.Dates.{isLeap, daysIn, isDate};
 ghost use Rattle.list_rules.specs.Fields.{fieldsFrom, figureAt, fieldsInRange, blankFields};

@@ -11,8 +11,8 @@ use lib.Dec.{leb}
 use lib.ListN.{length, getD, take, drop, set, replicate, length-drop, length-set, length-replicate}
 use lib.Seq.{drop-drop, getD-set-same, getD-set-other}
 use borrow.Author.Tests.{eq-eqb, ne-eqb, not-false, ltb-true}
-use Rattle.lists.specs.Below.{firstBelow, tabulate}
-use Rattle.lists.proofs.Below.{first-none, first-more, first-here, first-all, table-ext}
+use Rattle.sequences.specs.Below.{firstBelow, tabulate}
+use Rattle.sequences.proofs.Below.{first-none, first-more, first-here, first-all, table-ext}
 use Rattle.digits.specs.Digits.{isNumber, figureOf, reading, plain}
 use Rattle.digits.specs.declared.Figure.{Figure}
 use Rattle.digits.specs.declared.Form.{Form}

@@ -6,10 +6,10 @@ use Prim.Native.Nat.{ℕ, _+_, _-_, _≤_, _<_}
 use lib.Dec.{leb, eqb}
 use lib.ListN.{length, take, drop}
 use borrow.Author.Tests.{leb-true, eqb-true}
-use Rattle.lists.specs.Below.{allBelow, joinBelow}
-use Rattle.lists.specs.Every.{every}
-use Rattle.lists.proofs.Below.{all-at}
-use Rattle.lists.proofs.Every.{every-at}
+use Rattle.sequences.specs.Below.{allBelow, joinBelow}
+use Rattle.sequences.specs.Every.{every}
+use Rattle.sequences.proofs.Below.{all-at}
+use Rattle.sequences.proofs.Every.{every-at}
 use Rattle.digits.specs.declared.Form.{Form}
 use Rattle.lines.proofs.Laws.{same-is}
 use Rattle.lines.specs.Lines.{same, sameBy}

@@ -8,8 +8,8 @@ use lib.Dec.{eqb}
 use lib.ListN.{length, getD, take, drop, length-take, length-drop, take-append-drop}
 use lib.Seq.{length-take-le, take-take, take-at, drop-append-le}
 use borrow.Author.Tests.{lt-ltb, le-ltb}
-use Rattle.lists.specs.Every.{every}
-use Rattle.lists.proofs.Every.{every-at, inside-true, inside-facts, false-of}
+use Rattle.sequences.specs.Every.{every}
+use Rattle.sequences.proofs.Every.{every-at, inside-true, inside-facts, false-of}
 use Rattle.lines.proofs.Answers.{inside-low, inside-high}
 use Rattle.lines.specs.Lines.{same, letterByte, allBytes, lineLen, ended, firstLine}
 use Rattle.list_rules.specs.Head.{isLetters, lettersOf, isOpening, isHeadLine, openingWord}

@@ -7,8 +7,8 @@ use native.Mathlib.Numerals.{add-one}
 use native.Mathlib.Omega.{arith}
 use lib.ListN.{length, take, drop}
 use borrow.Author.Tests.{eq-eqb, ne-eqb, lt-ltb, le-ltb}
-use Rattle.lists.specs.Below.{firstBelow}
-use Rattle.lists.proofs.Below.{first-none, first-more, first-here}
+use Rattle.sequences.specs.Below.{firstBelow}
+use Rattle.sequences.proofs.Below.{first-none, first-more, first-here}
 use Rattle.lines.proofs.Laws.{part-ended, part-open, part-first, part-next, part-room}
 use Rattle.lines.specs.Lines.{same, isNamed, lineLen, ended}
 use Rattle.list_rules.specs.Head.{fieldName, tagWord, isOpening, isHeadLine}

@@ -7,9 +7,9 @@ use native.Mathlib.Decide.{decLt, ℕ-discrete}
 use native.Mathlib.Omega.{arith}
 use lib.ListN.{length, getD, length-append}
 use borrow.Author.Tests.{eq-eqb, ne-eqb, lt-ltb, le-ltb}
-use Rattle.lists.proofs.Below.{join-none, join-more}
-use Rattle.lists.proofs.Every.{inside-true}
-use Rattle.lists.proofs.Runs.{join-grows}
+use Rattle.sequences.proofs.Below.{join-none, join-more}
+use Rattle.sequences.proofs.Every.{inside-true}
+use Rattle.sequences.proofs.Runs.{join-grows}
 use Rattle.digits.proofs.Write.{whole-short, plain-free, plain-length, signed-below, signed-above, number-length}
 use Rattle.digits.specs.Digits.{plain, plainText, signedText, numberText}
 use Rattle.digits.specs.declared.Figure.{Figure}

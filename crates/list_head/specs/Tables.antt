@@ -3,8 +3,8 @@ use Prim.Native.Nat.{ℕ, _-_}
 use mathlib.Core.Bool.{cond}
 use mathlib.Core.List.{List, [], _∷_}
 use lib.ListN.{getD}
-use Rattle.lists.specs.Below.{joinBelow}
-use Rattle.lists.specs.Every.{inside}
+use Rattle.sequences.specs.Below.{joinBelow}
+use Rattle.sequences.specs.Every.{inside}
 use Rattle.digits.specs.declared.Figure.{Figure}
 use Rattle.digits.specs.Digits.{plain}
 use Rattle.lines.specs.Lines.{lineText}

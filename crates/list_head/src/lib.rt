@@ -3,7 +3,7 @@ ghost use mathlib.Core.Path.{_≡_};
 ghost use mathlib.Core.List.{[], _∷_, _++_};
 ghost use Prim.Native.Nat.{_+_, _≤_, _<_};
 ghost use lib.ListN.{length};
-ghost use Rattle.lists.specs.Below.{tabulate};
+ghost use Rattle.sequences.specs.Below.{tabulate};
 ghost use Rattle.digits.specs.Written.{Written};
 ghost use Rattle.digits.specs.Digits.{figureOf, reading, numberText, plain};
 ghost use Rattle.lines.specs.Lines.{lineText, isNamed};

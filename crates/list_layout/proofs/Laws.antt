@@ -6,7 +6,7 @@ use native.Mathlib.Omega.{arith}
 use lib.IntN.{ℤ, natAbs}
 use lib.ListN.{length, set, length-append, drop-of-length-le}
 use lib.Seq.{sets, drop-at}
-use Rattle.lists.proofs.Runs.{sets-append, sets-front}
+use Rattle.sequences.proofs.Runs.{sets-append, sets-front}
 use Rattle.digits.specs.Digits.{cap}
 use Rattle.layout.specs.Places.{limitCount, fundWidth}
 use Rattle.layout.specs.Fund.{signedNumbers, fundNumbers}

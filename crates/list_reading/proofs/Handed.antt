@@ -8,12 +8,12 @@ use lib.Dec.{leb, ltb, eqb}
 use lib.ListN.{length, getD, take, drop}
 use lib.Seq.{length-take-le}
 use borrow.Author.Tests.{lt-ltb, le-ltb, lt-leb, le-leb, eqb-true, not-true}
-use Rattle.lists.specs.Below.{tabulate}
-use Rattle.lists.specs.Every.{inside}
-use Rattle.lists.specs.Checks.{reply, passes}
-use Rattle.lists.proofs.Below.{table-at}
-use Rattle.lists.proofs.Stretch.{stretch-join}
-use Rattle.lists.proofs.Every.{inside-facts}
+use Rattle.sequences.specs.Below.{tabulate}
+use Rattle.sequences.specs.Every.{inside}
+use Rattle.sequences.specs.Checks.{reply, passes}
+use Rattle.sequences.proofs.Below.{table-at}
+use Rattle.sequences.proofs.Stretch.{stretch-join}
+use Rattle.sequences.proofs.Every.{inside-facts}
 use Rattle.layout.specs.declared.Component.{Component}
 use Rattle.layout.specs.Components.{componentAt, componentNumbers, placesOf}
 use Rattle.fund.specs.Components.{componentFault}

@@ -5,8 +5,8 @@ use mathlib.Core.Bool.{Bool, true, false, not, _&&_}
 use mathlib.Core.List.{List}
 use lib.Dec.{leb, ltb}
 use lib.ListN.{length}
-use Rattle.lists.specs.Checks.{reply, answered, passes}
-use Rattle.lists.proofs.Checks.{passed-all, passes-all, answered-stop}
+use Rattle.sequences.specs.Checks.{reply, answered, passes}
+use Rattle.sequences.proofs.Checks.{passed-all, passes-all, answered-stop}
 use Rattle.layout.specs.Places.{componentWidth}
 use Rattle.lines.specs.Lines.{same, nextAt}
 use Rattle.list_rules.specs.Head.{headLines, fieldCount, endWord}

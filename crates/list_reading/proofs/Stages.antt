@@ -7,8 +7,8 @@ use native.Mathlib.Omega.{arith}
 use native.Mathlib.Nat.{le-antisymm}
 use lib.ListN.{length, drop}
 use borrow.Author.Tests.{lt-ltb, le-ltb}
-use Rattle.lists.specs.Checks.{reply, isAccepted}
-use Rattle.lists.proofs.Below.{first-le}
+use Rattle.sequences.specs.Checks.{reply, isAccepted}
+use Rattle.sequences.proofs.Below.{first-le}
 use Rattle.layout.specs.Places.{componentWidth}
 use Rattle.rules.specs.declared.Refusal.{Refusal}
 use Rattle.rules.specs.Replies.{refusalReply}

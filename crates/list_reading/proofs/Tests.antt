@@ -5,7 +5,7 @@ use Prim.Native.Nat.{ℕ, _≤_, _<_}
 use lib.Dec.{eqb}
 use borrow.Author.Tests.{le-leb, lt-leb}
 use Rattle.layout.specs.Places.{mostComponents}
-use Rattle.lists.specs.Every.{inside}
+use Rattle.sequences.specs.Every.{inside}
 use Rattle.list_rules.specs.Reading.{isCounted}
 
 module _ (recordnum rows : ℕ) where

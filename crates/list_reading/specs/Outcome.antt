@@ -5,8 +5,8 @@ use mathlib.Core.Bool.{true, false, not, _&&_}
 use mathlib.Core.List.{List}
 use lib.Dec.{leb}
 use lib.ListN.{length, take}
-use Rattle.lists.specs.Below.{tabulate}
-use Rattle.lists.specs.Checks.{reply, answered, passes}
+use Rattle.sequences.specs.Below.{tabulate}
+use Rattle.sequences.specs.Checks.{reply, answered, passes}
 use Rattle.list_rules.specs.declared.ListRead.{ListRead}
 use Rattle.list_rules.specs.declared.ListAnswer.the-variants.{Refused}
 use Rattle.list_rules.specs.declared.ListFields.{ListFields}

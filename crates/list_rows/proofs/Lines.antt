@@ -9,8 +9,8 @@ use lib.Dec.{ltb}
 use lib.ListN.{length, take, drop, length-drop}
 use lib.Seq.{length-take-le, take-take, drop-drop}
 use borrow.Author.Tests.{le-leb, lt-leb}
-use Rattle.lists.specs.Below.{firstBelow}
-use Rattle.lists.proofs.Below.{first-end}
+use Rattle.sequences.specs.Below.{firstBelow}
+use Rattle.sequences.proofs.Below.{first-end}
 use Rattle.layout.specs.declared.Component.{Component}
 use Rattle.lines.specs.Lines.{nameByte, allBytes}
 use Rattle.list_rules.specs.Head.{headLines}

@@ -8,7 +8,7 @@ use lib.ListN.{length, getD, take, drop, length-drop, set, length-set}
 use lib.Seq.{sets, length-take-le, set-at, take-at, take-suc, take-length, drop-cons}
 use mathlib.Core.Bool.{true, false}
 use native.Mathlib.Numerals.{add-one}
-use Rattle.lists.specs.Below.{joinBelow}
+use Rattle.sequences.specs.Below.{joinBelow}
 use Rattle.layout.specs.declared.Component.{Component}
 use Rattle.layout.specs.Components.{componentAt, componentNumbers}
 use Rattle.layout.specs.Places.{componentWidth, mostComponents, basketWidth}

@@ -6,8 +6,8 @@ use mathlib.Core.List.{List}
 use native.Mathlib.Omega.{arith}
 use lib.ListN.{length, take, drop, length-drop}
 use borrow.Author.Tests.{ltb-true, eqb-true}
-use Rattle.lists.specs.Below.{firstBelow}
-use Rattle.lists.proofs.Below.{first-none, first-more, first-here}
+use Rattle.sequences.specs.Below.{firstBelow}
+use Rattle.sequences.proofs.Below.{first-none, first-more, first-here}
 use Rattle.lines.specs.Lines.{lineLen, ended, firstLine}
 use Rattle.lines.proofs.Laws.{first-length, line-room, part-ended, part-open, part-first}
 use Rattle.list_rules.specs.Head.{headLines}

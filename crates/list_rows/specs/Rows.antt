@@ -2,7 +2,7 @@
 use Prim.Native.Nat.{ℕ, _+_, _*_}
 use mathlib.Core.List.{List}
 use lib.ListN.{take, drop}
-use Rattle.lists.specs.Below.{joinBelow}
+use Rattle.sequences.specs.Below.{joinBelow}
 use Rattle.layout.specs.Components.{componentAt}
 use Rattle.lines.specs.Lines.{lineText}
 use Rattle.list_rules.specs.Columns.{rowWidth, rowPitch, rowText}

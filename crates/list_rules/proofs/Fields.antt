@@ -8,9 +8,9 @@ use native.Mathlib.Omega.{arith}
 use lib.Dec.{eqb}
 use lib.ListN.{length, getD}
 use borrow.Author.Tests.{eqb-true, eqb-false}
-use Rattle.lists.specs.Below.{tabulate}
-use Rattle.lists.proofs.Below.{table-length, table-at, table-ext}
-use Rattle.lists.proofs.Every.{false-of}
+use Rattle.sequences.specs.Below.{tabulate}
+use Rattle.sequences.proofs.Below.{table-length, table-at, table-ext}
+use Rattle.sequences.proofs.Every.{false-of}
 use Rattle.digits.specs.declared.Figure.{Figure}
 use Rattle.digits.specs.Digits.{plain}
 use Rattle.list_rules.specs.declared.ListFields.{ListFields}

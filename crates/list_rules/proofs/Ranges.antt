@@ -3,7 +3,7 @@ use mathlib.Core.Path.{_≡_}
 use mathlib.Core.Bool.{true, false}
 use Prim.Native.Nat.{ℕ, _/_, _%_, _≤_}
 use borrow.Author.Tests.{le-leb, leb-true}
-use Rattle.lists.proofs.Every.{every-none, every-more, every-at, false-of, inside-true, inside-facts}
+use Rattle.sequences.proofs.Every.{every-none, every-more, every-at, false-of, inside-true, inside-facts}
 use Rattle.fund.specs.Fund.{cashInRange, fundInRange}
 use Rattle.list_rules.specs.declared.ListFields.{ListFields}
 use Rattle.list_rules.specs.Dates.{daysIn, isDate}

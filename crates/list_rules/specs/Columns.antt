@@ -4,7 +4,7 @@ use mathlib.Core.Bool.{Bool, true, false, cond, not, _&&_}
 use mathlib.Core.List.{List, [], _∷_, _++_}
 use lib.Dec.{ltb, eqb}
 use lib.ListN.{length, getD, take, drop, replicate}
-use Rattle.lists.specs.Below.{allBelow, firstBelow, joinBelow}
+use Rattle.sequences.specs.Below.{allBelow, firstBelow, joinBelow}
 use Rattle.flags.specs.Table.{entry}
 use Rattle.layout.specs.declared.Component.{Component}
 use Rattle.digits.specs.declared.Form.{Form}

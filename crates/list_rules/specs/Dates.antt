@@ -3,7 +3,7 @@ use Prim.Native.Nat.{ℕ, _/_, _%_}
 use mathlib.Core.Bool.{Bool, cond, not, _&&_, _||_}
 use mathlib.Core.List.{[], _∷_}
 use lib.Dec.{eqb}
-use Rattle.lists.specs.Every.{every, inside}
+use Rattle.sequences.specs.Every.{every, inside}
 
 unfoldable pub isLeap : ℕ → Bool
 isLeap year = eqb (year % 4) 0 && (not (eqb (year % 100) 0) || eqb (year % 400) 0)

@@ -5,8 +5,8 @@ use mathlib.Core.List.{[], _∷_}
 use lib.Dec.{leb}
 use lib.IntN.{pos}
 use lib.ListN.{getD}
-use Rattle.lists.specs.Below.{tabulate}
-use Rattle.lists.specs.Every.{every}
+use Rattle.sequences.specs.Below.{tabulate}
+use Rattle.sequences.specs.Every.{every}
 use Rattle.fund.specs.Fund.{cashInRange, fundInRange}
 use Rattle.digits.specs.declared.Figure.{Figure}
 use Rattle.digits.specs.Digits.{plain}

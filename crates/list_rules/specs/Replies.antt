@@ -1,5 +1,5 @@
 -- The paper's number, place and value for the answers of reading and writing.
-use Rattle.lists.specs.Checks.{Reply, reply}
+use Rattle.sequences.specs.Checks.{Reply, reply}
 use Rattle.rules.specs.Replies.{refusalReply}
 use Rattle.list_rules.specs.declared.ListAnswer.{ListAnswer}
 use Rattle.list_rules.specs.declared.ListAnswer.the-variants.{Done, Refused}

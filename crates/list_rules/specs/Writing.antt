@@ -4,9 +4,9 @@ use mathlib.Core.Bool.{Bool, not, _&&_}
 use mathlib.Core.List.{List, [], _∷_, _++_}
 use lib.Dec.{ltb, eqb}
 use lib.ListN.{length, take, drop}
-use Rattle.lists.specs.Below.{firstBelow, joinBelow}
-use Rattle.lists.specs.Every.{every, inside}
-use Rattle.lists.specs.Checks.{Check, check, Reply, answered}
+use Rattle.sequences.specs.Below.{firstBelow, joinBelow}
+use Rattle.sequences.specs.Every.{every, inside}
+use Rattle.sequences.specs.Checks.{Check, check, Reply, answered}
 use Rattle.layout.specs.Components.{componentAt, placesOf}
 use Rattle.fund.specs.Components.{componentFault}
 use Rattle.layout.specs.Places.{componentWidth, mostComponents}

@@ -10,10 +10,10 @@ use native.Mathlib.Omega.{arith}
 use lib.Dec.{ltb}
 use lib.ListN.{length, getD, replicate, length-replicate}
 use borrow.Author.Tests.{lt-ltb, le-ltb, ltb-true}
-use Rattle.lists.specs.Below.{allBelow, firstBelow, joinBelow, tabulate}
-use Rattle.lists.specs.Stretch.{stretchOf}
-use Rattle.lists.proofs.Below.{all-at, first-all, first-stops, join-length}
-use Rattle.lists.proofs.Stretch.{stretch-join}
+use Rattle.sequences.specs.Below.{allBelow, firstBelow, joinBelow, tabulate}
+use Rattle.sequences.specs.Stretch.{stretchOf}
+use Rattle.sequences.proofs.Below.{all-at, first-all, first-stops, join-length}
+use Rattle.sequences.proofs.Stretch.{stretch-join}
 
 -- a search by what it found below n, and by the test of n
 before-cases : (f : ℕ → Bool) (n k : ℕ) (t b : Bool) → ltb (firstBelow f n) n ≡ t → f n ≡ b → (k < firstBelow f n → f k ≡ false)

@@ -10,10 +10,10 @@ use lib.Dec.{ltb}
 use lib.ListN.{length}
 use borrow.Author.Tests.{eq-eqb, le-ltb}
 use Rattle.layout.specs.Places.{mostComponents}
-use Rattle.lists.specs.Checks.{passes}
-use Rattle.lists.proofs.Below.{table-length}
-use Rattle.lists.proofs.Every.{every-none, every-more, inside-true}
-use Rattle.lists.proofs.Checks.{passes-all}
+use Rattle.sequences.specs.Checks.{passes}
+use Rattle.sequences.proofs.Below.{table-length}
+use Rattle.sequences.proofs.Every.{every-none, every-more, inside-true}
+use Rattle.sequences.proofs.Checks.{passes-all}
 use Rattle.lines.specs.Lines.{lineText}
 use Rattle.list_rules.specs.Head.{headLines, endWord}
 use Rattle.list_rules.specs.Fields.{fieldsFrom}

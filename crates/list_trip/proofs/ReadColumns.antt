@@ -10,10 +10,10 @@ use lib.Dec.{eqb}
 use lib.ListN.{length, getD, take, drop, replicate, length-drop}
 use lib.Seq.{length-take-le, take-all, take-add, take-suc, getD-drop, drop-cons}
 use borrow.Author.Tests.{eqb-true, le-leb, not-false}
-use Rattle.lists.specs.Below.{sumBelow, allBelow, joinBelow}
-use Rattle.lists.specs.Every.{inside}
-use Rattle.lists.proofs.Below.{all-at, first-all, sum-grows}
-use Rattle.lists.proofs.Every.{every-at, inside-facts}
+use Rattle.sequences.specs.Below.{sumBelow, allBelow, joinBelow}
+use Rattle.sequences.specs.Every.{inside}
+use Rattle.sequences.proofs.Below.{all-at, first-all, sum-grows}
+use Rattle.sequences.proofs.Every.{every-at, inside-facts}
 use Rattle.layout.specs.declared.Component.{Component}
 use Rattle.fund.proofs.Laws.{ComponentRanges}
 use Rattle.digits.specs.declared.Form.{Form}

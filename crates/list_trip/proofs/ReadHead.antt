@@ -10,9 +10,9 @@ use lib.Dec.{eqb}
 use lib.ListN.{length, getD, take, drop, length-take, length-drop, take-append-drop, drop-of-length-le}
 use lib.Seq.{length-take-le, split-at, getD-drop, drop-at}
 use borrow.Author.Tests.{lt-ltb, ne-eqb, eqb-true}
-use Rattle.lists.specs.Below.{allBelow}
-use Rattle.lists.specs.Every.{inside}
-use Rattle.lists.proofs.Every.{every-at, inside-true, inside-facts}
+use Rattle.sequences.specs.Below.{allBelow}
+use Rattle.sequences.specs.Every.{inside}
+use Rattle.sequences.proofs.Every.{every-at, inside-true, inside-facts}
 use Rattle.digits.specs.declared.Figure.{Figure}
 use Rattle.digits.specs.Digits.{cap, isNumber, numberText}
 use Rattle.lines.specs.Lines.{letterByte, allBytes, isNamed}

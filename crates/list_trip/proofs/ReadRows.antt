@@ -8,7 +8,7 @@ use lib.Dec.{eqb}
 use lib.ListN.{length, getD, take, drop, take-append-drop, drop-of-length-le}
 use lib.Seq.{take-add, drop-drop}
 use borrow.Author.Tests.{eqb-true}
-use Rattle.lists.specs.Below.{joinBelow, allBelow}
+use Rattle.sequences.specs.Below.{joinBelow, allBelow}
 use Rattle.lines.specs.Lines.{lineLen, ended, firstLine, nextAt, lineText, same}
 use Rattle.lines.proofs.Laws.{first-length, line-bytes, ended-split, same-is}
 use Rattle.list_rules.specs.Head.{headLines, endWord}

@@ -8,9 +8,9 @@ use native.Mathlib.Nat.{mul-comm}
 use lib.Dec.{ltb}
 use lib.ListN.{length, take, drop}
 use borrow.Author.Tests.{lt-ltb, ltb-true}
-use Rattle.lists.specs.Stretch.{stretchOf}
-use Rattle.lists.proofs.Below.{join-length, first-end}
-use Rattle.lists.proofs.Stretch.{stretch-join}
+use Rattle.sequences.specs.Stretch.{stretchOf}
+use Rattle.sequences.proofs.Below.{join-length, first-end}
+use Rattle.sequences.proofs.Stretch.{stretch-join}
 use Rattle.layout.specs.declared.Component.{Component}
 use Rattle.layout.specs.Components.{blank, componentAt, componentNumbers, placesOf}
 use Rattle.fund.specs.Components.{componentFault}

@@ -6,11 +6,11 @@ use Prim.Native.Nat.{ℕ, _≤_, _<_}
 use lib.Dec.{leb, ltb, eqb}
 use lib.ListN.{length}
 use borrow.Author.Tests.{leb-true, ltb-false, eqb-true, not-false}
-use Rattle.lists.specs.Every.{inside}
-use Rattle.lists.specs.Checks.{isAccepted, passes}
-use Rattle.lists.proofs.Below.{first-all, first-stops}
-use Rattle.lists.proofs.Every.{inside-facts}
-use Rattle.lists.proofs.Checks.{all-passed, passes-all}
+use Rattle.sequences.specs.Every.{inside}
+use Rattle.sequences.specs.Checks.{isAccepted, passes}
+use Rattle.sequences.proofs.Below.{first-all, first-stops}
+use Rattle.sequences.proofs.Every.{inside-facts}
+use Rattle.sequences.proofs.Checks.{all-passed, passes-all}
 use Rattle.layout.specs.Places.{mostComponents}
 use Rattle.fund.specs.Components.{componentFault}
 use Rattle.lines.specs.Lines.{nextAt, same}

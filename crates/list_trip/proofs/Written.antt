@@ -8,11 +8,11 @@ use native.Mathlib.Omega.{arith}
 use lib.Dec.{leb, ltb}
 use lib.ListN.{length}
 use borrow.Author.Tests.{lt-ltb, le-ltb, le-leb, eq-eqb}
-use Rattle.lists.specs.Below.{joinBelow}
-use Rattle.lists.specs.Checks.{check, reply, passes}
-use Rattle.lists.proofs.Every.{inside-true}
-use Rattle.lists.proofs.Checks.{passes-all, answered-passed, answered-next}
-use Rattle.lists.proofs.Stretch.{join-ext}
+use Rattle.sequences.specs.Below.{joinBelow}
+use Rattle.sequences.specs.Checks.{check, reply, passes}
+use Rattle.sequences.proofs.Every.{inside-true}
+use Rattle.sequences.proofs.Checks.{passes-all, answered-passed, answered-next}
+use Rattle.sequences.proofs.Stretch.{join-ext}
 use Rattle.fund.specs.Components.{componentFault}
 use Rattle.layout.specs.Places.{mostComponents, componentWidth}
 use Rattle.layout.specs.Components.{componentAt, componentNumbers, placesOf}

@@ -6,7 +6,7 @@ use native.Mathlib.Nat.{add-zero}
 use native.Mathlib.Omega.{arith}
 use lib.ListN.{length, getD, take, drop, length-append}
 use lib.Seq.{take-at, drop-at, getD-at, getD-take, getD-drop}
-use Rattle.lists.specs.Below.{joinBelow}
+use Rattle.sequences.specs.Below.{joinBelow}
 use Rattle.list_trip.proofs.WrittenLines.{parts-at}
 
 -- n columns, each with its bar

@@ -9,10 +9,10 @@ use lib.Dec.{leb}
 use lib.ListN.{length, getD, drop, length-append}
 use lib.Seq.{take-at, getD-at}
 use borrow.Author.Tests.{leb-true, lt-ltb, eq-eqb, ne-eqb}
-use Rattle.lists.specs.Below.{allBelow}
-use Rattle.lists.specs.Every.{inside}
-use Rattle.lists.proofs.Below.{all-at}
-use Rattle.lists.proofs.Every.{every-none, every-more}
+use Rattle.sequences.specs.Below.{allBelow}
+use Rattle.sequences.specs.Every.{inside}
+use Rattle.sequences.proofs.Below.{all-at}
+use Rattle.sequences.proofs.Every.{every-none, every-more}
 use Rattle.digits.specs.declared.Form.{Form}
 use Rattle.digits.specs.declared.Figure.{Figure}
 use Rattle.digits.specs.Digits.{numberText}

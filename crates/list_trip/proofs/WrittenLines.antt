@@ -8,7 +8,7 @@ use native.Mathlib.Nat.{le-step, lt-suc-self, not-suc-le-zero, eq-or-lt-of-le, l
 use native.Mathlib.Omega.{arith}
 use lib.ListN.{length, drop, length-append}
 use lib.Seq.{drop-at, drop-append-seam}
-use Rattle.lists.specs.Below.{joinBelow}
+use Rattle.sequences.specs.Below.{joinBelow}
 use Rattle.lines.specs.Lines.{lineLen, ended, firstLine, nextAt, lineText}
 use Rattle.lines.proofs.Laws.{noCR, noCR-append, length-lineText, line-written, ended-written, first-written}
 use Rattle.list_rules.specs.Reading.{startOf, lineOf, lineStands}

@@ -7,12 +7,12 @@ use native.Mathlib.Nat.{le-antisymm, mul-comm}
 use native.Mathlib.Omega.{arith}
 use lib.ListN.{length}
 use borrow.Author.Tests.{ltb-false, eqb-true, not-false}
-use Rattle.lists.specs.Checks.{passes}
-use Rattle.lists.specs.Stretch.{stretchOf}
-use Rattle.lists.proofs.Below.{first-le, first-all}
-use Rattle.lists.proofs.Every.{every-at, inside-facts}
-use Rattle.lists.proofs.Checks.{passed-all}
-use Rattle.lists.proofs.Stretch.{within, stretch-length}
+use Rattle.sequences.specs.Checks.{passes}
+use Rattle.sequences.specs.Stretch.{stretchOf}
+use Rattle.sequences.proofs.Below.{first-le, first-all}
+use Rattle.sequences.proofs.Every.{every-at, inside-facts}
+use Rattle.sequences.proofs.Checks.{passed-all}
+use Rattle.sequences.proofs.Stretch.{within, stretch-length}
 use Rattle.fund.specs.Components.{componentFault}
 use Rattle.layout.specs.Places.{mostComponents, componentWidth}
 use Rattle.layout.specs.Components.{componentAt, placesOf}

@@ -8,8 +8,8 @@ use native.Mathlib.Omega.{arith}
 use lib.Dec.{ltb, eqb}
 use lib.ListN.{length, getD, replicate, length-replicate}
 use borrow.Author.Tests.{ltb-true, eq-eqb, eqb-true}
-use Rattle.lists.specs.Below.{allBelow}
-use Rattle.lists.proofs.Below.{all-at, all-true, first-end}
+use Rattle.sequences.specs.Below.{allBelow}
+use Rattle.sequences.proofs.Below.{all-at, all-true, first-end}
 use Rattle.layout.specs.declared.Component.{Component}
 use Rattle.fund.proofs.Laws.{ComponentRanges}
 use Rattle.digits.specs.declared.Figure.{Figure}

@@ -8,7 +8,7 @@ use native.Mathlib.Omega.{arith}
 use lib.ListN.{length, take, drop, length-drop}
 use lib.Seq.{take-at, drop-drop}
 use lib.Dec.{ltb}
-use Rattle.lists.proofs.Below.{first-here, first-end}
+use Rattle.sequences.proofs.Below.{first-here, first-end}
 use Rattle.layout.specs.Components.{componentAt}
 use Rattle.lines.specs.Lines.{nextAt, lineText, same}
 use Rattle.lines.proofs.Laws.{noCR, same-refl, length-lineText}

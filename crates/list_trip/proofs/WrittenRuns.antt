@@ -9,10 +9,10 @@ use native.Mathlib.Omega.{arith}
 use lib.Dec.{ltb}
 use lib.ListN.{length, getD}
 use borrow.Author.Tests.{lt-ltb, le-ltb}
-use Rattle.lists.specs.Below.{tabulate}
-use Rattle.lists.specs.Stretch.{stretchOf}
-use Rattle.lists.proofs.Below.{table-length, table-at, table-ext}
-use Rattle.lists.proofs.Stretch.{within, stretch-length, stretch-at}
+use Rattle.sequences.specs.Below.{tabulate}
+use Rattle.sequences.specs.Stretch.{stretchOf}
+use Rattle.sequences.proofs.Below.{table-length, table-at, table-ext}
+use Rattle.sequences.proofs.Stretch.{within, stretch-length, stretch-at}
 use Rattle.layout.specs.Places.{mostComponents, componentWidth}
 use Rattle.layout.specs.declared.Component.{Component}
 use Rattle.layout.specs.Components.{blank, componentAt, componentNumbers, placesOf}

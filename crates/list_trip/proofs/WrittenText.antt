@@ -7,7 +7,7 @@ use native.Mathlib.Nat.{le-refl}
 use native.Mathlib.Omega.{arith}
 use lib.ListN.{length, drop}
 use lib.Seq.{drop-append-seam}
-use Rattle.lists.proofs.Below.{first-end}
+use Rattle.sequences.proofs.Below.{first-end}
 use Rattle.layout.specs.Components.{componentAt}
 use Rattle.digits.specs.declared.Figure.{Figure}
 use Rattle.digits.specs.Digits.{isNumber, figureOf, numberText}

@@ -5,9 +5,9 @@ use mathlib.Core.Path.{_≡_}
 use mathlib.Core.Bool.{true, cond}
 use mathlib.Core.List.{List, _++_}
 use lib.ListN.{length, drop}
-use Rattle.lists.specs.Below.{joinBelow}
-use Rattle.lists.specs.Every.{inside}
-use Rattle.lists.specs.Checks.{reply, isAccepted, passes}
+use Rattle.sequences.specs.Below.{joinBelow}
+use Rattle.sequences.specs.Every.{inside}
+use Rattle.sequences.specs.Checks.{reply, isAccepted, passes}
 use Rattle.layout.specs.Places.{componentWidth}
 use Rattle.lines.specs.Lines.{lineText}
 use Rattle.list_rules.specs.Head.{headLines, fieldName}

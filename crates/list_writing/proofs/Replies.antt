@@ -6,9 +6,9 @@ use Prim.Native.Nat.{ℕ, _*_, _≤_, min}
 use lib.Dec.{ltb}
 use lib.ListN.{length}
 use borrow.Author.Tests.{eqb-true, ltb-false}
-use Rattle.lists.specs.Checks.{reply, answered, passes, isAccepted}
-use Rattle.lists.proofs.Every.{every-at, inside-facts}
-use Rattle.lists.proofs.Checks.{passed-all, passes-all, answered-next, accepted-passes}
+use Rattle.sequences.specs.Checks.{reply, answered, passes, isAccepted}
+use Rattle.sequences.proofs.Every.{every-at, inside-facts}
+use Rattle.sequences.proofs.Checks.{passed-all, passes-all, answered-next, accepted-passes}
 use Rattle.fund.specs.Components.{componentFault}
 use Rattle.layout.specs.Places.{mostComponents, componentWidth}
 use Rattle.layout.specs.Components.{componentAt, placesOf}

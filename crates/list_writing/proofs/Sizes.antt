@@ -9,10 +9,10 @@ use native.Mathlib.Omega.{arith}
 use lib.Dec.{ltb, eqb}
 use lib.ListN.{length, length-append}
 use borrow.Author.Tests.{le-ltb, ne-eqb}
-use Rattle.lists.specs.Below.{tabulate}
-use Rattle.lists.specs.Checks.{passes}
-use Rattle.lists.proofs.Below.{table-at}
-use Rattle.lists.proofs.Every.{inside-facts}
+use Rattle.sequences.specs.Below.{tabulate}
+use Rattle.sequences.specs.Checks.{passes}
+use Rattle.sequences.proofs.Below.{table-at}
+use Rattle.sequences.proofs.Every.{inside-facts}
 use Rattle.layout.specs.Components.{componentAt}
 use Rattle.digits.specs.declared.Figure.{Figure}
 use Rattle.digits.specs.Digits.{plain, numberText}

@@ -5,7 +5,7 @@ use mathlib.Core.Bool.{Bool}
 use mathlib.Core.List.{List, [], _∷_}
 use lib.Dec.{eqb}
 use lib.ListN.{length}
-use Rattle.lists.specs.Every.{every, inside}
+use Rattle.sequences.specs.Every.{every, inside}
 use Rattle.layout.specs.Places.{componentWidth, mostComponents}
 use Rattle.list_rules.specs.declared.ListAnswer.{ListAnswer}
 use Rattle.list_rules.specs.Replies.{listReply}

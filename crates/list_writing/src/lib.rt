@@ -3,7 +3,7 @@ ghost use mathlib.Core.Path.{_≡_};
 ghost use mathlib.Core.Bool.{true};
 ghost use Prim.Native.Nat.{_*_, _≤_, min};
 ghost use lib.ListN.{length};
-ghost use Rattle.lists.specs.Checks.{passes};
+ghost use Rattle.sequences.specs.Checks.{passes};
 ghost use Rattle.layout.specs.Places.{mostComponents, componentWidth};
 ghost use Rattle.layout.specs.Components.{componentAt, placesOf};
 ghost use Rattle.fund.specs.Components.{componentFault};

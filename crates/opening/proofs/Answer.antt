@@ -8,8 +8,8 @@ use lib.Dec.{ltb}
 use lib.IntN.{natAbs}
 use lib.ListN.{length, replicate}
 use borrow.Author.Tests.{lt-ltb, le-ltb}
-use Rattle.lists.specs.Below.{joinBelow}
-use Rattle.lists.specs.Checks.{Check, check, reply, answered, isAccepted}
+use Rattle.sequences.specs.Below.{joinBelow}
+use Rattle.sequences.specs.Checks.{Check, check, reply, answered, isAccepted}
 use Rattle.digits.specs.Digits.{cap}
 use Rattle.fund.specs.Fund.{fundInRange}
 use Rattle.fund.proofs.Laws.{fund-sound, cash-size}

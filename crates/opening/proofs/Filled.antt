@@ -6,9 +6,9 @@ use native.Mathlib.Nat.{not-suc-le-zero}
 use native.Mathlib.Decide.{ℕ-discrete}
 use native.Mathlib.Omega.{arith}
 use lib.ListN.{length}
-use Rattle.lists.specs.Below.{joinBelow}
-use Rattle.lists.specs.Stretch.{stretchOf, putStretch}
-use Rattle.lists.proofs.Stretch.{within, put-length, stretch-put-same, stretch-put-other, join-ext}
+use Rattle.sequences.specs.Below.{joinBelow}
+use Rattle.sequences.specs.Stretch.{stretchOf, putStretch}
+use Rattle.sequences.proofs.Stretch.{within, put-length, stretch-put-same, stretch-put-other, join-ext}
 use Rattle.layout.specs.Book.{widthOf}
 use Rattle.rules.specs.Opening.{openedStretch}
 use Rattle.rules.proofs.OpenedDay.{opened-length}

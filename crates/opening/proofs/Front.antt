@@ -1,12 +1,12 @@
 -- An account's stretch as it fills from the front, three numbers at a time.
 use mathlib.Core.Path.{_≡_, sym, _∙_}
 use mathlib.Core.List.{List, [], _∷_, _++_}
-use Prim.Native.Nat.{ℕ, suc, _+_, _*_, _≤_, _<_}
+use Prim.Native.Nat.{ℕ, suc, _+_, _≤_, _<_}
 use native.Mathlib.Omega.{arith}
 use lib.ListN.{length, getD, take, drop, length-set, length-append}
 use lib.Seq.{sets-eq, take-at, take-all, length-take-le}
-use Rattle.lists.specs.Below.{joinBelow}
-use Rattle.lists.proofs.Below.{join-none, join-more}
+use Rattle.sequences.specs.Below.{joinBelow}
+use Rattle.sequences.proofs.Below.{join-none, join-more}
 use Rattle.layout.specs.Places.{lineWidth}
 use Rattle.layout.specs.Book.{widthOf, lineFrom}
 use Rattle.rules.specs.Opening.{cashOpened, heldOpened, openedStretch}

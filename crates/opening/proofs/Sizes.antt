@@ -3,7 +3,7 @@ use mathlib.Core.Path.{_≡_}
 use mathlib.Core.Bool.{true, false}
 use Prim.Native.Nat.{ℕ, _+_, _*_}
 use borrow.Author.Tests.{eq-eqb, eqb-true}
-use Rattle.lists.proofs.Every.{every-none, every-more, every-at, false-of}
+use Rattle.sequences.proofs.Every.{every-none, every-more, every-at, false-of}
 use Rattle.layout.specs.Places.{componentWidth, dayWidth}
 use Rattle.rules.specs.Opening.{lentSizesFit}
 use Rattle.rules.proofs.SoundDay.{DaySizes, sizes-true, sizes-facts}

@@ -7,10 +7,10 @@ use native.Mathlib.Omega.{arith}
 use lib.Dec.{ltb}
 use lib.ListN.{getD}
 use borrow.Author.Tests.{lt-ltb, le-ltb, ltb-true}
-use Rattle.lists.specs.Stretch.{over, stretchOf}
-use Rattle.lists.proofs.Below.{first-same, sum-same}
-use Rattle.lists.proofs.Every.{same-test}
-use Rattle.lists.proofs.Stretch.{stretch-at}
+use Rattle.sequences.specs.Stretch.{over, stretchOf}
+use Rattle.sequences.proofs.Below.{first-same, sum-same}
+use Rattle.sequences.proofs.Every.{same-test}
+use Rattle.sequences.proofs.Stretch.{stretch-at}
 use Rattle.totals.specs.Totals.{top, placeAt, total, cappedTotal}
 use Rattle.totals.proofs.Rows.{capped-is}
 use Rattle.rules.specs.Opening.{cashOpened, heldOpened, mostOfLine, mostCash, overAt, totalFault}

@@ -4,8 +4,8 @@ use mathlib.Core.Path.{_≡_}
 use mathlib.Core.Bool.{true}
 use mathlib.Core.List.{List}
 use lib.ListN.{getD, set}
-use Rattle.lists.specs.Checks.{isAccepted}
-use Rattle.lists.specs.Stretch.{stretchOf, over}
+use Rattle.sequences.specs.Checks.{isAccepted}
+use Rattle.sequences.specs.Stretch.{stretchOf, over}
 use Rattle.layout.specs.declared.Fund.{Fund}
 use Rattle.layout.specs.Day.{dayAt}
 use Rattle.rules.specs.declared.Answer.{Answer}

@@ -2,8 +2,8 @@
 ghost use mathlib.Core.Path.{_≡_};
 ghost use Prim.Native.Nat.{_+_, _*_, _≤_, _<_};
 ghost use lib.ListN.{length, replicate};
-ghost use Rattle.lists.specs.Below.{joinBelow};
-ghost use Rattle.lists.specs.Stretch.{stretchOf, putStretch};
+ghost use Rattle.sequences.specs.Below.{joinBelow};
+ghost use Rattle.sequences.specs.Stretch.{stretchOf, putStretch};
 ghost use Rattle.layout.specs.Places.{mostComponents};
 ghost use Rattle.layout.specs.Book.{widthOf};
 ghost use Rattle.rules.specs.Replies.{answerReply};

@@ -5,8 +5,8 @@ use Prim.Native.Nat.{ℕ, zero, suc, _+_, _*_, _≤_, _<_}
 use native.Mathlib.Omega.{arith}
 use lib.ListN.{length, getD, set, drop, length-set}
 use lib.Seq.{drop-cons, append-snoc, set-at}
-use Rattle.lists.specs.Below.{tabulate}
-use Rattle.lists.proofs.Below.{table-length}
+use Rattle.sequences.specs.Below.{tabulate}
+use Rattle.sequences.proofs.Below.{table-length}
 use Rattle.layout.specs.declared.Record.{Record}
 use Rattle.layout.specs.Places.{recordWidth}
 use Rattle.layout.specs.Records.{recordAt}

@@ -8,7 +8,7 @@ use native.Mathlib.Omega.{arith}
 use lib.Dec.{eqb}
 use lib.ListN.{length, drop}
 use lib.Seq.{drop-nil}
-use Rattle.lists.specs.Checks.{isAccepted}
+use Rattle.sequences.specs.Checks.{isAccepted}
 use Rattle.layout.specs.Places.{recordWidth}
 use Rattle.layout.specs.Day.{Day}
 use Rattle.layout.specs.declared.Record.{Record}

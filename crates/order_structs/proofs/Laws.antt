@@ -7,9 +7,9 @@ use native.Mathlib.Omega.{arith}
 use lib.Dec.{eqb, lit<}
 use lib.ListN.{length, getD, take, drop}
 use lib.Seq.{length-take-le, drop-append-seam}
-use Rattle.lists.specs.Below.{tabulate}
-use Rattle.lists.specs.Checks.{Reply, isAccepted, answered}
-use Rattle.lists.proofs.Below.{table-length, table-ext}
+use Rattle.sequences.specs.Below.{tabulate}
+use Rattle.sequences.specs.Checks.{Reply, isAccepted, answered}
+use Rattle.sequences.proofs.Below.{table-length, table-ext}
 use Rattle.layout.specs.Places.{recordWidth}
 use Rattle.layout.specs.Day.{Day}
 use Rattle.layout.specs.Book.{account}

@@ -7,8 +7,8 @@ use native.Mathlib.Omega.{arith}
 use lib.Dec.{ltb, eqb, lit≤}
 use lib.ListN.{length, length-append, length-map}
 use borrow.Author.Tests.{lt-ltb, le-ltb, ltb-true, ltb-false}
-use Rattle.lists.specs.Below.{joinBelow}
-use Rattle.lists.proofs.Below.{join-le}
+use Rattle.sequences.specs.Below.{joinBelow}
+use Rattle.sequences.proofs.Below.{join-le}
 use Rattle.units.specs.Units.{splitSize}
 use Rattle.layout.specs.Places.{mostComponents}
 use Rattle.layout.specs.Day.{Day}

@@ -2,7 +2,7 @@
 use Prim.Native.Nat.{ℕ, _+_, _≤_, min}
 use mathlib.Core.Path.{_≡_}
 use mathlib.Core.List.{List, []}
-use Rattle.lists.specs.Below.{tabulate}
+use Rattle.sequences.specs.Below.{tabulate}
 use Rattle.layout.specs.Places.{mostComponents}
 use Rattle.layout.specs.Day.{Day}
 use Rattle.layout.specs.Records.{recordAt}

@@ -3,7 +3,7 @@ use Prim.Native.Nat.{ℕ, _+_}
 use mathlib.Core.List.{List, _++_}
 use lib.ListN.{set, drop}
 use denote.Ref.{now, at-last}
-use Rattle.lists.specs.Below.{tabulate}
+use Rattle.sequences.specs.Below.{tabulate}
 use Rattle.layout.specs.declared.Record.{Record}
 use Rattle.layout.specs.Records.{recordAt}
 use Rattle.order_structs.specs.declared.Writer.{Writer}

@@ -6,9 +6,9 @@ use Prim.Native.Nat.{ℕ, _+_, _*_, _≤_, _<_}
 use native.Mathlib.Omega.{arith}
 use lib.ListN.{length}
 use borrow.Author.Tests.{not-false}
-use Rattle.lists.specs.Checks.{Check, reply, answered, isAccepted}
-use Rattle.lists.proofs.Checks.{all-passed}
-use Rattle.lists.proofs.Stretch.{within}
+use Rattle.sequences.specs.Checks.{Check, reply, answered, isAccepted}
+use Rattle.sequences.proofs.Checks.{all-passed}
+use Rattle.sequences.proofs.Stretch.{within}
 use Rattle.fund.proofs.Laws.{FundRanges, fund-sound}
 use Rattle.layout.specs.Day.{Day}
 use Rattle.rules.specs.declared.Ask.{Ask}
@@ -29,15 +29,15 @@ use Rattle.rules.proofs.Replies.{is-accepted, on-sound, stage-passed, stage-sto
 use Rattle.rules.proofs.Asked.{by-ask, asked-records, asked-moves}
 use Rattle.book.specs.Ready.{OrderReady}
 use Rattle.book.proofs.Ready.{creation-ready, redemption-ready}
-use Rattle.records.specs.Ready.{Writable}
-use Rattle.records.proofs.Sound.{sound-writable}
-use Rattle.means.specs.Tests.{meansAnswer}
-use Rattle.permission.specs.Form.{headOf, headSum, wholeUnits, limitsHeld, orderForm}
-use Rattle.permission.proofs.Laws.{order-form}
+use Rattle.order_records.specs.Ready.{Writable}
+use Rattle.order_records.proofs.Sound.{sound-writable}
+use Rattle.order_tests.specs.Tests.{meansAnswer}
+use Rattle.order_form.specs.Form.{headOf, headSum, wholeUnits, limitsHeld, orderForm}
+use Rattle.order_form.proofs.Laws.{order-form}
 use Rattle.value.specs.Worth.{Priceable}
 use Rattle.value.proofs.Laws.{priceable}
-use Rattle.scan.specs.Ready.{Scannable}
-use Rattle.scan.proofs.Ready.{scannable}
+use Rattle.order_scan.specs.Ready.{Scannable}
+use Rattle.order_scan.proofs.Ready.{scannable}
 use Rattle.trades.proofs.Laws.{sound-fits}
 use Rattle.orders.specs.Orders.{askedAnswer, Formed}
 

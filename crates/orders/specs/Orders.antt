@@ -3,12 +3,12 @@ use Prim.Native.Nat.{ℕ, _<_}
 use mathlib.Core.Path.{_≡_}
 use mathlib.Core.Bool.{true}
 use mathlib.Core.List.{List}
-use Rattle.lists.specs.Checks.{Reply, reply, answered}
+use Rattle.sequences.specs.Checks.{Reply, reply, answered}
 use Rattle.layout.specs.Day.{Day}
 use Rattle.rules.specs.declared.Ask.{Ask}
 use Rattle.rules.specs.Sound.{isSound}
 use Rattle.rules.specs.Kinds.{askedChecks, askedCount}
-use Rattle.permission.specs.Form.{orderForm}
+use Rattle.order_form.specs.Form.{orderForm}
 
 -- the answer, after 5
 unfoldable pub askedAnswer : Day → List ℕ → List ℕ → Ask → ℕ → Reply

@@ -3,7 +3,7 @@ ghost use mathlib.Core.Path.{_≡_};
 ghost use mathlib.Core.Bool.{true};
 ghost use Prim.Native.Nat.{_+_, _*_, _≤_, _<_};
 ghost use lib.ListN.{length};
-ghost use Rattle.lists.specs.Stretch.{stretchOf};
+ghost use Rattle.sequences.specs.Stretch.{stretchOf};
 ghost use Rattle.layout.specs.Places.{basketWidth, mostComponents};
 ghost use Rattle.layout.specs.Day.{dayOf};
 ghost use Rattle.layout.specs.Book.{widthOf, account};
@@ -12,10 +12,10 @@ ghost use Rattle.rules.specs.Sound.{isSound};
 ghost use Rattle.rules.specs.Orders.{baskets};
 ghost use Rattle.layout.specs.Records.{roomIn, withRecords};
 ghost use Rattle.rules.specs.Kinds.{noCash, askedCash, askedRecords, askedMoves};
-ghost use Rattle.means.specs.Tests.{meansAnswer};
+ghost use Rattle.order_tests.specs.Tests.{meansAnswer};
 ghost use Rattle.orders.specs.Orders.{askedAnswer, Formed};
 use layout::DayHead;
-use means::Tested;
+use order_tests::Tested;
 use rules::Answer;
 use rules::Ask;
 use rules::OrderAnswer;
@@ -52,7 +52,7 @@ fn order_stage(
     let n = d.count;
     let stretch = part_of(book, n, ask.account);
     let fund = part_of(book, n, FUND);
-    means::order_means(d, basket, stretch, fund, prices, ask, m, room)
+    order_tests::order_means(d, basket, stretch, fund, prices, ask, m, room)
 }
 
 // The tests of an order of `m` baskets.
@@ -71,9 +71,9 @@ fn tested_in(
     ensures cash { λ r. ⌜ r .cash ≡ ifAccepted (askedAnswer (dayOf d (now (basket .entry))) (now (book .entry)) (now (prices .entry)) ask room) (askedCash (dayOf d (now (basket .entry))) (account (dayOf d (now (basket .entry))) (now (book .entry)) (ask .account)) (now (prices .entry)) ask) noCash ⌝ }
 {
     let fund = d.fund;
-    match permission::order_form(d.accounts, d.count, fund, book, ask, m) {
+    match order_form::order_form(d.accounts, d.count, fund, book, ask, m) {
         Answer::Done => order_stage(d, basket, book, prices, ask, m, room),
-        Answer::Refused(why) => means::turned_back(why),
+        Answer::Refused(why) => order_tests::turned_back(why),
     }
 }
 
@@ -124,7 +124,7 @@ pub fn order(
     let cash = t.cash;
     match answer {
         OrderAnswer::Made(count) => {
-            settlement::settle(ask, d, basket, book, m, cash, list);
+            order_settlement::settle(ask, d, basket, book, m, cash, list);
             OrderAnswer::Made(count)
         }
         OrderAnswer::Refused(why) => OrderAnswer::Refused(why),

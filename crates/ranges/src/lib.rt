@@ -4,7 +4,7 @@ ghost use mathlib.Core.List.{[], _∷_};
 ghost use mathlib.Core.Bool.{_||_};
 ghost use Prim.Native.Nat.{_+_, _-_, _/_, _%_, _<_};
 ghost use lib.Dec.{eqb};
-ghost use Rattle.lists.specs.Every.{every, inside};
+ghost use Rattle.sequences.specs.Every.{every, inside};
 ghost use Rattle.rules.specs.Trade.{isInvestor};
 ghost use Rattle.rules.specs.Orders.{mostBaskets, withinLimit};
 

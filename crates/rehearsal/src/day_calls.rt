@@ -1,8 +1,8 @@
 // Lines that are calls: each is made and its answer printed.
+use answers::Numbers;
 use commands::command;
 use commands::command::Command;
-use items::runs;
-use numbers::Numbers;
+use program_io::runs;
 use rehearsal_state::places;
 use rehearsal_state::printing;
 use rehearsal_state::session;
@@ -72,7 +72,7 @@ pub fn open(
         &mut book[..b],
         &mut prices[..p],
     );
-    after_opening(s, numbers::of_answer(answer), b, p)
+    after_opening(s, answers::of_answer(answer), b, p)
 }
 
 fn price(
@@ -84,7 +84,7 @@ fn price(
     prices: &mut [u64],
 ) -> Session {
     let answer = day::price(day, book, prices, line, price);
-    printing::answer(s, b"price", numbers::of_answer(answer))
+    printing::answer(s, b"price", answers::of_answer(answer))
 }
 
 fn trade(
@@ -101,12 +101,12 @@ fn trade(
     let from = seller as usize;
     let to = buyer as usize;
     let answer = day::trade(day, book, prices, line, quantity, price, from, to);
-    printing::answer(s, b"trade", numbers::of_answer(answer))
+    printing::answer(s, b"trade", answers::of_answer(answer))
 }
 
 fn value(s: Session, day: &[u64], book: &[u64], prices: &[u64]) -> Session {
     let answer = day::reference_value(day, book, prices);
-    printing::value(s, numbers::of_value(answer))
+    printing::value(s, answers::of_value(answer))
 }
 
 // How many numbers of a list have room for so many records. More than any order has are as good as these.
@@ -157,7 +157,7 @@ fn order(
     let mut list = [0u64; MOST_LIST];
     let a = account as usize;
     let answer = order_answer(is_creation, a, units, room, day, book, prices, &mut list);
-    print_order(s, is_creation, numbers::of_order(answer), &list)
+    print_order(s, is_creation, answers::of_order(answer), &list)
 }
 
 // The line that a call names by its code.

@@ -7,11 +7,11 @@ mod day_calls;
 use commands::command;
 use commands::command::Command;
 use commands::reading;
-use items::input::Cursor;
-use items::output;
-use items::runs;
 use list_rules::ListAnswer;
 use list_rules::ListFields;
+use program_io::input::Cursor;
+use program_io::output;
+use program_io::runs;
 use rehearsal_state::given;
 use rehearsal_state::places;
 use rehearsal_state::printing;
@@ -184,7 +184,7 @@ fn rehearse_list(text: &[u8], piece: &mut [u8], cursor: Cursor) {
         }
         ListAnswer::Refused(why) => {
             output::text(b"list");
-            printing::refusal(numbers::of_refusal(why));
+            printing::refusal(answers::of_refusal(why));
             output::end_line();
         }
     }

@@ -2,7 +2,7 @@
 use crate::places;
 use crate::printing;
 use crate::session::Session;
-use items::runs;
+use program_io::runs;
 
 fn put(held: &mut [u64], at: usize, x: u64) {
     if at < held.len() {

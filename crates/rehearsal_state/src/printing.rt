@@ -1,9 +1,9 @@
 // What is printed: answers, records, money.
 use crate::session;
 use crate::session::Session;
+use answers::Numbers;
 use commands::command;
-use items::output;
-use numbers::Numbers;
+use program_io::output;
 
 // The last digit of a number.
 fn digit(x: u64) -> u8 {

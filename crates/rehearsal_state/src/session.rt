@@ -1,6 +1,6 @@
 // Where a rehearsal stands: its list, what opening is to take, the day, and what was counted.
-use items::input::Cursor;
 use layout::Fund;
+use program_io::input::Cursor;
 
 pub struct Session {
     // Of the list.

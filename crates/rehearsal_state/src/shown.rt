@@ -2,9 +2,9 @@
 use crate::places;
 use crate::printing;
 use crate::session::Session;
-use items::output;
-use items::runs;
 use lots::Lots;
+use program_io::output;
+use program_io::runs;
 
 // The line's code and its three lots, where one is above 0.
 fn show_line(s: Session, components: &[u64], line: usize, lots: Lots) {

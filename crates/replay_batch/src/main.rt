@@ -1,14 +1,14 @@
-// Plays days through the driver: a day's calls are one list of rows, made by `run::run` and once more, from the same book,
-// prices, records and answers, by `run::run_public`. `scripts/batch_text.py` writes the items, and what is to be printed.
+// Plays days through the driver: a day's calls are one list of rows, made by `driver::run` and once more, from the same book,
+// prices, records and answers, by `driver::run_public`. `scripts/batch_text.py` writes the items, and what is to be printed.
+use answers::Numbers;
 use day_items::replies;
 use day_items::state;
 use day_items::state::Session;
-use items::input;
-use items::input::Item;
-use items::input::Stage;
-use items::output;
-use items::runs;
-use numbers::Numbers;
+use program_io::input;
+use program_io::input::Item;
+use program_io::input::Stage;
+use program_io::output;
+use program_io::runs;
 use rules::Answer;
 
 // Tags of items.
@@ -70,9 +70,9 @@ fn answer_of(
     answers: &mut [u64],
 ) -> Answer {
     if is_public {
-        return run::run_public(day, book, prices, rows, records, answers);
+        return driver::run_public(day, book, prices, rows, records, answers);
     }
-    run::run(day, book, prices, rows, records, answers)
+    driver::run(day, book, prices, rows, records, answers)
 }
 
 // Makes the calls on as much of the records and the answers as is lent to them.
@@ -97,7 +97,7 @@ fn drive(
         &mut records[..n],
         &mut answers[..m],
     );
-    numbers::of_answer(answer)
+    answers::of_answer(answer)
 }
 
 // Makes the calls with records and answers that hold other numbers, and copies all that is left.

@@ -1,4 +1,4 @@
 // Plays the test vectors of its standard input: openings, whole days, and calls on days that are broken.
 fn main() {
-    replayer::run();
+    program_replay::run();
 }

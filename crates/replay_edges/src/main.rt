@@ -1,4 +1,4 @@
 // Plays the edges of its standard input: the ends of the ranges, refusals that meet, and a day of full size.
 fn main() {
-    replayer::run();
+    program_replay::run();
 }

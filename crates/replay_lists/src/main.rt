@@ -1,4 +1,4 @@
 // Writes the lists of its standard input: those of the test vectors, and lists at the edges of the paper.
 fn main() {
-    texts::run();
+    program_texts::run();
 }

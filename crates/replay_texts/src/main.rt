@@ -1,4 +1,4 @@
 // Reads the list texts of its standard input: those of the test vectors, and texts at the edges of the paper.
 fn main() {
-    texts::run();
+    program_texts::run();
 }

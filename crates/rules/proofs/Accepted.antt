@@ -7,11 +7,11 @@ use native.Mathlib.Omega.{arith}
 use lib.Dec.{leb, eqb}
 use lib.ListN.{length}
 use borrow.Author.Tests.{leb-true, ltb-false, leb-false, eqb-true, eqb-false, not-false}
-use Rattle.lists.specs.Every.{inside}
-use Rattle.lists.specs.Checks.{isAccepted}
-use Rattle.lists.proofs.Below.{first-all, first-stops}
-use Rattle.lists.proofs.Every.{every-at, inside-facts}
-use Rattle.lists.proofs.Checks.{all-passed, accepted-value}
+use Rattle.sequences.specs.Every.{inside}
+use Rattle.sequences.specs.Checks.{isAccepted}
+use Rattle.sequences.proofs.Below.{first-all, first-stops}
+use Rattle.sequences.proofs.Every.{every-at, inside-facts}
+use Rattle.sequences.proofs.Checks.{all-passed, accepted-value}
 use Rattle.lots.specs.Lots.{sellable}
 use Rattle.fund.specs.Fund.{ceiling, limitOf, cumulativeLimit, cumulativeLimitEach, netLimit, netLimitEach}
 use Rattle.layout.specs.Day.{Day}

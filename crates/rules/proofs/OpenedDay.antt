@@ -6,14 +6,14 @@ use Prim.Native.Nat.{ℕ, suc, _+_, _*_, _<_}
 use native.Mathlib.Nat.{add-zero}
 use native.Mathlib.Omega.{arith}
 use lib.ListN.{length, getD, replicate, length-replicate, getD-replicate}
-use Rattle.lists.specs.Below.{joinBelow}
-use Rattle.lists.specs.Checks.{isAccepted}
+use Rattle.sequences.specs.Below.{joinBelow}
+use Rattle.sequences.specs.Checks.{isAccepted}
 use borrow.Author.Tests.{eqb-true}
-use Rattle.lists.specs.Stretch.{stretchOf, over}
-use Rattle.lists.proofs.Below.{join-length, sum-same, sum-zero}
-use Rattle.lists.proofs.Every.{every-at}
-use Rattle.lists.proofs.Checks.{all-passed}
-use Rattle.lists.proofs.Stretch.{stretch-join, stretch-at}
+use Rattle.sequences.specs.Stretch.{stretchOf, over}
+use Rattle.sequences.proofs.Below.{join-length, sum-same, sum-zero}
+use Rattle.sequences.proofs.Every.{every-at}
+use Rattle.sequences.proofs.Checks.{all-passed}
+use Rattle.sequences.proofs.Stretch.{stretch-join, stretch-at}
 use Rattle.lots.specs.declared.Lots.{Lots}
 use Rattle.lots.specs.Lots.{lotsTotal}
 use Rattle.lots.proofs.Laws.{lots, lots-eq}

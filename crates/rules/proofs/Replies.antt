@@ -4,8 +4,8 @@ use mathlib.Core.Bool.{true, false}
 use mathlib.Core.List.{List, _++_}
 use Prim.Native.Nat.{ℕ}
 use lib.Dec.{T}
-use Rattle.lists.specs.Checks.{Check, Reply, reply, isAccepted, answered}
-use Rattle.lists.proofs.Checks.{numbered, answered-next, answered-stop, accepted-passes, refused-stops}
+use Rattle.sequences.specs.Checks.{Check, Reply, reply, isAccepted, answered}
+use Rattle.sequences.proofs.Checks.{numbered, answered-next, answered-stop, accepted-passes, refused-stops}
 use Rattle.layout.specs.Day.{Day}
 use Rattle.rules.specs.declared.Refusal.{Refusal}
 use Rattle.rules.specs.declared.Refusal.the-variants.{Sizes, FundField, Component, Total, UnsoundDay, NoSuchLine, QuantityOrPrice, Account, ShortOfStock, ShortOfCash}

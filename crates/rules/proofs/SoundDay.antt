@@ -8,10 +8,10 @@ use native.Mathlib.Omega.{arith}
 use lib.Dec.{leb, ltb, eqb}
 use lib.ListN.{length}
 use borrow.Author.Tests.{le-leb, leb-true, lt-ltb, le-ltb, ltb-false, eq-eqb, ne-eqb, eqb-true, not-false}
-use Rattle.lists.specs.Below.{allBelow}
-use Rattle.lists.proofs.Below.{all-at, all-true, first-all, first-end, first-stops}
-use Rattle.lists.proofs.Every.{every-at, every-more, every-none, inside-facts, inside-true}
-use Rattle.lists.proofs.Checks.{Passed, passed-all, passes-all, passed-each, passed-both}
+use Rattle.sequences.specs.Below.{allBelow}
+use Rattle.sequences.proofs.Below.{all-at, all-true, first-all, first-end, first-stops}
+use Rattle.sequences.proofs.Every.{every-at, every-more, every-none, inside-facts, inside-true}
+use Rattle.sequences.proofs.Checks.{Passed, passed-all, passes-all, passed-each, passed-both}
 use Rattle.layout.specs.Places.{mostComponents, linesFrom}
 use Rattle.layout.specs.declared.Fund.{Fund}
 use Rattle.layout.specs.declared.Component.{Component}

@@ -7,10 +7,10 @@ use native.Mathlib.Omega.{arith}
 use lib.Dec.{ltb}
 use lib.ListN.{length, getD, drop}
 use borrow.Author.Tests.{ltb-false}
-use Rattle.lists.specs.Below.{sumBelow, joinBelow}
-use Rattle.lists.specs.Same.{whenSame}
-use Rattle.lists.proofs.Below.{sum-head, sum-none, sum-only, sum-same, cond-le}
-use Rattle.lists.proofs.Same.{when-same, when-other}
+use Rattle.sequences.specs.Below.{sumBelow, joinBelow}
+use Rattle.sequences.specs.Same.{whenSame}
+use Rattle.sequences.proofs.Below.{sum-head, sum-none, sum-only, sum-same, cond-le}
+use Rattle.sequences.proofs.Same.{when-same, when-other}
 use Rattle.fund.specs.Components.{componentFault}
 use Rattle.fund.proofs.Laws.{components-fine, outside-codes, codes-differ}
 use Rattle.layout.specs.Day.{Day}

@@ -6,10 +6,10 @@ use mathlib.Core.List.{List, [], _∷_, _++_}
 use lib.Dec.{eqb}
 use lib.IntN.{negsuc}
 use lib.ListN.{replicate}
-use Rattle.lists.specs.Below.{sumBelow, anyBelow, allBelow, firstBelow, joinBelow, tabulate}
-use Rattle.lists.specs.Every.{every, inside}
-use Rattle.lists.specs.Checks.{Reply, answered, passes, isAccepted}
-use Rattle.lists.specs.Stretch.{stretchOf, over}
+use Rattle.sequences.specs.Below.{sumBelow, anyBelow, allBelow, firstBelow, joinBelow, tabulate}
+use Rattle.sequences.specs.Every.{every, inside}
+use Rattle.sequences.specs.Checks.{Reply, answered, passes, isAccepted}
+use Rattle.sequences.specs.Stretch.{stretchOf, over}
 use Rattle.units.specs.Units.{rounded, premium, discount, ratioBound}
 use Rattle.flags.specs.Table.{flagTable, entry}
 use Rattle.fund.specs.Fund.{cashInRange, limitInRange, limitsInRange, fundInRange, limitOf}

@@ -4,10 +4,10 @@ use mathlib.Core.Bool.{Bool, cond, not, _&&_}
 use mathlib.Core.List.{List, [], _∷_, _++_}
 use lib.Dec.{ltb}
 use lib.ListN.{length}
-use Rattle.lists.specs.Below.{sumBelow, anyBelow, firstBelow}
-use Rattle.lists.specs.Every.{every}
-use Rattle.lists.specs.Checks.{Check, check, Reply, answered}
-use Rattle.lists.specs.Stretch.{onStretch}
+use Rattle.sequences.specs.Below.{sumBelow, anyBelow, firstBelow}
+use Rattle.sequences.specs.Every.{every}
+use Rattle.sequences.specs.Checks.{Check, check, Reply, answered}
+use Rattle.sequences.specs.Stretch.{onStretch}
 use Rattle.units.specs.Units.{premium, ratioBound}
 use Rattle.lots.specs.Lots.{handInOf, getOf, takeInOf, handable}
 use Rattle.layout.specs.Day.{Day}

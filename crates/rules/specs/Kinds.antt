@@ -5,8 +5,8 @@ use mathlib.Core.Bool.{cond}
 use mathlib.Core.List.{List}
 use lib.Dec.{eqb}
 use lib.ListN.{length}
-use Rattle.lists.specs.Checks.{Check, Reply, answered}
-use Rattle.lists.specs.Stretch.{onStretch}
+use Rattle.sequences.specs.Checks.{Check, Reply, answered}
+use Rattle.sequences.specs.Stretch.{onStretch}
 use Rattle.lots.specs.declared.Lots.{Lots}
 use Rattle.lots.specs.Lots.{handInOf, getOf, takeInOf, payOutOf}
 use Rattle.layout.specs.Day.{Day}

@@ -4,10 +4,10 @@ use mathlib.Core.Bool.{Bool, cond, not, _||_}
 use mathlib.Core.List.{List, [], _∷_, _++_}
 use lib.Dec.{ltb, eqb}
 use lib.ListN.{length, getD, replicate}
-use Rattle.lists.specs.Below.{firstBelow, joinBelow}
-use Rattle.lists.specs.Every.{every, inside}
-use Rattle.lists.specs.Checks.{Check, check, Reply, answered}
-use Rattle.lists.specs.Stretch.{stretchOf, over}
+use Rattle.sequences.specs.Below.{firstBelow, joinBelow}
+use Rattle.sequences.specs.Every.{every, inside}
+use Rattle.sequences.specs.Checks.{Check, check, Reply, answered}
+use Rattle.sequences.specs.Stretch.{stretchOf, over}
 use Rattle.layout.specs.declared.Fund.{Fund}
 use Rattle.layout.specs.declared.Component.{Component}
 use Rattle.fund.specs.Fund.{fundInRange}

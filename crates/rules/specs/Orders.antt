@@ -3,9 +3,9 @@ use Prim.Native.Nat.{ℕ, _+_, _-_, _*_, _/_, _%_}
 use mathlib.Core.Bool.{Bool, cond, not, _||_}
 use mathlib.Core.List.{List, [], _∷_}
 use lib.Dec.{leb, eqb}
-use Rattle.lists.specs.Below.{sumBelow}
-use Rattle.lists.specs.Every.{every, inside}
-use Rattle.lists.specs.Checks.{Check, check}
+use Rattle.sequences.specs.Below.{sumBelow}
+use Rattle.sequences.specs.Every.{every, inside}
+use Rattle.sequences.specs.Checks.{Check, check}
 use Rattle.lots.specs.declared.Lots.{Lots}
 use Rattle.fund.specs.Fund.{ceiling, limitOf, cumulativeLimit, cumulativeLimitEach, netLimit, netLimitEach}
 use Rattle.layout.specs.Day.{Day}

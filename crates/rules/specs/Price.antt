@@ -4,8 +4,8 @@ use mathlib.Core.Bool.{not}
 use mathlib.Core.List.{List, [], _∷_}
 use lib.Dec.{leb}
 use lib.ListN.{set}
-use Rattle.lists.specs.Every.{inside}
-use Rattle.lists.specs.Checks.{Check, check, Reply, answered}
+use Rattle.sequences.specs.Every.{inside}
+use Rattle.sequences.specs.Checks.{Check, check, Reply, answered}
 use Rattle.layout.specs.Day.{Day}
 use Rattle.rules.specs.Replies.{ifAccepted}
 use Rattle.rules.specs.Sound.{onSoundDay, mostPrice}

@@ -3,7 +3,7 @@ use Prim.Native.Nat.{ℕ, _+_, _*_, _/_, _%_}
 use mathlib.Core.Bool.{cond}
 use mathlib.Core.List.{List, [], _∷_, _++_, map}
 use lib.Dec.{ltb, eqb}
-use Rattle.lists.specs.Below.{joinBelow}
+use Rattle.sequences.specs.Below.{joinBelow}
 use Rattle.units.specs.Units.{splitSize}
 use Rattle.layout.specs.Day.{Day}
 use Rattle.layout.specs.declared.Record.{Record}

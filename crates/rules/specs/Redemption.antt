@@ -4,9 +4,9 @@ use mathlib.Core.Bool.{Bool, cond}
 use mathlib.Core.List.{List, [], _∷_, _++_}
 use lib.Dec.{ltb}
 use lib.ListN.{length}
-use Rattle.lists.specs.Below.{firstBelow}
-use Rattle.lists.specs.Checks.{Check, check, Reply, answered}
-use Rattle.lists.specs.Stretch.{onStretch}
+use Rattle.sequences.specs.Below.{firstBelow}
+use Rattle.sequences.specs.Checks.{Check, check, Reply, answered}
+use Rattle.sequences.specs.Stretch.{onStretch}
 use Rattle.units.specs.Units.{discount}
 use Rattle.lots.specs.Lots.{handInOf, getOf, payOutOf, handable}
 use Rattle.layout.specs.Day.{Day}

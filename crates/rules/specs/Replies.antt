@@ -1,6 +1,6 @@
 -- "Calls and what turns them back": the paper's number, place and value for every answer.
 use mathlib.Core.Bool.{cond}
-use Rattle.lists.specs.Checks.{Reply, reply, isAccepted}
+use Rattle.sequences.specs.Checks.{Reply, reply, isAccepted}
 use Rattle.rules.specs.declared.Refusal.{Refusal}
 use Rattle.rules.specs.declared.Refusal.the-variants.{Sizes, FundField, Component, Total, UnsoundDay, NoSuchLine, QuantityOrPrice, Account, ShortOfStock, ShortOfCash}
 use Rattle.rules.specs.declared.Refusal.the-variants.{NotWholeBaskets, Switch, Limit, NoReferenceValue, CashRatio, ListTooShort, FundShort, TextLine, TextField, RecordCount}

@@ -4,9 +4,9 @@ use mathlib.Core.Bool.{Bool, not}
 use mathlib.Core.List.{List, [], _∷_}
 use lib.Dec.{leb, eqb}
 use lib.ListN.{length}
-use Rattle.lists.specs.Below.{allBelow}
-use Rattle.lists.specs.Every.{every}
-use Rattle.lists.specs.Checks.{Check, check, passes}
+use Rattle.sequences.specs.Below.{allBelow}
+use Rattle.sequences.specs.Every.{every}
+use Rattle.sequences.specs.Checks.{Check, check, passes}
 use Rattle.fund.specs.Fund.{ceiling}
 use Rattle.layout.specs.Day.{Day}
 use Rattle.layout.specs.Book.{cash, created, redeemed, headAt, lotsAt, account, headTotal, lineTotal}

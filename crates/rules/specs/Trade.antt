@@ -3,9 +3,9 @@ use Prim.Native.Nat.{ℕ, _+_, _-_, _*_}
 use mathlib.Core.Bool.{Bool, not}
 use mathlib.Core.List.{List, [], _∷_}
 use lib.Dec.{ltb, eqb}
-use Rattle.lists.specs.Every.{inside}
-use Rattle.lists.specs.Checks.{Check, check, Reply, answered}
-use Rattle.lists.specs.Stretch.{stretchOf, onStretch}
+use Rattle.sequences.specs.Every.{inside}
+use Rattle.sequences.specs.Checks.{Check, check, Reply, answered}
+use Rattle.sequences.specs.Stretch.{stretchOf, onStretch}
 use Rattle.lots.specs.Lots.{sellOf, buyOf, sellable}
 use Rattle.layout.specs.Day.{Day}
 use Rattle.rules.specs.Replies.{ifAccepted}

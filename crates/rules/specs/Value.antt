@@ -4,9 +4,9 @@ use mathlib.Core.Bool.{Bool, cond, not}
 use mathlib.Core.List.{List, [], _∷_}
 use lib.Dec.{leb, ltb, eqb}
 use lib.IntN.{ℤ, pos, negsuc}
-use Rattle.lists.specs.Below.{sumBelow, anyBelow}
-use Rattle.lists.specs.Every.{every}
-use Rattle.lists.specs.Checks.{Check, check, Reply, answered}
+use Rattle.sequences.specs.Below.{sumBelow, anyBelow}
+use Rattle.sequences.specs.Every.{every}
+use Rattle.sequences.specs.Checks.{Check, check, Reply, answered}
 use Rattle.units.specs.Units.{rounded}
 use Rattle.layout.specs.Day.{Day}
 use Rattle.rules.specs.Lines.{quantity, isPriced, creationAmount, priceOf}

@@ -1,5 +1,5 @@
 // What the day is given: holdings and prices, by the codes of its components.
-use items::runs;
+use program_io::runs;
 use rules::Answer;
 
 // Ample cash, in thousandths of a yuan, and ample stock.

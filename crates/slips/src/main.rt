@@ -3,10 +3,10 @@
 mod given;
 mod printed;
 
-use items::output;
-use items::runs;
 use list_rules::ListAnswer;
 use list_rules::ListFields;
+use program_io::output;
+use program_io::runs;
 use rules::Answer;
 use rules::OrderAnswer;
 

@@ -1,5 +1,5 @@
 // What is printed: records, and a refusal.
-use items::output;
+use program_io::output;
 use rules::Refusal;
 
 // The units twice, a record of each component, and of the cash of each kind two.
@@ -67,7 +67,7 @@ pub fn records(list: &[u64], count: usize) {
 }
 
 pub fn refusal(why: Refusal) {
-    let r = numbers::of_refusal(why);
+    let r = answers::of_refusal(why);
     output::text(b"refused");
     output::number(r.number);
     output::number(r.place);

@@ -9,11 +9,11 @@ use native.Mathlib.Omega.{arith}
 use lib.Dec.{leb}
 use lib.ListN.{length, getD}
 use borrow.Author.Tests.{le-leb, leb-true}
-use Rattle.lists.specs.Below.{sumBelow, allBelow}
-use Rattle.lists.specs.Stretch.{over}
-use Rattle.lists.proofs.Below.{first-same, sum-same, all-at, all-true}
-use Rattle.lists.proofs.Every.{false-of}
-use Rattle.lists.proofs.Stretch.{stretch-at}
+use Rattle.sequences.specs.Below.{sumBelow, allBelow}
+use Rattle.sequences.specs.Stretch.{over}
+use Rattle.sequences.proofs.Below.{first-same, sum-same, all-at, all-true}
+use Rattle.sequences.proofs.Every.{false-of}
+use Rattle.sequences.proofs.Stretch.{stretch-at}
 use Rattle.fund.specs.Fund.{ceiling, fundInRange}
 use Rattle.layout.specs.Places.{mostComponents}
 use Rattle.layout.specs.declared.Component.{Component}

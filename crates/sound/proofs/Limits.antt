@@ -8,9 +8,9 @@ use lib.Dec.{ltb}
 use lib.ListN.{getD}
 use borrow.Author.Tests.{le-leb, leb-true, lt-ltb, le-ltb, eq-eqb, eqb-true}
 use Rattle.totals.specs.Totals.{top}
-use Rattle.lists.proofs.Below.{all-at, all-true, cond-le}
-use Rattle.lists.proofs.Every.{every-at, every-more, every-none, false-of}
-use Rattle.lists.proofs.Stretch.{within}
+use Rattle.sequences.proofs.Below.{all-at, all-true, cond-le}
+use Rattle.sequences.proofs.Every.{every-at, every-more, every-none, false-of}
+use Rattle.sequences.proofs.Stretch.{within}
 use Rattle.fund.specs.Fund.{ceiling}
 use Rattle.layout.specs.Book.{cash, created, redeemed, widthOf, lineFrom}
 use Rattle.rules.specs.Opening.{mostOfLine, mostCash, daySizesFit}

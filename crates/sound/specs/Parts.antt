@@ -4,8 +4,8 @@ use mathlib.Core.List.{List, [], _∷_}
 use Prim.Native.Nat.{ℕ, _+_, _-_}
 use lib.Dec.{leb, ltb, eqb}
 use lib.ListN.{getD}
-use Rattle.lists.specs.Below.{allBelow}
-use Rattle.lists.specs.Every.{every}
+use Rattle.sequences.specs.Below.{allBelow}
+use Rattle.sequences.specs.Every.{every}
 use Rattle.fund.specs.Fund.{ceiling}
 use Rattle.layout.specs.Book.{cash, created, redeemed, lineFrom}
 use Rattle.rules.specs.Lines.{priceOf}

@@ -3,7 +3,7 @@ ghost use mathlib.Core.Path.{_≡_};
 ghost use mathlib.Core.Bool.{true};
 ghost use Prim.Native.Nat.{_*_, _≤_};
 ghost use lib.ListN.{length};
-ghost use Rattle.lists.specs.Below.{allBelow};
+ghost use Rattle.sequences.specs.Below.{allBelow};
 ghost use Rattle.totals.specs.Totals.{widest, mostRows, numberAt, total, Capped};
 ghost use Rattle.layout.specs.Places.{basketWidth, mostComponents};
 ghost use Rattle.layout.specs.Day.{dayOf};

@@ -1,6 +1,6 @@
 // Runs of bytes: taken from numbers, filled, copied, compared and printed.
 ghost use Rattle.io.specs.Counts.{Counts};
-use items::output;
+use program_io::output;
 
 // n, or the run's length where that is less.
 pub fn cut(n: usize, run: &[u8]) -> usize

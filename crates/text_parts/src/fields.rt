@@ -1,9 +1,9 @@
 // The fields of a list as a run of numbers: first code, basket size, maximum cash ratio, switch, estimated cash as sign (1 is
 // minus) and size, eight limits, publish, trading day, previous trading day, cash component as sign and size, NAV per CU, NAV,
 // count.
-use items::runs;
 use layout::Fund;
 use list_rules::ListFields;
+use program_io::runs;
 use units::Rate;
 
 pub const WIDTH: usize = list_layout::FIELDS_WIDTH;

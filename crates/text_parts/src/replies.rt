@@ -1,8 +1,8 @@
 // An answer of reading or writing as the paper's number, place and value.
 use crate::fields;
-use items::output;
+use answers::Numbers;
 use list_rules::ListAnswer;
-use numbers::Numbers;
+use program_io::output;
 
 pub fn of_answer(answer: ListAnswer) -> Numbers {
     match answer {
@@ -11,7 +11,7 @@ pub fn of_answer(answer: ListAnswer) -> Numbers {
             place: 0,
             value: count as u64,
         },
-        ListAnswer::Refused(why) => numbers::of_refusal(why),
+        ListAnswer::Refused(why) => answers::of_refusal(why),
     }
 }
 

@@ -1,7 +1,7 @@
 // How far the input is played.
 ghost use Prim.Native.Nat.{_<_};
-use items::input::Cursor;
-use items::output;
+use program_io::input::Cursor;
+use program_io::output;
 
 pub struct Session {
     pub cursor: Cursor,

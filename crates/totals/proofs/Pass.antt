@@ -10,8 +10,8 @@ use lib.Dec.{leb, ltb}
 use lib.ListN.{length, getD, set, length-set}
 use lib.Seq.{getD-set-same, getD-set-other}
 use borrow.Author.Count.{below-more}
-use Rattle.lists.specs.Below.{anyBelow}
-use Rattle.lists.proofs.Below.{any-more}
+use Rattle.sequences.specs.Below.{anyBelow}
+use Rattle.sequences.proofs.Below.{any-more}
 use Rattle.totals.specs.Totals.{widest, top, quickMost, eightAt, reaches}
 use Rattle.totals.proofs.Top.{below-top, or-zero-left, or-zero-right}
 

@@ -9,8 +9,8 @@ use native.Mathlib.Omega.{arith}
 use lib.Bits.{bitOr}
 use lib.ListN.{length, getD}
 use borrow.Author.Tests.{lt-leb, leb-false, not-true}
-use Rattle.lists.specs.Below.{sumBelow, anyBelow}
-use Rattle.lists.proofs.Below.{sum-none, sum-more}
+use Rattle.sequences.specs.Below.{sumBelow, anyBelow}
+use Rattle.sequences.proofs.Below.{sum-none, sum-more}
 use Rattle.totals.specs.Totals.{widest, top, quickMost, plusOne, eightAt, plusEight, reaches, placeAt, total, cappedTotal, Low}
 use Rattle.totals.proofs.Top.{or-zero-left, or-zero-right}
 

@@ -4,7 +4,7 @@ use mathlib.Core.List.{List}
 use Prim.Native.Nat.{ℕ, _+_, _*_, _≤_, _<_, min}
 use lib.Dec.{leb}
 use lib.ListN.{getD}
-use Rattle.lists.specs.Below.{sumBelow}
+use Rattle.sequences.specs.Below.{sumBelow}
 use Rattle.layout.specs.Places.{mostComponents}
 use Rattle.layout.specs.Book.{widthOf}
 

@@ -3,7 +3,7 @@ ghost use mathlib.Core.Path.{_≡_};
 ghost use mathlib.Core.Bool.{not, true};
 ghost use Prim.Native.Nat.{ℕ, _+_, _*_, _%_, _^_, _≤_, _<_, min};
 ghost use lib.ListN.{length, getD};
-ghost use Rattle.lists.specs.Below.{anyBelow};
+ghost use Rattle.sequences.specs.Below.{anyBelow};
 ghost use Rattle.totals.specs.Totals.{widest, mostRows, top, quickMost, total, cappedTotal, plusOne, eightAt, plusEight, reaches, Low};
 
 // The widest row: an account's stretch on a day of 300 components.

@@ -9,13 +9,13 @@ use native.Mathlib.Omega.{arith}
 use lib.Dec.{ltb}
 use lib.ListN.{length}
 use borrow.Author.Tests.{le-leb, lt-leb, lt-ltb, le-ltb, leb-false, ltb-false, eqb-false, eq-eqb, ne-eqb, not-false}
-use Rattle.lists.specs.Every.{inside}
-use Rattle.lists.specs.Checks.{reply, answered}
-use Rattle.lists.specs.Stretch.{stretchOf, over}
-use Rattle.lists.proofs.Below.{sum-part}
-use Rattle.lists.proofs.Every.{inside-facts}
-use Rattle.lists.proofs.Checks.{all-passed}
-use Rattle.lists.proofs.Stretch.{within}
+use Rattle.sequences.specs.Every.{inside}
+use Rattle.sequences.specs.Checks.{reply, answered}
+use Rattle.sequences.specs.Stretch.{stretchOf, over}
+use Rattle.sequences.proofs.Below.{sum-part}
+use Rattle.sequences.proofs.Every.{inside-facts}
+use Rattle.sequences.proofs.Checks.{all-passed}
+use Rattle.sequences.proofs.Stretch.{within}
 use Rattle.lots.specs.declared.Lots.{Lots}
 use Rattle.lots.specs.Lots.{sellable, lotsTotal}
 use Rattle.layout.specs.Day.{Day}

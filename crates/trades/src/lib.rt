@@ -2,8 +2,8 @@
 ghost use mathlib.Core.Path.{_≡_};
 ghost use Prim.Native.Nat.{_+_, _*_, _≤_};
 ghost use lib.ListN.{length, set};
-ghost use Rattle.lists.specs.Checks.{answered};
-ghost use Rattle.lists.specs.Stretch.{stretchOf};
+ghost use Rattle.sequences.specs.Checks.{answered};
+ghost use Rattle.sequences.specs.Stretch.{stretchOf};
 ghost use Rattle.lots.specs.Lots.{sellable};
 ghost use Rattle.layout.specs.Places.{mostComponents};
 ghost use Rattle.layout.specs.Book.{widthOf, lotsAt};

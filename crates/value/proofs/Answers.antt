@@ -6,9 +6,9 @@ use Prim.Native.Nat.{ℕ, _≤_}
 use native.Mathlib.Omega.{arith}
 use lib.Dec.{leb}
 use borrow.Author.Tests.{leb-true}
-use Rattle.lists.specs.Below.{anyBelow}
-use Rattle.lists.specs.Checks.{Reply, reply, answered, isAccepted}
-use Rattle.lists.proofs.Every.{every-at}
+use Rattle.sequences.specs.Below.{anyBelow}
+use Rattle.sequences.specs.Checks.{Reply, reply, answered, isAccepted}
+use Rattle.sequences.proofs.Every.{every-at}
 use Rattle.units.specs.declared.ReferenceValue.{ReferenceValue}
 use Rattle.layout.specs.Day.{Day}
 use Rattle.rules.specs.declared.Refusal.{Refusal}

@@ -7,10 +7,10 @@ use native.Mathlib.Nat.{le-trans}
 use native.Mathlib.Omega.{arith}
 use lib.Dec.{leb, lit≤}
 use borrow.Author.Tests.{le-leb, lt-leb}
-use Rattle.lists.specs.Below.{sumBelow, anyBelow}
-use Rattle.lists.specs.Every.{every}
-use Rattle.lists.specs.Checks.{reply, answered}
-use Rattle.lists.proofs.Below.{sum-le, sum-more, any-more, any-here, cond-le}
+use Rattle.sequences.specs.Below.{sumBelow, anyBelow}
+use Rattle.sequences.specs.Every.{every}
+use Rattle.sequences.specs.Checks.{reply, answered}
+use Rattle.sequences.proofs.Below.{sum-le, sum-more, any-more, any-here, cond-le}
 use Rattle.units.specs.Units.{rounded}
 use Rattle.units.proofs.Laws.{under}
 use Rattle.flags.specs.Table.{entry, priced}

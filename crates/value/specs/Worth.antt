@@ -5,8 +5,8 @@ use mathlib.Core.List.{List, [], _∷_}
 use Prim.Native.Nat.{ℕ, _-_, _*_, _≤_, _<_}
 use lib.Dec.{leb, ltb, eqb}
 use lib.ListN.{length}
-use Rattle.lists.specs.Every.{every}
-use Rattle.lists.specs.Checks.{Reply, reply}
+use Rattle.sequences.specs.Every.{every}
+use Rattle.sequences.specs.Checks.{Reply, reply}
 use Rattle.units.specs.Units.{rounded}
 use Rattle.flags.specs.Table.{entry, priced}
 use Rattle.layout.specs.Places.{mostComponents}

@@ -3,7 +3,7 @@ ghost use mathlib.Core.Bool.{true};
 ghost use mathlib.Core.Path.{_≡_};
 ghost use Prim.Native.Nat.{_+_, _*_, _≤_};
 ghost use lib.ListN.{length};
-ghost use Rattle.lists.specs.Checks.{answered};
+ghost use Rattle.sequences.specs.Checks.{answered};
 ghost use Rattle.units.specs.Units.{rounded};
 ghost use Rattle.fund.specs.Fund.{cashInRange};
 ghost use Rattle.layout.specs.Places.{basketWidth};

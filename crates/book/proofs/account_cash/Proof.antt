@@ -14,12 +14,9 @@ returns : tie.Need-returns
 unfolding accountCash
 returns c = sym (by-creation _ _ (c .before .if1 .taken))
 
-add-result : tie.Need-add-result
-add-result c = search needs
-
 returns-2 : tie.Need-returns-2
 unfolding accountCash
 returns-2 c = sym (by-redemption _ _ (c .before .if1 .left))
 
 pub account-cash-spec : {M : Type 1} → statement M
-account-cash-spec = tie.close (tie.spec sub-result returns add-result returns-2)
+account-cash-spec = tie.close (tie.spec sub-result returns (λ c. search needs) returns-2)

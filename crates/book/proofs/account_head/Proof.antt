@@ -6,37 +6,16 @@ use native.Mathlib.Omega.{arith}
 use Rattle.book.proofs.account_head.Statement.{statement}
 use Rattle.book.proofs.account_head.Tie as tie
 
-slice-read-held : tie.Need-slice-read-held
-slice-read-held c = search needs
-
 account-cash-requires : tie.Need-account-cash-requires
 unfolding headAt
 account-cash-requires c κs = (c .before .before .pre .1 .0, c .before .before .pre .1 .1 .0)
-
-add-at : tie.Need-add-at
-add-at c = search needs
-
-mul-count : tie.Need-mul-count
-mul-count c = search needs
-
-slice-read-count : tie.Need-slice-read-count
-slice-read-count c = search needs
 
 add-count : tie.Need-add-count
 unfolding headAt
 add-count c = search needs
 
-slice-write-stretch : tie.Need-slice-write-stretch
-slice-write-stretch c = search needs
-
-mul-stretch : tie.Need-mul-stretch
-mul-stretch c = search needs
-
 slice-write-stretch-2 : tie.Need-slice-write-stretch-2
 slice-write-stretch-2 c = simp length-set (omega arith)
-
-same-length : tie.Need-same-length
-same-length c = search needs
 
 returns : tie.Need-returns
 unfolding headAt putHead
@@ -46,14 +25,14 @@ pub account-head-spec : {M : Type 1} → statement M
 account-head-spec =
     tie.close
     (tie.spec
-    slice-read-held
+    (λ c. search needs)
     account-cash-requires
-    add-at
-    mul-count
-    slice-read-count
+    (λ c. search needs)
+    (λ c. search needs)
+    (λ c. search needs)
     add-count
-    slice-write-stretch
-    mul-stretch
+    (λ c. search needs)
+    (λ c. search needs)
     slice-write-stretch-2
-    same-length
+    (λ c. search needs)
     returns)

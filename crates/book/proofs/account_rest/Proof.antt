@@ -5,16 +5,10 @@ use borrow.Author.Needs.{needs}
 use Rattle.book.proofs.account_rest.Statement.{statement}
 use Rattle.book.proofs.account_rest.Tie as tie
 
-unit-line-requires : tie.Need-unit-line-requires
-unit-line-requires c κs = search needs
-
 account-head-requires : tie.Need-account-head-requires
 account-head-requires c κs =
     let p = c .before .before .before .before .before .before .pre in
     head-ready _ _ _ _ _ _ (c .before .before .before .unit-line .ensures) (p .0) (p .1 .1 .1 .0) (p .1 .1 .1 .1 .0) (p .1 .1 .1 .1 .1)
-
-same-length : tie.Need-same-length
-same-length c = search needs
 
 returns : tie.Need-returns
 returns c =
@@ -23,4 +17,4 @@ returns c =
 
 pub account-rest-spec : {M : Type 1} → statement M
 account-rest-spec =
-    tie.close (tie.spec unit-line-requires account-head-requires same-length returns)
+    tie.close (tie.spec (λ c κs. search needs) account-head-requires (λ c. search needs) returns)

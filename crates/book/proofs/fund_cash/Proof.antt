@@ -7,9 +7,6 @@ use native.Mathlib.Omega.{arith}
 use Rattle.book.proofs.fund_cash.Statement.{statement}
 use Rattle.book.proofs.fund_cash.Tie as tie
 
-add-result : tie.Need-add-result
-add-result c = search needs
-
 returns : tie.Need-returns
 unfolding fundCash
 returns c = sym (by-creation _ _ (c .before .if1 .taken))
@@ -22,4 +19,4 @@ unfolding fundCash
 returns-2 c = sym (by-redemption _ _ (c .before .if1 .left))
 
 pub fund-cash-spec : {M : Type 1} → statement M
-fund-cash-spec = tie.close (tie.spec add-result returns sub-result returns-2)
+fund-cash-spec = tie.close (tie.spec (λ c. search needs) returns sub-result returns-2)

@@ -4,18 +4,9 @@ use borrow.Author.Needs.{needs}
 use Rattle.book.proofs.fund_head.Statement.{statement}
 use Rattle.book.proofs.fund_head.Tie as tie
 
-slice-read-held : tie.Need-slice-read-held
-slice-read-held c = search needs
-
 fund-cash-requires : tie.Need-fund-cash-requires
 unfolding headAt
 fund-cash-requires c κs = (c .before .before .pre .1 .0, c .before .before .pre .1 .1)
-
-slice-write-stretch : tie.Need-slice-write-stretch
-slice-write-stretch c = search needs
-
-same-length : tie.Need-same-length
-same-length c = search needs
 
 returns : tie.Need-returns
 unfolding headAt putHead
@@ -23,4 +14,4 @@ returns c = rw (c .fund-cash .ensures)
 
 pub fund-head-spec : {M : Type 1} → statement M
 fund-head-spec =
-    tie.close (tie.spec slice-read-held fund-cash-requires slice-write-stretch same-length returns)
+    tie.close (tie.spec (λ c. search needs) fund-cash-requires (λ c. search needs) (λ c. search needs) returns)

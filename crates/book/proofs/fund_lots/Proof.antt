@@ -6,9 +6,6 @@ use borrow.Author.Needs.{needs}
 use Rattle.book.proofs.fund_lots.Statement.{statement}
 use Rattle.book.proofs.fund_lots.Tie as tie
 
-take-in-requires : tie.Need-take-in-requires
-take-in-requires c κs = search needs
-
 returns : tie.Need-returns
 unfolding fundLots
 returns c = c .take-in .ensures ∙ sym (by-creation _ _ (c .before .if1 .taken))
@@ -21,4 +18,4 @@ unfolding fundLots
 returns-2 c = c .pay-out .ensures ∙ sym (by-redemption _ _ (c .before .if1 .left))
 
 pub fund-lots-spec : {M : Type 1} → statement M
-fund-lots-spec = tie.close (tie.spec take-in-requires returns pay-out-requires returns-2)
+fund-lots-spec = tie.close (tie.spec (λ c κs. search needs) returns pay-out-requires returns-2)

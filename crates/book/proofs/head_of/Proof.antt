@@ -1,7 +1,7 @@
 -- `book::head_of` meets its contract: the number stands at its place of the account's stretch.
 use mathlib.Core.Path.{sym}
 use borrow.Author.Needs.{needs}
-use Rattle.lists.proofs.Stretch.{stretch-at}
+use Rattle.sequences.proofs.Stretch.{stretch-at}
 use Rattle.layout.specs.Book.{headAt}
 use Rattle.book.proofs.head_of.Statement.{statement}
 use Rattle.book.proofs.head_of.Tie as tie

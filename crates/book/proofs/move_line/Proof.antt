@@ -1,7 +1,7 @@
 -- `book::move_line` meets its contract: what moves is at most what the baskets need, on a creation what the account has, and on a
 -- redemption what the fund has; where it is nothing, every lot stays.
 use mathlib.Core.Path.{_≡_, sym, ap, _∙_}
-use Rattle.lists.specs.Stretch.{stretchOf}
+use Rattle.sequences.specs.Stretch.{stretchOf}
 use Rattle.layout.specs.Book.{lotsAt}
 use Rattle.book.specs.Moved.{movedOf}
 use Rattle.book.proofs.Stock.{moved-le, moved-there}
@@ -11,23 +11,14 @@ use native.Mathlib.Omega.{arith}
 use Rattle.book.proofs.move_line.Statement.{statement}
 use Rattle.book.proofs.move_line.Tie as tie
 
-lots-of-requires : tie.Need-lots-of-requires
-lots-of-requires c κs = search needs
-
 stock-moved-requires : tie.Need-stock-moved-requires
 stock-moved-requires c κs = rw (c .lots-of .ensures) (c .before .before .before .pre .need, omega (arith, c .before .before .before .pre .held))
-
-same-length : tie.Need-same-length
-same-length c = search needs
 
 returns : tie.Need-returns
 returns c =
     let p = c .before .before .before .before .before .pre in
     let e = c .before .stock-moved .ensures ∙ ap (movedOf _ _ _) (c .before .before .lots-of .ensures) in
     (sym (c .if1 .taken) ∙ e, line-none _ _ _ _ _ (p .account-low) (p .account-in))
-
-lots-of-requires-2 : tie.Need-lots-of-requires-2
-lots-of-requires-2 c κs = search needs
 
 fund-lots-requires : tie.Need-fund-lots-requires
 fund-lots-requires c κs =
@@ -44,15 +35,6 @@ stock-lots-requires c κs =
     let p = c .before .before .before .before .before .before .before .before .pre in
     rw (c .before .before .before .before .stock-moved .ensures, c .before .before .before .before .before .lots-of .ensures)
     ((λ k. moved-there _ _ _ _ k), omega (arith, p .need, p .held, moved-le (a .kind) (a .c) (a .m) (lotsAt (stretchOf (a .w) (a .book .now) (a .a)) (a .line))))
-
-put-lots-of-requires : tie.Need-put-lots-of-requires
-put-lots-of-requires c κs = search needs
-
-put-lots-of-requires-2 : tie.Need-put-lots-of-requires-2
-put-lots-of-requires-2 c κs = search needs
-
-same-length-2 : tie.Need-same-length-2
-same-length-2 c = search needs
 
 returns-2 : tie.Need-returns-2
 returns-2 c =
@@ -71,14 +53,14 @@ pub move-line-spec : {M : Type 1} → statement M
 move-line-spec =
     tie.close
     (tie.spec
-    lots-of-requires
+    (λ c κs. search needs)
     stock-moved-requires
-    same-length
+    (λ c. search needs)
     returns
-    lots-of-requires-2
+    (λ c κs. search needs)
     fund-lots-requires
     stock-lots-requires
-    put-lots-of-requires
-    put-lots-of-requires-2
-    same-length-2
+    (λ c κs. search needs)
+    (λ c κs. search needs)
+    (λ c. search needs)
     returns-2)

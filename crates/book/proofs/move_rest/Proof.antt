@@ -5,9 +5,6 @@ use native.Mathlib.Omega.{arith}
 use Rattle.book.proofs.move_rest.Statement.{statement}
 use Rattle.book.proofs.move_rest.Tie as tie
 
-width-of-requires : tie.Need-width-of-requires
-width-of-requires c κs = search needs
-
 fund-head-of-requires : tie.Need-fund-head-of-requires
 fund-head-of-requires c κs =
     let p = c .before .before .before .pre in
@@ -17,9 +14,6 @@ account-rest-of-requires : tie.Need-account-rest-of-requires
 account-rest-of-requires c κs =
     account-rest-ready _ _ _ _ _ _ _ _ (c .before .before .before .before .before .before .before .pre) (c .before .before .before .before .before .width-of .ensures)
     (c .before .before .before .fund-head-of .ensures)
-
-same-length : tie.Need-same-length
-same-length c = search needs
 
 returns : tie.Need-returns
 returns c =
@@ -31,8 +25,8 @@ pub move-rest-spec : {M : Type 1} → statement M
 move-rest-spec =
     tie.close
     (tie.spec
-    width-of-requires
+    (λ c κs. search needs)
     fund-head-of-requires
     account-rest-of-requires
-    same-length
+    (λ c. search needs)
     returns)

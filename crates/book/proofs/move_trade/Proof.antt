@@ -6,12 +6,6 @@ use native.Mathlib.Omega.{arith}
 use Rattle.book.proofs.move_trade.Statement.{statement}
 use Rattle.book.proofs.move_trade.Tie as tie
 
-width-of-requires : tie.Need-width-of-requires
-width-of-requires c κs = search needs
-
-mul-t10 : tie.Need-mul-t10
-mul-t10 c = omega arith
-
 sell-from-requires : tie.Need-sell-from-requires
 sell-from-requires c κs = rw (c .before .before .width-of .ensures) (search needs)
 
@@ -20,9 +14,6 @@ buy-into-requires c κs =
     buyer-ready (c .before .before .before .before .before .before .before .before .pre) (c .before .before .before .before .before .before .width-of .ensures)
     (c .before .before .before .sell-from .ensures)
 
-same-length : tie.Need-same-length
-same-length c = search needs
-
 returns : tie.Need-returns
 unfolding tradeMoves
 returns c = cc
@@ -30,4 +21,4 @@ returns c = cc
 pub move-trade-spec : {M : Type 1} → statement M
 move-trade-spec =
     tie.close
-    (tie.spec width-of-requires mul-t10 sell-from-requires buy-into-requires same-length returns)
+    (tie.spec (λ c κs. search needs) (λ c. omega arith) sell-from-requires buy-into-requires (λ c. search needs) returns)

@@ -13,12 +13,9 @@ returns : tie.Need-returns
 unfolding stockLots
 returns c = c .hand-in .ensures ∙ sym (by-creation _ _ (c .before .if1 .taken))
 
-get-requires : tie.Need-get-requires
-get-requires c κs = search needs
-
 returns-2 : tie.Need-returns-2
 unfolding stockLots
 returns-2 c = c .get .ensures ∙ sym (by-redemption _ _ (c .before .if1 .left))
 
 pub stock-lots-spec : {M : Type 1} → statement M
-stock-lots-spec = tie.close (tie.spec hand-in-requires returns get-requires returns-2)
+stock-lots-spec = tie.close (tie.spec hand-in-requires returns (λ c κs. search needs) returns-2)

@@ -7,20 +7,11 @@ use native.Mathlib.Omega.{arith}
 use Rattle.book.proofs.stock_moved.Statement.{statement}
 use Rattle.book.proofs.stock_moved.Tie as tie
 
-entry-of-requires : tie.Need-entry-of-requires
-entry-of-requires c κs = search needs
-
 returns : tie.Need-returns
 returns c = sym (moved-none _ _ _ _ (sym (c .before .entry-of .ensures) ∙ not-true _ (c .if1 .taken)))
 
-mul-needed : tie.Need-mul-needed
-mul-needed c = search needs
-
 returns-2 : tie.Need-returns-2
 returns-2 c = sym (moved-all _ _ _ _ (sym (c .before .before .before .entry-of .ensures) ∙ not-false _ (c .before .before .if1 .left)) (c .if2 .taken))
-
-add-there : tie.Need-add-there
-add-there c = search needs
 
 returns-3 : tie.Need-returns-3
 returns-3 c =
@@ -43,4 +34,4 @@ returns-4 c =
 pub stock-moved-spec : {M : Type 1} → statement M
 stock-moved-spec =
     tie.close
-    (tie.spec entry-of-requires returns mul-needed returns-2 add-there returns-3 returns-4)
+    (tie.spec (λ c κs. search needs) returns (λ c. search needs) returns-2 (λ c. search needs) returns-3 returns-4)

@@ -4,17 +4,8 @@ use borrow.Author.Needs.{needs}
 use Rattle.book.proofs.unit_line.Statement.{statement}
 use Rattle.book.proofs.unit_line.Tie as tie
 
-lots-at-requires : tie.Need-lots-at-requires
-lots-at-requires c κs = search needs
-
 unit-lots-requires : tie.Need-unit-lots-requires
 unit-lots-requires c κs = rw (c .lots-at .ensures) (c .before .before .before .pre .1 .0, c .before .before .before .pre .1 .1)
-
-put-lots-requires : tie.Need-put-lots-requires
-put-lots-requires c κs = search needs
-
-same-length : tie.Need-same-length
-same-length c = search needs
 
 returns : tie.Need-returns
 unfolding onLine
@@ -22,4 +13,4 @@ returns c = cc
 
 pub unit-line-spec : {M : Type 1} → statement M
 unit-line-spec =
-    tie.close (tie.spec lots-at-requires unit-lots-requires put-lots-requires same-length returns)
+    tie.close (tie.spec (λ c κs. search needs) unit-lots-requires (λ c κs. search needs) (λ c. search needs) returns)

@@ -6,9 +6,6 @@ use borrow.Author.Needs.{needs}
 use Rattle.book.proofs.unit_lots.Statement.{statement}
 use Rattle.book.proofs.unit_lots.Tie as tie
 
-get-requires : tie.Need-get-requires
-get-requires c κs = search needs
-
 returns : tie.Need-returns
 unfolding unitLots
 returns c = c .get .ensures ∙ sym (by-creation _ _ (c .before .if1 .taken))
@@ -21,4 +18,4 @@ unfolding unitLots
 returns-2 c = c .hand-in .ensures ∙ sym (by-redemption _ _ (c .before .if1 .left))
 
 pub unit-lots-spec : {M : Type 1} → statement M
-unit-lots-spec = tie.close (tie.spec get-requires returns hand-in-requires returns-2)
+unit-lots-spec = tie.close (tie.spec (λ c κs. search needs) returns hand-in-requires returns-2)

@@ -7,11 +7,5 @@ use Rattle.calls.proofs.sound_day.Tie as tie
 returns : tie.Need-returns
 returns c = sym (c .before .before .before .before .pre (c .if1 .taken))
 
-is-sound-requires : tie.Need-is-sound-requires
-is-sound-requires c κs = search needs
-
-returns-2 : tie.Need-returns-2
-returns-2 c = search needs
-
 pub sound-day-spec : {M : Type 1} → statement M
-sound-day-spec = tie.close (tie.spec returns is-sound-requires returns-2)
+sound-day-spec = tie.close (tie.spec returns (λ c κs. search needs) (λ c. search needs))

@@ -5,17 +5,8 @@ use Rattle.digits.specs.Digits.{aboveZero}
 use Rattle.digits.proofs.above_zero.Statement.{statement}
 use Rattle.digits.proofs.above_zero.Tie as tie
 
-enum-told : tie.Need-enum-told
-enum-told c = search needs
-
-enum-known-size : tie.Need-enum-known-size
-enum-known-size c = search needs
-
-returns : tie.Need-returns
-returns c = search needs
-
 returns-2 : tie.Need-returns-2
 returns-2 c = ap aboveZero (sym (c .before .size .given .1))
 
 pub above-zero-spec : {M : Type 1} → statement M
-above-zero-spec = tie.close (tie.spec enum-told enum-known-size returns returns-2)
+above-zero-spec = tie.close (tie.spec (λ c. search needs) (λ c. search needs) (λ c. search needs) returns-2)

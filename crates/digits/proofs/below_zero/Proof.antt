@@ -6,21 +6,9 @@ use Rattle.digits.specs.Digits.{belowZero}
 use Rattle.digits.proofs.below_zero.Statement.{statement}
 use Rattle.digits.proofs.below_zero.Tie as tie
 
-enum-told : tie.Need-enum-told
-enum-told c = search needs
-
-enum-known-size : tie.Need-enum-known-size
-enum-known-size c = search needs
-
-minus-figure-requires : tie.Need-minus-figure-requires
-minus-figure-requires c κs = omega arith
-
-returns : tie.Need-returns
-returns c = search needs
-
 returns-2 : tie.Need-returns-2
 returns-2 c = c .minus-figure .ensures ∙ ap belowZero (sym (c .before .before .size .given .1))
 
 pub below-zero-spec : {M : Type 1} → statement M
 below-zero-spec =
-    tie.close (tie.spec enum-told enum-known-size minus-figure-requires returns returns-2)
+    tie.close (tie.spec (λ c. search needs) (λ c. search needs) (λ c κs. omega arith) (λ c. search needs) returns-2)

@@ -4,11 +4,8 @@ use Rattle.digits.proofs.Sign.{blank-test}
 use Rattle.digits.proofs.is_blank.Statement.{statement}
 use Rattle.digits.proofs.is_blank.Tie as tie
 
-leading-blanks-requires : tie.Need-leading-blanks-requires
-leading-blanks-requires c κs = omega arith
-
 returns : tie.Need-returns
 returns c = blank-test _ _ (c .leading-blanks .ensures .0)
 
 pub is-blank-spec : {M : Type 1} → statement M
-is-blank-spec = tie.close (tie.spec leading-blanks-requires returns)
+is-blank-spec = tie.close (tie.spec (λ c κs. omega arith) returns)

@@ -13,12 +13,6 @@ abbrev μ-loop : tie.MeasureT-loop
 loop-holds : tie.Need-loop-holds Inv-loop μ-loop
 loop-holds c = passed-start _ (omega arith)
 
-add-w : tie.Need-add-w Inv-loop μ-loop
-add-w c = omega arith
-
-loop-less : tie.Need-loop-less Inv-loop μ-loop
-loop-less c = omega arith
-
 loop-again : tie.Need-loop-again Inv-loop μ-loop
 loop-again c = passed-again _ _ _ (c .before .loop .inv) (c .loop-test .taken)
 
@@ -27,4 +21,4 @@ returns c = passed-end _ _ _ (c .before .loop .inv) (c .loop-test .left)
 
 pub more-digits-spec : {M : Type 1} → statement M
 more-digits-spec =
-    tie.close (tie.spec Inv-loop μ-loop loop-holds add-w loop-less loop-again returns)
+    tie.close (tie.spec Inv-loop μ-loop loop-holds (λ c. omega arith) (λ c. omega arith) loop-again returns)

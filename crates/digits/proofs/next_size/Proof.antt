@@ -5,12 +5,6 @@ use Rattle.digits.proofs.Read.{capped-small, capped-large}
 use Rattle.digits.proofs.next_size.Statement.{statement}
 use Rattle.digits.proofs.next_size.Tie as tie
 
-mul-v : tie.Need-mul-v
-mul-v c = omega arith
-
-add-v : tie.Need-add-v
-add-v c = omega arith
-
 returns : tie.Need-returns
 returns c = sym (capped-large _ (c .if1 .taken))
 
@@ -18,4 +12,4 @@ returns-2 : tie.Need-returns-2
 returns-2 c = sym (capped-small _ (c .if1 .left))
 
 pub next-size-spec : {M : Type 1} → statement M
-next-size-spec = tie.close (tie.spec mul-v add-v returns returns-2)
+next-size-spec = tie.close (tie.spec (λ c. omega arith) (λ c. omega arith) returns returns-2)

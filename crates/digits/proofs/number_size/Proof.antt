@@ -4,9 +4,6 @@ use Rattle.digits.proofs.Write.{number-length}
 use Rattle.digits.proofs.number_size.Statement.{statement}
 use Rattle.digits.proofs.number_size.Tie as tie
 
-signed-size-requires : tie.Need-signed-size-requires
-signed-size-requires c κs = omega arith
-
 returns : tie.Need-returns
 returns c = let a = c .before .before .before .args in omega (arith, number-length (a .form) (a .z), c .before .before .signed-size .ensures .0)
 
@@ -14,4 +11,4 @@ returns-2 : tie.Need-returns-2
 returns-2 c = let a = c .before .before .before .args in omega (arith, number-length (a .form) (a .z), c .before .before .signed-size .ensures .0)
 
 pub number-size-spec : {M : Type 1} → statement M
-number-size-spec = tie.close (tie.spec signed-size-requires returns returns-2)
+number-size-spec = tie.close (tie.spec (λ c κs. omega arith) returns returns-2)

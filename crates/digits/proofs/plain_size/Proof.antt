@@ -8,26 +8,14 @@ use Rattle.digits.proofs.Write.{plain-free, plain-length, whole-short}
 use Rattle.digits.proofs.plain_size.Statement.{statement}
 use Rattle.digits.proofs.plain_size.Tie as tie
 
-whole-size-requires : tie.Need-whole-size-requires
-whole-size-requires c κs = omega arith
-
 returns : tie.Need-returns
 returns c =
     let a = c .before .before .args in
     let e = ap length (plain-free (a .form) (a .n) (c .before .if1 .taken)) in
     (c .whole-size .ensures ∙ sym e, omega (arith, whole-short (a .form .digits) (a .n) (c .before .before .pre .1)))
 
-power-requires : tie.Need-power-requires
-power-requires c κs = omega arith
-
 div-whole-size : tie.Need-div-whole-size
 div-whole-size c = omega (arith, power-positive (c .before .before .args .form .decimals))
-
-whole-size-requires-2 : tie.Need-whole-size-requires-2
-whole-size-requires-2 c κs = omega arith
-
-add-result : tie.Need-add-result
-add-result c = omega arith
 
 add-result-2 : tie.Need-add-result-2
 add-result-2 c =
@@ -45,11 +33,11 @@ pub plain-size-spec : {M : Type 1} → statement M
 plain-size-spec =
     tie.close
     (tie.spec
-    whole-size-requires
+    (λ c κs. omega arith)
     returns
-    power-requires
+    (λ c κs. omega arith)
     div-whole-size
-    whole-size-requires-2
-    add-result
+    (λ c κs. omega arith)
+    (λ c. omega arith)
     add-result-2
     returns-2)

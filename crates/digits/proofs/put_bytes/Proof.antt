@@ -15,32 +15,11 @@ abbrev μ-loop : tie.MeasureT-loop
 loop-holds : tie.Need-loop-holds Inv-loop μ-loop
 loop-holds c = (omega arith, growing-start _ _)
 
-shared-slice-read-dst : tie.Need-shared-slice-read-dst Inv-loop μ-loop
-shared-slice-read-dst c = omega arith
-
-add-dst : tie.Need-add-dst Inv-loop μ-loop
-add-dst c = omega arith
-
-slice-write-dst : tie.Need-slice-write-dst Inv-loop μ-loop
-slice-write-dst c = omega arith
-
-add-i : tie.Need-add-i Inv-loop μ-loop
-add-i c = omega arith
-
-loop-less : tie.Need-loop-less Inv-loop μ-loop
-loop-less c = omega arith
-
 loop-again : tie.Need-loop-again Inv-loop μ-loop
 loop-again c =
     let l = c .before .before in
     let more = take-more (l .before .args .src .now) (l .loop .i) (omega arith) in
     (omega arith, growing-again _ _ _ _ _ _ _ (l .loop .inv .1) (omega arith) more)
-
-add-result : tie.Need-add-result Inv-loop μ-loop
-add-result c = omega arith
-
-same-length : tie.Need-same-length Inv-loop μ-loop
-same-length c = omega arith
 
 returns : tie.Need-returns Inv-loop μ-loop
 returns c = growing-bytes _ _ _ _ _ (c .before .loop .inv .1) (c .loop-test .left)
@@ -52,12 +31,12 @@ put-bytes-spec =
     Inv-loop
     μ-loop
     loop-holds
-    shared-slice-read-dst
-    add-dst
-    slice-write-dst
-    add-i
-    loop-less
+    (λ c. omega arith)
+    (λ c. omega arith)
+    (λ c. omega arith)
+    (λ c. omega arith)
+    (λ c. omega arith)
     loop-again
-    add-result
-    same-length
+    (λ c. omega arith)
+    (λ c. omega arith)
     returns)

@@ -7,19 +7,10 @@ use Rattle.digits.proofs.Write.{number-length, number-put}
 use Rattle.digits.proofs.put_number.Statement.{statement}
 use Rattle.digits.proofs.put_number.Tie as tie
 
-number-size-requires : tie.Need-number-size-requires
-number-size-requires c κs = omega arith
-
-signed-size-requires : tie.Need-signed-size-requires
-signed-size-requires c κs = omega arith
-
 sub-k : tie.Need-sub-k
 sub-k c =
     let a = c .before .before .before .args in
     omega (arith, number-length (a .form) (a .z), c .signed-size .ensures .0, c .before .number-size .ensures)
-
-put-blanks-requires : tie.Need-put-blanks-requires
-put-blanks-requires c κs = omega arith
 
 put-signed-requires : tie.Need-put-signed-requires
 put-signed-requires c κs =
@@ -30,9 +21,6 @@ put-signed-requires c κs =
     let long = number-length (start .args .form) (start .args .z) in
     let blank = length-replicate {A = ℕ} (n .number-size .result - s .signed-size .result) 32 in
     (start .pre .0 .0, omega (arith, long, blank, w .put-blanks .ensures .next, s .signed-size .ensures .0, n .number-size .ensures))
-
-same-length : tie.Need-same-length
-same-length c = omega arith
 
 returns : tie.Need-returns
 returns c =
@@ -47,10 +35,10 @@ pub put-number-spec : {M : Type 1} → statement M
 put-number-spec =
     tie.close
     (tie.spec
-    number-size-requires
-    signed-size-requires
+    (λ c κs. omega arith)
+    (λ c κs. omega arith)
     sub-k
-    put-blanks-requires
+    (λ c κs. omega arith)
     put-signed-requires
-    same-length
+    (λ c. omega arith)
     returns)

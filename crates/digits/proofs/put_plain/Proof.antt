@@ -10,14 +10,8 @@ use Rattle.digits.proofs.put_plain.Tie as tie
 put-whole-requires : tie.Need-put-whole-requires
 put-whole-requires c κs = let a = c .before .before .before .args in omega (arith, ap length (plain-free (a .form) (a .n) (c .before .if1 .taken)))
 
-same-length : tie.Need-same-length
-same-length c = omega arith
-
 returns : tie.Need-returns
 returns c = free-put _ _ (c .before .before .before .before .if1 .taken) (c .before .before .put-whole .ensures)
-
-power-requires : tie.Need-power-requires
-power-requires c κs = omega arith
 
 div-put-whole : tie.Need-div-put-whole
 div-put-whole c = omega (arith, power-positive (c .before .before .before .before .args .form .decimals))
@@ -46,9 +40,6 @@ put-fixed-requires c κs =
     let long = plain-length (a .form) (a .n) (s .if1 .left) (u .power .result) (u .power .ensures) in
     omega (arith, long, w .put-whole2 .ensures .next, b .put-byte .ensures .next)
 
-same-length-2 : tie.Need-same-length-2
-same-length-2 c = omega arith
-
 returns-2 : tie.Need-returns-2
 returns-2 c =
     let d = c .before .before in
@@ -64,12 +55,12 @@ put-plain-spec =
     tie.close
     (tie.spec
     put-whole-requires
-    same-length
+    (λ c. omega arith)
     returns
-    power-requires
+    (λ c κs. omega arith)
     div-put-whole
     put-whole-requires-2
     put-byte-requires
     put-fixed-requires
-    same-length-2
+    (λ c. omega arith)
     returns-2)

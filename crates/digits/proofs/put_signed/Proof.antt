@@ -17,9 +17,6 @@ put-plain-requires c κs =
     let long = ap length (signed-below (start .args .form) (start .args .z) (s .if1 .taken)) in
     (start .pre .0, omega (arith, long, b .put-byte .ensures .next))
 
-same-length : tie.Need-same-length
-same-length c = omega arith
-
 returns : tie.Need-returns
 returns c =
     let w = c .before .before in
@@ -33,9 +30,6 @@ put-plain-requires-2 c κs =
     let long = ap length (signed-above (start .args .form) (start .args .z) (c .before .if1 .left)) in
     (start .pre .0, omega (arith, long))
 
-same-length-2 : tie.Need-same-length-2
-same-length-2 c = omega arith
-
 returns-2 : tie.Need-returns-2
 returns-2 c = above-put _ _ (c .before .before .before .before .if1 .left) (c .before .before .put-plain2 .ensures)
 
@@ -45,8 +39,8 @@ put-signed-spec =
     (tie.spec
     put-byte-requires
     put-plain-requires
-    same-length
+    (λ c. omega arith)
     returns
     put-plain-requires-2
-    same-length-2
+    (λ c. omega arith)
     returns-2)

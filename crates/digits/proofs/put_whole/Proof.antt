@@ -4,17 +4,8 @@ use Rattle.digits.proofs.Write.{whole-put}
 use Rattle.digits.proofs.put_whole.Statement.{statement}
 use Rattle.digits.proofs.put_whole.Tie as tie
 
-whole-size-requires : tie.Need-whole-size-requires
-whole-size-requires c κs = omega arith
-
-put-fixed-requires : tie.Need-put-fixed-requires
-put-fixed-requires c κs = omega arith
-
-same-length : tie.Need-same-length
-same-length c = omega arith
-
 returns : tie.Need-returns
 returns c = whole-put _ _ _ (c .before .before .before .before .whole-size .ensures) (c .before .before .put-fixed .ensures)
 
 pub put-whole-spec : {M : Type 1} → statement M
-put-whole-spec = tie.close (tie.spec whole-size-requires put-fixed-requires same-length returns)
+put-whole-spec = tie.close (tie.spec (λ c κs. omega arith) (λ c κs. omega arith) (λ c. omega arith) returns)

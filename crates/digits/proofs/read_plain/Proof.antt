@@ -8,50 +8,17 @@ use Rattle.digits.proofs.Put.{rest-all}
 use Rattle.digits.proofs.read_plain.Statement.{statement}
 use Rattle.digits.proofs.read_plain.Tie as tie
 
-read-whole-requires : tie.Need-read-whole-requires
-read-whole-requires c κs = omega arith
-
 returns : tie.Need-returns
 returns c = c .read-whole .ensures ∙ plain-whole _ _ (c .before .if1 .taken)
 
 returns-2 : tie.Need-returns-2
 returns-2 c = plain-short _ _ (c .before .if1 .left) (c .if2 .taken)
 
-add-p : tie.Need-add-p
-add-p c = omega arith
-
-sub-p : tie.Need-sub-p
-sub-p c = omega arith
-
-shared-slice-read-if3 : tie.Need-shared-slice-read-if3
-shared-slice-read-if3 c = omega arith
-
 returns-3 : tie.Need-returns-3
 returns-3 c = plain-point _ _ (c .before .before .before .if1 .left) (c .if3 .taken)
 
 slice-aggregate-read-whole : tie.Need-slice-aggregate-read-whole
 slice-aggregate-read-whole c = sym (length-take-le _ _ (omega arith))
-
-read-whole-requires-2 : tie.Need-read-whole-requires-2
-read-whole-requires-2 c κs = omega arith
-
-enum-told : tie.Need-enum-told
-enum-told c = search needs
-
-enum-known-head : tie.Need-enum-known-head
-enum-known-head c = search needs
-
-add-read-on : tie.Need-add-read-on
-add-read-on c = omega arith
-
-sub-read-on : tie.Need-sub-read-on
-sub-read-on c = omega arith
-
-part-read-on-start : tie.Need-part-read-on-start
-part-read-on-start c = omega arith
-
-part-read-on-end : tie.Need-part-read-on-end
-part-read-on-end c = omega arith
 
 read-on-requires : tie.Need-read-on-requires
 read-on-requires c κs =
@@ -77,21 +44,21 @@ pub read-plain-spec : {M : Type 1} → statement M
 read-plain-spec =
     tie.close
     (tie.spec
-    read-whole-requires
+    (λ c κs. omega arith)
     returns
     returns-2
-    add-p
-    sub-p
-    shared-slice-read-if3
+    (λ c. omega arith)
+    (λ c. omega arith)
+    (λ c. omega arith)
     returns-3
     slice-aggregate-read-whole
-    read-whole-requires-2
-    enum-told
-    enum-known-head
-    add-read-on
-    sub-read-on
-    part-read-on-start
-    part-read-on-end
+    (λ c κs. omega arith)
+    (λ c. search needs)
+    (λ c. search needs)
+    (λ c. omega arith)
+    (λ c. omega arith)
+    (λ c. omega arith)
+    (λ c. omega arith)
     read-on-requires
     returns-4
     returns-5)

@@ -8,36 +8,12 @@ use Rattle.digits.proofs.Sign.{minus-first, minus-unsigned, minus-other
 use Rattle.digits.proofs.read_signed.Statement.{statement}
 use Rattle.digits.proofs.read_signed.Tie as tie
 
-shared-slice-read-if3 : tie.Need-shared-slice-read-if3
-shared-slice-read-if3 c = omega arith
-
-sub-read-plain : tie.Need-sub-read-plain
-sub-read-plain c = omega arith
-
-part-read-plain-start : tie.Need-part-read-plain-start
-part-read-plain-start c = omega arith
-
-part-read-plain-end : tie.Need-part-read-plain-end
-part-read-plain-end c = omega arith
-
-read-plain-requires : tie.Need-read-plain-requires
-read-plain-requires c κs = omega arith
-
-below-zero-requires : tie.Need-below-zero-requires
-below-zero-requires c κs = omega arith
-
 returns : tie.Need-returns
 returns c =
     let first = c .before .before .before in
     let s = first .before .before .before in
     let minus = minus-first _ _ (s .if1 .taken) (first .if3 .taken) in
     c .below-zero .ensures ∙ ap belowZero (c .before .read-plain .ensures) ∙ (simp rest-all) ∙ signed-minus _ _ minus
-
-read-plain-requires-2 : tie.Need-read-plain-requires-2
-read-plain-requires-2 c κs = omega arith
-
-above-zero-requires : tie.Need-above-zero-requires
-above-zero-requires c κs = omega arith
 
 returns-2 : tie.Need-returns-2
 returns-2 c =
@@ -53,13 +29,13 @@ pub read-signed-spec : {M : Type 1} → statement M
 read-signed-spec =
     tie.close
     (tie.spec
-    shared-slice-read-if3
-    sub-read-plain
-    part-read-plain-start
-    part-read-plain-end
-    read-plain-requires
-    below-zero-requires
+    (λ c. omega arith)
+    (λ c. omega arith)
+    (λ c. omega arith)
+    (λ c. omega arith)
+    (λ c κs. omega arith)
+    (λ c κs. omega arith)
     returns
-    read-plain-requires-2
-    above-zero-requires
+    (λ c κs. omega arith)
+    (λ c κs. omega arith)
     returns-2)

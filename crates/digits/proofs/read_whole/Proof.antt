@@ -9,14 +9,8 @@ use Rattle.digits.proofs.read_whole.Tie as tie
 returns : tie.Need-returns
 returns c = whole-ill _ _ _ (shaped-none _ _ (c .before .if1 .taken) (c .if2 .taken))
 
-shared-slice-read-if4 : tie.Need-shared-slice-read-if4
-shared-slice-read-if4 c = omega arith
-
 returns-2 : tie.Need-returns-2
 returns-2 c = whole-ill _ _ _ (shaped-zero _ _ (c .before .before .before .before .if1 .taken) (omega arith) (c .if4 .taken))
-
-read-on-requires : tie.Need-read-on-requires
-read-on-requires c κs = omega arith
 
 returns-3 : tie.Need-returns-3
 returns-3 c =
@@ -28,9 +22,6 @@ returns-3 c =
 returns-4 : tie.Need-returns-4
 returns-4 c = whole-ill _ _ _ (shaped-long _ _ (c .before .if1 .left) (c .if5 .taken))
 
-read-on-requires-2 : tie.Need-read-on-requires-2
-read-on-requires-2 c κs = omega arith
-
 returns-5 : tie.Need-returns-5
 returns-5 c = c .read-on2 .ensures ∙ whole-known _ _ (shaped-fixed _ _ (c .before .before .if1 .left) (c .before .if5 .left))
 
@@ -39,10 +30,10 @@ read-whole-spec =
     tie.close
     (tie.spec
     returns
-    shared-slice-read-if4
+    (λ c. omega arith)
     returns-2
-    read-on-requires
+    (λ c κs. omega arith)
     returns-3
     returns-4
-    read-on-requires-2
+    (λ c κs. omega arith)
     returns-5)

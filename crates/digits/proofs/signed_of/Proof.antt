@@ -5,9 +5,6 @@ use Rattle.digits.proofs.Signed.{size-read, turned-fits, turned-read, s
 use Rattle.digits.proofs.signed_of.Statement.{statement}
 use Rattle.digits.proofs.signed_of.Tie as tie
 
-cast-size : tie.Need-cast-size
-cast-size c = search needs
-
 sub-result : tie.Need-sub-result
 sub-result c = turned-fits (c .before .before .args .z .size) _ (size-read _ (c .before .before .pre)) (c .before .before .pre)
 
@@ -20,4 +17,4 @@ returns-2 : tie.Need-returns-2
 returns-2 c = size-read _ (c .before .before .pre) ∙ signed-above _ (c .if1 .left)
 
 pub signed-of-spec : {M : Type 1} → statement M
-signed-of-spec = tie.close (tie.spec cast-size sub-result returns returns-2)
+signed-of-spec = tie.close (tie.spec (λ c. search needs) sub-result returns returns-2)

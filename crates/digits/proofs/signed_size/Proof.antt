@@ -6,12 +6,6 @@ use Rattle.digits.proofs.Write.{signed-below, signed-above}
 use Rattle.digits.proofs.signed_size.Statement.{statement}
 use Rattle.digits.proofs.signed_size.Tie as tie
 
-plain-size-requires : tie.Need-plain-size-requires
-plain-size-requires c κs = omega arith
-
-add-result : tie.Need-add-result
-add-result c = omega arith
-
 returns : tie.Need-returns
 returns c =
     let a = c .before .before .args in
@@ -23,4 +17,4 @@ returns-2 c =
     (omega (arith, ap length (signed-above (a .form) (a .z) (c .if1 .left)), c .before .plain-size .ensures .0), omega arith)
 
 pub signed-size-spec : {M : Type 1} → statement M
-signed-size-spec = tie.close (tie.spec plain-size-requires add-result returns returns-2)
+signed-size-spec = tie.close (tie.spec (λ c κs. omega arith) (λ c. omega arith) returns returns-2)

@@ -4,12 +4,6 @@ use Rattle.digits.proofs.Write.{free-length, digits-length}
 use Rattle.digits.proofs.whole_size.Statement.{statement}
 use Rattle.digits.proofs.whole_size.Tie as tie
 
-more-digits-requires : tie.Need-more-digits-requires
-more-digits-requires c κs = omega arith
-
-add-result : tie.Need-add-result
-add-result c = omega arith
-
 returns : tie.Need-returns
 returns c = free-length _ _ _ (c .before .if1 .taken) (c .more-digits .ensures .0)
 
@@ -17,4 +11,4 @@ returns-2 : tie.Need-returns-2
 returns-2 c = digits-length _ _ (c .if1 .left)
 
 pub whole-size-spec : {M : Type 1} → statement M
-whole-size-spec = tie.close (tie.spec more-digits-requires add-result returns returns-2)
+whole-size-spec = tie.close (tie.spec (λ c κs. omega arith) (λ c. omega arith) returns returns-2)

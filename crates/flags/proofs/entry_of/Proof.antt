@@ -10,47 +10,17 @@ use Rattle.flags.proofs.entry_of.Tie as tie
 returns : tie.Need-returns
 returns c = sym (past-columns (c .before .args .flag) (c .before .args .column) (c .if1 .taken))
 
-index-1-of-row : tie.Need-index-1-of-row
-index-1-of-row c = omega arith
-
-index-2-of-row : tie.Need-index-2-of-row
-index-2-of-row c = omega arith
-
 of-row-requires : tie.Need-of-row-requires
 of-row-requires c κs = tt
-
-index-1-of-row-2 : tie.Need-index-1-of-row-2
-index-1-of-row-2 c = omega arith
-
-index-2-of-row-2 : tie.Need-index-2-of-row-2
-index-2-of-row-2 c = omega arith
 
 of-row-requires-2 : tie.Need-of-row-requires-2
 of-row-requires-2 c κs = tt
 
-index-1-of-row-3 : tie.Need-index-1-of-row-3
-index-1-of-row-3 c = omega arith
-
-index-2-of-row-3 : tie.Need-index-2-of-row-3
-index-2-of-row-3 c = omega arith
-
 of-row-requires-3 : tie.Need-of-row-requires-3
 of-row-requires-3 c κs = tt
 
-index-1-of-row-4 : tie.Need-index-1-of-row-4
-index-1-of-row-4 c = omega arith
-
-index-2-of-row-4 : tie.Need-index-2-of-row-4
-index-2-of-row-4 c = omega arith
-
 of-row-requires-4 : tie.Need-of-row-requires-4
 of-row-requires-4 c κs = tt
-
-index-1-of-row-5 : tie.Need-index-1-of-row-5
-index-1-of-row-5 c = omega arith
-
-index-2-of-row-5 : tie.Need-index-2-of-row-5
-index-2-of-row-5 c = omega arith
 
 of-row-requires-5 : tie.Need-of-row-requires-5
 of-row-requires-5 c κs = tt
@@ -76,9 +46,9 @@ entry-of-spec =
     tie.close
     (tie.spec
     returns
-    index-1-of-row index-2-of-row of-row-requires
-    index-1-of-row-2 index-2-of-row-2 of-row-requires-2
-    index-1-of-row-3 index-2-of-row-3 of-row-requires-3
-    index-1-of-row-4 index-2-of-row-4 of-row-requires-4
-    index-1-of-row-5 index-2-of-row-5 of-row-requires-5
+    (λ c. omega arith) (λ c. omega arith) of-row-requires
+    (λ c. omega arith) (λ c. omega arith) of-row-requires-2
+    (λ c. omega arith) (λ c. omega arith) of-row-requires-3
+    (λ c. omega arith) (λ c. omega arith) of-row-requires-4
+    (λ c. omega arith) (λ c. omega arith) of-row-requires-5
     any-of-requires returns-2)

@@ -4,7 +4,7 @@ use mathlib.Core.Bool.{true, false, and-true}
 use Prim.Native.Nat.{ℕ}
 use lib.Dec.{ltb}
 use borrow.Author.Tests.{not-true, not-false, eq-eqb, ne-eqb}
-use Rattle.lists.specs.Every.{every}
+use Rattle.sequences.specs.Every.{every}
 use Rattle.layout.specs.declared.Component.{Component}
 use Rattle.fund.specs.Components.{componentInRange, fits}
 use Rattle.fund.proofs.component_fits.Statement.{statement}

@@ -5,7 +5,7 @@ use mathlib.Core.Bool.{Bool, true, false, true≢false}
 use Prim.Native.Nat.{ℕ}
 use native.Mathlib.Omega.{arith}
 use borrow.Author.Tests.{not-true, not-false}
-use Rattle.lists.proofs.Every.{same-test}
+use Rattle.sequences.proofs.Every.{same-test}
 use Rattle.fund.specs.Components.{zeroUnless}
 use Rattle.fund.proofs.Laws.{component-true, component-sound, component-false}
 use Rattle.fund.proofs.component_in_range.Statement.{statement}

@@ -7,7 +7,7 @@ use mir.Syntax.{w64}
 use mir.Val.{toZ, ofZ}
 use borrow.Author.Needs.{needs}
 use borrow.Author.Tests.{not-true, not-false}
-use Rattle.lists.proofs.Every.{same-test}
+use Rattle.sequences.proofs.Every.{same-test}
 use Rattle.fund.specs.Fund.{cashInRange}
 use Rattle.fund.proofs.Laws.{fund-true, fund-sound, fund-false}
 use Rattle.fund.proofs.fund_in_range.Statement.{statement}
@@ -41,9 +41,6 @@ cash-test c =
 returns-6 : tie.Need-returns-6
 returns-6 c = sym (fund-false _ (λ r. true≢false (sym (r .cash) ∙ sym (cash-test (c .before)) ∙ not-true _ (c .if6 .taken))))
 
-limits-in-range-requires : tie.Need-limits-in-range-requires
-limits-in-range-requires c κs = omega arith
-
 returns-7 : tie.Need-returns-7
 returns-7 c =
     same-test _ _
@@ -70,5 +67,5 @@ fund-in-range-spec =
     returns-5
     cash-in-range-requires
     returns-6
-    limits-in-range-requires
+    (λ c κs. omega arith)
     returns-7)

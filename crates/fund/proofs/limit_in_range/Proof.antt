@@ -5,7 +5,7 @@ use Prim.Native.Nat.{ℕ, _%_, _≤_, _<_}
 use lib.Dec.{eqb}
 use borrow.Author.Needs.{needs}
 use borrow.Author.Tests.{le-leb, lt-leb}
-use Rattle.lists.specs.Every.{every}
+use Rattle.sequences.specs.Every.{every}
 use Rattle.fund.specs.Fund.{ceiling, limitInRange}
 use Rattle.fund.proofs.limit_in_range.Statement.{statement}
 use Rattle.fund.proofs.limit_in_range.Tie as tie
@@ -21,11 +21,8 @@ by-remainder size limit l = simp (le-leb limit ceiling l, and-true)
 returns : tie.Need-returns
 returns c = sym (above _ _ (c .if1 .taken))
 
-rem-result : tie.Need-rem-result
-rem-result c = search needs
-
 returns-2 : tie.Need-returns-2
 returns-2 c = by-remainder _ _ (c .if1 .left)
 
 pub limit-in-range-spec : {M : Type 1} → statement M
-limit-in-range-spec = tie.close (tie.spec returns rem-result returns-2)
+limit-in-range-spec = tie.close (tie.spec returns (λ c. search needs) returns-2)

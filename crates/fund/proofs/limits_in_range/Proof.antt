@@ -8,7 +8,7 @@ use native.Mathlib.Omega.{arith}
 use lib.ListN.{getD}
 use borrow.Author.Count.{below-more}
 use borrow.Author.Tests.{not-true, not-false}
-use Rattle.lists.proofs.Below.{all-true, all-false}
+use Rattle.sequences.proofs.Below.{all-true, all-false}
 use Rattle.layout.specs.Places.{limitCount}
 use Rattle.fund.specs.Fund.{limitInRange, limitsInRange}
 use Rattle.fund.proofs.limits_in_range.Statement.{statement}
@@ -31,23 +31,8 @@ abbrev μ-loop : tie.MeasureT-loop
 loop-holds : tie.Need-loop-holds Inv-loop μ-loop
 loop-holds c = (omega arith, λ k l. absurd (not-suc-le-zero l))
 
-mul-limit-in-range : tie.Need-mul-limit-in-range Inv-loop μ-loop
-mul-limit-in-range c = omega arith
-
-array-read-limit-in-range : tie.Need-array-read-limit-in-range Inv-loop μ-loop
-array-read-limit-in-range c = omega arith
-
-limit-in-range-requires : tie.Need-limit-in-range-requires Inv-loop μ-loop
-limit-in-range-requires c κs = omega arith
-
 returns : tie.Need-returns Inv-loop μ-loop
 returns c = sym (fails _ _ _ (c .before .before .loop-test .taken) (sym (c .before .limit-in-range .ensures) ∙ not-true _ (c .if1 .taken)))
-
-add-i : tie.Need-add-i Inv-loop μ-loop
-add-i c = omega arith
-
-loop-less : tie.Need-loop-less Inv-loop μ-loop
-loop-less c = omega arith
 
 loop-again : tie.Need-loop-again Inv-loop μ-loop
 loop-again c = (
@@ -65,11 +50,11 @@ limits-in-range-spec =
     Inv-loop
     μ-loop
     loop-holds
-    mul-limit-in-range
-    array-read-limit-in-range
-    limit-in-range-requires
+    (λ c. omega arith)
+    (λ c. omega arith)
+    (λ c κs. omega arith)
     returns
-    add-i
-    loop-less
+    (λ c. omega arith)
+    (λ c. omega arith)
     loop-again
     returns-2)

@@ -5,7 +5,7 @@ use Prim.Native.Nat.{ℕ, _+_, _-_, _≤_, _<_}
 use native.Mathlib.Omega.{arith}
 use lib.Dec.{ltb}
 use borrow.Author.Tests.{lt-ltb, le-ltb, ltb-true}
-use Rattle.lists.proofs.Every.{same-test}
+use Rattle.sequences.proofs.Every.{same-test}
 use Rattle.fund.specs.Components.{outsideGroup}
 use Rattle.fund.proofs.outside_group.Statement.{statement}
 use Rattle.fund.proofs.outside_group.Tie as tie

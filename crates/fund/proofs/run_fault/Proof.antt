@@ -6,8 +6,8 @@ use mathlib.Core.List.{List}
 use Prim.Native.Nat.{ℕ, _≤_, _<_, _-_}
 use native.Mathlib.Omega.{arith}
 use lib.ListN.{getD}
-use Rattle.lists.specs.Below.{firstBelow}
-use Rattle.lists.proofs.Below.{first-none}
+use Rattle.sequences.specs.Below.{firstBelow}
+use Rattle.sequences.proofs.Below.{first-none}
 use Rattle.layout.specs.Places.{mostComponents}
 use Rattle.layout.specs.declared.Component.{Component}
 use Rattle.layout.specs.Components.{blank, componentAt, placesOf}
@@ -40,9 +40,6 @@ abbrev μ-loop : tie.MeasureT-loop
 loop-holds : tie.Need-loop-holds Inv-loop μ-loop
 loop-holds c = (omega arith, first-none _, sym (before-none _))
 
-component-at-requires : tie.Need-component-at-requires Inv-loop μ-loop
-component-at-requires c κs = omega arith
-
 component-fits-requires : tie.Need-component-fits-requires Inv-loop μ-loop
 component-fits-requires c κs = tt
 
@@ -52,12 +49,6 @@ returns c =
     let read = c .before .before .component-at in
     let low = c .before .before .before .loop-test .taken in
     sym (stops _ _ _ _ _ (inv .1) (inv .2) low (tested _ _ _ low (omega arith) (read .result) (read .ensures) _ _ _ (c .before .component-fits .ensures) ∙ c .if1 .taken))
-
-add-i : tie.Need-add-i Inv-loop μ-loop
-add-i c = omega arith
-
-loop-less : tie.Need-loop-less Inv-loop μ-loop
-loop-less c = omega arith
 
 loop-again : tie.Need-loop-again Inv-loop μ-loop
 loop-again c =
@@ -83,10 +74,10 @@ run-fault-spec =
     Inv-loop
     μ-loop
     loop-holds
-    component-at-requires
+    (λ c κs. omega arith)
     component-fits-requires
     returns
-    add-i
-    loop-less
+    (λ c. omega arith)
+    (λ c. omega arith)
     loop-again
     returns-2)

@@ -7,13 +7,10 @@ use Rattle.layout.proofs.Components.{places-at}
 use Rattle.layout.proofs.component_of.Statement.{statement}
 use Rattle.layout.proofs.component_of.Tie as tie
 
-component-at-requires : tie.Need-component-at-requires
-component-at-requires c κs = omega arith
-
 returns : tie.Need-returns
 returns c =
     let start = c .before .before in
     c .component-at .ensures ∙ sym (places-at (componentAt (start .args .basket .now)) mostComponents (start .args .i) (start .pre .0) (omega arith))
 
 pub component-of-spec : {M : Type 1} → statement M
-component-of-spec = tie.close (tie.spec component-at-requires returns)
+component-of-spec = tie.close (tie.spec (λ c κs. omega arith) returns)

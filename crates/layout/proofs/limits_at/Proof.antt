@@ -1,7 +1,7 @@
 -- `layout::limits_at` meets its contract: it reads the eight limits one by one.
 use native.Mathlib.Nat.{add-zero}
 use borrow.Author.Needs.{needs}
-use Rattle.lists.specs.Below.{tabulate}
+use Rattle.sequences.specs.Below.{tabulate}
 use Rattle.layout.proofs.limits_at.Statement.{statement}
 use Rattle.layout.proofs.limits_at.Tie as tie
 

@@ -4,17 +4,8 @@ use Rattle.lines.proofs.Answers.{end-other, end-second, end-last}
 use Rattle.lines.proofs.end_at.Statement.{statement}
 use Rattle.lines.proofs.end_at.Tie as tie
 
-shared-slice-read-if1 : tie.Need-shared-slice-read-if1
-shared-slice-read-if1 c = search needs
-
 returns : tie.Need-returns
 returns c = end-other _ _ (c .if1 .taken)
-
-add-j : tie.Need-add-j
-add-j c = search needs
-
-shared-slice-read-result : tie.Need-shared-slice-read-result
-shared-slice-read-result c = search needs
 
 returns-2 : tie.Need-returns-2
 returns-2 c = end-second _ _ (c .before .before .if1 .left)
@@ -26,9 +17,9 @@ pub end-at-spec : {M : Type 1} → statement M
 end-at-spec =
     tie.close
     (tie.spec
-    shared-slice-read-if1
+    (λ c. search needs)
     returns
-    add-j
-    shared-slice-read-result
+    (λ c. search needs)
+    (λ c. search needs)
     returns-2
     returns-3)

@@ -17,15 +17,6 @@ abbrev μ-loop : tie.MeasureT-loop
 loop-holds : tie.Need-loop-holds Inv-loop μ-loop
 loop-holds c = tested-start otherByte _
 
-shared-slice-read-good : tie.Need-shared-slice-read-good Inv-loop μ-loop
-shared-slice-read-good c = search needs
-
-add-i : tie.Need-add-i Inv-loop μ-loop
-add-i c = search needs
-
-loop-less : tie.Need-loop-less Inv-loop μ-loop
-loop-less c = search needs
-
 loop-again : tie.Need-loop-again Inv-loop μ-loop
 unfolding otherByte
 loop-again c = tested-again otherByte _ _ _ (c .before .before .loop .inv) (search needs) _ refl
@@ -36,4 +27,4 @@ returns c = tested-end otherByte _ _ _ (c .before .loop .inv) (c .loop-test .lef
 pub has-no-return-spec : {M : Type 1} → statement M
 has-no-return-spec =
     tie.close
-    (tie.spec Inv-loop μ-loop loop-holds shared-slice-read-good add-i loop-less loop-again returns)
+    (tie.spec Inv-loop μ-loop loop-holds (λ c. search needs) (λ c. search needs) (λ c. search needs) loop-again returns)

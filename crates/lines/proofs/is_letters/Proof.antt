@@ -18,22 +18,10 @@ abbrev μ-loop : tie.MeasureT-loop
 loop-holds : tie.Need-loop-holds Inv-loop μ-loop
 loop-holds c = pass-start letterByte _
 
-shared-slice-read-letter-byte : tie.Need-shared-slice-read-letter-byte Inv-loop μ-loop
-shared-slice-read-letter-byte c = search needs
-
-letter-byte-requires : tie.Need-letter-byte-requires Inv-loop μ-loop
-letter-byte-requires c κs = search needs
-
 returns : tie.Need-returns Inv-loop μ-loop
 returns c =
     let l = c .before .before .before .before in
     pass-other letterByte _ _ (l .loop .inv) (search needs) (sym (c .before .letter-byte .ensures) ∙ not-true _ (c .if1 .taken))
-
-add-i : tie.Need-add-i Inv-loop μ-loop
-add-i c = search needs
-
-loop-less : tie.Need-loop-less Inv-loop μ-loop
-loop-less c = search needs
 
 loop-again : tie.Need-loop-again Inv-loop μ-loop
 loop-again c =
@@ -50,10 +38,10 @@ is-letters-spec =
     Inv-loop
     μ-loop
     loop-holds
-    shared-slice-read-letter-byte
-    letter-byte-requires
+    (λ c. search needs)
+    (λ c κs. search needs)
     returns
-    add-i
-    loop-less
+    (λ c. search needs)
+    (λ c. search needs)
     loop-again
     returns-2)

@@ -16,18 +16,6 @@ abbrev μ-loop : tie.MeasureT-loop
 loop-holds : tie.Need-loop-holds Inv-loop μ-loop
 loop-holds c = tested-start nameByte _
 
-shared-slice-read-name-byte : tie.Need-shared-slice-read-name-byte Inv-loop μ-loop
-shared-slice-read-name-byte c = search needs
-
-name-byte-requires : tie.Need-name-byte-requires Inv-loop μ-loop
-name-byte-requires c κs = search needs
-
-add-i : tie.Need-add-i Inv-loop μ-loop
-add-i c = search needs
-
-loop-less : tie.Need-loop-less Inv-loop μ-loop
-loop-less c = search needs
-
 loop-again : tie.Need-loop-again Inv-loop μ-loop
 loop-again c = tested-again nameByte _ _ _ (c .before .before .before .loop .inv) (search needs) _ (c .name-byte .ensures)
 
@@ -41,9 +29,9 @@ is-name-spec =
     Inv-loop
     μ-loop
     loop-holds
-    shared-slice-read-name-byte
-    name-byte-requires
-    add-i
-    loop-less
+    (λ c. search needs)
+    (λ c κs. search needs)
+    (λ c. search needs)
+    (λ c. search needs)
     loop-again
     returns)

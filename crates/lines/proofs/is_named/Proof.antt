@@ -10,17 +10,11 @@ use Rattle.lines.proofs.is_named.Tie as tie
 returns : tie.Need-returns
 returns c = named-short _ _ (c .if1 .taken)
 
-shared-slice-read-if2 : tie.Need-shared-slice-read-if2
-shared-slice-read-if2 c = search needs
-
 returns-2 : tie.Need-returns-2
 returns-2 c = named-other _ _ (search needs) (c .if2 .taken)
 
 slice-aggregate-same-name : tie.Need-slice-aggregate-same-name
 slice-aggregate-same-name c = sym (length-take-le _ _ (omega arith))
-
-same-name-requires : tie.Need-same-name-requires
-same-name-requires c κs = search needs
 
 returns-3 : tie.Need-returns-3
 returns-3 c = c .same-name .ensures ∙ named-same _ _ (search needs) (c .before .before .if2 .left)
@@ -30,8 +24,8 @@ is-named-spec =
     tie.close
     (tie.spec
     returns
-    shared-slice-read-if2
+    (λ c. search needs)
     returns-2
     slice-aggregate-same-name
-    same-name-requires
+    (λ c κs. search needs)
     returns-3)

@@ -12,17 +12,11 @@ use Rattle.lines.proofs.is_plain_line.Tie as tie
 returns : tie.Need-returns
 returns c e = absurd (false≢true e)
 
-end-at-requires : tie.Need-end-at-requires
-end-at-requires c κs = search needs
-
 returns-2 : tie.Need-returns-2
 returns-2 c e = absurd (false≢true e)
 
 slice-aggregate-has-no-return : tie.Need-slice-aggregate-has-no-return
 slice-aggregate-has-no-return c = sym (length-take-le _ _ (omega arith))
-
-has-no-return-requires : tie.Need-has-no-return-requires
-has-no-return-requires c κs = search needs
 
 returns-3 : tie.Need-returns-3
 returns-3 c e =
@@ -35,8 +29,8 @@ is-plain-line-spec =
     tie.close
     (tie.spec
     returns
-    end-at-requires
+    (λ c κs. search needs)
     returns-2
     slice-aggregate-has-no-return
-    has-no-return-requires
+    (λ c κs. search needs)
     returns-3)

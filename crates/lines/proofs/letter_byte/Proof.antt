@@ -1,6 +1,6 @@
 -- `lines::letter_byte` meets its contract: each test tells the byte from one end of the three ranges.
 use native.Mathlib.Omega.{arith}
-use Rattle.lists.proofs.Every.{inside-true}
+use Rattle.sequences.proofs.Every.{inside-true}
 use Rattle.lines.proofs.Answers.{inside-low, inside-from, inside-high, letter-is}
 use Rattle.lines.proofs.letter_byte.Statement.{statement}
 use Rattle.lines.proofs.letter_byte.Tie as tie

@@ -10,11 +10,8 @@ returns c = lower-low _ (c .if1 .taken)
 returns-2 : tie.Need-returns-2
 returns-2 c = lower-high _ (search needs) (c .if2 .taken)
 
-add-result : tie.Need-add-result
-add-result c = search needs
-
 returns-3 : tie.Need-returns-3
 returns-3 c = lower-letter _ (search needs) (c .if2 .left)
 
 pub lower-byte-spec : {M : Type 1} → statement M
-lower-byte-spec = tie.close (tie.spec returns returns-2 add-result returns-3)
+lower-byte-spec = tie.close (tie.spec returns returns-2 (λ c. search needs) returns-3)

@@ -20,29 +20,11 @@ returns c = same-long lower _ _ (c .if1 .taken)
 loop-holds : tie.Need-loop-holds Inv-loop μ-loop
 loop-holds c = same-start lower _ _ (search needs)
 
-shared-slice-read-lower-byte : tie.Need-shared-slice-read-lower-byte Inv-loop μ-loop
-shared-slice-read-lower-byte c = search needs
-
-lower-byte-requires : tie.Need-lower-byte-requires Inv-loop μ-loop
-lower-byte-requires c κs = search needs
-
-shared-slice-read-lower-byte-2 : tie.Need-shared-slice-read-lower-byte-2 Inv-loop μ-loop
-shared-slice-read-lower-byte-2 c = search needs
-
-lower-byte-requires-2 : tie.Need-lower-byte-requires-2 Inv-loop μ-loop
-lower-byte-requires-2 c κs = search needs
-
 returns-2 : tie.Need-returns-2 Inv-loop μ-loop
 unfolding sameInAnyCase
 returns-2 c =
     let l = c .before .before .before .before .before .before in
     same-other lower _ _ _ (l .loop .inv) (search needs) (λ e. c .if2 .taken (cc))
-
-add-i : tie.Need-add-i Inv-loop μ-loop
-add-i c = search needs
-
-loop-less : tie.Need-loop-less Inv-loop μ-loop
-loop-less c = search needs
 
 loop-again : tie.Need-loop-again Inv-loop μ-loop
 loop-again c =
@@ -61,12 +43,12 @@ same-name-spec =
     μ-loop
     returns
     loop-holds
-    shared-slice-read-lower-byte
-    lower-byte-requires
-    shared-slice-read-lower-byte-2
-    lower-byte-requires-2
+    (λ c. search needs)
+    (λ c κs. search needs)
+    (λ c. search needs)
+    (λ c κs. search needs)
     returns-2
-    add-i
-    loop-less
+    (λ c. search needs)
+    (λ c. search needs)
     loop-again
     returns-3)

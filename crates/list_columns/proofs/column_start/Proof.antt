@@ -6,12 +6,9 @@ use Rattle.list_columns.proofs.Entries.{entry-facts}
 use Rattle.list_columns.proofs.column_start.Statement.{statement}
 use Rattle.list_columns.proofs.column_start.Tie as tie
 
-table-entry-requires : tie.Need-table-entry-requires
-table-entry-requires c κs = search needs
-
 returns : tie.Need-returns
 unfolding columnStart
 returns c = (c .table-entry .ensures, omega (arith, entry-facts _ (c .before .pre) .start, c .table-entry .ensures))
 
 pub column-start-spec : {M : Type 1} → statement M
-column-start-spec = tie.close (tie.spec table-entry-requires returns)
+column-start-spec = tie.close (tie.spec (λ c κs. search needs) returns)

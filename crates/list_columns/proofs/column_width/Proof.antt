@@ -6,12 +6,9 @@ use Rattle.list_columns.proofs.Entries.{entry-facts}
 use Rattle.list_columns.proofs.column_width.Statement.{statement}
 use Rattle.list_columns.proofs.column_width.Tie as tie
 
-table-entry-requires : tie.Need-table-entry-requires
-table-entry-requires c κs = search needs
-
 returns : tie.Need-returns
 unfolding columnStart columnWidth
 returns c = (c .table-entry .ensures, omega (arith, entry-facts _ (c .before .pre) .width, c .table-entry .ensures))
 
 pub column-width-spec : {M : Type 1} → statement M
-column-width-spec = tie.close (tie.spec table-entry-requires returns)
+column-width-spec = tie.close (tie.spec (λ c κs. search needs) returns)

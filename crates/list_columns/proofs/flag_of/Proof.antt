@@ -5,12 +5,6 @@ use Rattle.list_columns.proofs.Cells.{flag-none, flag-digit}
 use Rattle.list_columns.proofs.flag_of.Statement.{statement}
 use Rattle.list_columns.proofs.flag_of.Tie as tie
 
-column-start-requires : tie.Need-column-start-requires
-column-start-requires c κs = search needs
-
-shared-slice-read-b : tie.Need-shared-slice-read-b
-shared-slice-read-b c = search needs
-
 returns : tie.Need-returns
 returns c = flag-none _ _ (c .before .before .column-start .ensures .0) (c .if1 .taken)
 
@@ -22,4 +16,4 @@ returns-2 c = flag-digit _ _ (c .before .before .column-start .ensures .0)
 
 pub flag-of-spec : {M : Type 1} → statement M
 flag-of-spec =
-    tie.close (tie.spec column-start-requires shared-slice-read-b returns cast-result returns-2)
+    tie.close (tie.spec (λ c κs. search needs) (λ c. search needs) returns cast-result returns-2)

@@ -5,14 +5,8 @@ use Rattle.list_columns.proofs.Cells.{name-column}
 use Rattle.list_columns.proofs.has_name.Statement.{statement}
 use Rattle.list_columns.proofs.has_name.Tie as tie
 
-column-part-requires : tie.Need-column-part-requires
-column-part-requires c κs = search needs
-
-is-name-requires : tie.Need-is-name-requires
-is-name-requires c κs = search needs
-
 returns : tie.Need-returns
 returns c = c .is-name .ensures ∙ name-column _ (c .before .column-part .ensures)
 
 pub has-name-spec : {M : Type 1} → statement M
-has-name-spec = tie.close (tie.spec column-part-requires is-name-requires returns)
+has-name-spec = tie.close (tie.spec (λ c κs. search needs) (λ c κs. search needs) returns)

@@ -19,29 +19,11 @@ returns c = row-other _ (c .if1 .taken)
 loop-holds : tie.Need-loop-holds Inv-loop μ-loop
 loop-holds c = bars-start _ (c .if1 .left)
 
-column-start-requires : tie.Need-column-start-requires Inv-loop μ-loop
-column-start-requires c κs = search needs
-
-column-width-requires : tie.Need-column-width-requires Inv-loop μ-loop
-column-width-requires c κs = search needs
-
-add-if2 : tie.Need-add-if2 Inv-loop μ-loop
-add-if2 c = search needs
-
-shared-slice-read-if2 : tie.Need-shared-slice-read-if2 Inv-loop μ-loop
-shared-slice-read-if2 c = search needs
-
 returns-2 : tie.Need-returns-2 Inv-loop μ-loop
 returns-2 c =
     let l = c .before .before .before .before in
     bars-missing _ _ (l .before .loop .inv) (l .loop-test .taken) _
     (ap₂ _+_ (c .before .before .before .column-start .ensures .0) (c .before .before .column-width .ensures .0)) (c .if2 .taken)
-
-add-k : tie.Need-add-k Inv-loop μ-loop
-add-k c = search needs
-
-loop-less : tie.Need-loop-less Inv-loop μ-loop
-loop-less c = search needs
 
 loop-again : tie.Need-loop-again Inv-loop μ-loop
 loop-again c =
@@ -60,12 +42,12 @@ is-row-spec =
     μ-loop
     returns
     loop-holds
-    column-start-requires
-    column-width-requires
-    add-if2
-    shared-slice-read-if2
+    (λ c κs. search needs)
+    (λ c κs. search needs)
+    (λ c. search needs)
+    (λ c. search needs)
     returns-2
-    add-k
-    loop-less
+    (λ c. search needs)
+    (λ c. search needs)
     loop-again
     returns-3)

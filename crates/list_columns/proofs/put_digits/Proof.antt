@@ -5,17 +5,11 @@ use Rattle.list_columns.proofs.Texts.{bar-room, barred-put}
 use Rattle.list_columns.proofs.put_digits.Statement.{statement}
 use Rattle.list_columns.proofs.put_digits.Tie as tie
 
-put-fixed-requires : tie.Need-put-fixed-requires
-put-fixed-requires c κs = search needs
-
 put-byte-requires : tie.Need-put-byte-requires
 put-byte-requires c κs =
     let w = c .before .before .before in
     let s = w .before .before .before in
     bar-room _ _ (fixed-length (s .args .width) (s .args .n)) (s .pre) (w .put-fixed .ensures)
-
-same-length : tie.Need-same-length
-same-length c = search needs
 
 returns : tie.Need-returns
 returns c =
@@ -24,4 +18,4 @@ returns c =
     barred-put _ _ (fixed-length (s .args .width) (s .args .n)) (s .pre) (w .put-fixed .ensures) (c .before .before .put-byte .ensures)
 
 pub put-digits-spec : {M : Type 1} → statement M
-put-digits-spec = tie.close (tie.spec put-fixed-requires put-byte-requires same-length returns)
+put-digits-spec = tie.close (tie.spec (λ c κs. search needs) put-byte-requires (λ c. search needs) returns)

@@ -8,21 +8,6 @@ use Rattle.list_columns.proofs.Texts.{barred-put, text-written}
 use Rattle.list_columns.proofs.put_name.Statement.{statement}
 use Rattle.list_columns.proofs.put_name.Tie as tie
 
-name-bytes-requires : tie.Need-name-bytes-requires
-name-bytes-requires c κs = search needs
-
-slice-aggregate-put-bytes : tie.Need-slice-aggregate-put-bytes
-slice-aggregate-put-bytes c = search needs
-
-put-bytes-requires : tie.Need-put-bytes-requires
-put-bytes-requires c κs = search needs
-
-put-byte-requires : tie.Need-put-byte-requires
-put-byte-requires c κs = search needs
-
-same-length : tie.Need-same-length
-same-length c = search needs
-
 returns : tie.Need-returns
 returns c =
     let w = c .before .before .before .before .before .before in
@@ -36,9 +21,9 @@ pub put-name-spec : {M : Type 1} → statement M
 put-name-spec =
     tie.close
     (tie.spec
-    name-bytes-requires
-    slice-aggregate-put-bytes
-    put-bytes-requires
-    put-byte-requires
-    same-length
+    (λ c κs. search needs)
+    (λ c. search needs)
+    (λ c κs. search needs)
+    (λ c κs. search needs)
+    (λ c. search needs)
     returns)

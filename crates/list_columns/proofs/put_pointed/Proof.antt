@@ -5,17 +5,11 @@ use Rattle.list_columns.proofs.Texts.{used-length, bar-room, barred-put
 use Rattle.list_columns.proofs.put_pointed.Statement.{statement}
 use Rattle.list_columns.proofs.put_pointed.Tie as tie
 
-put-used-requires : tie.Need-put-used-requires
-put-used-requires c κs = search needs
-
 put-byte-requires : tie.Need-put-byte-requires
 put-byte-requires c κs =
     let w = c .before .before .before in
     let s = w .before .before .before in
     bar-room _ _ (used-length (s .args .used) (s .args .width) (s .args .decimals) (s .args .n) (s .pre .0) (omega arith)) (s .pre .1) (w .put-used .ensures)
-
-same-length : tie.Need-same-length
-same-length c = search needs
 
 returns : tie.Need-returns
 returns c =
@@ -24,4 +18,4 @@ returns c =
     barred-put _ _ (used-length (s .args .used) (s .args .width) (s .args .decimals) (s .args .n) (s .pre .0) (omega arith)) (s .pre .1) (w .put-used .ensures) (c .before .before .put-byte .ensures)
 
 pub put-pointed-spec : {M : Type 1} → statement M
-put-pointed-spec = tie.close (tie.spec put-used-requires put-byte-requires same-length returns)
+put-pointed-spec = tie.close (tie.spec (λ c κs. search needs) put-byte-requires (λ c. search needs) returns)

@@ -5,12 +5,6 @@ use Rattle.list_columns.proofs.Texts.{rate-pointed, amount-pointed, use
 use Rattle.list_columns.proofs.put_row.Statement.{statement}
 use Rattle.list_columns.proofs.put_row.Tie as tie
 
-entry-of-requires : tie.Need-entry-of-requires
-entry-of-requires c κs = search needs
-
-entry-of-requires-2 : tie.Need-entry-of-requires-2
-entry-of-requires-2 c κs = search needs
-
 put-digits-requires : tie.Need-put-digits-requires
 put-digits-requires c κs = let s = c .before .before .before .before .before in code-room _ _ (s .pre .0 .0) (s .pre .0 .1) (s .args .dst .now) _ (s .pre .1)
 
@@ -62,9 +56,6 @@ put-pointed-requires-2 c κs =
           (w₃ .put-whole .ensures) (w₄ .put-digits2 .ensures) (used-same _ _ _ (f .before .entry-of .ensures) (w₅ .put-pointed .ensures)),
     )
 
-slice-aggregate-put-bytes : tie.Need-slice-aggregate-put-bytes
-slice-aggregate-put-bytes c = search needs
-
 put-bytes-requires : tie.Need-put-bytes-requires
 put-bytes-requires c κs =
     let w₆ = c .before .before .before .before in
@@ -77,9 +68,6 @@ put-bytes-requires c κs =
     let s = f .before .before .before .before in
     end-room _ _ (s .pre .0 .0) (s .pre .0 .1) _ _ (s .pre .1) (w₁ .put-digits .ensures) (w₂ .put-name .ensures) (w₃ .put-whole .ensures) (w₄ .put-digits2 .ensures)
     (used-same _ _ _ (f .before .entry-of .ensures) (w₅ .put-pointed .ensures)) (used-same _ _ _ (f .entry-of2 .ensures) (w₆ .put-pointed2 .ensures))
-
-same-length : tie.Need-same-length
-same-length c = search needs
 
 returns : tie.Need-returns
 returns c =
@@ -99,15 +87,15 @@ pub put-row-spec : {M : Type 1} → statement M
 put-row-spec =
     tie.close
     (tie.spec
-    entry-of-requires
-    entry-of-requires-2
+    (λ c κs. search needs)
+    (λ c κs. search needs)
     put-digits-requires
     put-name-requires
     put-whole-requires
     put-digits-requires-2
     put-pointed-requires
     put-pointed-requires-2
-    slice-aggregate-put-bytes
+    (λ c. search needs)
     put-bytes-requires
-    same-length
+    (λ c. search needs)
     returns)

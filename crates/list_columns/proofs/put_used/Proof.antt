@@ -10,17 +10,8 @@ put-pointed-requires c κs =
     let p = s .pre .0 in
     ((p .some, p .few, p .wide, s .pre .1), p .fits)
 
-same-length : tie.Need-same-length
-same-length c = search needs
-
 returns : tie.Need-returns
 returns c = used-put _ _ _ (c .before .before .before .before .if1 .taken) (c .before .before .put-pointed .ensures)
-
-put-blanks-requires : tie.Need-put-blanks-requires
-put-blanks-requires c κs = search needs
-
-same-length-2 : tie.Need-same-length-2
-same-length-2 c = search needs
 
 returns-2 : tie.Need-returns-2
 returns-2 c = unused-put _ _ _ (c .before .before .before .before .if1 .left) (c .before .before .put-blanks .ensures)
@@ -28,4 +19,4 @@ returns-2 c = unused-put _ _ _ (c .before .before .before .before .if1 .left) (c
 pub put-used-spec : {M : Type 1} → statement M
 put-used-spec =
     tie.close
-    (tie.spec put-pointed-requires same-length returns put-blanks-requires same-length-2 returns-2)
+    (tie.spec put-pointed-requires (λ c. search needs) returns (λ c κs. search needs) (λ c. search needs) returns-2)

@@ -6,17 +6,11 @@ use Rattle.list_columns.proofs.Texts.{bar-room, barred-put}
 use Rattle.list_columns.proofs.put_whole.Statement.{statement}
 use Rattle.list_columns.proofs.put_whole.Tie as tie
 
-put-whole-requires : tie.Need-put-whole-requires
-put-whole-requires c κs = search needs
-
 put-byte-requires : tie.Need-put-byte-requires
 put-byte-requires c κs =
     let w = c .before .before .before in
     let s = w .before .before .before in
     bar-room _ _ (right-length (s .args .width) (s .args .n) (s .pre .0) (s .pre .1) (omega arith)) (s .pre .2) (w .put-whole .ensures)
-
-same-length : tie.Need-same-length
-same-length c = search needs
 
 returns : tie.Need-returns
 returns c =
@@ -25,4 +19,4 @@ returns c =
     barred-put _ _ (right-length (s .args .width) (s .args .n) (s .pre .0) (s .pre .1) (omega arith)) (s .pre .2) (w .put-whole .ensures) (c .before .before .put-byte .ensures)
 
 pub put-whole-spec : {M : Type 1} → statement M
-put-whole-spec = tie.close (tie.spec put-whole-requires put-byte-requires same-length returns)
+put-whole-spec = tie.close (tie.spec (λ c κs. search needs) put-byte-requires (λ c. search needs) returns)

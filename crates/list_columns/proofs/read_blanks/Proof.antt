@@ -5,9 +5,6 @@ use Rattle.list_columns.proofs.Numbers.{blanks-yes, blanks-no}
 use Rattle.list_columns.proofs.read_blanks.Statement.{statement}
 use Rattle.list_columns.proofs.read_blanks.Tie as tie
 
-is-blank-requires : tie.Need-is-blank-requires
-is-blank-requires c κs = search needs
-
 returns : tie.Need-returns
 returns c = blanks-yes _ (sym (c .before .is-blank .ensures) ∙ c .if1 .taken)
 
@@ -15,4 +12,4 @@ returns-2 : tie.Need-returns-2
 returns-2 c = blanks-no _ (sym (c .before .is-blank .ensures) ∙ c .if1 .left)
 
 pub read-blanks-spec : {M : Type 1} → statement M
-read-blanks-spec = tie.close (tie.spec is-blank-requires returns returns-2)
+read-blanks-spec = tie.close (tie.spec (λ c κs. search needs) returns returns-2)

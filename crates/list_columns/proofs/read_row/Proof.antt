@@ -41,97 +41,28 @@ read-6 : (c : tie.After-known-told4)
 read-6 c =
     sought-again _ _ 5 (read-5 (c .before .before .before .before)) (omega arith) (column-known _ 5 (sym (c .before .before .before .read-amount .ensures) ∙ c .before .amount .given .1) .0)
 
-flag-of-requires : tie.Need-flag-of-requires
-flag-of-requires c κs = search needs
-
-read-code-requires : tie.Need-read-code-requires
-read-code-requires c κs = search needs
-
-enum-known-code : tie.Need-enum-known-code
-enum-known-code c = search needs
-
-enum-told : tie.Need-enum-told
-enum-told c = search needs
-
-faulty-requires : tie.Need-faulty-requires
-faulty-requires c κs = search needs
-
 returns : tie.Need-returns
 returns c =
     fault-row _ 0 _ (omega arith) (sought-start _ _) (column-ill _ 0 (sym (c .before .before .before .read-code .ensures) ∙ c .before .enum-told .given .1)) (c .faulty .ensures)
 
-has-name-requires : tie.Need-has-name-requires
-has-name-requires c κs = search needs
-
-faulty-requires-2 : tie.Need-faulty-requires-2
-faulty-requires-2 c κs = search needs
-
 returns-2 : tie.Need-returns-2
 returns-2 c =
     fault-row _ 1 _ (omega arith) (read-1 (c .before .before .before)) (name-fault _ (c .before .before .has-name .ensures) (c .before .if1 .taken)) (c .faulty2 .ensures)
-
-read-quantity-requires : tie.Need-read-quantity-requires
-read-quantity-requires c κs = search needs
-
-enum-known-quantity : tie.Need-enum-known-quantity
-enum-known-quantity c = search needs
-
-enum-told-2 : tie.Need-enum-told-2
-enum-told-2 c = search needs
-
-faulty-requires-3 : tie.Need-faulty-requires-3
-faulty-requires-3 c κs = search needs
 
 returns-3 : tie.Need-returns-3
 returns-3 c =
     fault-row _ 2 _ (omega arith) (read-2 (c .before .before .before .before))
     (column-ill _ 2 (sym (c .before .before .before .read-quantity .ensures) ∙ c .before .enum-told2 .given .1)) (c .faulty3 .ensures)
 
-read-flag-requires : tie.Need-read-flag-requires
-read-flag-requires c κs = search needs
-
-enum-told-3 : tie.Need-enum-told-3
-enum-told-3 c = search needs
-
-enum-told-4 : tie.Need-enum-told-4
-enum-told-4 c = search needs
-
-faulty-requires-4 : tie.Need-faulty-requires-4
-faulty-requires-4 c κs = search needs
-
 returns-4 : tie.Need-returns-4
 returns-4 c =
     fault-row _ 3 _ (omega arith) (read-3 (c .before .before .before .before))
     (column-ill _ 3 (sym (c .before .before .before .read-flag .ensures) ∙ c .before .enum-told4 .given .1)) (c .faulty4 .ensures)
 
-read-rate-requires : tie.Need-read-rate-requires
-read-rate-requires c κs = search needs
-
-enum-known-rate : tie.Need-enum-known-rate
-enum-known-rate c = search needs
-
-enum-told-5 : tie.Need-enum-told-5
-enum-told-5 c = search needs
-
-faulty-requires-5 : tie.Need-faulty-requires-5
-faulty-requires-5 c κs = search needs
-
 returns-5 : tie.Need-returns-5
 returns-5 c =
     fault-row _ 4 _ (omega arith) (read-4 (c .before .before .before .before))
     (column-ill _ 4 (sym (c .before .before .before .read-rate .ensures) ∙ c .before .enum-told5 .given .1)) (c .faulty5 .ensures)
-
-read-amount-requires : tie.Need-read-amount-requires
-read-amount-requires c κs = search needs
-
-enum-known-amount : tie.Need-enum-known-amount
-enum-known-amount c = search needs
-
-enum-told-6 : tie.Need-enum-told-6
-enum-told-6 c = search needs
-
-faulty-requires-6 : tie.Need-faulty-requires-6
-faulty-requires-6 c κs = search needs
 
 returns-6 : tie.Need-returns-6
 returns-6 c =
@@ -164,34 +95,34 @@ pub read-row-spec : {M : Type 1} → statement M
 read-row-spec =
     tie.close
     (tie.spec
-    flag-of-requires
-    read-code-requires
-    enum-known-code
-    enum-told
-    faulty-requires
+    (λ c κs. search needs)
+    (λ c κs. search needs)
+    (λ c. search needs)
+    (λ c. search needs)
+    (λ c κs. search needs)
     returns
-    has-name-requires
-    faulty-requires-2
+    (λ c κs. search needs)
+    (λ c κs. search needs)
     returns-2
-    read-quantity-requires
-    enum-known-quantity
-    enum-told-2
-    faulty-requires-3
+    (λ c κs. search needs)
+    (λ c. search needs)
+    (λ c. search needs)
+    (λ c κs. search needs)
     returns-3
-    read-flag-requires
-    enum-told-3
-    enum-told-4
-    faulty-requires-4
+    (λ c κs. search needs)
+    (λ c. search needs)
+    (λ c. search needs)
+    (λ c κs. search needs)
     returns-4
-    read-rate-requires
-    enum-known-rate
-    enum-told-5
-    faulty-requires-5
+    (λ c κs. search needs)
+    (λ c. search needs)
+    (λ c. search needs)
+    (λ c κs. search needs)
     returns-5
-    read-amount-requires
-    enum-known-amount
-    enum-told-6
-    faulty-requires-6
+    (λ c κs. search needs)
+    (λ c. search needs)
+    (λ c. search needs)
+    (λ c κs. search needs)
     returns-6
     new-requires
     new-requires-2

@@ -8,7 +8,7 @@ use mir.Syntax.{w64}
 use mir.Val.{toZ, ofZ}
 use borrow.Author.Needs.{needs}
 use borrow.Author.Tests.{le-leb, leb-true, not-true, not-false}
-use Rattle.lists.proofs.Every.{same-test}
+use Rattle.sequences.proofs.Every.{same-test}
 use Rattle.fund.specs.Fund.{cashInRange}
 use Rattle.list_rules.proofs.Ranges.{fields-true, fields-sound, fields-false}
 use Rattle.list_fields.proofs.fields_in_range.Statement.{statement}

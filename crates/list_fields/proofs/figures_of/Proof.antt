@@ -4,7 +4,7 @@ use native.Mathlib.Omega.{arith}
 use mir.Syntax.{w64}
 use mir.Val.{toZ, ofZ}
 use borrow.Author.Needs.{needs}
-use Rattle.lists.specs.Below.{tabulate}
+use Rattle.sequences.specs.Below.{tabulate}
 use Rattle.digits.specs.Signed.{figureSigned}
 use Rattle.fund.proofs.Laws.{FundRanges, fund-sound, cash-size}
 use Rattle.list_rules.specs.Fields.{figureAt}

@@ -3,7 +3,7 @@
 use mathlib.Core.Path.{sym}
 use native.Mathlib.Omega.{arith}
 use borrow.Author.Tests.{le-leb, leb-true}
-use Rattle.lists.proofs.Every.{same-test}
+use Rattle.sequences.proofs.Every.{same-test}
 use Rattle.list_rules.proofs.Ranges.{date-true, date-sound, date-false}
 use Rattle.list_fields.proofs.is_date.Statement.{statement}
 use Rattle.list_fields.proofs.is_date.Tie as tie

@@ -1,7 +1,7 @@
 -- `list_fields::limits_of` meets its contract: it reads the eight figures one by one.
 use mathlib.Core.Path.{refl}
 use borrow.Author.Needs.{needs}
-use Rattle.lists.specs.Below.{tabulate}
+use Rattle.sequences.specs.Below.{tabulate}
 use Rattle.list_fields.proofs.limits_of.Statement.{statement}
 use Rattle.list_fields.proofs.limits_of.Tie as tie
 

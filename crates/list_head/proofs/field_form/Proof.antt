@@ -5,15 +5,6 @@ use borrow.Author.Needs.{needs}
 use Rattle.list_head.proofs.field_form.Statement.{statement}
 use Rattle.list_head.proofs.field_form.Tie as tie
 
-table-entry-requires : tie.Need-table-entry-requires
-table-entry-requires c κs = search needs
-
-table-entry-requires-2 : tie.Need-table-entry-requires-2
-table-entry-requires-2 c κs = search needs
-
-table-entry-requires-3 : tie.Need-table-entry-requires-3
-table-entry-requires-3 c κs = search needs
-
 returns : tie.Need-returns
 returns c =
     let s = c .before .before .before in
@@ -24,4 +15,4 @@ returns c =
 
 pub field-form-spec : {M : Type 1} → statement M
 field-form-spec =
-    tie.close (tie.spec table-entry-requires table-entry-requires-2 table-entry-requires-3 returns)
+    tie.close (tie.spec (λ c κs. search needs) (λ c κs. search needs) (λ c κs. search needs) returns)

@@ -5,26 +5,11 @@ use borrow.Author.Needs.{needs}
 use Rattle.list_head.proofs.figure_for.Statement.{statement}
 use Rattle.list_head.proofs.figure_for.Tie as tie
 
-blank-figure-requires : tie.Need-blank-figure-requires
-blank-figure-requires c κs = search needs
-
 returns : tie.Need-returns
 returns c = c .blank-figure .ensures ∙ figure-first _ _ (c .before .if1 .taken)
 
-blank-figure-requires-2 : tie.Need-blank-figure-requires-2
-blank-figure-requires-2 c κs = search needs
-
 returns-2 : tie.Need-returns-2
 returns-2 c = c .blank-figure2 .ensures ∙ figure-last _ _ (c .before .before .if1 .left) (c .before .if2 .taken)
-
-sub-result : tie.Need-sub-result
-sub-result c = search needs
-
-mul-result : tie.Need-mul-result
-mul-result c = search needs
-
-array-copy-out-result : tie.Need-array-copy-out-result
-array-copy-out-result c = search needs
 
 returns-3 : tie.Need-returns-3
 returns-3 c = figure-named _ _ (c .before .before .if1 .left) (search needs)
@@ -33,11 +18,11 @@ pub figure-for-spec : {M : Type 1} → statement M
 figure-for-spec =
     tie.close
     (tie.spec
-    blank-figure-requires
+    (λ c κs. search needs)
     returns
-    blank-figure-requires-2
+    (λ c κs. search needs)
     returns-2
-    sub-result
-    mul-result
-    array-copy-out-result
+    (λ c. search needs)
+    (λ c. search needs)
+    (λ c. search needs)
     returns-3)

@@ -14,21 +14,6 @@ abbrev μ-loop : tie.MeasureT-loop
 loop-holds : tie.Need-loop-holds Inv-loop μ-loop
 loop-holds c = sized-start _ _
 
-figure-for-requires : tie.Need-figure-for-requires Inv-loop μ-loop
-figure-for-requires c κs = search needs
-
-line-size-requires : tie.Need-line-size-requires Inv-loop μ-loop
-line-size-requires c κs = search needs
-
-add-n : tie.Need-add-n Inv-loop μ-loop
-add-n c = search needs
-
-add-k : tie.Need-add-k Inv-loop μ-loop
-add-k c = search needs
-
-loop-less : tie.Need-loop-less Inv-loop μ-loop
-loop-less c = search needs
-
 loop-again : tie.Need-loop-again Inv-loop μ-loop
 loop-again c =
     let l = c .before .before .before in
@@ -46,10 +31,10 @@ head-size-spec =
     Inv-loop
     μ-loop
     loop-holds
-    figure-for-requires
-    line-size-requires
-    add-n
-    add-k
-    loop-less
+    (λ c κs. search needs)
+    (λ c κs. search needs)
+    (λ c. search needs)
+    (λ c. search needs)
+    (λ c. search needs)
     loop-again
     returns)

@@ -2,7 +2,7 @@
 use mathlib.Core.List.{List}
 use mathlib.Core.Path.{refl, ap, _∙_}
 use Prim.Native.Nat.{ℕ}
-use Rattle.lists.specs.Below.{joinBelow}
+use Rattle.sequences.specs.Below.{joinBelow}
 use Rattle.lines.specs.Lines.{isNamed}
 use Rattle.list_rules.specs.Head.{fieldName, fieldNames}
 use Rattle.list_head.specs.Tables.{allNames}
@@ -10,15 +10,9 @@ use borrow.Author.Needs.{needs}
 use Rattle.list_head.proofs.is_field_line.Statement.{statement}
 use Rattle.list_head.proofs.is_field_line.Tie as tie
 
-slice-aggregate-name-part : tie.Need-slice-aggregate-name-part
-slice-aggregate-name-part c = search needs
-
 name-part-requires : tie.Need-name-part-requires
 unfolding allNames joinBelow fieldName fieldNames
 name-part-requires c κs = (refl, c .before .before .pre)
-
-is-named-requires : tie.Need-is-named-requires
-is-named-requires c κs = search needs
 
 returns : tie.Need-returns
 returns c =
@@ -27,4 +21,4 @@ returns c =
 
 pub is-field-line-spec : {M : Type 1} → statement M
 is-field-line-spec =
-    tie.close (tie.spec slice-aggregate-name-part name-part-requires is-named-requires returns)
+    tie.close (tie.spec (λ c. search needs) name-part-requires (λ c κs. search needs) returns)

@@ -5,9 +5,6 @@ use borrow.Author.Needs.{needs}
 use Rattle.list_head.proofs.is_kind.Statement.{statement}
 use Rattle.list_head.proofs.is_kind.Tie as tie
 
-is-date-requires : tie.Need-is-date-requires
-is-date-requires c κs = search needs
-
 returns : tie.Need-returns
 returns c = c .is-date .ensures ∙ kind-date _ _ (c .before .if1 .taken)
 
@@ -18,4 +15,4 @@ returns-3 : tie.Need-returns-3
 returns-3 c = kind-any _ _ (c .before .if1 .left) (c .if2 .left)
 
 pub is-kind-spec : {M : Type 1} → statement M
-is-kind-spec = tie.close (tie.spec is-date-requires returns returns-2 returns-3)
+is-kind-spec = tie.close (tie.spec (λ c κs. search needs) returns returns-2 returns-3)

@@ -11,11 +11,8 @@ returns c = letters-none _ (c .if1 .taken)
 returns-2 : tie.Need-returns-2
 returns-2 c = letters-more _ (search needs) (c .if2 .taken)
 
-is-letters-requires : tie.Need-is-letters-requires
-is-letters-requires c κs = search needs
-
 returns-3 : tie.Need-returns-3
 returns-3 c = c .is-letters .ensures ∙ letters-some _ (search needs) (search needs)
 
 pub is-letters-spec : {M : Type 1} → statement M
-is-letters-spec = tie.close (tie.spec returns returns-2 is-letters-requires returns-3)
+is-letters-spec = tie.close (tie.spec returns returns-2 (λ c κs. search needs) returns-3)

@@ -13,41 +13,14 @@ returns c = opening-short _ (c .if1 .taken)
 slice-aggregate-same-bytes : tie.Need-slice-aggregate-same-bytes
 slice-aggregate-same-bytes c = sym (length-take-le 4 (c .before .before .before .args .line .now) (search needs))
 
-slice-aggregate-same-bytes-2 : tie.Need-slice-aggregate-same-bytes-2
-slice-aggregate-same-bytes-2 c = search needs
-
-same-bytes-requires : tie.Need-same-bytes-requires
-same-bytes-requires c κs = search needs
-
 returns-2 : tie.Need-returns-2
 returns-2 c = opening-other _ (sym (c .before .same-bytes .ensures) ∙ not-true _ (c .if2 .taken))
-
-sub-is-letters : tie.Need-sub-is-letters
-sub-is-letters c = search needs
-
-sub-is-letters-2 : tie.Need-sub-is-letters-2
-sub-is-letters-2 c = search needs
-
-part-is-letters-start : tie.Need-part-is-letters-start
-part-is-letters-start c = search needs
-
-part-is-letters-end : tie.Need-part-is-letters-end
-part-is-letters-end c = search needs
-
-is-letters-requires : tie.Need-is-letters-requires
-is-letters-requires c κs = search needs
 
 returns-3 : tie.Need-returns-3
 returns-3 c =
     let l = c .before .before .before in
     opening-bare _ (sym (l .before .same-bytes .ensures) ∙ not-false _ (l .if2 .left))
     (sym (c .before .is-letters .ensures) ∙ not-true _ (c .if3 .taken))
-
-sub-result : tie.Need-sub-result
-sub-result c = search needs
-
-shared-slice-read-result : tie.Need-shared-slice-read-result
-shared-slice-read-result c = search needs
 
 returns-4 : tie.Need-returns-4
 returns-4 c =
@@ -61,15 +34,15 @@ is-opening-spec =
     (tie.spec
     returns
     slice-aggregate-same-bytes
-    slice-aggregate-same-bytes-2
-    same-bytes-requires
+    (λ c. search needs)
+    (λ c κs. search needs)
     returns-2
-    sub-is-letters
-    sub-is-letters-2
-    part-is-letters-start
-    part-is-letters-end
-    is-letters-requires
+    (λ c. search needs)
+    (λ c. search needs)
+    (λ c. search needs)
+    (λ c. search needs)
+    (λ c κs. search needs)
     returns-3
-    sub-result
-    shared-slice-read-result
+    (λ c. search needs)
+    (λ c. search needs)
     returns-4)

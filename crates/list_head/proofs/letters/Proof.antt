@@ -7,23 +7,11 @@ use borrow.Author.Needs.{needs}
 use Rattle.list_head.proofs.letters.Statement.{statement}
 use Rattle.list_head.proofs.letters.Tie as tie
 
-line-len-requires : tie.Need-line-len-requires
-line-len-requires c κs = search needs
-
-slice-aggregate-result : tie.Need-slice-aggregate-result
-slice-aggregate-result c = search needs
-
 returns : tie.Need-returns
 returns c = letters-open _ _ (c .before .before .line-len .ensures .0) (c .before .if1 .taken)
 
 slice-aggregate-is-opening : tie.Need-slice-aggregate-is-opening
 slice-aggregate-is-opening c = sym (length-take-le _ (c .before .before .before .before .args .text .now) (search needs))
-
-is-opening-requires : tie.Need-is-opening-requires
-is-opening-requires c κs = search needs
-
-slice-aggregate-result-2 : tie.Need-slice-aggregate-result-2
-slice-aggregate-result-2 c = search needs
 
 returns-2 : tie.Need-returns-2
 returns-2 c =
@@ -52,9 +40,6 @@ part-result-start c =
     let r = letters-room _ _ (l .line-len .ensures .0) (search needs) e in
     search needs
 
-part-result-end : tie.Need-part-result-end
-part-result-end c = search needs
-
 returns-3 : tie.Need-returns-3
 returns-3 c =
     let l = c .before .before .before .before .before in
@@ -65,15 +50,15 @@ pub letters-spec : {M : Type 1} → statement M
 letters-spec =
     tie.close
     (tie.spec
-    line-len-requires
-    slice-aggregate-result
+    (λ c κs. search needs)
+    (λ c. search needs)
     returns
     slice-aggregate-is-opening
-    is-opening-requires
-    slice-aggregate-result-2
+    (λ c κs. search needs)
+    (λ c. search needs)
     returns-2
     sub-result
     sub-result-2
     part-result-start
-    part-result-end
+    (λ c. search needs)
     returns-3)

@@ -10,29 +10,11 @@ use borrow.Author.Needs.{needs}
 use Rattle.list_head.proofs.line_size.Statement.{statement}
 use Rattle.list_head.proofs.line_size.Tie as tie
 
-add-result : tie.Need-add-result
-add-result c = search needs
-
 returns : tie.Need-returns
 returns c =
     let a = c .before .before .args in
     let e = size-first (a .letters .now) (λ _. a .z) (a .k) (c .if1 .taken) in
     (omega arith, omega arith)
-
-sub-name-len : tie.Need-sub-name-len
-sub-name-len c = search needs
-
-name-len-requires : tie.Need-name-len-requires
-name-len-requires c κs = search needs
-
-sub-field-form : tie.Need-sub-field-form
-sub-field-form c = search needs
-
-field-form-requires : tie.Need-field-form-requires
-field-form-requires c κs = search needs
-
-number-size-requires : tie.Need-number-size-requires
-number-size-requires c κs = search needs
 
 add-result-2 : tie.Need-add-result-2
 add-result-2 c =
@@ -68,13 +50,13 @@ pub line-size-spec : {M : Type 1} → statement M
 line-size-spec =
     tie.close
     (tie.spec
-    add-result
+    (λ c. search needs)
     returns
-    sub-name-len
-    name-len-requires
-    sub-field-form
-    field-form-requires
-    number-size-requires
+    (λ c. search needs)
+    (λ c κs. search needs)
+    (λ c. search needs)
+    (λ c κs. search needs)
+    (λ c κs. search needs)
     add-result-2
     add-result-3
     returns-2

@@ -5,15 +5,6 @@ use borrow.Author.Needs.{needs}
 use Rattle.list_head.proofs.name_len.Statement.{statement}
 use Rattle.list_head.proofs.name_len.Tie as tie
 
-add-name-start : tie.Need-add-name-start
-add-name-start c = search needs
-
-name-start-requires : tie.Need-name-start-requires
-name-start-requires c κs = search needs
-
-name-start-requires-2 : tie.Need-name-start-requires-2
-name-start-requires-2 c κs = search needs
-
 sub-result : tie.Need-sub-result
 sub-result c =
     let s = c .before .before in
@@ -29,4 +20,4 @@ returns c =
 pub name-len-spec : {M : Type 1} → statement M
 name-len-spec =
     tie.close
-    (tie.spec add-name-start name-start-requires name-start-requires-2 sub-result returns)
+    (tie.spec (λ c. search needs) (λ c κs. search needs) (λ c κs. search needs) sub-result returns)

@@ -7,15 +7,6 @@ use borrow.Author.Needs.{needs}
 use Rattle.list_head.proofs.name_part.Statement.{statement}
 use Rattle.list_head.proofs.name_part.Tie as tie
 
-name-start-requires : tie.Need-name-start-requires
-name-start-requires c κs = search needs
-
-add-name-start : tie.Need-add-name-start
-add-name-start c = search needs
-
-name-start-requires-2 : tie.Need-name-start-requires-2
-name-start-requires-2 c κs = search needs
-
 sub-result : tie.Need-sub-result
 sub-result c =
     let s = c .before .before .before in
@@ -40,9 +31,9 @@ pub name-part-spec : {M : Type 1} → statement M
 name-part-spec =
     tie.close
     (tie.spec
-    name-start-requires
-    add-name-start
-    name-start-requires-2
+    (λ c κs. search needs)
+    (λ c. search needs)
+    (λ c κs. search needs)
     sub-result
     part-result-start
     part-result-end

@@ -5,9 +5,6 @@ use borrow.Author.Needs.{needs}
 use Rattle.list_head.proofs.of_kind.Statement.{statement}
 use Rattle.list_head.proofs.of_kind.Tie as tie
 
-is-kind-requires : tie.Need-is-kind-requires
-is-kind-requires c κs = search needs
-
 returns : tie.Need-returns
 returns c = reading-well _ _ (sym (c .before .is-kind .ensures) ∙ c .if1 .taken)
 
@@ -15,4 +12,4 @@ returns-2 : tie.Need-returns-2
 returns-2 c = reading-not _ _ (sym (c .before .is-kind .ensures) ∙ c .if1 .left)
 
 pub of-kind-spec : {M : Type 1} → statement M
-of-kind-spec = tie.close (tie.spec is-kind-requires returns returns-2)
+of-kind-spec = tie.close (tie.spec (λ c κs. search needs) returns returns-2)

@@ -2,7 +2,7 @@
 use mathlib.Core.Path.{ap, refl}
 use native.Mathlib.Omega.{arith}
 use lib.ListN.{length}
-use Rattle.lists.specs.Below.{joinBelow}
+use Rattle.sequences.specs.Below.{joinBelow}
 use Rattle.digits.specs.Digits.{numberText}
 use Rattle.digits.specs.declared.Form.{Form}
 use Rattle.list_rules.specs.Head.{fieldName, fieldNames}
@@ -12,9 +12,6 @@ use Rattle.list_head.proofs.Write.{field-put}
 use borrow.Author.Needs.{needs}
 use Rattle.list_head.proofs.put_field.Statement.{statement}
 use Rattle.list_head.proofs.put_field.Tie as tie
-
-slice-aggregate-name-part : tie.Need-slice-aggregate-name-part
-slice-aggregate-name-part c = search needs
 
 name-part-requires : tie.Need-name-part-requires
 unfolding allNames joinBelow fieldName fieldNames
@@ -35,9 +32,6 @@ put-byte-requires c κs =
     let n = ap length (p .before .name-part .ensures) in
     omega arith
 
-field-form-requires : tie.Need-field-form-requires
-field-form-requires c κs = search needs
-
 put-number-requires : tie.Need-put-number-requires
 put-number-requires c κs =
     let p = c .before .before .before .before .before .before .before .before in
@@ -46,9 +40,6 @@ put-number-requires c κs =
     let n = ap length (p .before .name-part .ensures) in
     let f = ap (λ (f : Form). length (numberText f (s .args .z))) (c .field-form .ensures .0) in
     (c .field-form .ensures .1, omega arith)
-
-slice-aggregate-put-bytes : tie.Need-slice-aggregate-put-bytes
-slice-aggregate-put-bytes c = search needs
 
 put-bytes-requires-2 : tie.Need-put-bytes-requires-2
 put-bytes-requires-2 c κs =
@@ -60,9 +51,6 @@ put-bytes-requires-2 c κs =
     let n = ap length (p .before .name-part .ensures) in
     let f = ap (λ (f : Form). length (numberText f (s .args .z))) (r .before .field-form .ensures .0) in
     omega (arith, p .put-bytes .ensures .next, q .put-byte .ensures .next, r .put-number .ensures .next)
-
-same-length : tie.Need-same-length
-same-length c = search needs
 
 returns : tie.Need-returns
 returns c =
@@ -77,13 +65,13 @@ pub put-field-spec : {M : Type 1} → statement M
 put-field-spec =
     tie.close
     (tie.spec
-    slice-aggregate-name-part
+    (λ c. search needs)
     name-part-requires
     put-bytes-requires
     put-byte-requires
-    field-form-requires
+    (λ c κs. search needs)
     put-number-requires
-    slice-aggregate-put-bytes
+    (λ c. search needs)
     put-bytes-requires-2
-    same-length
+    (λ c. search needs)
     returns)

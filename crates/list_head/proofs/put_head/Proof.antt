@@ -14,20 +14,11 @@ abbrev μ-loop : tie.MeasureT-loop
 loop-holds : tie.Need-loop-holds Inv-loop μ-loop
 loop-holds c = lined-start _ _ _ _
 
-figure-for-requires : tie.Need-figure-for-requires Inv-loop μ-loop
-figure-for-requires c κs = search needs
-
 put-line-requires : tie.Need-put-line-requires Inv-loop μ-loop
 put-line-requires c κs =
     let l = c .before .before .before in
     let s = l .before .before .before in
     lined-room _ _ _ _ (s .pre) _ _ _ _ (l .loop .inv) (c .before .before .loop-test .taken) (c .figure-for .ensures)
-
-add-k : tie.Need-add-k Inv-loop μ-loop
-add-k c = search needs
-
-loop-less : tie.Need-loop-less Inv-loop μ-loop
-loop-less c = search needs
 
 loop-again : tie.Need-loop-again Inv-loop μ-loop
 loop-again c =
@@ -36,9 +27,6 @@ loop-again c =
     let s = l .before .before .before in
     lined-again _ _ _ _ (s .pre) _ _ _ _ (l .loop .inv) (f .before .before .loop-test .taken)
     (f .figure-for .ensures) _ _ (c .before .before .put-line .ensures)
-
-same-length : tie.Need-same-length Inv-loop μ-loop
-same-length c = search needs
 
 returns : tie.Need-returns Inv-loop μ-loop
 returns c = lined-end _ _ _ _ _ _ _ (c .before .loop .inv) (c .loop-test .left)
@@ -50,10 +38,10 @@ put-head-spec =
     Inv-loop
     μ-loop
     loop-holds
-    figure-for-requires
+    (λ c κs. search needs)
     put-line-requires
-    add-k
-    loop-less
+    (λ c. search needs)
+    (λ c. search needs)
     loop-again
-    same-length
+    (λ c. search needs)
     returns)

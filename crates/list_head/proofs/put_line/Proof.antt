@@ -16,14 +16,8 @@ put-opening-requires c κs =
     let a = c .before .before .before .before .args in
     omega (arith, size-first (a .letters .now) (λ _. a .z) (a .k) (c .before .if1 .taken))
 
-same-length : tie.Need-same-length
-same-length c = search needs
-
 returns : tie.Need-returns
 returns c = first-put _ _ _ (c .before .before .before .before .if1 .taken) (c .before .before .put-opening .ensures)
-
-sub-put-field : tie.Need-sub-put-field
-sub-put-field c = search needs
 
 put-field-requires : tie.Need-put-field-requires
 put-field-requires c κs =
@@ -31,24 +25,15 @@ put-field-requires c κs =
     let l = line-named (a .letters .now) (λ _. a .z) (a .k) (c .before .before .if1 .left) (c .before .if2 .taken) in
     (search needs, omega (arith, ap (λ (l : List ℕ). length (lineText l)) l))
 
-same-length-2 : tie.Need-same-length-2
-same-length-2 c = search needs
-
 returns-2 : tie.Need-returns-2
 returns-2 c =
     let l = c .before .before .before .before in
     named-put _ _ _ (l .before .if1 .left) (l .if2 .taken) (c .before .before .put-field .ensures)
 
-slice-aggregate-put-bytes : tie.Need-slice-aggregate-put-bytes
-slice-aggregate-put-bytes c = search needs
-
 put-bytes-requires : tie.Need-put-bytes-requires
 put-bytes-requires c κs =
     let a = c .before .before .before .before .before .before .args in
     omega (arith, size-tag (a .letters .now) (λ _. a .z) (a .k) (c .before .before .if2 .left))
-
-same-length-3 : tie.Need-same-length-3
-same-length-3 c = search needs
 
 returns-3 : tie.Need-returns-3
 returns-3 c = tag-put _ _ _ (c .before .before .before .before .before .if2 .left) (c .before .before .put-bytes .ensures)
@@ -58,13 +43,13 @@ put-line-spec =
     tie.close
     (tie.spec
     put-opening-requires
-    same-length
+    (λ c. search needs)
     returns
-    sub-put-field
+    (λ c. search needs)
     put-field-requires
-    same-length-2
+    (λ c. search needs)
     returns-2
-    slice-aggregate-put-bytes
+    (λ c. search needs)
     put-bytes-requires
-    same-length-3
+    (λ c. search needs)
     returns-3)

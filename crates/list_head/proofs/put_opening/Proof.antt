@@ -4,24 +4,6 @@ use borrow.Author.Needs.{needs}
 use Rattle.list_head.proofs.put_opening.Statement.{statement}
 use Rattle.list_head.proofs.put_opening.Tie as tie
 
-slice-aggregate-put-bytes : tie.Need-slice-aggregate-put-bytes
-slice-aggregate-put-bytes c = search needs
-
-put-bytes-requires : tie.Need-put-bytes-requires
-put-bytes-requires c κs = search needs
-
-put-bytes-requires-2 : tie.Need-put-bytes-requires-2
-put-bytes-requires-2 c κs = search needs
-
-slice-aggregate-put-bytes-2 : tie.Need-slice-aggregate-put-bytes-2
-slice-aggregate-put-bytes-2 c = search needs
-
-put-bytes-requires-3 : tie.Need-put-bytes-requires-3
-put-bytes-requires-3 c κs = search needs
-
-same-length : tie.Need-same-length
-same-length c = search needs
-
 returns : tie.Need-returns
 returns c =
     let q = c .before .before .before .before .before .before .before in
@@ -33,10 +15,10 @@ pub put-opening-spec : {M : Type 1} → statement M
 put-opening-spec =
     tie.close
     (tie.spec
-    slice-aggregate-put-bytes
-    put-bytes-requires
-    put-bytes-requires-2
-    slice-aggregate-put-bytes-2
-    put-bytes-requires-3
-    same-length
+    (λ c. search needs)
+    (λ c κs. search needs)
+    (λ c κs. search needs)
+    (λ c. search needs)
+    (λ c κs. search needs)
+    (λ c. search needs)
     returns)

@@ -5,24 +5,6 @@ use borrow.Author.Needs.{needs}
 use Rattle.list_head.proofs.read_field.Statement.{statement}
 use Rattle.list_head.proofs.read_field.Tie as tie
 
-field-form-requires : tie.Need-field-form-requires
-field-form-requires c κs = search needs
-
-read-number-requires : tie.Need-read-number-requires
-read-number-requires c κs = search needs
-
-enum-told : tie.Need-enum-told
-enum-told c = search needs
-
-enum-known-r : tie.Need-enum-known-r
-enum-known-r c = search needs
-
-table-entry-requires : tie.Need-table-entry-requires
-table-entry-requires c κs = search needs
-
-of-kind-requires : tie.Need-of-kind-requires
-of-kind-requires c κs = search needs
-
 returns : tie.Need-returns
 returns c = field-ill _ _ _ (c .before .before .before .field-form .ensures .0) _ (c .before .before .read-number .ensures) (c .enum-told .given .1)
 
@@ -37,11 +19,11 @@ pub read-field-spec : {M : Type 1} → statement M
 read-field-spec =
     tie.close
     (tie.spec
-    field-form-requires
-    read-number-requires
-    enum-told
-    enum-known-r
-    table-entry-requires
-    of-kind-requires
+    (λ c κs. search needs)
+    (λ c κs. search needs)
+    (λ c. search needs)
+    (λ c. search needs)
+    (λ c κs. search needs)
+    (λ c κs. search needs)
     returns
     returns-2)

@@ -18,31 +18,10 @@ end c = end-is _ _ _ (c .before .before .pre .1 .0) (c .row-count .ensures .0)
 ends : (c : tie.Else1) → let a = c .before .before .before .before .args in lineStands (λ l. same l endWord) (a .text .now) (a .start + 50 * c .before .before .row-count .result) ≡ true
 ends c = sym (c .before .end-stands .ensures) ∙ not-false _ (c .if1 .left)
 
-row-count-requires : tie.Need-row-count-requires
-row-count-requires c κs = search needs
-
-mul-end : tie.Need-mul-end
-mul-end c = search needs
-
-add-end : tie.Need-add-end
-add-end c = search needs
-
-end-stands-requires : tie.Need-end-stands-requires
-end-stands-requires c κs = search needs
-
-wrong-at-requires : tie.Need-wrong-at-requires
-wrong-at-requires c κs = search needs
-
 returns : tie.Need-returns
 returns c =
     shaped-at _ _ _ (c .wrong-at .ensures) (shaped-end _ _ (c .before .before .before .before .before .pre .0) (end (c .before .before .before))
     (sym (c .before .before .end-stands .ensures) ∙ not-true _ (c .before .if1 .taken)))
-
-add-behind : tie.Need-add-behind
-add-behind c = search needs
-
-wrong-at-requires-2 : tie.Need-wrong-at-requires-2
-wrong-at-requires-2 c κs = search needs
 
 returns-2 : tie.Need-returns-2
 returns-2 c =
@@ -59,13 +38,13 @@ pub body-shape-spec : {M : Type 1} → statement M
 body-shape-spec =
     tie.close
     (tie.spec
-    row-count-requires
-    mul-end
-    add-end
-    end-stands-requires
-    wrong-at-requires
+    (λ c κs. search needs)
+    (λ c. search needs)
+    (λ c. search needs)
+    (λ c κs. search needs)
+    (λ c κs. search needs)
     returns
-    add-behind
-    wrong-at-requires-2
+    (λ c. search needs)
+    (λ c κs. search needs)
     returns-2
     returns-3)

@@ -5,23 +5,11 @@ use Rattle.list_reading.proofs.Handed.{name-wrong, name-past, name-is}
 use Rattle.list_reading.proofs.name.Statement.{statement}
 use Rattle.list_reading.proofs.name.Tie as tie
 
-shape-of-requires : tie.Need-shape-of-requires
-shape-of-requires c κs = search needs
-
-slice-aggregate-result : tie.Need-slice-aggregate-result
-slice-aggregate-result c = search needs
-
 returns : tie.Need-returns
 returns c = name-wrong _ _ _ (c .before .before .shape-of .ensures) (c .before .if1 .taken)
 
-slice-aggregate-result-2 : tie.Need-slice-aggregate-result-2
-slice-aggregate-result-2 c = search needs
-
 returns-2 : tie.Need-returns-2
 returns-2 c = name-past _ _ _ (c .before .before .before .before .shape-of .ensures .rows (c .before .before .before .if1 .left)) _ (c .before .if2 .taken)
-
-name-from-requires : tie.Need-name-from-requires
-name-from-requires c κs = search needs
 
 returns-3 : tie.Need-returns-3
 returns-3 c = c .name-from .ensures ∙ name-is _ _ _ (c .before .before .before .before .shape-of .ensures .rows (c .before .before .before .if1 .left)) _ (c .before .if2 .left)
@@ -30,10 +18,10 @@ pub name-spec : {M : Type 1} → statement M
 name-spec =
     tie.close
     (tie.spec
-    shape-of-requires
-    slice-aggregate-result
+    (λ c κs. search needs)
+    (λ c. search needs)
     returns
-    slice-aggregate-result-2
+    (λ c. search needs)
     returns-2
-    name-from-requires
+    (λ c κs. search needs)
     returns-3)

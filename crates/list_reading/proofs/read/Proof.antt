@@ -4,31 +4,19 @@ use Rattle.list_reading.proofs.Handed.{refused-with, shape-reply}
 use Rattle.list_reading.proofs.read.Statement.{statement}
 use Rattle.list_reading.proofs.read.Tie as tie
 
-shape-of-requires : tie.Need-shape-of-requires
-shape-of-requires c κs = search needs
-
-refused-requires : tie.Need-refused-requires
-refused-requires c κs = search needs
-
 returns : tie.Need-returns
 returns c = refused-with _ _ _ _ (c .refused .ensures) (shape-reply _ _ _ (c .before .before .shape-of .ensures) (c .before .if1 .taken))
 
 read-fields-requires : tie.Need-read-fields-requires
 read-fields-requires c κs = c .before .before .shape-of .ensures .rows (c .before .if1 .left)
 
-same-length : tie.Need-same-length
-same-length c = search needs
-
-returns-2 : tie.Need-returns-2
-returns-2 c = search needs
-
 pub read-spec : {M : Type 1} → statement M
 read-spec =
     tie.close
     (tie.spec
-    shape-of-requires
-    refused-requires
+    (λ c κs. search needs)
+    (λ c κs. search needs)
     returns
     read-fields-requires
-    same-length
-    returns-2)
+    (λ c. search needs)
+    (λ c. search needs))

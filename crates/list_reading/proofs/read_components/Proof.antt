@@ -11,25 +11,16 @@ use Rattle.list_reading.proofs.read_components.Tie as tie
 fault : (c : tie.After-run-fault) → c .run-fault .result ≡ readFault (c .before .before .before .before .before .args .text .now)
 fault c = let s = c .before .before .before .before .before .pre in fault-is _ _ _ _ (s .0) _ (s .1) _ (c .run-fault .ensures)
 
-mul-n : tie.Need-mul-n
-mul-n c = search needs
-
 slice-aggregate-found : tie.Need-slice-aggregate-found
 slice-aggregate-found c = let s = c .before .before .before .before .pre in sym (found-long _ _ _ _ (s .0) _ (s .1))
 
 run-fault-requires : tie.Need-run-fault-requires
 run-fault-requires c κs = let s = c .before .before .before .before .pre in (few _ _ _ _ (s .0), omega (arith, found-long _ _ _ _ (s .0) _ (s .1)))
 
-refused-requires : tie.Need-refused-requires
-refused-requires c κs = search needs
-
 returns : tie.Need-returns
 returns c =
     let s = c .before .before .before .before .before .before .before .pre in
     refused-with _ _ _ _ (c .refused .ensures) (fault-reply _ _ _ _ (s .0) _ (s .1) _ (fault (c .before .before)) _ (c .before .if1 .taken))
-
-refused-requires-2 : tie.Need-refused-requires-2
-refused-requires-2 c κs = search needs
 
 returns-2 : tie.Need-returns-2
 returns-2 c =
@@ -39,9 +30,6 @@ returns-2 c =
 
 store-numbers-requires : tie.Need-store-numbers-requires
 store-numbers-requires c κs = let s = c .before .before .before .before .before .before .before .before .pre in omega (arith, found-long _ _ _ _ (s .0) _ (s .1), c .before .if2 .left)
-
-same-length : tie.Need-same-length
-same-length c = search needs
 
 returns-3 : tie.Need-returns-3
 returns-3 c =
@@ -54,13 +42,13 @@ pub read-components-spec : {M : Type 1} → statement M
 read-components-spec =
     tie.close
     (tie.spec
-    mul-n
+    (λ c. search needs)
     slice-aggregate-found
     run-fault-requires
-    refused-requires
+    (λ c κs. search needs)
     returns
-    refused-requires-2
+    (λ c κs. search needs)
     returns-2
     store-numbers-requires
-    same-length
+    (λ c. search needs)
     returns-3)

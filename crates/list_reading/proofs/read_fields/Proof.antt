@@ -4,27 +4,12 @@ use Rattle.list_reading.proofs.Handed.{refused-with, field-reply, row-r
 use Rattle.list_reading.proofs.read_fields.Statement.{statement}
 use Rattle.list_reading.proofs.read_fields.Tie as tie
 
-head-fields-requires : tie.Need-head-fields-requires
-head-fields-requires c κs = search needs
-
-refused-requires : tie.Need-refused-requires
-refused-requires c κs = search needs
-
 returns : tie.Need-returns
 returns c =
     let h = c .before .before .before in
     let e = h .head-fields .ensures in
     refused-with _ _ _ _ (c .refused .ensures)
     (field-reply _ _ _ (h .before .before .before .pre) _ (e .0) _ _ (c .before .if1 .taken) (e .1 .0 (c .before .if1 .taken)))
-
-slice-aggregate-read-rows : tie.Need-slice-aggregate-read-rows
-slice-aggregate-read-rows c = search needs
-
-read-rows-requires : tie.Need-read-rows-requires
-read-rows-requires c κs = search needs
-
-refused-requires-2 : tie.Need-refused-requires-2
-refused-requires-2 c κs = search needs
 
 returns-2 : tie.Need-returns-2
 returns-2 c =
@@ -34,9 +19,6 @@ returns-2 c =
     let e = r .read-rows .ensures in
     refused-with _ _ _ _ (c .refused2 .ensures)
     (row-reply _ _ _ (h .before .before .before .pre) _ (h .head-fields .ensures .0) (t .if1 .left) _ (e .0) _ _ (c .before .if2 .taken) (e .1 .0 (c .before .if2 .taken)))
-
-slice-aggregate-read-values : tie.Need-slice-aggregate-read-values
-slice-aggregate-read-values c = search needs
 
 read-values-requires : tie.Need-read-values-requires
 read-values-requires c κs =
@@ -51,24 +33,18 @@ read-values-requires c κs =
       record { long = r .read-rows .kept .1 .1 .1 .0; numbers-are = f .1 .1 (i .if2 .left) },
     )
 
-same-length : tie.Need-same-length
-same-length c = search needs
-
-returns-3 : tie.Need-returns-3
-returns-3 c = search needs
-
 pub read-fields-spec : {M : Type 1} → statement M
 read-fields-spec =
     tie.close
     (tie.spec
-    head-fields-requires
-    refused-requires
+    (λ c κs. search needs)
+    (λ c κs. search needs)
     returns
-    slice-aggregate-read-rows
-    read-rows-requires
-    refused-requires-2
+    (λ c. search needs)
+    (λ c κs. search needs)
+    (λ c κs. search needs)
     returns-2
-    slice-aggregate-read-values
+    (λ c. search needs)
     read-values-requires
-    same-length
-    returns-3)
+    (λ c. search needs)
+    (λ c. search needs))

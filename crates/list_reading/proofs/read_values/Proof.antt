@@ -23,26 +23,11 @@ figure c k h = ap (λ (z : Figure). z .size) (figure-at _ _ _ _ (c .pre .0) k (p
 fields : (c : tie.After-fields-of) → c .fields-of .result ≡ fieldsRead (c .before .before .before .before .before .before .before .args .text .now)
 fields c = fields-are _ _ _ _ (c .before .before .before .before .before .before .before .pre .0) _ (c .fields-of .ensures)
 
-element-copy-out-is-counted : tie.Need-element-copy-out-is-counted
-element-copy-out-is-counted c = search needs
-
-is-counted-requires : tie.Need-is-counted-requires
-is-counted-requires c κs = search needs
-
-refused-requires : tie.Need-refused-requires
-refused-requires c κs = search needs
-
 returns : tie.Need-returns
 returns c =
     refused-with _ _ _ _ (c .refused .ensures)
     (count-reply _ _ _ _ (c .before .before .before .before .before .before .pre .0) _ (figure (c .before .before .before .before .before .before) 5 (omega arith)) _
     (sym (c .before .before .is-counted .ensures) ∙ not-true _ (c .before .if1 .taken)))
-
-element-copy-out-if2 : tie.Need-element-copy-out-if2
-element-copy-out-if2 c = search needs
-
-refused-requires-2 : tie.Need-refused-requires-2
-refused-requires-2 c κs = search needs
 
 returns-2 : tie.Need-returns-2
 returns-2 c =
@@ -53,12 +38,6 @@ returns-2 c =
 
 fields-of-requires : tie.Need-fields-of-requires
 fields-of-requires c κs = (c .if2 .left, figures-capped _ _ _ _ (c .before .before .before .before .before .before .pre .0))
-
-fields-in-range-requires : tie.Need-fields-in-range-requires
-fields-in-range-requires c κs = search needs
-
-refused-requires-3 : tie.Need-refused-requires-3
-refused-requires-3 c κs = search needs
 
 returns-3 : tie.Need-returns-3
 returns-3 c =
@@ -78,27 +57,21 @@ read-components-requires c κs =
       s .pre .1,
     )
 
-same-length : tie.Need-same-length
-same-length c = search needs
-
-returns-4 : tie.Need-returns-4
-returns-4 c = search needs
-
 pub read-values-spec : {M : Type 1} → statement M
 read-values-spec =
     tie.close
     (tie.spec
-    element-copy-out-is-counted
-    is-counted-requires
-    refused-requires
+    (λ c. search needs)
+    (λ c κs. search needs)
+    (λ c κs. search needs)
     returns
-    element-copy-out-if2
-    refused-requires-2
+    (λ c. search needs)
+    (λ c κs. search needs)
     returns-2
     fields-of-requires
-    fields-in-range-requires
-    refused-requires-3
+    (λ c κs. search needs)
+    (λ c κs. search needs)
     returns-3
     read-components-requires
-    same-length
-    returns-4)
+    (λ c. search needs)
+    (λ c. search needs))

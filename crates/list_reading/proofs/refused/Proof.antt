@@ -6,11 +6,8 @@ use Rattle.list_rules.specs.declared.ListAnswer.the-variants.{Refused}
 use Rattle.list_reading.proofs.refused.Statement.{statement}
 use Rattle.list_reading.proofs.refused.Tie as tie
 
-blank-fields-requires : tie.Need-blank-fields-requires
-blank-fields-requires c κs = search needs
-
 returns : tie.Need-returns
 returns c = ap (λ (f : ListFields). record { answer = Refused (c .before .args .why); fields = f; «first_row» = 0 }) (c .blank-fields .ensures)
 
 pub refused-spec : {M : Type 1} → statement M
-refused-spec = tie.close (tie.spec blank-fields-requires returns)
+refused-spec = tie.close (tie.spec (λ c κs. search needs) returns)

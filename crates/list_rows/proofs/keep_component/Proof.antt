@@ -4,17 +4,8 @@ use borrow.Author.Needs.{needs}
 use Rattle.list_rows.proofs.keep_component.Statement.{statement}
 use Rattle.list_rows.proofs.keep_component.Tie as tie
 
-put-component-requires : tie.Need-put-component-requires
-put-component-requires c κs = search needs
-
-same-length : tie.Need-same-length
-same-length c = search needs
-
-returns : tie.Need-returns
-returns c = search needs
-
 returns-2 : tie.Need-returns-2
 returns-2 c low = absurd (omega (arith, low, c .if1 .left))
 
 pub keep-component-spec : {M : Type 1} → statement M
-keep-component-spec = tie.close (tie.spec put-component-requires same-length returns returns-2)
+keep-component-spec = tie.close (tie.spec (λ c κs. search needs) (λ c. search needs) (λ c. search needs) returns-2)

@@ -15,14 +15,8 @@ Inv-loop names count n j₀ j = Sought (badAt names) count j
 abbrev μ-loop : tie.MeasureT-loop
 μ-loop names count n j₀ j = count - j
 
-mul-n : tie.Need-mul-n Inv-loop μ-loop
-mul-n c = search needs
-
 slice-aggregate-is-name : tie.Need-slice-aggregate-is-name Inv-loop μ-loop
 slice-aggregate-is-name c = sym (length-take-le _ (c .before .before .args .names .now) (c .before .before .pre))
-
-is-name-requires : tie.Need-is-name-requires Inv-loop μ-loop
-is-name-requires c κs = search needs
 
 returns : tie.Need-returns Inv-loop μ-loop
 returns c = names-fine _ _ (sym (c .before .is-name .ensures) ∙ c .if1 .taken)
@@ -30,35 +24,11 @@ returns c = names-fine _ _ (sym (c .before .is-name .ensures) ∙ c .if1 .taken)
 loop-holds : tie.Need-loop-holds Inv-loop μ-loop
 loop-holds c = sought-start _ _
 
-mul-at : tie.Need-mul-at Inv-loop μ-loop
-mul-at c = search needs
-
-add-is-name : tie.Need-add-is-name Inv-loop μ-loop
-add-is-name c = search needs
-
-sub-is-name : tie.Need-sub-is-name Inv-loop μ-loop
-sub-is-name c = search needs
-
-part-is-name-start : tie.Need-part-is-name-start Inv-loop μ-loop
-part-is-name-start c = search needs
-
-part-is-name-end : tie.Need-part-is-name-end Inv-loop μ-loop
-part-is-name-end c = search needs
-
-is-name-requires-2 : tie.Need-is-name-requires-2 Inv-loop μ-loop
-is-name-requires-2 c κs = search needs
-
 returns-2 : tie.Need-returns-2 Inv-loop μ-loop
 returns-2 c =
     let t = c .before .before .before in
     sought-found _ _ _ (t .before .loop .inv) (t .loop-test .taken) (sym (bad-here _ _ (c .before .is-name2 .ensures)) ∙ c .if2 .taken)
     ∙ bad-first _ _
-
-add-j : tie.Need-add-j Inv-loop μ-loop
-add-j c = search needs
-
-loop-less : tie.Need-loop-less Inv-loop μ-loop
-loop-less c = search needs
 
 loop-again : tie.Need-loop-again Inv-loop μ-loop
 loop-again c =
@@ -74,19 +44,19 @@ name-fault-spec =
     (tie.spec
     Inv-loop
     μ-loop
-    mul-n
+    (λ c. search needs)
     slice-aggregate-is-name
-    is-name-requires
+    (λ c κs. search needs)
     returns
     loop-holds
-    mul-at
-    add-is-name
-    sub-is-name
-    part-is-name-start
-    part-is-name-end
-    is-name-requires-2
+    (λ c. search needs)
+    (λ c. search needs)
+    (λ c. search needs)
+    (λ c. search needs)
+    (λ c. search needs)
+    (λ c κs. search needs)
     returns-2
-    add-j
-    loop-less
+    (λ c. search needs)
+    (λ c. search needs)
     loop-again
     returns-3)

@@ -17,24 +17,6 @@ abbrev μ-loop : tie.MeasureT-loop
 loop-holds : tie.Need-loop-holds Inv-loop μ-loop
 loop-holds c = joined-start _ _ _ _
 
-mul-m : tie.Need-mul-m Inv-loop μ-loop
-mul-m c = search needs
-
-component-at-requires : tie.Need-component-at-requires Inv-loop μ-loop
-component-at-requires c κs = search needs
-
-add-put-row : tie.Need-add-put-row Inv-loop μ-loop
-add-put-row c = search needs
-
-sub-put-row : tie.Need-sub-put-row Inv-loop μ-loop
-sub-put-row c = search needs
-
-part-put-row-start : tie.Need-part-put-row-start Inv-loop μ-loop
-part-put-row-start c = search needs
-
-part-put-row-end : tie.Need-part-put-row-end Inv-loop μ-loop
-part-put-row-end c = search needs
-
 put-row-requires : tie.Need-put-row-requires Inv-loop μ-loop
 put-row-requires c κs =
     let t = c .before .before .before in
@@ -44,21 +26,12 @@ put-row-requires c κs =
           (joined-room _ _ _ _ (text-room (sym (lines-joined _ _ _)) _ _ (s .pre .1 .1)) _ _ _ (t .before .loop .inv) (t .loop-test .taken)),
     )
 
-add-j : tie.Need-add-j Inv-loop μ-loop
-add-j c = search needs
-
-loop-less : tie.Need-loop-less Inv-loop μ-loop
-loop-less c = search needs
-
 loop-again : tie.Need-loop-again Inv-loop μ-loop
 loop-again c =
     let t = c .before .before .before .before .before .before in
     let s = t .before .before .before .before .before in
     joined-again _ _ _ _ (text-room (sym (lines-joined _ _ _)) _ _ (s .pre .1 .1)) _ _ _ (t .before .loop .inv) (t .loop-test .taken) _ _
     (text-written (line-is _ _ _ (c .before .before .before .before .component-at .ensures)) (c .before .before .put-row .ensures))
-
-same-length : tie.Need-same-length Inv-loop μ-loop
-same-length c = search needs
 
 returns : tie.Need-returns Inv-loop μ-loop
 returns c =
@@ -72,15 +45,15 @@ put-rows-spec =
     Inv-loop
     μ-loop
     loop-holds
-    mul-m
-    component-at-requires
-    add-put-row
-    sub-put-row
-    part-put-row-start
-    part-put-row-end
+    (λ c. search needs)
+    (λ c κs. search needs)
+    (λ c. search needs)
+    (λ c. search needs)
+    (λ c. search needs)
+    (λ c. search needs)
     put-row-requires
-    add-j
-    loop-less
+    (λ c. search needs)
+    (λ c. search needs)
     loop-again
-    same-length
+    (λ c. search needs)
     returns)

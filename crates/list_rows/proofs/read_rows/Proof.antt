@@ -20,26 +20,8 @@ abbrev μ-loop : tie.MeasureT-loop
 loop-holds : tie.Need-loop-holds Inv-loop μ-loop
 loop-holds c = rows-start _ _ _
 
-row-part-requires : tie.Need-row-part-requires Inv-loop μ-loop
-row-part-requires c κs = search needs
-
 read-row-requires : tie.Need-read-row-requires Inv-loop μ-loop
 read-row-requires c κs = row-long _ _ _ (omega arith) (c .row-part .ensures)
-
-mul-place : tie.Need-mul-place Inv-loop μ-loop
-mul-place c = search needs
-
-add-place : tie.Need-add-place Inv-loop μ-loop
-add-place c = search needs
-
-column-start-requires : tie.Need-column-start-requires Inv-loop μ-loop
-column-start-requires c κs = search needs
-
-add-place-2 : tie.Need-add-place-2 Inv-loop μ-loop
-add-place-2 c = search needs
-
-same-length : tie.Need-same-length Inv-loop μ-loop
-same-length c = search needs
 
 returns : tie.Need-returns Inv-loop μ-loop
 returns c =
@@ -49,15 +31,6 @@ returns c =
     let f = r .read-row .ensures .0 ∙ ap columnFault (row-is _ _ _ (s .pre .1 .0 .0) (r .before .row-part .ensures)) in
     rows-wrong _ _ _ _ _ (t .before .loop .inv) (s .pre .1 .0 .1) (t .loop-test .taken) (sym (wrong-here _ _ f) ∙ lt-ltb _ _ (c .before .if1 .taken)) _
     (place-is _ _ _ (s .pre .1 .0 .0) f (c .column-start .ensures .0))
-
-keep-component-requires : tie.Need-keep-component-requires Inv-loop μ-loop
-keep-component-requires c κs = search needs
-
-add-j : tie.Need-add-j Inv-loop μ-loop
-add-j c = search needs
-
-loop-less : tie.Need-loop-less Inv-loop μ-loop
-loop-less c = search needs
 
 loop-again : tie.Need-loop-again Inv-loop μ-loop
 loop-again c =
@@ -69,9 +42,6 @@ loop-again c =
     let e = wrong-here _ _ (r .read-row .ensures .0 ∙ ap columnFault row) in
     rows-again _ _ _ _ _ (t .before .loop .inv) (t .loop-test .taken) (sym e ∙ le-ltb _ _ (i .if1 .left))
     (component-read _ _ row (r .read-row .ensures .1 (i .if1 .left))) _ (k .keep-component .kept .0) (k .keep-component .ensures)
-
-same-length-2 : tie.Need-same-length-2 Inv-loop μ-loop
-same-length-2 c = search needs
 
 returns-2 : tie.Need-returns-2 Inv-loop μ-loop
 returns-2 c =
@@ -85,17 +55,17 @@ read-rows-spec =
     Inv-loop
     μ-loop
     loop-holds
-    row-part-requires
+    (λ c κs. search needs)
     read-row-requires
-    mul-place
-    add-place
-    column-start-requires
-    add-place-2
-    same-length
+    (λ c. search needs)
+    (λ c. search needs)
+    (λ c κs. search needs)
+    (λ c. search needs)
+    (λ c. search needs)
     returns
-    keep-component-requires
-    add-j
-    loop-less
+    (λ c κs. search needs)
+    (λ c. search needs)
+    (λ c. search needs)
     loop-again
-    same-length-2
+    (λ c. search needs)
     returns-2)

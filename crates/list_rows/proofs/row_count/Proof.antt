@@ -16,9 +16,6 @@ abbrev μ-loop : tie.MeasureT-loop
 loop-holds : tie.Need-loop-holds Inv-loop μ-loop
 loop-holds c = counted-start _ _ (c .before .pre .0) (c .before .pre .1)
 
-row-stands-requires : tie.Need-row-stands-requires Inv-loop μ-loop
-row-stands-requires c κs = omega arith
-
 add-at : tie.Need-add-at Inv-loop μ-loop
 add-at c =
     let v = counted-again _ _ _ _ (c .before .before .loop .inv) (sym (c .before .row-stands .ensures) ∙ c .if1 .taken) in
@@ -47,7 +44,7 @@ row-count-spec =
     Inv-loop
     μ-loop
     loop-holds
-    row-stands-requires
+    (λ c κs. omega arith)
     add-at
     add-j
     loop-less

@@ -15,29 +15,8 @@ abbrev μ-loop : tie.MeasureT-loop
 loop-holds : tie.Need-loop-holds Inv-loop μ-loop
 loop-holds c = copied-start _ _
 
-mul-run : tie.Need-mul-run Inv-loop μ-loop
-mul-run c = search needs
-
-shared-slice-read-run : tie.Need-shared-slice-read-run Inv-loop μ-loop
-shared-slice-read-run c = search needs
-
-mul-run-2 : tie.Need-mul-run-2 Inv-loop μ-loop
-mul-run-2 c = search needs
-
-slice-write-run : tie.Need-slice-write-run Inv-loop μ-loop
-slice-write-run c = search needs
-
-add-i : tie.Need-add-i Inv-loop μ-loop
-add-i c = search needs
-
-loop-less : tie.Need-loop-less Inv-loop μ-loop
-loop-less c = search needs
-
 loop-again : tie.Need-loop-again Inv-loop μ-loop
 loop-again c = copied-again _ _ _ _ (c .before .before .loop .inv) (c .before .loop-test .taken) (c .before .before .before .pre)
-
-same-length : tie.Need-same-length Inv-loop μ-loop
-same-length c = search needs
 
 returns : tie.Need-returns Inv-loop μ-loop
 returns c = copied-end _ _ _ _ (c .before .loop .inv) (c .loop-test .left)
@@ -49,12 +28,12 @@ store-numbers-spec =
     Inv-loop
     μ-loop
     loop-holds
-    mul-run
-    shared-slice-read-run
-    mul-run-2
-    slice-write-run
-    add-i
-    loop-less
+    (λ c. search needs)
+    (λ c. search needs)
+    (λ c. search needs)
+    (λ c. search needs)
+    (λ c. search needs)
+    (λ c. search needs)
     loop-again
-    same-length
+    (λ c. search needs)
     returns)

@@ -12,17 +12,11 @@ returns c = count-low _ _ _ (c .if1 .taken)
 returns-2 : tie.Need-returns-2
 returns-2 c = count-high _ _ _ (search needs) (c .if2 .taken)
 
-mul-if3 : tie.Need-mul-if3
-mul-if3 c = search needs
-
 returns-3 : tie.Need-returns-3
 returns-3 c = run-other _ _ _ (search needs) (search needs) (c .if3 .taken)
-
-mul-result : tie.Need-mul-result
-mul-result c = search needs
 
 returns-4 : tie.Need-returns-4
 returns-4 c = names-decide _ _ _ (search needs) (search needs) (c .if3 .left)
 
 pub lengths-fit-spec : {M : Type 1} → statement M
-lengths-fit-spec = tie.close (tie.spec returns returns-2 mul-if3 returns-3 mul-result returns-4)
+lengths-fit-spec = tie.close (tie.spec returns returns-2 (λ c. search needs) returns-3 (λ c. search needs) returns-4)

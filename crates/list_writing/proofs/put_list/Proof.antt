@@ -56,18 +56,12 @@ put-rows-requires c κs =
       ),
     )
 
-slice-aggregate-put-bytes : tie.Need-slice-aggregate-put-bytes
-slice-aggregate-put-bytes c = search needs
-
 put-bytes-requires : tie.Need-put-bytes-requires
 put-bytes-requires c κs =
     end-room (list (c .before .before .before .before .before .before .before .before .before .before .before .before .before .before .before))
     (c .before .before .before .before .before .before .before .before .before .before .before .before .before .before .before .args .output .now)
     (c .before .before .before .before .before .before .before .before .before .before .before .before .before .before .before .pre .1)
     (headed (c .before .before .before .before .before .before .before .before)) (rowed (c .before .before .before .before))
-
-same-length : tie.Need-same-length
-same-length c = search needs
 
 returns : tie.Need-returns
 unfolding lineText
@@ -85,7 +79,7 @@ put-list-spec =
     figures-of-requires
     put-head-requires
     put-rows-requires
-    slice-aggregate-put-bytes
+    (λ c. search needs)
     put-bytes-requires
-    same-length
+    (λ c. search needs)
     returns)

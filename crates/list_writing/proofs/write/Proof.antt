@@ -9,22 +9,10 @@ use Rattle.list_writing.proofs.write.Tie as tie
 abbrev list : tie.Start → Listing
 list c = let a = c .args in listing (a .fields) (a .run .now) (a .names .now) (a .letters .now)
 
-write-answer-requires : tie.Need-write-answer-requires
-write-answer-requires c κs = search needs
-
-enum-told : tie.Need-enum-told
-enum-told c = search needs
-
 put-list-requires : tie.Need-put-list-requires
 put-list-requires c κs =
     accepted-list (list (c .before .before .before .before .before .before .before .before))
     (c .before .before .before .before .before .before .before .before .args .output .now) _ (c .before .before .before .write-answer .ensures) _ (c .before .enum-told .given .1)
-
-enum-told-2 : tie.Need-enum-told-2
-enum-told-2 c = search needs
-
-same-length : tie.Need-same-length
-same-length c = search needs
 
 returns : tie.Need-returns
 returns c =
@@ -38,10 +26,10 @@ pub write-spec : {M : Type 1} → statement M
 write-spec =
     tie.close
     (tie.spec
-    write-answer-requires
-    enum-told
+    (λ c κs. search needs)
+    (λ c. search needs)
     put-list-requires
-    enum-told-2
-    same-length
+    (λ c. search needs)
+    (λ c. search needs)
     returns
     returns-2)

@@ -3,7 +3,7 @@ use mathlib.Core.Path.{_≡_, sym, _∙_}
 use mathlib.Core.Bool.{true, false}
 use borrow.Author.Needs.{needs}
 use borrow.Author.Tests.{not-true, not-false, lt-ltb, le-ltb}
-use Rattle.lists.specs.Checks.{passes}
+use Rattle.sequences.specs.Checks.{passes}
 use Rattle.list_rules.specs.Fields.{fieldsInRange}
 use Rattle.list_rules.specs.Writing.{Listing, listing, sizesFit, writeFault, listChecks}
 use Rattle.list_writing.proofs.Replies.{sizes-sound, sizes-are, rangeWrong, range-fields, range-letters, range-right, list-passes, fault-is, reply-1, reply-2, reply-3, reply-16, reply-0}
@@ -34,24 +34,15 @@ passed c =
     list-passes (list (c .before .before .before .before .before .before .before .before .before .before .before))
     (sized (c .before .before .before .before .before .before)) (right (c .before .before)) (rw (fault (c .before)) at (le-ltb _ _ (c .if4 .left)))
 
-lengths-fit-requires : tie.Need-lengths-fit-requires
-lengths-fit-requires c κs = search needs
-
 returns : tie.Need-returns
 returns c =
     reply-1 (list (c .before .before .before .before .before)) _
     (sym (sizes-are (list (c .before .before .before .before .before))) ∙ sym (c .before .lengths-fit .ensures) ∙ not-true _ (c .if1 .taken))
 
-fields-in-range-requires : tie.Need-fields-in-range-requires
-fields-in-range-requires c κs = search needs
-
 returns-2 : tie.Need-returns-2
 returns-2 c =
     reply-2 (list (c .before .before .before .before .before .before .before)) _ (sized (c .before .before))
     (range-fields (list (c .before .before .before .before .before .before .before)) (sym (c .before .fields-in-range .ensures) ∙ not-true _ (c .if2 .taken)))
-
-is-letters-requires : tie.Need-is-letters-requires
-is-letters-requires c κs = search needs
 
 returns-3 : tie.Need-returns-3
 returns-3 c =
@@ -87,11 +78,11 @@ pub write-answer-spec : {M : Type 1} → statement M
 write-answer-spec =
     tie.close
     (tie.spec
-    lengths-fit-requires
+    (λ c κs. search needs)
     returns
-    fields-in-range-requires
+    (λ c κs. search needs)
     returns-2
-    is-letters-requires
+    (λ c κs. search needs)
     returns-3
     write-fault-requires
     returns-4

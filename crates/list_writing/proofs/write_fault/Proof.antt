@@ -4,12 +4,6 @@ use Rattle.list_writing.proofs.Tests.{first-lower, second-lower}
 use Rattle.list_writing.proofs.write_fault.Statement.{statement}
 use Rattle.list_writing.proofs.write_fault.Tie as tie
 
-run-fault-requires : tie.Need-run-fault-requires
-run-fault-requires c κs = search needs
-
-name-fault-requires : tie.Need-name-fault-requires
-name-fault-requires c κs = search needs
-
 returns : tie.Need-returns
 returns c = first-lower _ _ _ _ (c .before .before .run-fault .ensures) (c .before .name-fault .ensures) (c .if1 .taken)
 
@@ -17,4 +11,4 @@ returns-2 : tie.Need-returns-2
 returns-2 c = second-lower _ _ _ _ (c .before .before .run-fault .ensures) (c .before .name-fault .ensures) (c .if1 .left)
 
 pub write-fault-spec : {M : Type 1} → statement M
-write-fault-spec = tie.close (tie.spec run-fault-requires name-fault-requires returns returns-2)
+write-fault-spec = tie.close (tie.spec (λ c κs. search needs) (λ c κs. search needs) returns returns-2)

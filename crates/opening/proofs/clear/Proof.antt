@@ -21,18 +21,6 @@ abbrev μ-loop : tie.MeasureT-loop
 loop-holds : tie.Need-loop-holds Inv-loop μ-loop
 loop-holds c = (omega arith, refl, fill-none _ 0)
 
-mul-prices : tie.Need-mul-prices Inv-loop μ-loop
-mul-prices c = omega arith
-
-slice-write-prices : tie.Need-slice-write-prices Inv-loop μ-loop
-slice-write-prices c = omega arith
-
-add-i : tie.Need-add-i Inv-loop μ-loop
-add-i c = omega arith
-
-loop-less : tie.Need-loop-less Inv-loop μ-loop
-loop-less c = omega arith
-
 loop-again : tie.Need-loop-again Inv-loop μ-loop
 loop-again c =
     let l = c .before .loop in (
@@ -54,10 +42,10 @@ clear-spec =
     Inv-loop
     μ-loop
     loop-holds
-    mul-prices
-    slice-write-prices
-    add-i
-    loop-less
+    (λ c. omega arith)
+    (λ c. omega arith)
+    (λ c. omega arith)
+    (λ c. omega arith)
     loop-again
     same-length
     returns)

@@ -2,8 +2,8 @@
 use mathlib.Core.Path.{_≡_, sym, _∙_}
 use Prim.Native.Nat.{_+_, _-_, _≤_}
 use native.Mathlib.Omega.{arith}
-use Rattle.lists.specs.Below.{firstBelow}
-use Rattle.lists.proofs.Below.{first-none, first-more, first-here}
+use Rattle.sequences.specs.Below.{firstBelow}
+use Rattle.sequences.proofs.Below.{first-none, first-more, first-here}
 use Rattle.rules.specs.Opening.{overAt, totalFault}
 use Rattle.opening.specs.Given.{totalsIn}
 use Rattle.opening.proofs.first_over.Statement.{statement}
@@ -14,9 +14,6 @@ Inv-loop totals fundUnits count places place₀ place = (place ≤ count + 2) ×
 
 abbrev μ-loop : tie.MeasureT-loop
 μ-loop totals fundUnits count places place₀ place = places - place
-
-add-places : tie.Need-add-places Inv-loop μ-loop
-add-places c = omega arith
 
 loop-holds : tie.Need-loop-holds Inv-loop μ-loop
 loop-holds c = (omega arith, first-none _)
@@ -29,12 +26,6 @@ over-at-requires c κs =
 returns : tie.Need-returns Inv-loop μ-loop
 unfolding totalFault
 returns c = sym (first-here _ _ _ (omega arith) (c .before .before .before .loop .inv .1) (sym (c .before .over-at .ensures) ∙ c .if1 .taken))
-
-add-place : tie.Need-add-place Inv-loop μ-loop
-add-place c = omega arith
-
-loop-less : tie.Need-loop-less Inv-loop μ-loop
-loop-less c = omega arith
 
 loop-again : tie.Need-loop-again Inv-loop μ-loop
 loop-again c = (omega arith, first-more _ _ (c .before .before .before .loop .inv .1) (sym (c .before .over-at .ensures) ∙ c .if1 .left))
@@ -51,11 +42,11 @@ first-over-spec =
     (tie.spec
     Inv-loop
     μ-loop
-    add-places
+    (λ c. omega arith)
     loop-holds
     over-at-requires
     returns
-    add-place
-    loop-less
+    (λ c. omega arith)
+    (λ c. omega arith)
     loop-again
     returns-2)

@@ -12,41 +12,11 @@ Inv-loop stretch₀ held count l₀ stretch l = (l ≤ count + 1) × Fronted cou
 abbrev μ-loop : tie.MeasureT-loop
 μ-loop stretch₀ held count l₀ stretch l = count + 1 - l
 
-shared-slice-read-put-three : tie.Need-shared-slice-read-put-three Inv-loop μ-loop
-shared-slice-read-put-three c = omega arith
-
-put-three-requires : tie.Need-put-three-requires Inv-loop μ-loop
-put-three-requires c κs = omega arith
-
 loop-holds : tie.Need-loop-holds Inv-loop μ-loop
 loop-holds c = (omega arith, fronted-none _ _ _ _ (c .before .before .before .before .before .before .before .pre .0) (c .before .before .put-three .ensures))
 
-add-loop : tie.Need-add-loop Inv-loop μ-loop
-add-loop c = omega arith
-
-mul-at : tie.Need-mul-at Inv-loop μ-loop
-mul-at c = omega arith
-
-add-at : tie.Need-add-at Inv-loop μ-loop
-add-at c = omega arith
-
-add-put-three : tie.Need-add-put-three Inv-loop μ-loop
-add-put-three c = omega arith
-
-mul-put-three : tie.Need-mul-put-three Inv-loop μ-loop
-mul-put-three c = omega arith
-
-shared-slice-read-put-three-2 : tie.Need-shared-slice-read-put-three-2 Inv-loop μ-loop
-shared-slice-read-put-three-2 c = omega arith
-
 put-three-requires-2 : tie.Need-put-three-requires-2 Inv-loop μ-loop
 put-three-requires-2 c κs = omega (arith, c .before .before .before .loop .inv .1 .size)
-
-add-l : tie.Need-add-l Inv-loop μ-loop
-add-l c = omega arith
-
-loop-less : tie.Need-loop-less Inv-loop μ-loop
-loop-less c = omega arith
 
 loop-again : tie.Need-loop-again Inv-loop μ-loop
 loop-again c = (omega arith, fronted-more _ _ _ _ _ (omega arith) (c .before .before .put-three2 .ensures) (c .before .before .before .before .before .before .loop .inv .1))
@@ -63,18 +33,18 @@ open-account-spec =
     (tie.spec
     Inv-loop
     μ-loop
-    shared-slice-read-put-three
-    put-three-requires
+    (λ c. omega arith)
+    (λ c κs. omega arith)
     loop-holds
-    add-loop
-    mul-at
-    add-at
-    add-put-three
-    mul-put-three
-    shared-slice-read-put-three-2
+    (λ c. omega arith)
+    (λ c. omega arith)
+    (λ c. omega arith)
+    (λ c. omega arith)
+    (λ c. omega arith)
+    (λ c. omega arith)
     put-three-requires-2
-    add-l
-    loop-less
+    (λ c. omega arith)
+    (λ c. omega arith)
     loop-again
     same-length
     returns)

@@ -2,7 +2,7 @@
 use mathlib.Core.Path.{sym, _∙_}
 use Prim.Native.Nat.{_+_, _-_, _≤_}
 use native.Mathlib.Omega.{arith}
-use Rattle.lists.proofs.Stretch.{within}
+use Rattle.sequences.proofs.Stretch.{within}
 use Rattle.opening.proofs.Filled.{Filled, filled-none, filled-in, filled-more, filled-all}
 use Rattle.opening.proofs.open_book.Statement.{statement}
 use Rattle.opening.proofs.open_book.Tie as tie
@@ -24,12 +24,6 @@ open-part-requires c κs =
       omega (arith, within (a .count + 2) (l .a) (a .accounts) (c .before .loop-test .taken)),
     )
 
-add-a : tie.Need-add-a Inv-loop μ-loop
-add-a c = omega arith
-
-loop-less : tie.Need-loop-less Inv-loop μ-loop
-loop-less c = omega arith
-
 loop-again : tie.Need-loop-again Inv-loop μ-loop
 loop-again c = (omega arith, filled-more _ _ _ _ _ _ (omega arith) (c .before .before .open-part .ensures) (c .before .before .before .before .before .loop .inv .1))
 
@@ -47,8 +41,8 @@ open-book-spec =
     μ-loop
     loop-holds
     open-part-requires
-    add-a
-    loop-less
+    (λ c. omega arith)
+    (λ c. omega arith)
     loop-again
     same-length
     returns)

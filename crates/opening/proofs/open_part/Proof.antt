@@ -4,8 +4,8 @@ use Prim.Native.Nat.{ℕ, _*_}
 use native.Mathlib.Nat.{add-sub-cancel-left}
 use native.Mathlib.Omega.{arith}
 use borrow.Author.Needs.{needs}
-use Rattle.lists.specs.Stretch.{putStretch}
-use Rattle.lists.proofs.Stretch.{part-is}
+use Rattle.sequences.specs.Stretch.{putStretch}
+use Rattle.sequences.proofs.Stretch.{part-is}
 use Rattle.layout.specs.Book.{widthOf}
 use Rattle.opening.proofs.open_part.Statement.{statement}
 use Rattle.opening.proofs.open_part.Tie as tie

@@ -32,15 +32,9 @@ in-range c = sym (c .before .fund-in-range .ensures) ∙ not-false _ (c .if2 .le
 component : (c : tie.After-run-fault) → c .run-fault .result ≡ componentPlace (opening (c .before .before .before .before .before .before .before .before .before .before))
 component c = places-fault (opening (c .before .before .before .before .before .before .before .before .before .before)) _ (c .run-fault .ensures)
 
-sizes-fit-requires : tie.Need-sizes-fit-requires
-sizes-fit-requires c κs = search needs
-
 returns : tie.Need-returns
 returns c = answer-sizes (opening (c .before .before .before .before .before .before .before))
     (sym (c .before .sizes-fit .ensures) ∙ not-true _ (c .if1 .taken))
-
-fund-in-range-requires : tie.Need-fund-in-range-requires
-fund-in-range-requires c κs = search needs
 
 returns-2 : tie.Need-returns-2
 returns-2 c = answer-fund (opening (c .before .before .before .before .before .before .before .before .before))
@@ -77,9 +71,9 @@ pub opening-answer-spec : {M : Type 1} → statement M
 opening-answer-spec =
     tie.close
     (tie.spec
-    sizes-fit-requires
+    (λ c κs. search needs)
     returns
-    fund-in-range-requires
+    (λ c κs. search needs)
     returns-2
     run-fault-requires
     returns-3

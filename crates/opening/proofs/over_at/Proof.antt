@@ -31,23 +31,11 @@ module _ (n : ℕ) (t : DayTotals) (place : ℕ) where
           let e : place ≡ n = omega arith in
           rw e (sym (over-units n t ∙ rw (most, none e, or-false)))
 
-element-copy-out-result : tie.Need-element-copy-out-result
-element-copy-out-result c = search needs
-
 returns : tie.Need-returns
 returns c = at-cash _ _ _ (c .before .if1 .taken) (c .before .before .pre .1)
 
 returns-2 : tie.Need-returns-2
 returns-2 c = at-fund _ _ _ (c .before .if2 .taken) (c .if3 .taken)
-
-add-result : tie.Need-add-result
-add-result c = search needs
-
-mul-result : tie.Need-mul-result
-mul-result c = search needs
-
-element-copy-out-result-2 : tie.Need-element-copy-out-result-2
-element-copy-out-result-2 c = search needs
 
 returns-3 : tie.Need-returns-3
 returns-3 c = at-line _ _ _ (c .before .before .if1 .left) refl (λ e. ⊎-elim (λ w. omega arith) (λ w. omega arith) (c .before .if2 .came))
@@ -56,10 +44,10 @@ pub over-at-spec : {M : Type 1} → statement M
 over-at-spec =
     tie.close
     (tie.spec
-    element-copy-out-result
+    (λ c. search needs)
     returns
     returns-2
-    add-result
-    mul-result
-    element-copy-out-result-2
+    (λ c. search needs)
+    (λ c. search needs)
+    (λ c. search needs)
     returns-3)

@@ -6,7 +6,7 @@ use Prim.Native.Nat.{_+_}
 use native.Mathlib.Omega.{arith}
 use borrow.Author.Needs.{needs}
 use borrow.Author.Tests.{eq-eqb, eqb-true, not-true, not-false}
-use Rattle.lists.proofs.Every.{same-test}
+use Rattle.sequences.proofs.Every.{same-test}
 use Rattle.units.proofs.Laws.{under}
 use Rattle.layout.specs.Places.{mostComponents}
 use Rattle.rules.proofs.SoundDay.{DaySizes, sizes-true, sizes-facts}
@@ -18,9 +18,6 @@ use Rattle.opening.proofs.sizes_fit.Tie as tie
 day : (c : tie.Else1) → let a = c .before .before .args in DaySizes (a .accounts) (a .count) (a .book) (a .prices)
 day c = sizes-facts _ _ _ _ (sym (c .before .sizes-fit .ensures) ∙ not-false _ (c .if1 .left))
 
-sizes-fit-requires : tie.Need-sizes-fit-requires
-sizes-fit-requires c κs = search needs
-
 returns : tie.Need-returns
 returns c = sym (lent-false _ _ _ _ _ _ _ (λ s. true≢false (sym (sizes-true _ _ _ _ (s .own)) ∙ sym (c .before .sizes-fit .ensures) ∙ not-true _ (c .if1 .taken))))
 
@@ -29,9 +26,6 @@ mul-if2 c = omega (arith, day c .count-high)
 
 returns-2 : tie.Need-returns-2
 returns-2 c = sym (lent-false _ _ _ _ _ _ _ (λ s. c .if2 .taken (s .components-size)))
-
-add-if3 : tie.Need-add-if3
-add-if3 c = search needs
 
 mul-if3 : tie.Need-mul-if3
 mul-if3 c =
@@ -51,4 +45,4 @@ returns-4 c =
 pub sizes-fit-spec : {M : Type 1} → statement M
 sizes-fit-spec =
     tie.close
-    (tie.spec sizes-fit-requires returns mul-if2 returns-2 add-if3 mul-if3 returns-3 returns-4)
+    (tie.spec (λ c κs. search needs) returns mul-if2 returns-2 (λ c. search needs) mul-if3 returns-3 returns-4)

@@ -4,25 +4,16 @@ use Prim.Native.Nat.{_+_}
 use native.Mathlib.Omega.{arith}
 use lib.ListN.{getD-replicate}
 use borrow.Author.Needs.{needs}
-use Rattle.lists.proofs.Stretch.{within}
+use Rattle.sequences.proofs.Stretch.{within}
 use Rattle.totals.specs.Totals.{widest}
 use Rattle.opening.proofs.Totals.{fault-same}
 use Rattle.opening.proofs.total_fault.Statement.{statement}
 use Rattle.opening.proofs.total_fault.Tie as tie
 
-add-fill : tie.Need-add-fill
-add-fill c = search needs
-
 fill-requires : tie.Need-fill-requires
 fill-requires c κs =
     let p = c .before .before .pre in
     (omega arith, p .1, p .3, (λ k h. getD-replicate widest k 0 0 (omega arith)), omega arith)
-
-add-first-over : tie.Need-add-first-over
-add-first-over c = search needs
-
-mul-first-over : tie.Need-mul-first-over
-mul-first-over c = search needs
 
 shared-slice-read-first-over : tie.Need-shared-slice-read-first-over
 shared-slice-read-first-over c =
@@ -41,10 +32,10 @@ pub total-fault-spec : {M : Type 1} → statement M
 total-fault-spec =
     tie.close
     (tie.spec
-    add-fill
+    (λ c. search needs)
     fill-requires
-    add-first-over
-    mul-first-over
+    (λ c. search needs)
+    (λ c. search needs)
     shared-slice-read-first-over
     first-over-requires
     returns)

@@ -22,9 +22,6 @@ tested-in-requires c κs =
     let p = c .before .before .before .before .before .before .before .pre in
     (p .0, (p .1 .0, refl, p .1 .1))
 
-enum-known-answer : tie.Need-enum-known-answer
-enum-known-answer c = search needs
-
 settle-requires : tie.Need-settle-requires
 unfolding roomIn baskets
 settle-requires c κs =
@@ -35,15 +32,6 @@ settle-requires c κs =
     order-makes _ _ _ _ (now (c .before .before .before .before .before .before .before .before .before .before .before .before .before .before .args .list)) (p .1 .0)
     (p .0) _ made _ refl _ paid in
     (ready .0, (ready .1, p .1 .1))
-
-enum-known-answer-2 : tie.Need-enum-known-answer-2
-enum-known-answer-2 c = search needs
-
-same-length : tie.Need-same-length
-same-length c = search needs
-
-same-length-2 : tie.Need-same-length-2
-same-length-2 c = search needs
 
 returns : tie.Need-returns
 unfolding roomIn baskets
@@ -56,9 +44,6 @@ returns c =
     let settled = c .before .before .before .before .settle .ensures in
     let done = order-made _ _ _ _ (now (start .args .list)) (p .1 .0) (p .0) _ made _ refl _ paid _ _ (settled .0) (settled .1) in
     (made, (done .0 ∙ leaves-after _ _ _ _ made, done .1 ∙ leaves-after _ _ _ _ made))
-
-same-length-3 : tie.Need-same-length-3
-same-length-3 c = search needs
 
 returns-2 : tie.Need-returns-2
 unfolding roomIn
@@ -73,11 +58,11 @@ order-spec =
     (tie.spec
     div-m
     tested-in-requires
-    enum-known-answer
+    (λ c. search needs)
     settle-requires
-    enum-known-answer-2
-    same-length
-    same-length-2
+    (λ c. search needs)
+    (λ c. search needs)
+    (λ c. search needs)
     returns
-    same-length-3
+    (λ c. search needs)
     returns-2)

@@ -15,8 +15,5 @@ tested-in-requires : tie.Need-tested-in-requires
 unfolding baskets
 tested-in-requires c κs = (c .before .before .before .before .before .pre .0, (c .before .before .before .before .before .pre .1 .0, refl, c .before .before .before .before .before .pre .1 .1))
 
-returns : tie.Need-returns
-returns c = search needs
-
 pub order-tested-spec : {M : Type 1} → statement M
-order-tested-spec = tie.close (tie.spec div-m tested-in-requires returns)
+order-tested-spec = tie.close (tie.spec div-m tested-in-requires (λ c. search needs))

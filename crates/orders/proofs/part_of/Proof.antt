@@ -3,13 +3,10 @@ use mathlib.Core.Path.{_≡_, ap}
 use Prim.Native.Nat.{ℕ, _*_}
 use native.Mathlib.Omega.{arith}
 use borrow.Author.Needs.{needs}
-use Rattle.lists.proofs.Stretch.{part-is}
+use Rattle.sequences.proofs.Stretch.{part-is}
 use Rattle.layout.specs.Book.{widthOf}
 use Rattle.orders.proofs.part_of.Statement.{statement}
 use Rattle.orders.proofs.part_of.Tie as tie
-
-width-of-requires : tie.Need-width-of-requires
-width-of-requires c κs = search needs
 
 place : (c : tie.After-width-of) → c .before .before .args .a * c .width-of .result ≡ c .before .before .args .a * widthOf (c .before .before .args .count)
 place c = ap (λ (w : ℕ). c .before .before .args .a * w) (c .width-of .ensures)
@@ -23,12 +20,6 @@ add-end c = omega (arith, place c)
 mul-result : tie.Need-mul-result
 mul-result c = omega (arith, place c)
 
-sub-result : tie.Need-sub-result
-sub-result c = search needs
-
-part-result-start : tie.Need-part-result-start
-part-result-start c = search needs
-
 part-result-end : tie.Need-part-result-end
 part-result-end c = omega (arith, place c)
 
@@ -39,11 +30,11 @@ pub part-of-spec : {M : Type 1} → statement M
 part-of-spec =
     tie.close
     (tie.spec
-    width-of-requires
+    (λ c κs. search needs)
     mul-start
     add-end
     mul-result
-    sub-result
-    part-result-start
+    (λ c. search needs)
+    (λ c. search needs)
     part-result-end
     returns)

@@ -7,7 +7,7 @@ use Rattle.rules.specs.Replies.{answerReply, orderReply}
 use Rattle.rules.specs.Orders.{baskets}
 use Rattle.rules.proofs.SoundDay.{sound-facts}
 use Rattle.rules.proofs.Replies.{leaves-before}
-use Rattle.permission.proofs.Laws.{sound-countable}
+use Rattle.order_form.proofs.Laws.{sound-countable}
 use Rattle.orders.proofs.Laws.{form-passed, form-stopped}
 use Rattle.orders.proofs.tested_in.Statement.{statement}
 use Rattle.orders.proofs.tested_in.Tie as tie
@@ -18,20 +18,11 @@ order-form-requires c κs =
     let p = c .before .before .before .before .pre in
     (sound-countable _ _ _ (sound-facts _ _ _ (p .0)), (p .1 .0, p .1 .1))
 
-enum-told : tie.Need-enum-told
-enum-told c = search needs
-
 order-stage-requires : tie.Need-order-stage-requires
 order-stage-requires c κs =
     let p = c .before .before .before .before .before .before .before .pre in
     let formed = ap answerReply (sym (c .enum-told .given .1)) ∙ c .before .before .order-form .ensures in
     (record { sound = p .0; kind-in = p .1 .0; formed = formed }, (p .1 .1, p .1 .2))
-
-enum-known-why : tie.Need-enum-known-why
-enum-known-why c = search needs
-
-turned-back-requires : tie.Need-turned-back-requires
-turned-back-requires c κs = search needs
 
 returns : tie.Need-returns
 returns c =
@@ -55,9 +46,9 @@ tested-in-spec =
     tie.close
     (tie.spec
     order-form-requires
-    enum-told
+    (λ c. search needs)
     order-stage-requires
-    enum-known-why
-    turned-back-requires
+    (λ c. search needs)
+    (λ c κs. search needs)
     returns
     returns-2)

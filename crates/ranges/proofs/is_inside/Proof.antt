@@ -1,6 +1,6 @@
 -- `ranges::is_inside` meets its contract: below the low end the first test fails, and above it the second decides.
 use borrow.Author.Tests.{lt-leb, le-leb}
-use Rattle.lists.specs.Every.{inside}
+use Rattle.sequences.specs.Every.{inside}
 use Rattle.ranges.proofs.is_inside.Statement.{statement}
 use Rattle.ranges.proofs.is_inside.Tie as tie
 

@@ -6,7 +6,7 @@ use native.Mathlib.Nat.{div-add-mod, mul-comm}
 use native.Mathlib.Omega.{arith}
 use borrow.Author.Needs.{needs}
 use borrow.Author.Tests.{eq-eqb, ne-eqb}
-use Rattle.lists.specs.Every.{every}
+use Rattle.sequences.specs.Every.{every}
 use Rattle.ranges.proofs.whole_baskets.Statement.{statement}
 use Rattle.ranges.proofs.whole_baskets.Tie as tie
 
@@ -23,9 +23,6 @@ returns c =
     let left : c .before .args .units % c .before .args .size ≡ 0 → ⊥ = λ e. c .if1 .taken (omega (arith, parts _ _ _ (c .before .pre .1))) in
     simp (ne-eqb _ _ left)
 
-is-inside-requires : tie.Need-is-inside-requires
-is-inside-requires c κs = search needs
-
 returns-2 : tie.Need-returns-2
 unfolding every
 returns-2 c =
@@ -33,4 +30,4 @@ returns-2 c =
     c .is-inside .ensures ∙ rw (c .before .before .pre .1) (simp (eq-eqb _ _ none, and-true))
 
 pub whole-baskets-spec : {M : Type 1} → statement M
-whole-baskets-spec = tie.close (tie.spec mul-if1 returns is-inside-requires returns-2)
+whole-baskets-spec = tie.close (tie.spec mul-if1 returns (λ c κs. search needs) returns-2)

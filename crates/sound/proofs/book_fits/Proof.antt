@@ -5,7 +5,7 @@ use Prim.Native.Nat.{ℕ, _*_, _<_, min}
 use native.Mathlib.Omega.{arith}
 use lib.ListN.{getD, getD-replicate}
 use borrow.Author.Needs.{needs}
-use Rattle.lists.proofs.Every.{same-test}
+use Rattle.sequences.proofs.Every.{same-test}
 use Rattle.totals.specs.Totals.{widest, top, numberAt, total, cappedTotal, Capped}
 use Rattle.totals.proofs.Rows.{capped-is}
 use Rattle.layout.specs.Book.{widthOf}
@@ -29,9 +29,6 @@ module _ (b : List ℕ) (accounts n w : ℕ) (e : w ≡ widthOf n) (t : List ℕ
       (λ f. fits-true _ _ (fits-capped n _ (numberAt t) capped (fits-facts n (numberAt t) f)))
       (λ f. fits-true n (numberAt t) (capped-fits n _ _ capped (fits-facts _ _ f)))
 
-width-of-requires : tie.Need-width-of-requires
-width-of-requires c κs = search needs
-
 fill-requires : tie.Need-fill-requires
 fill-requires c κs = (
   omega arith,
@@ -52,4 +49,4 @@ returns : tie.Need-returns
 returns c = c .totals-fit .ensures ∙ same-fit _ _ _ _ (c .before .before .before .width-of .ensures) (c .before .before .fill .last .0) (c .before .before .fill .ensures .1)
 
 pub book-fits-spec : {M : Type 1} → statement M
-book-fits-spec = tie.close (tie.spec width-of-requires fill-requires totals-fit-requires returns)
+book-fits-spec = tie.close (tie.spec (λ c κs. search needs) fill-requires totals-fit-requires returns)

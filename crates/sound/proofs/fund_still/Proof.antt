@@ -17,29 +17,11 @@ Inv-loop book n line₀ line = (line ≤ n + 1) × ((k : ℕ) → k < line → l
 abbrev μ-loop : tie.MeasureT-loop
 μ-loop book n line₀ line = n + 1 - line
 
-shared-slice-read-if1 : tie.Need-shared-slice-read-if1 Inv-loop μ-loop
-shared-slice-read-if1 c = omega arith
-
 returns : tie.Need-returns Inv-loop μ-loop
 returns c = sym (still-false _ _ (λ s. omega arith))
 
-shared-slice-read-if2 : tie.Need-shared-slice-read-if2 Inv-loop μ-loop
-shared-slice-read-if2 c = omega arith
-
 returns-2 : tie.Need-returns-2 Inv-loop μ-loop
 returns-2 c = sym (still-false _ _ (λ s. omega arith))
-
-mul-if3 : tie.Need-mul-if3 Inv-loop μ-loop
-mul-if3 c = omega arith
-
-add-if3 : tie.Need-add-if3 Inv-loop μ-loop
-add-if3 c = omega arith
-
-mul-if3-2 : tie.Need-mul-if3-2 Inv-loop μ-loop
-mul-if3-2 c = omega arith
-
-shared-slice-read-if3 : tie.Need-shared-slice-read-if3 Inv-loop μ-loop
-shared-slice-read-if3 c = omega arith
 
 returns-3 : tie.Need-returns-3 Inv-loop μ-loop
 returns-3 c = sym (still-false _ _ (λ s. omega arith))
@@ -52,12 +34,6 @@ line-still-requires c κs = (omega arith, omega arith)
 
 returns-4 : tie.Need-returns-4 Inv-loop μ-loop
 returns-4 c = sym (moving-line _ _ _ (omega arith) (sym (c .before .line-still .ensures) ∙ not-true _ (c .if4 .taken)))
-
-add-line : tie.Need-add-line Inv-loop μ-loop
-add-line c = omega arith
-
-loop-less : tie.Need-loop-less Inv-loop μ-loop
-loop-less c = omega arith
 
 loop-again : tie.Need-loop-again Inv-loop μ-loop
 loop-again c = (
@@ -82,19 +58,19 @@ fund-still-spec =
     (tie.spec
     Inv-loop
     μ-loop
-    shared-slice-read-if1
+    (λ c. omega arith)
     returns
-    shared-slice-read-if2
+    (λ c. omega arith)
     returns-2
-    mul-if3
-    add-if3
-    mul-if3-2
-    shared-slice-read-if3
+    (λ c. omega arith)
+    (λ c. omega arith)
+    (λ c. omega arith)
+    (λ c. omega arith)
     returns-3
     loop-holds
     line-still-requires
     returns-4
-    add-line
-    loop-less
+    (λ c. omega arith)
+    (λ c. omega arith)
     loop-again
     returns-5)

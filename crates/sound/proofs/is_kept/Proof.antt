@@ -3,7 +3,7 @@ use mathlib.Core.Path.{sym, _∙_}
 use mathlib.Core.Bool.{true≢false}
 use borrow.Author.Needs.{needs}
 use borrow.Author.Tests.{le-leb, leb-true, not-true, not-false}
-use Rattle.lists.proofs.Every.{same-test}
+use Rattle.sequences.proofs.Every.{same-test}
 use Rattle.layout.specs.Day.{dayOf}
 use Rattle.rules.proofs.SoundDay.{SoundDay, sound-facts, sound-true, kept-facts, kept-true}
 use Rattle.sound.proofs.Limits.{fits-true}
@@ -13,9 +13,6 @@ use Rattle.sound.proofs.is_kept.Tie as tie
 
 sound : (c : tie.Else1) → let a = c .before .before .before .before .before .args in SoundDay (dayOf (a .d) (a .basket .now)) (a .book .now) (a .prices .now)
 sound c = sound-facts _ _ _ (sym (c .before .is-sound .ensures) ∙ not-false _ (c .if1 .left))
-
-is-sound-requires : tie.Need-is-sound-requires
-is-sound-requires c κs = search needs
 
 returns : tie.Need-returns
 returns c = sym (unkept _ _ _ (λ k. true≢false (sym (sound-true _ _ _ (k .sound)) ∙ sym (c .before .is-sound .ensures) ∙ not-true _ (c .if1 .taken))))
@@ -34,4 +31,4 @@ returns-2 c =
     (λ t. e ∙ le-leb _ _ (kept-facts _ _ _ t .room))
 
 pub is-kept-spec : {M : Type 1} → statement M
-is-kept-spec = tie.close (tie.spec is-sound-requires returns room-left-requires returns-2)
+is-kept-spec = tie.close (tie.spec (λ c κs. search needs) returns room-left-requires returns-2)

@@ -10,8 +10,8 @@ use lib.ListN.{length}
 use borrow.Author.Needs.{needs}
 use denote.Ref.{now}
 use borrow.Author.Tests.{not-true, not-false}
-use Rattle.lists.proofs.Below.{first-le}
-use Rattle.lists.proofs.Every.{same-test}
+use Rattle.sequences.proofs.Below.{first-le}
+use Rattle.sequences.proofs.Every.{same-test}
 use Rattle.layout.specs.Places.{mostComponents}
 use Rattle.layout.specs.declared.Component.{Component}
 use Rattle.fund.specs.Components.{faultAt, componentFault}
@@ -36,14 +36,8 @@ faults : (c : tie.Else2) {r : ℕ} → let a = c .before .before .before .before
     → r ≡ componentFault (a .d .fund .«first_code») (placesOf (componentAt (now (a .basket))) mostComponents) (a .d .count)
 faults c e = e ∙ fault-places _ (componentAt (now (c .before .before .before .before .before .before .before .before .args .basket))) _ (sizes (c .before .before) .count-high)
 
-sizes-fit-requires : tie.Need-sizes-fit-requires
-sizes-fit-requires c κs = search needs
-
 returns : tie.Need-returns
 returns c = sym (unsound _ _ _ (λ s. true≢false (sym (sizes-true _ _ _ _ (sound-sizes s)) ∙ sym (c .before .sizes-fit .ensures) ∙ not-true _ (c .if1 .taken))))
-
-fund-in-range-requires : tie.Need-fund-in-range-requires
-fund-in-range-requires c κs = search needs
 
 returns-2 : tie.Need-returns-2
 returns-2 c = sym (unsound _ _ _ (λ s. true≢false (sym (s .own .fund-fields) ∙ sym (c .before .fund-in-range .ensures) ∙ not-true _ (c .if2 .taken))))
@@ -92,9 +86,9 @@ pub is-sound-spec : {M : Type 1} → statement M
 is-sound-spec =
     tie.close
     (tie.spec
-    sizes-fit-requires
+    (λ c κs. search needs)
     returns
-    fund-in-range-requires
+    (λ c κs. search needs)
     returns-2
     run-fault-requires
     returns-3

@@ -13,44 +13,11 @@ use Rattle.sound.proofs.line_fits.Tie as tie
 lots : (c : tie.Start) → let t = c .args .totals .now in let at = lineFrom (c .args .line) in (getD t at 0 ≤ top) × (getD t (at + 1) 0 ≤ top) × (getD t (at + 2) 0 ≤ top)
 lots c = (c .pre .2 _ (omega arith), c .pre .2 _ (omega arith), c .pre .2 _ (omega arith))
 
-mul-at : tie.Need-mul-at
-mul-at c = search needs
-
-add-at : tie.Need-add-at
-add-at c = search needs
-
-mul-result : tie.Need-mul-result
-mul-result c = search needs
-
-element-copy-out-result : tie.Need-element-copy-out-result
-element-copy-out-result c = search needs
-
-add-result : tie.Need-add-result
-add-result c = search needs
-
-mul-result-2 : tie.Need-mul-result-2
-mul-result-2 c = search needs
-
-element-copy-out-result-2 : tie.Need-element-copy-out-result-2
-element-copy-out-result-2 c = search needs
-
 add-result-2 : tie.Need-add-result-2
 add-result-2 c = omega (arith, lots (c .before .before))
 
-add-result-3 : tie.Need-add-result-3
-add-result-3 c = search needs
-
-mul-result-3 : tie.Need-mul-result-3
-mul-result-3 c = search needs
-
-element-copy-out-result-3 : tie.Need-element-copy-out-result-3
-element-copy-out-result-3 c = search needs
-
 add-result-4 : tie.Need-add-result-4
 add-result-4 c = omega (arith, lots (c .before .before .before))
-
-most-of-requires : tie.Need-most-of-requires
-most-of-requires c κs = search needs
 
 returns : tie.Need-returns
 unfolding lineFits numberAt
@@ -60,17 +27,17 @@ pub line-fits-spec : {M : Type 1} → statement M
 line-fits-spec =
     tie.close
     (tie.spec
-    mul-at
-    add-at
-    mul-result
-    element-copy-out-result
-    add-result
-    mul-result-2
-    element-copy-out-result-2
+    (λ c. search needs)
+    (λ c. search needs)
+    (λ c. search needs)
+    (λ c. search needs)
+    (λ c. search needs)
+    (λ c. search needs)
+    (λ c. search needs)
     add-result-2
-    add-result-3
-    mul-result-3
-    element-copy-out-result-3
+    (λ c. search needs)
+    (λ c. search needs)
+    (λ c. search needs)
     add-result-4
-    most-of-requires
+    (λ c κs. search needs)
     returns)

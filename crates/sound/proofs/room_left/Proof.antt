@@ -29,26 +29,11 @@ totals b accounts n w e fits =
 in-rows : (c : tie.After-width-of) → length (c .before .before .args .book .now) ≡ c .before .before .args .accounts * c .width-of .result
 in-rows c = c .before .before .pre .1 ∙ ap (λ (w : ℕ). c .before .before .args .accounts * w) (sym (c .width-of .ensures))
 
-width-of-requires : tie.Need-width-of-requires
-width-of-requires c κs = search needs
-
-mul-at : tie.Need-mul-at
-mul-at c = search needs
-
-add-at : tie.Need-add-at
-add-at c = search needs
-
 total-at-requires : tie.Need-total-at-requires
 total-at-requires c κs = (omega arith, in-rows c)
 
-add-total-at : tie.Need-add-total-at
-add-total-at c = search needs
-
 total-at-requires-2 : tie.Need-total-at-requires-2
 total-at-requires-2 c κs = (omega arith, in-rows (c .before))
-
-add-total-at-2 : tie.Need-add-total-at-2
-add-total-at-2 c = search needs
 
 total-at-requires-3 : tie.Need-total-at-requires-3
 total-at-requires-3 c κs = (omega arith, in-rows (c .before .before))
@@ -56,20 +41,11 @@ total-at-requires-3 c κs = (omega arith, in-rows (c .before .before))
 total-at-requires-4 : tie.Need-total-at-requires-4
 total-at-requires-4 c κs = (omega arith, in-rows (c .before .before .before))
 
-add-result : tie.Need-add-result
-add-result c = omega arith
-
-add-result-2 : tie.Need-add-result-2
-add-result-2 c = omega arith
-
 sub-result : tie.Need-sub-result
 sub-result c =
     let s = c .before .before .before .before .before .before in
     let w = c .before .before .before .before .width-of in
     omega (arith, c .total-at4 .ensures .0, totals (s .args .book .now) (s .args .accounts) (s .args .n) (w .result) (w .ensures) (s .pre .2))
-
-add-result-3 : tie.Need-add-result-3
-add-result-3 c = omega arith
 
 returns : tie.Need-returns
 unfolding roomLeft
@@ -83,17 +59,17 @@ pub room-left-spec : {M : Type 1} → statement M
 room-left-spec =
     tie.close
     (tie.spec
-    width-of-requires
-    mul-at
-    add-at
+    (λ c κs. search needs)
+    (λ c. search needs)
+    (λ c. search needs)
     total-at-requires
-    add-total-at
+    (λ c. search needs)
     total-at-requires-2
-    add-total-at-2
+    (λ c. search needs)
     total-at-requires-3
     total-at-requires-4
-    add-result
-    add-result-2
+    (λ c. omega arith)
+    (λ c. omega arith)
     sub-result
-    add-result-3
+    (λ c. omega arith)
     returns)

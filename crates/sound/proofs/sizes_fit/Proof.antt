@@ -4,7 +4,7 @@ use Prim.Native.Nat.{ℕ, _*_}
 use native.Mathlib.Omega.{arith}
 use borrow.Author.Needs.{needs}
 use borrow.Author.Tests.{eq-eqb, eqb-true}
-use Rattle.lists.proofs.Every.{same-test}
+use Rattle.sequences.proofs.Every.{same-test}
 use Rattle.units.proofs.Laws.{under}
 use Rattle.totals.specs.Totals.{widest}
 use Rattle.rules.proofs.SoundDay.{sizes-true, sizes-facts}
@@ -23,9 +23,6 @@ returns-3 c = sym (sizes-false _ _ _ _ (λ s. omega arith))
 
 returns-4 : tie.Need-returns-4
 returns-4 c = sym (sizes-false _ _ _ _ (λ s. omega arith))
-
-width-of-requires : tie.Need-width-of-requires
-width-of-requires c κs = search needs
 
 mul-if5 : tie.Need-mul-if5
 mul-if5 c = omega (arith, under 64 widest {a = c .before .before .before .before .before .args .accounts} {b = c .width-of .result} (omega arith) (omega arith))
@@ -50,4 +47,4 @@ returns-6 c =
 pub sizes-fit-spec : {M : Type 1} → statement M
 sizes-fit-spec =
     tie.close
-    (tie.spec returns returns-2 returns-3 returns-4 width-of-requires mul-if5 returns-5 returns-6)
+    (tie.spec returns returns-2 returns-3 returns-4 (λ c κs. search needs) mul-if5 returns-5 returns-6)

@@ -18,22 +18,13 @@ Inv-loop totals n line₀ line = (line ≤ n + 1) × ((k : ℕ) → k < line →
 abbrev μ-loop : tie.MeasureT-loop
 μ-loop totals n line₀ line = n + 1 - line
 
-element-copy-out-if1 : tie.Need-element-copy-out-if1 Inv-loop μ-loop
-element-copy-out-if1 c = omega arith
-
 returns : tie.Need-returns Inv-loop μ-loop
 unfolding numberAt
 returns c = sym (fits-false _ _ (λ f. omega arith))
 
-element-copy-out-if2 : tie.Need-element-copy-out-if2 Inv-loop μ-loop
-element-copy-out-if2 c = omega arith
-
 returns-2 : tie.Need-returns-2 Inv-loop μ-loop
 unfolding numberAt
 returns-2 c = sym (fits-false _ _ (λ f. omega arith))
-
-element-copy-out-if3 : tie.Need-element-copy-out-if3 Inv-loop μ-loop
-element-copy-out-if3 c = omega arith
 
 returns-3 : tie.Need-returns-3 Inv-loop μ-loop
 unfolding numberAt
@@ -49,12 +40,6 @@ line-fits-requires c κs =
 
 returns-4 : tie.Need-returns-4 Inv-loop μ-loop
 returns-4 c = sym (line-false _ _ _ (omega arith) (sym (c .before .line-fits .ensures) ∙ not-true _ (c .if4 .taken)))
-
-add-line : tie.Need-add-line Inv-loop μ-loop
-add-line c = omega arith
-
-loop-less : tie.Need-loop-less Inv-loop μ-loop
-loop-less c = omega arith
 
 loop-again : tie.Need-loop-again Inv-loop μ-loop
 loop-again c = (
@@ -80,16 +65,16 @@ totals-fit-spec =
     (tie.spec
     Inv-loop
     μ-loop
-    element-copy-out-if1
+    (λ c. omega arith)
     returns
-    element-copy-out-if2
+    (λ c. omega arith)
     returns-2
-    element-copy-out-if3
+    (λ c. omega arith)
     returns-3
     loop-holds
     line-fits-requires
     returns-4
-    add-line
-    loop-less
+    (λ c. omega arith)
+    (λ c. omega arith)
     loop-again
     returns-5)

@@ -5,7 +5,7 @@ use Prim.Native.Nat.{_+_, _-_, _*_, _≤_}
 use native.Mathlib.Nat.{le-trans, le-of-eq}
 use native.Mathlib.Omega.{arith}
 use borrow.Author.Tests.{not-true, not-false}
-use Rattle.lists.proofs.Stretch.{within}
+use Rattle.sequences.proofs.Stretch.{within}
 use Rattle.totals.proofs.Rows.{Counted, counted-low, counted-one, reached-one, answer-true, answer-false, started}
 use Rattle.totals.proofs.add_all.Statement.{statement}
 use Rattle.totals.proofs.add_all.Tie as tie
@@ -45,12 +45,6 @@ returns c =
     (reached-one (c .before .before .before .before .loop .inv .1) _ (omega arith) (not-false _ (sym (c .before .add-one .ensures .0) ∙ not-true _ (c .if1 .taken))))
     (c .before .add-one .ensures .1 .0)
 
-add-a : tie.Need-add-a Inv-loop μ-loop
-add-a c = omega arith
-
-loop-less : tie.Need-loop-less Inv-loop μ-loop
-loop-less c = omega arith
-
 loop-again : tie.Need-loop-again Inv-loop μ-loop
 loop-again c = (
   omega arith,
@@ -72,7 +66,7 @@ add-all-spec =
     mul-add-one
     add-one-requires
     returns
-    add-a
-    loop-less
+    (λ c. omega arith)
+    (λ c. omega arith)
     loop-again
     returns-2)

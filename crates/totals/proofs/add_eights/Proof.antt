@@ -4,7 +4,7 @@ use mathlib.Core.Path.{_≡_, refl, sym}
 use Prim.Native.Nat.{_-_, _%_, _≤_, zero-le}
 use native.Mathlib.Nat.{le-trans, le-of-eq}
 use native.Mathlib.Omega.{arith}
-use Rattle.lists.proofs.Stretch.{within}
+use Rattle.sequences.proofs.Stretch.{within}
 use Rattle.totals.proofs.Rows.{Quick, quick-none, quick-eight, quick-end, within-eight, counted-none, start-at}
 use Rattle.totals.proofs.add_eights.Statement.{statement}
 use Rattle.totals.proofs.add_eights.Tie as tie
@@ -14,9 +14,6 @@ Inv-loop totals₀ run rows width end high₀ a₀ totals high a = (a ≤ end) �
 
 abbrev μ-loop : tie.MeasureT-loop
 μ-loop totals₀ run rows width end high₀ a₀ totals high a = end - a
-
-sub-end : tie.Need-sub-end Inv-loop μ-loop
-sub-end c = omega arith
 
 loop-holds : tie.Need-loop-holds Inv-loop μ-loop
 loop-holds c = (omega arith, omega arith, quick-none _ _ _ (c .before .pre .3) (c .before .pre .4))
@@ -32,12 +29,6 @@ add-eight-requires c κs =
       le-trans (within-eight (s .args .width) (l .a) (s .args .rows) (omega arith)) (le-of-eq (sym (s .pre .2))),
       l .inv .2 .size,
     )
-
-add-a : tie.Need-add-a Inv-loop μ-loop
-add-a c = omega arith
-
-loop-less : tie.Need-loop-less Inv-loop μ-loop
-loop-less c = omega arith
 
 loop-again : tie.Need-loop-again Inv-loop μ-loop
 loop-again c = (
@@ -63,12 +54,12 @@ add-eights-spec =
     (tie.spec
     Inv-loop
     μ-loop
-    sub-end
+    (λ c. omega arith)
     loop-holds
     mul-add-eight
     add-eight-requires
-    add-a
-    loop-less
+    (λ c. omega arith)
+    (λ c. omega arith)
     loop-again
     returns
     clear-requires

@@ -7,7 +7,7 @@ use native.Mathlib.Omega.{arith}
 use lib.Bits.{bitOr}
 use lib.ListN.{getD}
 use borrow.Author.Needs.{needs}
-use Rattle.lists.proofs.Below.{any-none}
+use Rattle.sequences.proofs.Below.{any-none}
 use Rattle.totals.specs.Totals.{plusOne, reaches}
 use Rattle.totals.proofs.Top.{or-one}
 use Rattle.totals.proofs.Pass.{Pass, Seen, pass-none, pass-more, pass-end, seen-more, seen-end}
@@ -23,36 +23,6 @@ abbrev μ-loop : tie.MeasureT-loop
 
 loop-holds : tie.Need-loop-holds Inv-loop μ-loop
 loop-holds c = (pass-none _ _ _ (c .before .pre .3), sym (any-none (reaches _)))
-
-add-x : tie.Need-add-x Inv-loop μ-loop
-add-x c = omega arith
-
-mul-x : tie.Need-mul-x Inv-loop μ-loop
-mul-x c = omega arith
-
-shared-slice-read-x : tie.Need-shared-slice-read-x Inv-loop μ-loop
-shared-slice-read-x c = omega arith
-
-mul-wrapping-add-u64 : tie.Need-mul-wrapping-add-u64 Inv-loop μ-loop
-mul-wrapping-add-u64 c = omega arith
-
-element-copy-out-wrapping-add-u64 : tie.Need-element-copy-out-wrapping-add-u64 Inv-loop μ-loop
-element-copy-out-wrapping-add-u64 c = omega arith
-
-wrapping-add-u64-requires : tie.Need-wrapping-add-u64-requires Inv-loop μ-loop
-wrapping-add-u64-requires c κs = search needs
-
-mul-totals : tie.Need-mul-totals Inv-loop μ-loop
-mul-totals c = omega arith
-
-element-write-totals : tie.Need-element-write-totals Inv-loop μ-loop
-element-write-totals c = omega arith
-
-add-j : tie.Need-add-j Inv-loop μ-loop
-add-j c = omega arith
-
-loop-less : tie.Need-loop-less Inv-loop μ-loop
-loop-less c = omega arith
 
 loop-again : tie.Need-loop-again Inv-loop μ-loop
 unfolding plusOne
@@ -80,15 +50,15 @@ add-one-spec =
     Inv-loop
     μ-loop
     loop-holds
-    add-x
-    mul-x
-    shared-slice-read-x
-    mul-wrapping-add-u64
-    element-copy-out-wrapping-add-u64
-    wrapping-add-u64-requires
-    mul-totals
-    element-write-totals
-    add-j
-    loop-less
+    (λ c. omega arith)
+    (λ c. omega arith)
+    (λ c. omega arith)
+    (λ c. omega arith)
+    (λ c. omega arith)
+    (λ c κs. search needs)
+    (λ c. omega arith)
+    (λ c. omega arith)
+    (λ c. omega arith)
+    (λ c. omega arith)
     loop-again
     returns)

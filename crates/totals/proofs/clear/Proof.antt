@@ -17,18 +17,6 @@ abbrev μ-loop : tie.MeasureT-loop
 loop-holds : tie.Need-loop-holds Inv-loop μ-loop
 loop-holds c = pass-none _ _ _ (c .pre)
 
-mul-totals : tie.Need-mul-totals Inv-loop μ-loop
-mul-totals c = omega arith
-
-element-write-totals : tie.Need-element-write-totals Inv-loop μ-loop
-element-write-totals c = omega arith
-
-add-j : tie.Need-add-j Inv-loop μ-loop
-add-j c = omega arith
-
-loop-less : tie.Need-loop-less Inv-loop μ-loop
-loop-less c = omega arith
-
 loop-again : tie.Need-loop-again Inv-loop μ-loop
 loop-again c = pass-more (c .before .loop .inv) 0 (c .loop-test .taken) (le-refl widest) refl
 
@@ -42,9 +30,9 @@ clear-spec =
     Inv-loop
     μ-loop
     loop-holds
-    mul-totals
-    element-write-totals
-    add-j
-    loop-less
+    (λ c. omega arith)
+    (λ c. omega arith)
+    (λ c. omega arith)
+    (λ c. omega arith)
     loop-again
     returns)

@@ -8,9 +8,6 @@ use Rattle.totals.proofs.fill.Tie as tie
 add-all-requires : tie.Need-add-all-requires
 add-all-requires c κs = c .before .before .pre
 
-fill-by-place-requires : tie.Need-fill-by-place-requires
-fill-by-place-requires c κs = search needs
-
 returns : tie.Need-returns
 returns c = c .fill-by-place .ensures
 
@@ -20,4 +17,4 @@ returns-2 c =
     (q .size, counted-capped q)
 
 pub fill-spec : {M : Type 1} → statement M
-fill-spec = tie.close (tie.spec add-all-requires fill-by-place-requires returns returns-2)
+fill-spec = tie.close (tie.spec add-all-requires (λ c κs. search needs) returns returns-2)

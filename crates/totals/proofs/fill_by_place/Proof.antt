@@ -20,18 +20,6 @@ loop-holds c = pass-none _ _ _ (c .before .pre .2)
 total-at-requires : tie.Need-total-at-requires Inv-loop μ-loop
 total-at-requires c κs = (c .loop-test .taken, c .before .before .before .pre .1)
 
-mul-totals : tie.Need-mul-totals Inv-loop μ-loop
-mul-totals c = omega arith
-
-element-write-totals : tie.Need-element-write-totals Inv-loop μ-loop
-element-write-totals c = omega arith
-
-add-j : tie.Need-add-j Inv-loop μ-loop
-add-j c = omega arith
-
-loop-less : tie.Need-loop-less Inv-loop μ-loop
-loop-less c = omega arith
-
 loop-again : tie.Need-loop-again Inv-loop μ-loop
 loop-again c = pass-more (c .before .before .loop .inv) _ (c .before .loop-test .taken) (c .before .before .before .before .pre .0) (c .total-at .ensures .0 ∙ capped-whole _ _ _ _)
 
@@ -48,9 +36,9 @@ fill-by-place-spec =
     μ-loop
     loop-holds
     total-at-requires
-    mul-totals
-    element-write-totals
-    add-j
-    loop-less
+    (λ c. omega arith)
+    (λ c. omega arith)
+    (λ c. omega arith)
+    (λ c. omega arith)
     loop-again
     returns)

@@ -4,18 +4,9 @@ use native.Mathlib.Omega.{arith}
 use Rattle.totals.proofs.sum_eight.Statement.{statement}
 use Rattle.totals.proofs.sum_eight.Tie as tie
 
-sum-four-requires : tie.Need-sum-four-requires
-sum-four-requires c κs = search needs
-
-sum-four-requires-2 : tie.Need-sum-four-requires-2
-sum-four-requires-2 c κs = search needs
-
-wrapping-add-u64-requires : tie.Need-wrapping-add-u64-requires
-wrapping-add-u64-requires c κs = search needs
-
 returns : tie.Need-returns
 returns c = omega (arith, c .before .before .sum-four .ensures, c .before .sum-four2 .ensures, c .wrapping-add-u64 .ensures)
 
 pub sum-eight-spec : {M : Type 1} → statement M
 sum-eight-spec =
-    tie.close (tie.spec sum-four-requires sum-four-requires-2 wrapping-add-u64-requires returns)
+    tie.close (tie.spec (λ c κs. search needs) (λ c κs. search needs) (λ c κs. search needs) returns)

@@ -2,7 +2,7 @@
 use mathlib.Core.Path.{_≡_, sym, ap, _∙_}
 use Prim.Native.Nat.{ℕ, _+_, _-_, _*_, _≤_}
 use native.Mathlib.Omega.{arith}
-use Rattle.lists.proofs.Stretch.{within}
+use Rattle.sequences.proofs.Stretch.{within}
 use Rattle.totals.specs.Totals.{cappedTotal}
 use Rattle.totals.proofs.Rows.{capped-none, capped-more, capped-le}
 use Rattle.totals.proofs.total_at.Statement.{statement}
@@ -38,12 +38,6 @@ add-capped-requires c κs =
     let a = c .before .before .before .before .args in
     omega (arith, capped-le (a .run .now) (a .width) (c .before .before .loop .a) (a .place))
 
-add-a : tie.Need-add-a Inv-loop μ-loop
-add-a c = omega arith
-
-loop-less : tie.Need-loop-less Inv-loop μ-loop
-loop-less c = omega arith
-
 loop-again : tie.Need-loop-again Inv-loop μ-loop
 loop-again c =
     let a = c .before .before .before .before .before .args in
@@ -70,7 +64,7 @@ total-at-spec =
     mul-add-capped-2
     shared-slice-read-add-capped
     add-capped-requires
-    add-a
-    loop-less
+    (λ c. omega arith)
+    (λ c. omega arith)
     loop-again
     returns)

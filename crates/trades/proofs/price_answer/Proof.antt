@@ -9,9 +9,6 @@ use Rattle.trades.proofs.price_answer.Tie as tie
 returns : tie.Need-returns
 returns c = price-no-line _ _ _ (c .if1 .taken)
 
-is-inside-requires : tie.Need-is-inside-requires
-is-inside-requires c κs = search needs
-
 returns-2 : tie.Need-returns-2
 returns-2 c = price-out _ _ _ (c .before .before .if1 .left) (sym (c .before .is-inside .ensures) ∙ not-true _ (c .if2 .taken))
 
@@ -19,4 +16,4 @@ returns-3 : tie.Need-returns-3
 returns-3 c = price-done _ _ _ (c .before .before .if1 .left) (sym (c .before .is-inside .ensures) ∙ not-false _ (c .if2 .left))
 
 pub price-answer-spec : {M : Type 1} → statement M
-price-answer-spec = tie.close (tie.spec returns is-inside-requires returns-2 returns-3)
+price-answer-spec = tie.close (tie.spec returns (λ c κs. search needs) returns-2 returns-3)

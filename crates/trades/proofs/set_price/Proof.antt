@@ -9,12 +9,6 @@ use Rattle.trades.proofs.Laws.{priced-line}
 use Rattle.trades.proofs.set_price.Statement.{statement}
 use Rattle.trades.proofs.set_price.Tie as tie
 
-price-answer-requires : tie.Need-price-answer-requires
-price-answer-requires c κs = search needs
-
-enum-told : tie.Need-enum-told
-enum-told c = search needs
-
 -- an accepted price has its component
 inside : (c : tie.After-enum-told) → c .before .before .before .before .args .line < c .before .before .before .before .args .count
 inside c = priced-line _ _ _ (ap answerReply (sym (c .enum-told .given .1)) ∙ c .before .before .price-answer .ensures)
@@ -24,12 +18,6 @@ mul-prices c = omega (arith, inside c)
 
 slice-write-prices : tie.Need-slice-write-prices
 slice-write-prices c = omega (arith, inside c)
-
-enum-known-answer : tie.Need-enum-known-answer
-enum-known-answer c = search needs
-
-same-length : tie.Need-same-length
-same-length c = search needs
 
 returns : tie.Need-returns
 returns c =
@@ -45,11 +33,11 @@ pub set-price-spec : {M : Type 1} → statement M
 set-price-spec =
     tie.close
     (tie.spec
-    price-answer-requires
-    enum-told
+    (λ c κs. search needs)
+    (λ c. search needs)
     mul-prices
     slice-write-prices
-    enum-known-answer
-    same-length
+    (λ c. search needs)
+    (λ c. search needs)
     returns
     returns-2)

@@ -7,12 +7,6 @@ use Rattle.trades.proofs.Laws.{tradable}
 use Rattle.trades.proofs.trade.Statement.{statement}
 use Rattle.trades.proofs.trade.Tie as tie
 
-trade-answer-requires : tie.Need-trade-answer-requires
-trade-answer-requires c κs = search needs
-
-enum-told : tie.Need-enum-told
-enum-told c = search needs
-
 new-requires : tie.Need-new-requires
 new-requires c κs = tt
 
@@ -22,20 +16,11 @@ move-trade-requires c κs =
     let e = ap answerReply (sym (c .before .before .enum-told .given .1)) ∙ c .before .before .before .before .trade-answer .ensures in
     rw (c .new .ensures) (tradable _ _ _ _ _ _ _ _ (b .pre) e)
 
-enum-known-answer : tie.Need-enum-known-answer
-enum-known-answer c = search needs
-
-same-length : tie.Need-same-length
-same-length c = search needs
-
 returns : tie.Need-returns
 returns c =
     let made = c .before .before .before in
     let e = ap answerReply (sym (made .before .before .enum-told .given .1)) ∙ made .before .before .before .before .trade-answer .ensures in
     (e, c .before .before .move-trade .ensures ∙ rw (made .new .ensures) (leaves-after _ _ 0 _ e))
-
-same-length-2 : tie.Need-same-length-2
-same-length-2 c = search needs
 
 returns-2 : tie.Need-returns-2
 returns-2 c =
@@ -46,12 +31,12 @@ pub trade-spec : {M : Type 1} → statement M
 trade-spec =
     tie.close
     (tie.spec
-    trade-answer-requires
-    enum-told
+    (λ c κs. search needs)
+    (λ c. search needs)
     new-requires
     move-trade-requires
-    enum-known-answer
-    same-length
+    (λ c. search needs)
+    (λ c. search needs)
     returns
-    same-length-2
+    (λ c. search needs)
     returns-2)

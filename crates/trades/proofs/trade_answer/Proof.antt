@@ -4,7 +4,7 @@ use mathlib.Core.Bool.{true}
 use native.Mathlib.Omega.{arith}
 use borrow.Author.Needs.{needs}
 use borrow.Author.Tests.{not-true, not-false}
-use Rattle.lists.specs.Every.{inside}
+use Rattle.sequences.specs.Every.{inside}
 use Rattle.rules.specs.Sound.{mostPrice}
 use Rattle.rules.specs.Trade.{isInvestor}
 use Rattle.trades.proofs.Laws.{trade-no-line, trade-quantity-out, trade-price-out, trade-no-seller, trade-no-buyer, trade-one, trade-rest, amount-fits, investor-in, in-book}
@@ -30,28 +30,16 @@ buyer-in : (c : tie.Else5)
     (c .before .before .before .before .before .before .before .before .before .before .args .buyer) ≡ true
 buyer-in c = sym (c .before .is-investor2 .ensures) ∙ not-false _ (c .if5 .left)
 
-is-inside-requires : tie.Need-is-inside-requires
-is-inside-requires c κs = search needs
-
 returns-2 : tie.Need-returns-2
 returns-2 c = trade-quantity-out _ _ _ _ _ _ _ _ (c .before .before .if1 .left) (sym (c .before .is-inside .ensures) ∙ not-true _ (c .if2 .taken))
 
-is-inside-requires-2 : tie.Need-is-inside-requires-2
-is-inside-requires-2 c κs = search needs
-
 returns-3 : tie.Need-returns-3
 returns-3 c = trade-price-out _ _ _ _ _ _ _ _ (c .before .before .before .before .if1 .left) (quantity-in (c .before .before)) (sym (c .before .is-inside2 .ensures) ∙ not-true _ (c .if3 .taken))
-
-is-investor-requires : tie.Need-is-investor-requires
-is-investor-requires c κs = search needs
 
 returns-4 : tie.Need-returns-4
 returns-4 c =
     trade-no-seller _ _ _ _ _ _ _ _ (c .before .before .before .before .before .before .if1 .left) (quantity-in (c .before .before .before .before))
     (price-in (c .before .before)) (sym (c .before .is-investor .ensures) ∙ not-true _ (c .if4 .taken))
-
-is-investor-requires-2 : tie.Need-is-investor-requires-2
-is-investor-requires-2 c κs = search needs
 
 returns-5 : tie.Need-returns-5
 returns-5 c =
@@ -89,13 +77,13 @@ trade-answer-spec =
     tie.close
     (tie.spec
     returns
-    is-inside-requires
+    (λ c κs. search needs)
     returns-2
-    is-inside-requires-2
+    (λ c κs. search needs)
     returns-3
-    is-investor-requires
+    (λ c κs. search needs)
     returns-4
-    is-investor-requires-2
+    (λ c κs. search needs)
     returns-5
     returns-6
     mul-t17

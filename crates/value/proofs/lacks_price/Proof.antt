@@ -3,7 +3,7 @@ use mathlib.Core.Path.{sym, _∙_}
 use mathlib.Core.Bool.{and-true}
 use native.Mathlib.Omega.{arith}
 use borrow.Author.Tests.{lt-ltb, not-true, not-false}
-use Rattle.lists.specs.Every.{every}
+use Rattle.sequences.specs.Every.{every}
 use Rattle.value.specs.Worth.{lacks}
 use Rattle.value.proofs.lacks_price.Statement.{statement}
 use Rattle.value.proofs.lacks_price.Tie as tie

@@ -8,8 +8,8 @@ use borrow.Author.Needs.{needs}
 use denote.Ref.{now}
 use mir.Syntax.{w64}
 use mir.Val.{toZ, ofZ}
-use Rattle.lists.specs.Below.{sumBelow, anyBelow}
-use Rattle.lists.proofs.Below.{sum-none, any-none}
+use Rattle.sequences.specs.Below.{sumBelow, anyBelow}
+use Rattle.sequences.proofs.Below.{sum-none, any-none}
 use Rattle.layout.specs.Day.{Day, dayOf}
 use Rattle.rules.specs.Lines.{priceOf}
 use Rattle.rules.specs.Value.{worthAt, lacksPrice, worthBefore, cashAdded}
@@ -35,12 +35,6 @@ day c = dayOf (c .args .d) (now (c .args .basket))
 
 component-of-requires : tie.Need-component-of-requires Inv-loop μ-loop
 component-of-requires c κs = (omega arith, c .before .before .before .before .pre .1)
-
-mul-price : tie.Need-mul-price Inv-loop μ-loop
-mul-price c = omega arith
-
-shared-slice-read-price : tie.Need-shared-slice-read-price Inv-loop μ-loop
-shared-slice-read-price c = omega arith
 
 lacks-price-requires : tie.Need-lacks-price-requires Inv-loop μ-loop
 lacks-price-requires c κs = tt
@@ -82,12 +76,6 @@ plus-requires : tie.Need-plus-requires Inv-loop μ-loop
 plus-requires c κs =
     let at = c .before .before .before .before .before .before in
     omega (arith, more c, below (at .before .before .before) (at .loop .i + 1) (omega arith))
-
-add-i : tie.Need-add-i Inv-loop μ-loop
-add-i c = omega arith
-
-loop-less : tie.Need-loop-less Inv-loop μ-loop
-loop-less c = omega arith
 
 loop-again : tie.Need-loop-again Inv-loop μ-loop
 unfolding priceOf
@@ -133,14 +121,14 @@ reference-value-spec =
     μ-loop
     loop-holds
     component-of-requires
-    mul-price
-    shared-slice-read-price
+    (λ c. omega arith)
+    (λ c. omega arith)
     lacks-price-requires
     returns
     worth-of-requires
     plus-requires
-    add-i
-    loop-less
+    (λ c. omega arith)
+    (λ c. omega arith)
     loop-again
     cash-added-requires
     cash-taken-requires

@@ -7,9 +7,6 @@ use Rattle.value.proofs.Laws.{value-negative, value-high, value-stands}
 use Rattle.value.proofs.value_with.Statement.{statement}
 use Rattle.value.proofs.value_with.Tie as tie
 
-plus-requires : tie.Need-plus-requires
-plus-requires c κs = omega arith
-
 returns : tie.Need-returns
 returns c = value-negative _ _ _ (omega (arith, c .before .before .before .plus .ensures))
 
@@ -36,4 +33,4 @@ returns-3 c =
     value-stands _ _ _ _ (same (c .before .before)) (omega (arith, sum .ensures, c .before .before .before .before .before .if1 .left)) (c .if2 .left)
 
 pub value-with-spec : {M : Type 1} → statement M
-value-with-spec = tie.close (tie.spec plus-requires returns per-unit-requires returns-2 returns-3)
+value-with-spec = tie.close (tie.spec (λ c κs. omega arith) returns per-unit-requires returns-2 returns-3)

@@ -11,41 +11,17 @@ Inv-loop line k at₀ i₀ at i = i ≤ k
 abbrev μ-loop : tie.MeasureT-loop
 μ-loop line k at₀ i₀ at i = k - i
 
-blanks-end-requires : tie.Need-blanks-end-requires Inv-loop μ-loop
-blanks-end-requires c κs = search needs
-
-loop-holds : tie.Need-loop-holds Inv-loop μ-loop
-loop-holds c = search needs
-
-word-end-requires : tie.Need-word-end-requires Inv-loop μ-loop
-word-end-requires c κs = search needs
-
-blanks-end-requires-2 : tie.Need-blanks-end-requires-2 Inv-loop μ-loop
-blanks-end-requires-2 c κs = search needs
-
-add-i : tie.Need-add-i Inv-loop μ-loop
-add-i c = search needs
-
-loop-less : tie.Need-loop-less Inv-loop μ-loop
-loop-less c = search needs
-
-loop-again : tie.Need-loop-again Inv-loop μ-loop
-loop-again c = search needs
-
-returns : tie.Need-returns Inv-loop μ-loop
-returns c = search needs
-
 pub word-start-spec : {M : Type 1} → statement M
 word-start-spec =
     tie.close
     (tie.spec
     Inv-loop
     μ-loop
-    blanks-end-requires
-    loop-holds
-    word-end-requires
-    blanks-end-requires-2
-    add-i
-    loop-less
-    loop-again
-    returns)
+    (λ c κs. search needs)
+    (λ c. search needs)
+    (λ c κs. search needs)
+    (λ c κs. search needs)
+    (λ c. search needs)
+    (λ c. search needs)
+    (λ c. search needs)
+    (λ c. search needs))

@@ -7,14 +7,8 @@ use Rattle.digits.proofs.aligned.digit_or_blank.Tie as tie
 returns : tie.Need-returns
 returns c = blank-here _ (c .if1 .taken)
 
-cast-result : tie.Need-cast-result
-cast-result c = search needs
-
-add-result : tie.Need-add-result
-add-result c = search needs
-
 returns-2 : tie.Need-returns-2
 returns-2 c = digit-here _ (c .if1 .left)
 
 pub digit-or-blank-spec : {M : Type 1} → statement M
-digit-or-blank-spec = tie.close (tie.spec returns cast-result add-result returns-2)
+digit-or-blank-spec = tie.close (tie.spec returns (λ c. search needs) (λ c. search needs) returns-2)

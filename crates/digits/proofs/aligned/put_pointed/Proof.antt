@@ -5,15 +5,6 @@ use Rattle.digits.proofs.Right.{front-fits, point-room, pointed-put}
 use Rattle.digits.proofs.aligned.put_pointed.Statement.{statement}
 use Rattle.digits.proofs.aligned.put_pointed.Tie as tie
 
-add-put-whole : tie.Need-add-put-whole
-add-put-whole c = omega arith
-
-sub-put-whole : tie.Need-sub-put-whole
-sub-put-whole c = omega arith
-
-power-requires : tie.Need-power-requires
-power-requires c κs = omega arith
-
 div-put-whole : tie.Need-div-put-whole
 div-put-whole c = omega (arith, power-positive (c .before .before .before .args .decimals))
 
@@ -39,9 +30,6 @@ put-fixed-requires c κs =
     let room = point-room _ _ (s .args .n) _ (u .power .ensures) (s .pre .0 .0) (s .pre .0 .2) (s .pre .1) (omega arith) (s .pre .0 .3) (w .put-whole .ensures) in
     omega (arith, room, b .put-byte .ensures .next)
 
-same-length : tie.Need-same-length
-same-length c = omega arith
-
 returns : tie.Need-returns
 returns c =
     let d = c .before .before in
@@ -56,12 +44,12 @@ pub put-pointed-spec : {M : Type 1} → statement M
 put-pointed-spec =
     tie.close
     (tie.spec
-    add-put-whole
-    sub-put-whole
-    power-requires
+    (λ c. omega arith)
+    (λ c. omega arith)
+    (λ c κs. omega arith)
     div-put-whole
     put-whole-requires
     put-byte-requires
     put-fixed-requires
-    same-length
+    (λ c. omega arith)
     returns)

@@ -12,45 +12,18 @@ Inv-loop components is-fund held₀ i₀ held i = (i ≤ length held₀) × (len
 abbrev μ-loop : tie.MeasureT-loop
 μ-loop components is-fund held₀ i₀ held i = length held₀ - i
 
-loop-holds : tie.Need-loop-holds Inv-loop μ-loop
-loop-holds c = search needs
-
-holding-requires : tie.Need-holding-requires Inv-loop μ-loop
-holding-requires c κs = search needs
-
-mul-held : tie.Need-mul-held Inv-loop μ-loop
-mul-held c = search needs
-
-slice-write-held : tie.Need-slice-write-held Inv-loop μ-loop
-slice-write-held c = search needs
-
-add-i : tie.Need-add-i Inv-loop μ-loop
-add-i c = search needs
-
-loop-less : tie.Need-loop-less Inv-loop μ-loop
-loop-less c = search needs
-
-loop-again : tie.Need-loop-again Inv-loop μ-loop
-loop-again c = search needs
-
-same-length : tie.Need-same-length Inv-loop μ-loop
-same-length c = search needs
-
-returns : tie.Need-returns Inv-loop μ-loop
-returns c = search needs
-
 pub hold-one-spec : {M : Type 1} → statement M
 hold-one-spec =
     tie.close
     (tie.spec
     Inv-loop
     μ-loop
-    loop-holds
-    holding-requires
-    mul-held
-    slice-write-held
-    add-i
-    loop-less
-    loop-again
-    same-length
-    returns)
+    (λ c. search needs)
+    (λ c κs. search needs)
+    (λ c. search needs)
+    (λ c. search needs)
+    (λ c. search needs)
+    (λ c. search needs)
+    (λ c. search needs)
+    (λ c. search needs)
+    (λ c. search needs))

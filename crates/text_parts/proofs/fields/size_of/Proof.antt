@@ -6,17 +6,8 @@ use Rattle.fund.proofs.Laws.{cash-size}
 use Rattle.text_parts.proofs.fields.size_of.Statement.{statement}
 use Rattle.text_parts.proofs.fields.size_of.Tie as tie
 
-cash-in-range-requires : tie.Need-cash-in-range-requires
-cash-in-range-requires c κs = search needs
-
-returns : tie.Need-returns
-returns c = search needs
-
 figure-of-requires : tie.Need-figure-of-requires
 figure-of-requires c κs = cash-size _ (sym (c .before .cash-in-range .ensures) ∙ not-false _ (c .if1 .left))
 
-returns-2 : tie.Need-returns-2
-returns-2 c = search needs
-
 pub size-of-spec : {M : Type 1} → statement M
-size-of-spec = tie.close (tie.spec cash-in-range-requires returns figure-of-requires returns-2)
+size-of-spec = tie.close (tie.spec (λ c κs. search needs) (λ c. search needs) figure-of-requires (λ c. search needs))

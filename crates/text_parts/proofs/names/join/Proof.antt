@@ -12,45 +12,18 @@ Inv-loop text first count names₀ j₀ names j = length names ≡ length names�
 abbrev μ-loop : tie.MeasureT-loop
 μ-loop text first count names₀ j₀ names j = count - j
 
-loop-holds : tie.Need-loop-holds Inv-loop μ-loop
-loop-holds c = search needs
-
-put-name-requires : tie.Need-put-name-requires Inv-loop μ-loop
-put-name-requires c κs = search needs
-
-same-length : tie.Need-same-length Inv-loop μ-loop
-same-length c = search needs
-
-returns : tie.Need-returns Inv-loop μ-loop
-returns c = search needs
-
-add-j : tie.Need-add-j Inv-loop μ-loop
-add-j c = search needs
-
-loop-less : tie.Need-loop-less Inv-loop μ-loop
-loop-less c = search needs
-
-loop-again : tie.Need-loop-again Inv-loop μ-loop
-loop-again c = search needs
-
-same-length-2 : tie.Need-same-length-2 Inv-loop μ-loop
-same-length-2 c = search needs
-
-returns-2 : tie.Need-returns-2 Inv-loop μ-loop
-returns-2 c = search needs
-
 pub join-spec : {M : Type 1} → statement M
 join-spec =
     tie.close
     (tie.spec
     Inv-loop
     μ-loop
-    loop-holds
-    put-name-requires
-    same-length
-    returns
-    add-j
-    loop-less
-    loop-again
-    same-length-2
-    returns-2)
+    (λ c. search needs)
+    (λ c κs. search needs)
+    (λ c. search needs)
+    (λ c. search needs)
+    (λ c. search needs)
+    (λ c. search needs)
+    (λ c. search needs)
+    (λ c. search needs)
+    (λ c. search needs))

@@ -4,9 +4,6 @@ use Rattle.units.specs.Units.{discount}
 use Rattle.units.proofs.Money.with_discount.Statement.{statement}
 use Rattle.units.proofs.Money.with_discount.Tie as tie
 
-sub-scaled : tie.Need-sub-scaled
-sub-scaled c = omega arith
-
 scaled-requires : tie.Need-scaled-requires
 scaled-requires c κs = (omega arith, omega arith)
 
@@ -15,4 +12,4 @@ unfolding discount
 returns c = c .scaled .ensures
 
 pub with-discount-spec : {M : Type 1} → statement M
-with-discount-spec = tie.close (tie.spec sub-scaled scaled-requires returns)
+with-discount-spec = tie.close (tie.spec (λ c. omega arith) scaled-requires returns)

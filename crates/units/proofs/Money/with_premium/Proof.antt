@@ -4,9 +4,6 @@ use Rattle.units.specs.Units.{premium}
 use Rattle.units.proofs.Money.with_premium.Statement.{statement}
 use Rattle.units.proofs.Money.with_premium.Tie as tie
 
-add-scaled : tie.Need-add-scaled
-add-scaled c = omega arith
-
 scaled-requires : tie.Need-scaled-requires
 scaled-requires c κs = (omega arith, omega arith)
 
@@ -15,4 +12,4 @@ unfolding premium
 returns c = c .scaled .ensures
 
 pub with-premium-spec : {M : Type 1} → statement M
-with-premium-spec = tie.close (tie.spec add-scaled scaled-requires returns)
+with-premium-spec = tie.close (tie.spec (λ c. omega arith) scaled-requires returns)

@@ -1,0 +1,91 @@
+// Answers as the paper's three numbers: a refusal's number (0 accepted), its place, and the value of an accepted call.
+ghost use mathlib.Core.Path.{_≡_};
+ghost use Rattle.sequences.specs.Checks.{reply};
+ghost use Rattle.rules.specs.Replies.{refusalReply, answerReply, orderReply, valueReply};
+ghost use Rattle.answers.specs.Numbers.{replyOf};
+use rules::Answer;
+use rules::OrderAnswer;
+use rules::Refusal;
+use rules::ValueAnswer;
+
+pub struct Numbers {
+    pub number: u64,
+    pub place: u64,
+    pub value: u64,
+}
+
+// A refusal with its place.
+fn refused_at(number: u64, place: usize) -> Numbers
+    ensures { λ r. ⌜ replyOf r ≡ reply number place 0 ⌝ }
+{
+    Numbers {
+        number,
+        place: place as u64,
+        value: 0,
+    }
+}
+
+// An accepted call with its value.
+fn accepted(value: u64) -> Numbers
+    ensures { λ r. ⌜ replyOf r ≡ reply 0 0 value ⌝ }
+{
+    Numbers {
+        number: 0,
+        place: 0,
+        value,
+    }
+}
+
+pub fn of_refusal(why: Refusal) -> Numbers
+    ensures { λ r. ⌜ replyOf r ≡ refusalReply why ⌝ }
+{
+    match why {
+        Refusal::Sizes => refused_at(1, 0),
+        Refusal::FundField => refused_at(2, 0),
+        Refusal::Component(place) => refused_at(3, place),
+        Refusal::Total(place) => refused_at(4, place),
+        Refusal::UnsoundDay => refused_at(5, 0),
+        Refusal::NoSuchLine => refused_at(6, 0),
+        Refusal::QuantityOrPrice => refused_at(7, 0),
+        Refusal::Account => refused_at(8, 0),
+        Refusal::ShortOfStock(place) => refused_at(9, place),
+        Refusal::ShortOfCash => refused_at(10, 0),
+        Refusal::NotWholeBaskets => refused_at(11, 0),
+        Refusal::Switch => refused_at(12, 0),
+        Refusal::Limit => refused_at(13, 0),
+        Refusal::NoReferenceValue => refused_at(14, 0),
+        Refusal::CashRatio => refused_at(15, 0),
+        Refusal::ListTooShort => refused_at(16, 0),
+        Refusal::FundShort(place) => refused_at(17, place),
+        Refusal::TextLine(place) => refused_at(18, place),
+        Refusal::TextField(place) => refused_at(19, place),
+        Refusal::RecordCount => refused_at(20, 0),
+    }
+}
+
+pub fn of_answer(answer: Answer) -> Numbers
+    ensures { λ r. ⌜ replyOf r ≡ answerReply answer ⌝ }
+{
+    match answer {
+        Answer::Done => accepted(0),
+        Answer::Refused(why) => of_refusal(why),
+    }
+}
+
+pub fn of_order(answer: OrderAnswer) -> Numbers
+    ensures { λ r. ⌜ replyOf r ≡ orderReply answer ⌝ }
+{
+    match answer {
+        OrderAnswer::Made(count) => accepted(count as u64),
+        OrderAnswer::Refused(why) => of_refusal(why),
+    }
+}
+
+pub fn of_value(answer: ValueAnswer) -> Numbers
+    ensures { λ r. ⌜ replyOf r ≡ valueReply answer ⌝ }
+{
+    match answer {
+        ValueAnswer::Worth(v) => accepted(v.0),
+        ValueAnswer::Refused(why) => of_refusal(why),
+    }
+}

@@ -1,0 +1,223 @@
+-- One component in an order: its numbers are small, and the parts that the code finds make its line.
+use mathlib.Core.Path.{_≡_, refl, sym, ap, _∙_}
+use mathlib.Core.Bool.{Bool, true, false, cond, not, _||_}
+use mathlib.Core.List.{[], _∷_}
+use Prim.Native.Nat.{ℕ, _+_, _-_, _*_, _≤_, min, zero-le}
+use native.Mathlib.Nat.{le-trans, sub-le, add-zero, zero-mul}
+use native.Mathlib.Omega.{arith}
+use lib.Dec.{leb, ltb, lit≤}
+use borrow.Author.Tests.{leb-true, le-ltb}
+use Rattle.sequences.specs.Every.{every}
+use Rattle.sequences.proofs.Below.{cond-le}
+use Rattle.sequences.proofs.Every.{every-at}
+use Rattle.units.specs.declared.Money.{Money}
+use Rattle.units.specs.Units.{rounded, premium, discount}
+use Rattle.units.proofs.Laws.{under, premium-le, discount-le}
+use Rattle.flags.specs.Table.{entry, stockMoves, shortageInCash, shanghai}
+use Rattle.flags.proofs.Laws.{or-false, moves-rules}
+use Rattle.layout.specs.declared.Component.{Component}
+use Rattle.rules.specs.declared.CashByMarket.{CashByMarket}
+use Rattle.rules.specs.Sound.{mostPrice}
+use Rattle.rules.specs.Orders.{mostBaskets}
+use Rattle.rules.proofs.Asked.{either-kind}
+use Rattle.order_scan.specs.declared.Line.{Line}
+use Rattle.order_scan.specs.declared.Scan.{Scan}
+use Rattle.order_scan.specs.Lines.{money, missingOf, worthOf, creationLine, redemptionLine, orderLine, stockCount, nextShort, stockLine, withCash, withLine}
+use Rattle.order_scan.specs.Ready.{Ranged}
+
+-- Bounds.
+
+-- what a line adds to the sums at most
+pub record Small (x : Line) : Type 0 where
+  pub worth : x .worth .0 ≤ 20_000_000_000_000_000
+  pub cash : x .cash .0 ≤ 40_000_000_000_000_000
+
+pub chosen-le : (b : Bool) (x y : Money) (n : ℕ) → x .0 ≤ n → y .0 ≤ n → cond b x y .0 ≤ n
+chosen-le true x y n p q = p
+chosen-le false x y n p q = q
+
+pub missing-le : (b : Bool) (need have : ℕ) → cond b (need - have) 0 ≤ need
+missing-le b need have = cond-le b (sub-le need have) zero-le
+
+module _ (c : Component) (m : ℕ) (r : Ranged c) (few : m ≤ mostBaskets) where
+  pub need-le : m * c .quantity ≤ 1_999_999_980
+  need-le = under 20 99_999_999 few (r .quantity)
+
+  pub amount-le : m * c .amount .0 ≤ 1_999_999_999_980
+  amount-le = under 20 99_999_999_999 few (r .amount)
+
+  -- the worth of what is missing of the need
+  pub worth-le : (x price : ℕ) → x ≤ m * c .quantity → price ≤ mostPrice → x * price ≤ 20_000_000_000_000_000
+  worth-le x price h p = le-trans (under 1_999_999_980 9_999_999 (le-trans h need-le) p) (lit≤ tt)
+
+  creation-worth-le : (have price : ℕ) → price ≤ mostPrice → worthOf c have price m ≤ 20_000_000_000_000_000
+  unfolding worthOf missingOf
+  creation-worth-le have price p = worth-le (missingOf c have m) price (missing-le (entry (c .flag) shortageInCash) (m * c .quantity) have) p
+
+  pub creation-small : (have price : ℕ) → price ≤ mostPrice → Small (creationLine c have price m)
+  unfolding creationLine
+  creation-small have price p =
+      let base : cond (entry (c .flag) stockMoves) (worthOf c have price m) (m * c .amount .0) ≤ 20_000_000_000_000_000 =
+      cond-le (entry (c .flag) stockMoves) (creation-worth-le have price p) (le-trans amount-le (lit≤ tt)) in
+      record {
+        worth = creation-worth-le have price p;
+        cash = omega (arith, premium-le (cond (entry (c .flag) stockMoves) (worthOf c have price m) (m * c .amount .0)) (c .rate .0) (r .rate));
+      }
+
+  pub redemption-small : (have : ℕ) → Small (redemptionLine c have m)
+  unfolding redemptionLine
+  redemption-small have =
+      record {
+        worth = zero-le;
+        cash = cond-le (entry (c .flag) stockMoves) zero-le (omega (arith, amount-le, discount-le (m * c .amount .0) (c .rate .0)));
+      }
+
+  pub order-small : (kind have price : ℕ) → price ≤ mostPrice → Small (orderLine kind c have price m)
+  unfolding orderLine
+  order-small kind have price p = either-kind Small _ _ (creation-small have price p) (redemption-small have) kind
+
+-- Parts.
+
+-- an amount chosen by a test is the number chosen by it
+chosen-number : (b : Bool) (x y : Money) → cond b x y .0 ≡ cond b (x .0) (y .0)
+chosen-number true x y = refl
+chosen-number false x y = refl
+
+abbrev line : Bool → ℕ → ℕ → ℕ → Bool → ℕ → Line
+line short missing worth cash shanghai moved =
+    record { short = short; missing = missing; worth = money worth; cash = money cash; shanghai = shanghai; moved = moved }
+
+line-eq : {a a′ e e′ : Bool} {b b′ c c′ d d′ f f′ : ℕ} → a ≡ a′ → b ≡ b′ → c ≡ c′ → d ≡ d′ → e ≡ e′ → f ≡ f′ → line a b c d e f ≡ line a′ b′ c′ d′ e′ f′
+line-eq p q r s t u = cc
+
+abbrev cashOf : ℕ → ℕ → CashByMarket
+cashOf shanghai other = record { shanghai = money shanghai; other = money other }
+
+cash-eq : {a a′ b b′ : ℕ} → a ≡ a′ → b ≡ b′ → cashOf a b ≡ cashOf a′ b′
+cash-eq p q = cc
+
+-- a creation's line from its parts
+pub creation-parts : (c : Component) (have price m : ℕ) (moves in-cash inside short : Bool) (missing moved : ℕ) (base cash : Money)
+    → moves ≡ entry (c .flag) stockMoves → in-cash ≡ entry (c .flag) shortageInCash → inside ≡ entry (c .flag) shanghai
+    → missing ≡ cond in-cash (m * c .quantity - have) 0
+    → base ≡ cond moves (money (missing * price)) (money (m * c .amount .0))
+    → cash .0 ≡ premium (base .0) (c .rate .0)
+    → short ≡ every (moves ∷ not in-cash ∷ ltb have (m * c .quantity) ∷ [])
+    → moved ≡ cond moves (min (m * c .quantity) have) 0
+    → line short missing (missing * price) (cash .0) inside moved ≡ creationLine c have price m
+unfolding creationLine worthOf missingOf
+creation-parts c have price m moves in-cash inside short missing moved base cash em ec ei es eb ep et eq =
+    let same : missing ≡ cond (entry (c .flag) shortageInCash) (m * c .quantity - have) 0 = es ∙ ap (λ (b : Bool). cond b (m * c .quantity - have) 0) ec in
+    let number : base .0 ≡ cond moves (missing * price) (m * c .amount .0) = ap (λ (x : Money). x .0) eb ∙ chosen-number moves _ _ in
+    line-eq
+    (et ∙ rw (em, ec))
+    same
+    (ap (λ (x : ℕ). x * price) same)
+    (ep ∙ rw (number, em, same))
+    ei
+    (eq ∙ rw em)
+
+min-self : (x : ℕ) → min x x ≡ x
+min-self x = omega arith
+
+-- a redemption's
+pub redemption-parts : (c : Component) (have m : ℕ) (moves inside : Bool) (moved : ℕ) (paid cash : Money)
+    → moves ≡ entry (c .flag) stockMoves → inside ≡ entry (c .flag) shanghai
+    → moved ≡ cond moves (min (m * c .quantity) (m * c .quantity)) 0
+    → paid .0 ≡ discount (m * c .amount .0) (c .rate .0)
+    → cash ≡ cond moves (money 0) paid
+    → line (ltb have moved) 0 0 (cash .0) inside moved ≡ redemptionLine c have m
+unfolding redemptionLine
+redemption-parts c have m moves inside moved paid cash em ei eq ep ec =
+    let same : moved ≡ cond (entry (c .flag) stockMoves) (m * c .quantity) 0 = eq ∙ rw (em, min-self (m * c .quantity)) in
+    let number : cash .0 ≡ cond moves 0 (paid .0) = ap (λ (x : Money). x .0) ec ∙ chosen-number moves _ _ in
+    line-eq (ap (λ (x : ℕ). ltb have x) same) refl refl (number ∙ rw (em, ep)) ei same
+
+cond-same : (b : Bool) (x : ℕ) → cond b x x ≡ x
+cond-same true x = refl
+cond-same false x = refl
+
+-- nothing is missing of what is there in full
+none-missing : (c : Component) (have m : ℕ) → m * c .quantity ≤ have → missingOf c have m ≡ 0
+unfolding missingOf
+none-missing c have m h =
+    let none : m * c .quantity - have ≡ 0 = omega arith in
+    rw none (cond-same (entry (c .flag) shortageInCash) 0)
+
+-- cash with one line more, from its parts
+pub cash-parts : (c : CashByMarket) (x : Line) (here shanghai there other : Money)
+    → here ≡ cond (x .shanghai) (x .cash) (money 0)
+    → shanghai .0 ≡ c .shanghai .0 + here .0
+    → there ≡ cond (x .shanghai) (money 0) (x .cash)
+    → other .0 ≡ c .other .0 + there .0
+    → cashOf (shanghai .0) (other .0) ≡ withCash c x
+unfolding withCash
+cash-parts c x here shanghai there other eh ei et eo =
+    cash-eq
+    (ei ∙ ap (λ (y : ℕ). c .shanghai .0 + y) (ap (λ (y : Money). y .0) eh ∙ chosen-number (x .shanghai) _ _))
+    (eo ∙ ap (λ (y : ℕ). c .other .0 + y) (ap (λ (y : Money). y .0) et ∙ chosen-number (x .shanghai) _ _))
+
+abbrev scan : ℕ → Bool → ℕ → CashByMarket → ℕ → Scan
+scan short missing worth cash records =
+    record { short = short; missing = missing; «missing_worth» = money worth; cash = cash; «stock_records» = records }
+
+scan-eq : {b b′ : Bool} {a a′ c c′ f f′ : ℕ} {d d′ : CashByMarket} → a ≡ a′ → b ≡ b′ → c ≡ c′ → d ≡ d′ → f ≡ f′ → scan a b c d f ≡ scan a′ b′ c′ d′ f′
+scan-eq p q r s u = cc
+
+-- a scan with one line more, from its parts
+pub scan-parts : (t : Scan) (i : ℕ) (x : Line) (short records : ℕ) (missing : Bool) (worth : Money) (cash : CashByMarket)
+    → short ≡ nextShort (t .short) i (x .short)
+    → missing ≡ (t .missing || ltb 0 (x .missing))
+    → worth .0 ≡ t .«missing_worth» .0 + x .worth .0
+    → cash ≡ withCash (t .cash) x
+    → records ≡ stockCount (x .moved)
+    → scan short missing (worth .0) cash (t .«stock_records» + records) ≡ withLine t i x
+unfolding withLine
+scan-parts t i x short records missing worth cash es em ew ec er = scan-eq es em ew ec (ap (λ (y : ℕ). t .«stock_records» + y) er)
+
+-- with a component whose stock is there in full
+pub stock-parts : (t : Scan) (i need short records : ℕ)
+    → short ≡ nextShort (t .short) i false
+    → records ≡ stockCount need
+    → scan short (t .missing) (t .«missing_worth» .0) (t .cash) (t .«stock_records» + records) ≡ withLine t i (stockLine need)
+unfolding withLine withCash stockLine
+stock-parts t i need short records es er =
+    scan-eq es (sym (or-false (t .missing))) (sym (add-zero _)) (cash-eq (sym (add-zero _)) (sym (add-zero _))) (ap (λ (y : ℕ). t .«stock_records» + y) er)
+
+-- which is the line of such a component in an order
+covered-short : (b : Bool) → every (true ∷ not b ∷ false ∷ []) ≡ false
+unfolding every
+covered-short true = refl
+covered-short false = refl
+
+premium-zero : (r : ℕ) → premium 0 r ≡ 0
+unfolding premium rounded
+premium-zero r = rw zero-mul
+
+module _ (c : Component) (have price m : ℕ) (covered : every (leb (m * c .quantity) have ∷ entry (c .flag) stockMoves ∷ []) ≡ true) where
+  enough : m * c .quantity ≤ have
+  enough = leb-true _ _ (every-at (leb (m * c .quantity) have ∷ entry (c .flag) stockMoves ∷ []) covered 0)
+
+  moves : entry (c .flag) stockMoves ≡ true
+  moves = every-at (leb (m * c .quantity) have ∷ entry (c .flag) stockMoves ∷ []) covered 1
+
+  covered-creation : creationLine c have price m ≡ stockLine (m * c .quantity)
+  unfolding creationLine stockLine worthOf
+  covered-creation =
+      let missing = none-missing c have m enough in
+      line-eq
+      (rw (moves, le-ltb have (m * c .quantity) enough) (covered-short (entry (c .flag) shortageInCash)))
+      missing
+      (rw missing (zero-mul price))
+      (rw (moves, missing, zero-mul price) (premium-zero (c .rate .0)))
+      (moves-rules (c .flag) moves .0)
+      (rw moves (omega (arith, enough)))
+
+  covered-redemption : redemptionLine c have m ≡ stockLine (m * c .quantity)
+  unfolding redemptionLine stockLine
+  covered-redemption =
+      line-eq (rw moves (le-ltb have (m * c .quantity) enough)) refl refl (rw moves) (moves-rules (c .flag) moves .0) (rw moves)
+
+  pub covered-line : (kind : ℕ) → orderLine kind c have price m ≡ stockLine (m * c .quantity)
+  unfolding orderLine
+  covered-line kind = either-kind (λ x. x ≡ stockLine (m * c .quantity)) _ _ covered-creation covered-redemption kind

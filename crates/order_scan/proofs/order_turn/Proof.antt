@@ -1,0 +1,39 @@
+-- `order_scan::order_turn` meets its contract: `covered-line` says that the line of a component whose stock is there in full has nothing
+-- but its stock.
+use mathlib.Core.Path.{sym, ap, _∙_}
+use native.Mathlib.Omega.{arith}
+use Rattle.order_scan.specs.declared.Line.{Line}
+use Rattle.order_scan.specs.Lines.{withLine}
+use Rattle.order_scan.proofs.OneLine.{need-le, covered-line}
+use Rattle.order_scan.proofs.order_turn.Statement.{statement}
+use Rattle.order_scan.proofs.order_turn.Tie as tie
+
+mul-need : tie.Need-mul-need
+mul-need c = omega (arith, need-le _ _ (c .before .pre .0 .0) (c .before .pre .0 .1))
+
+is-covered-requires : tie.Need-is-covered-requires
+is-covered-requires c κs = tt
+
+with-stock-requires : tie.Need-with-stock-requires
+with-stock-requires c κs =
+    let room = c .before .before .before .pre .1 in
+    (room .index, room .records)
+
+returns : tie.Need-returns
+returns c =
+    let a = c .before .before .before .before .args in
+    c .with-stock .ensures
+    ∙ ap (λ (x : Line). withLine (a .t) (a .i) x) (sym (covered-line (a .c) (a .have) (a .price) (a .m) (sym (c .before .before .is-covered .ensures) ∙ c .before .if1 .taken) (a .kind)))
+
+order-line-requires : tie.Need-order-line-requires
+order-line-requires c κs = c .before .before .before .pre .0
+
+with-line-requires : tie.Need-with-line-requires
+with-line-requires c κs = rw (c .order-line .ensures) (c .before .before .before .before .pre .1)
+
+returns-2 : tie.Need-returns-2
+returns-2 c = c .with-line .ensures ∙ rw (c .before .order-line .ensures)
+
+pub order-turn-spec : {M : Type 1} → statement M
+order-turn-spec =
+    tie.close (tie.spec mul-need is-covered-requires with-stock-requires returns order-line-requires with-line-requires returns-2)

@@ -1,0 +1,343 @@
+// One pass over the basket for the third stage of an order.
+ghost use mathlib.Core.Bool.{cond, not, _||_};
+ghost use mathlib.Core.List.{[], _∷_};
+ghost use mathlib.Core.Path.{_≡_};
+ghost use Prim.Native.Nat.{_+_, _-_, _≤_, _<_, _^_, min};
+ghost use lib.Dec.{leb, ltb};
+ghost use lib.ListN.{length};
+ghost use Rattle.sequences.specs.Every.{every};
+ghost use Rattle.units.specs.Units.{ratioBound};
+ghost use Rattle.flags.specs.Table.{entry, stockMoves};
+ghost use Rattle.layout.specs.Book.{behindLine};
+ghost use Rattle.layout.specs.Places.{basketWidth, mostComponents};
+ghost use Rattle.layout.specs.Day.{dayOf};
+ghost use Rattle.rules.specs.Sound.{mostPrice};
+ghost use Rattle.rules.specs.Orders.{mostBaskets};
+ghost use Rattle.rules.specs.Creation.{available};
+ghost use Rattle.order_scan.specs.Lines.{creationLine, redemptionLine, orderLine, heldOf, nextShort, stockLine, withCash, withLine, noLines, cashCount, recordCount};
+ghost use Rattle.order_scan.specs.Scans.{orderScan};
+ghost use Rattle.order_scan.specs.Ready.{Ranged, Room, Scannable};
+use layout::Component;
+use layout::DayHead;
+use rules::CashByMarket;
+use units::Money;
+use units::Rate;
+use units::ReferenceValue;
+
+// What an order of m baskets makes of the basket.
+pub struct Scan {
+    // The first component of which there is not enough; the count where there is none.
+    pub short: usize,
+    // Whether cash stands for missing stock.
+    pub missing: bool,
+    // What the missing stock is worth, without the premium.
+    pub missing_worth: Money,
+    pub cash: CashByMarket,
+    // How many components have stock moved.
+    pub stock_records: usize,
+}
+
+// What it makes of one component.
+struct Line {
+    short: bool,
+    missing: u64,
+    worth: Money,
+    cash: Money,
+    shanghai: bool,
+    moved: u64,
+}
+
+// What an account can hand in of a line.
+pub fn handable_at(stretch: &[u64], line: usize) -> u64
+    requires { ⌜ (behindLine line ≤ length (now stretch)) × (available (now stretch) line < 2 ^ 64) ⌝ }
+    ensures { λ r. ⌜ r ≡ available (now (stretch .entry)) line ⌝ }
+{
+    layout::lots_at(stretch, line).handable()
+}
+
+// What there is of a component: what the account can hand in, or the fund's old lot, which is all that the fund has of it.
+fn held_at(kind: usize, stretch: &[u64], fund: &[u64], line: usize) -> u64
+    requires { ⌜ (behindLine line ≤ length (now stretch)) × (behindLine line ≤ length (now fund)) × (available (now stretch) line < 2 ^ 64) ⌝ }
+    ensures { λ r. ⌜ r ≡ heldOf kind (now (stretch .entry)) (now (fund .entry)) line ⌝ }
+{
+    if kind == rules::CREATION {
+        return handable_at(stretch, line);
+    }
+    let x = layout::lots_at(fund, line);
+    x.old
+}
+
+// The first amount where the test passes, and the second where it does not.
+fn chosen(test: bool, x: Money, y: Money) -> Money
+    ensures { λ r. ⌜ r ≡ cond test x y ⌝ }
+{
+    if test {
+        return x;
+    }
+    y
+}
+
+// Whether a component of which stock moves, with no cash for a shortage, is short.
+fn is_short(moves: bool, in_cash: bool, need: u64, have: u64) -> bool
+    ensures { λ r. ⌜ r ≡ every (moves ∷ not «in_cash» ∷ ltb have need ∷ []) ⌝ }
+{
+    if !moves {
+        return false;
+    }
+    if in_cash {
+        return false;
+    }
+    have < need
+}
+
+// What is missing where cash stands for a shortage.
+fn missing_of(in_cash: bool, need: u64, have: u64) -> u64
+    ensures { λ r. ⌜ r ≡ cond «in_cash» (need - have) 0 ⌝ }
+{
+    if !in_cash {
+        return 0;
+    }
+    if need <= have {
+        return 0;
+    }
+    need - have
+}
+
+// What moves of a need, at most so much.
+fn moved_of(moves: bool, need: u64, most: u64) -> u64
+    ensures { λ r. ⌜ r ≡ cond moves (min need most) 0 ⌝ }
+{
+    if !moves {
+        return 0;
+    }
+    if need <= most {
+        return need;
+    }
+    most
+}
+
+// A component in a creation of m baskets, for an account that has so much of it to hand in.
+fn creation_line(c: Component, have: u64, price: u64, m: u64) -> Line
+    requires { ⌜ Ranged c × (m ≤ mostBaskets) × (price ≤ mostPrice) ⌝ }
+    ensures { λ r. ⌜ r ≡ creationLine c have price m ⌝ }
+{
+    let need = m * c.quantity;
+    let moves = flags::entry_of(c.flag, flags::STOCK_MOVES);
+    let in_cash = flags::entry_of(c.flag, flags::SHORTAGE_IN_CASH);
+    let shanghai = flags::entry_of(c.flag, flags::SHANGHAI);
+    let missing = missing_of(in_cash, need, have);
+    let worth = Money(missing * price);
+    let amount = Money(m * c.amount.0);
+    let cash = chosen(moves, worth, amount).with_premium(c.rate);
+    Line {
+        short: is_short(moves, in_cash, need, have),
+        missing: missing,
+        worth: worth,
+        cash: cash,
+        shanghai: shanghai,
+        moved: moved_of(moves, need, have),
+    }
+}
+
+// A component in a redemption of m baskets, of which the fund has so much. Stock is delivered in full.
+fn redemption_line(c: Component, have: u64, m: u64) -> Line
+    requires { ⌜ Ranged c × (m ≤ mostBaskets) ⌝ }
+    ensures { λ r. ⌜ r ≡ redemptionLine c have m ⌝ }
+{
+    let need = m * c.quantity;
+    let moves = flags::entry_of(c.flag, flags::STOCK_MOVES);
+    let shanghai = flags::entry_of(c.flag, flags::SHANGHAI);
+    let moved = moved_of(moves, need, need);
+    let paid = Money(m * c.amount.0).with_discount(c.rate);
+    Line {
+        short: have < moved,
+        missing: 0,
+        worth: Money(0),
+        cash: chosen(moves, Money(0), paid),
+        shanghai: shanghai,
+        moved: moved,
+    }
+}
+
+// A component in an order of either kind.
+fn order_line(kind: usize, c: Component, have: u64, price: u64, m: u64) -> Line
+    requires { ⌜ Ranged c × (m ≤ mostBaskets) × (price ≤ mostPrice) ⌝ }
+    ensures { λ r. ⌜ r ≡ orderLine kind c have price m ⌝ }
+{
+    if kind == rules::CREATION {
+        return creation_line(c, have, price, m);
+    }
+    redemption_line(c, have, m)
+}
+
+// The first short component of the first i + 1, from that of the first i.
+fn next_short(first: usize, i: usize, short: bool) -> usize
+    requires { ⌜ i < mostComponents ⌝ }
+    ensures { λ r. ⌜ r ≡ nextShort first i short ⌝ }
+{
+    if first < i {
+        return first;
+    }
+    if short {
+        return i;
+    }
+    i + 1
+}
+
+// Whether anything was or is missing.
+fn also_missing(found: bool, missing: u64) -> bool
+    ensures { λ r. ⌜ r ≡ (found || ltb 0 missing) ⌝ }
+{
+    if found {
+        return true;
+    }
+    0 < missing
+}
+
+// A record for stock that moved.
+fn records_of(moved: u64) -> usize
+    ensures { λ r. ⌜ r ≡ cond (ltb 0 moved) 1 0 ⌝ }
+{
+    if 0 < moved {
+        return 1;
+    }
+    0
+}
+
+// The cash with that of one component more, which goes to its market.
+fn with_cash(cash: CashByMarket, line: Line) -> CashByMarket
+    requires { ⌜ (cash .shanghai .0 + line .cash .0 < 2 ^ 64) × (cash .other .0 + line .cash .0 < 2 ^ 64) ⌝ }
+    ensures { λ r. ⌜ r ≡ withCash cash line ⌝ }
+{
+    CashByMarket {
+        shanghai: cash.shanghai
+            .plus(chosen(line.shanghai, line.cash, Money(0))),
+        other: cash.other.plus(chosen(line.shanghai, Money(0), line.cash)),
+    }
+}
+
+// The scan of the first i components with the next one.
+fn with_line(t: Scan, i: usize, line: Line) -> Scan
+    requires { ⌜ Room t i line ⌝ }
+    ensures { λ r. ⌜ r ≡ withLine t i line ⌝ }
+{
+    Scan {
+        short: next_short(t.short, i, line.short),
+        missing: also_missing(t.missing, line.missing),
+        missing_worth: t.missing_worth.plus(line.worth),
+        cash: with_cash(t.cash, line),
+        stock_records: t.stock_records + records_of(line.moved),
+    }
+}
+
+// Whether stock of a component moves and is there in full.
+fn is_covered(flag: u64, need: u64, have: u64) -> bool
+    ensures { λ r. ⌜ r ≡ every (leb need have ∷ entry flag stockMoves ∷ []) ⌝ }
+{
+    if have < need {
+        return false;
+    }
+    flags::entry_of(flag, flags::STOCK_MOVES)
+}
+
+// The scan of the first i components with one whose stock is there in full: it adds no cash.
+fn with_stock(t: Scan, i: usize, need: u64) -> Scan
+    requires { ⌜ (i < mostComponents) × (t .«stock_records» ≤ i) ⌝ }
+    ensures { λ r. ⌜ r ≡ withLine t i (stockLine need) ⌝ }
+{
+    let missing_worth = t.missing_worth;
+    let cash = t.cash;
+    Scan {
+        short: next_short(t.short, i, false),
+        missing: t.missing,
+        missing_worth,
+        cash,
+        stock_records: t.stock_records + records_of(need),
+    }
+}
+
+// The scan of the first i components with the next one, in an order of m baskets.
+fn order_turn(kind: usize, t: Scan, i: usize, c: Component, have: u64, price: u64, m: u64) -> Scan
+    requires { ⌜ Ranged c × (m ≤ mostBaskets) × (price ≤ mostPrice) ⌝ }
+    requires { ⌜ Room t i (orderLine kind c have price m) ⌝ }
+    ensures { λ r. ⌜ r ≡ withLine t i (orderLine kind c have price m) ⌝ }
+{
+    let need = m * c.quantity;
+    if is_covered(c.flag, need, have) {
+        return with_stock(t, i, need);
+    }
+    with_line(t, i, order_line(kind, c, have, price, m))
+}
+
+// The scan of no component.
+fn no_lines() -> Scan
+    ensures { λ r. ⌜ r ≡ noLines ⌝ }
+{
+    Scan {
+        short: 0,
+        missing: false,
+        missing_worth: Money(0),
+        cash: CashByMarket {
+            shanghai: Money(0),
+            other: Money(0),
+        },
+        stock_records: 0,
+    }
+}
+
+// An order of m baskets by the account with the stretch lent, from or to the fund with its own.
+pub fn order_scan(
+    kind: usize,
+    d: DayHead,
+    basket: &[u64],
+    stretch: &[u64],
+    fund: &[u64],
+    prices: &[u64],
+    m: u64,
+) -> Scan
+    requires { ⌜ Scannable kind (dayOf d (now basket)) (now stretch) (now fund) (now prices) m ⌝ }
+    requires { ⌜ length (now basket) ≡ basketWidth ⌝ }
+    ensures { λ r. ⌜ r ≡ orderScan kind (dayOf d (now (basket .entry))) (now (stretch .entry)) (now (fund .entry)) (now (prices .entry)) m ⌝ }
+{
+    let n = d.count;
+    let mut t = no_lines();
+    let mut i = 0;
+    while i < n {
+        let c = layout::component_of(basket, i);
+        let have = held_at(kind, stretch, fund, i);
+        t = order_turn(kind, t, i, c, have, prices[i], m);
+        i += 1;
+    }
+    t
+}
+
+// How many records an amount of cash takes.
+fn cash_count(cash: Money) -> usize
+    ensures { λ r. ⌜ r ≡ cashCount (cash .0) ⌝ }
+{
+    let split = Money::SPLIT;
+    if cash.0 == 0 {
+        return 0;
+    }
+    if cash.0 < split.0 {
+        return 1;
+    }
+    2
+}
+
+// How many records the order makes, with the two of the unit.
+pub fn record_count(t: Scan) -> usize
+    requires { ⌜ t .«stock_records» ≤ mostComponents ⌝ }
+    ensures { λ r. ⌜ r ≡ recordCount t ⌝ }
+{
+    2 + t.stock_records + cash_count(t.cash.other) + cash_count(t.cash.shanghai)
+}
+
+// Whether the missing stock of m baskets of so many units is worth more than the maximum cash ratio lets cash stand for.
+pub fn ratio_passed(worth: Money, m: u64, size: u64, value: ReferenceValue, ratio: Rate) -> bool
+    requires { ⌜ (value .0 ≤ 9_999_999) × (m ≤ mostBaskets) × (size ≤ 99_999_999) × (ratio .0 ≤ 100_000) ⌝ }
+    ensures { λ r. ⌜ r ≡ ltb (ratioBound m size (value .0) (ratio .0)) (worth .0) ⌝ }
+{
+    let bound = value.ratio_bound(m, size, ratio);
+    bound.0 < worth.0
+}

@@ -1,0 +1,148 @@
+-- The answers of the third stage, test by test.
+use mathlib.Core.Path.{_≡_, refl, sym, ap, _∙_}
+use mathlib.Core.Bool.{Bool, true, false}
+use mathlib.Core.List.{List, _++_}
+use Prim.Native.Nat.{ℕ, _≤_, _<_}
+use lib.Dec.{T, ltb}
+use lib.ListN.{length}
+use borrow.Author.Tests.{lt-ltb, le-ltb, eq-eqb, ne-eqb}
+use Rattle.sequences.specs.Checks.{Check, reply, answered}
+use Rattle.sequences.proofs.Checks.{numbered}
+use Rattle.units.specs.Units.{ratioBound}
+use Rattle.layout.specs.Places.{mostComponents}
+use Rattle.layout.specs.Day.{Day}
+use Rattle.rules.specs.declared.Ask.{Ask}
+use Rattle.rules.specs.declared.Refusal.{Refusal}
+use Rattle.layout.specs.Book.{cash, headAt}
+use Rattle.rules.specs.Replies.{refusalReply}
+use Rattle.rules.specs.Orders.{creation, baskets}
+use Rattle.rules.specs.Creation.{available, creationDue, ratioPassed, creationMeans}
+use Rattle.rules.specs.Redemption.{unitsAvailable, redemptionPaid, redemptionMeans}
+use Rattle.rules.specs.Value.{referenceValue, hasValue}
+use Rattle.rules.specs.Kinds.{byKind, total, cashBy, askedCash, askedRecords, askedMeans}
+use Rattle.rules.proofs.Replies.{stage-passed, stage-stopped}
+use Rattle.rules.proofs.Asked.{either-kind, by-ask}
+use Rattle.order_scan.specs.declared.Scan.{Scan}
+use Rattle.order_scan.specs.Lines.{recordCount}
+use Rattle.order_scan.specs.Scans.{orderScan}
+use Rattle.order_scan.specs.Ready.{Scannable}
+use Rattle.order_scan.proofs.Ready.{cash-fits}
+use Rattle.order_scan.proofs.Counts.{scan-count, scan-records-le}
+use Rattle.order_tests.specs.Tests.{stockTests, ratioTests, cashNumber, cashPlace, lastTests, moneyTests, orderTests, meansAnswer}
+
+-- 9 and 17, by the kind
+module _ (kind n held units short : ℕ) where
+  stock-numbered : T (numbered (stockTests kind n held units short))
+  unfolding stockTests
+  stock-numbered = either-kind (λ (cs : List Check). T (numbered cs)) _ _ tt tt kind
+
+  module _ (e : kind ≡ creation) where
+    pub hands-short : short < n → reply 9 short 0 ≡ answered (stockTests kind n held units short) 0
+    unfolding answered stockTests
+    hands-short h = simp (eq-eqb kind creation e, lt-ltb short n h)
+
+    pub hands-all : n ≤ short → reply 0 0 0 ≡ answered (stockTests kind n held units short) 0
+    unfolding answered stockTests
+    hands-all h = simp (eq-eqb kind creation e, le-ltb short n h)
+
+  module _ (e : kind ≡ creation → ⊥) where
+    pub units-short : held < units → reply 9 0 0 ≡ answered (stockTests kind n held units short) 0
+    unfolding answered stockTests
+    units-short h = simp (ne-eqb kind creation e, lt-ltb held units h)
+
+    pub fund-short : units ≤ held → short < n → reply 17 short 0 ≡ answered (stockTests kind n held units short) 0
+    unfolding answered stockTests
+    fund-short h g = simp (ne-eqb kind creation e, le-ltb held units h, lt-ltb short n g)
+
+    pub fund-delivers : units ≤ held → n ≤ short → reply 0 0 0 ≡ answered (stockTests kind n held units short) 0
+    unfolding answered stockTests
+    fund-delivers h g = simp (ne-eqb kind creation e, le-ltb held units h, le-ltb short n g)
+
+-- 14 and 15, from whether anything is missing
+module _ (d : Day) (ps : List ℕ) (m : ℕ) (missing : Bool) (worth : ℕ) where
+  pub ratio-none : missing ≡ false → reply 0 0 0 ≡ answered (ratioTests d ps m missing worth) 0
+  unfolding answered ratioTests
+  ratio-none e = simp e
+
+  pub ratio-no-value : missing ≡ true → hasValue d ps ≡ false → reply 14 0 0 ≡ answered (ratioTests d ps m missing worth) 0
+  unfolding answered ratioTests
+  ratio-no-value e f = simp (e, f)
+
+  -- the value v is the day's, and r the test on it
+  module _ (some : missing ≡ true) (has : hasValue d ps ≡ true) (v : ℕ) (is : v ≡ referenceValue d ps) (r : Bool)
+      (tested : r ≡ ltb (ratioBound m (d .fund .«basket_size») v (d .fund .«max_cash_ratio» .0)) worth) where
+    same : ltb (ratioBound m (d .fund .«basket_size») (referenceValue d ps) (d .fund .«max_cash_ratio» .0)) worth ≡ r
+    same = ap (λ (x : ℕ). ltb (ratioBound m (d .fund .«basket_size») x (d .fund .«max_cash_ratio» .0)) worth) (sym is) ∙ sym tested
+
+    pub ratio-over : r ≡ true → reply 15 0 0 ≡ answered (ratioTests d ps m missing worth) 0
+    unfolding answered ratioTests
+    ratio-over e = simp (some, has, same ∙ e)
+
+    pub ratio-within : r ≡ false → reply 0 0 0 ≡ answered (ratioTests d ps m missing worth) 0
+    unfolding answered ratioTests
+    ratio-within e = simp (some, has, same ∙ e)
+
+module _ (number place held due room count : ℕ) where
+  pub last-cash : held < due → reply number place 0 ≡ answered (lastTests number place held due room count) count
+  unfolding answered lastTests
+  last-cash h = simp (lt-ltb held due h)
+
+  pub last-room : due ≤ held → room < count → reply 16 0 0 ≡ answered (lastTests number place held due room count) count
+  unfolding answered lastTests
+  last-room h g = simp (le-ltb held due h, lt-ltb room count g)
+
+  pub last-made : due ≤ held → count ≤ room → reply 0 0 count ≡ answered (lastTests number place held due room count) count
+  unfolding answered lastTests
+  last-made h g = simp (le-ltb held due h, le-ltb room count g)
+
+-- the stages, from a scan
+module _ (d : Day) (ps : List ℕ) (kind m : ℕ) (t : Scan) (held room : ℕ) where
+  pub ratio-passes : reply 0 0 0 ≡ answered (ratioTests d ps m (t .missing) (t .«missing_worth» .0)) 0
+      → answered (lastTests (cashNumber kind) (cashPlace kind (d .count)) held (total (t .cash)) room (recordCount t)) (recordCount t) ≡ answered (moneyTests d ps kind m t held room) (recordCount t)
+  unfolding moneyTests ratioTests
+  ratio-passes e = stage-passed (ratioTests d ps m (t .missing) (t .«missing_worth» .0)) _ _ tt e
+
+  pub ratio-stops : (why : Refusal) → refusalReply why ≡ answered (ratioTests d ps m (t .missing) (t .«missing_worth» .0)) 0
+      → refusalReply why ≡ answered (moneyTests d ps kind m t held room) (recordCount t)
+  unfolding moneyTests
+  ratio-stops why e = stage-stopped (ratioTests d ps m (t .missing) (t .«missing_worth» .0)) _ _ why e
+
+  module _ (there units : ℕ) where
+    pub stock-passes : reply 0 0 0 ≡ answered (stockTests kind (d .count) there units (t .short)) 0
+        → answered (moneyTests d ps kind m t held room) (recordCount t) ≡ answered (orderTests d ps kind m t there units held room) (recordCount t)
+    unfolding orderTests
+    stock-passes e = stage-passed (stockTests kind (d .count) there units (t .short)) _ _ (stock-numbered kind (d .count) there units (t .short)) e
+
+    pub stock-stops : (why : Refusal) → refusalReply why ≡ answered (stockTests kind (d .count) there units (t .short)) 0
+        → refusalReply why ≡ answered (orderTests d ps kind m t there units held room) (recordCount t)
+    unfolding orderTests
+    stock-stops why e = stage-stopped (stockTests kind (d .count) there units (t .short)) _ _ why e
+
+-- the tests of an ask, with a count of records, are the rules' third stage
+module _ (d : Day) (s f ps : List ℕ) (room : ℕ) where
+  abbrev tests : Ask → List Check
+  tests ask =
+      let t = orderScan (ask .kind) d s f ps (baskets d (ask .units)) in
+      stockTests (ask .kind) (d .count) (available s (d .count)) (ask .units) (t .short)
+      ++ (ratioTests d ps (baskets d (ask .units)) (t .missing) (t .«missing_worth» .0)
+      ++ lastTests (cashNumber (ask .kind)) (cashPlace (ask .kind) (d .count)) (headAt (byKind (ask .kind) s f) cash) (total (t .cash)) room (length (askedRecords d s ps ask)))
+
+  tests-are : (v : ℕ) (ask : Ask) → ask .kind < 2 → answered (tests ask) v ≡ answered (askedMeans d s f ps ask room) v
+  unfolding answered stockTests ratioTests lastTests cashNumber cashPlace orderScan cashBy available unitsAvailable askedRecords askedMeans
+      creationMeans ratioPassed creationDue redemptionMeans redemptionPaid
+  tests-are v = by-ask (λ ask. answered (tests ask) v ≡ answered (askedMeans d s f ps ask room) v) (λ a units. refl) (λ a units. refl)
+
+  -- and so from a scan t, for m that is the order's count of baskets
+  module _ (ask : Ask) (m : ℕ) (t : Scan) (scanned : t ≡ orderScan (ask .kind) d s f ps m) (whole : m ≡ baskets d (ask .units)) (r : Scannable (ask .kind) d s f ps m) where
+    pub means-done : answered (orderTests d ps (ask .kind) m t (available s (d .count)) (ask .units) (headAt (byKind (ask .kind) s f) cash) room) (recordCount t) ≡ meansAnswer d s f ps ask room
+    unfolding orderTests moneyTests meansAnswer
+    means-done = rw (scanned, whole, scan-count d s f ps ask (r .kind-in)) (tests-are _ ask (r .kind-in))
+
+    pub means-cash : t .cash ≡ askedCash d s ps ask
+    unfolding orderScan askedCash
+    means-cash = rw (scanned, whole)
+
+    -- and its sums fit
+    pub means-fit : (t .«stock_records» ≤ mostComponents) × (total (t .cash) ≤ 12_000_000_000_000_000_000)
+    unfolding orderScan
+    means-fit = rw scanned (scan-records-le (ask .kind) d s f ps m (r .count), cash-fits (ask .kind) d s f ps m r)

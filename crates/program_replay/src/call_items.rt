@@ -1,0 +1,246 @@
+// Items that are calls: each is made, its reply printed, and where it is refused what was lent is compared with what it was.
+use crate::structs;
+use answers::Numbers;
+use day_items::replies;
+use day_items::state;
+use day_items::state::Session;
+use program_io::output;
+use program_io::runs;
+use rules::Ask;
+
+const PRICE: u64 = 4;
+
+const TRADE: u64 = 5;
+
+const CREATE: u64 = 6;
+
+const REDEEM: u64 = 7;
+
+const VALUE: u64 = 8;
+
+// Of an order: account, units, the length of the lent list, and whether that list is printed whole.
+const ROOM: usize = 2;
+
+const SHOWN: usize = 3;
+
+// How long a list may be lent.
+const MOST_LIST: usize = 2048;
+
+// Room for a copy of the book and the prices.
+const MOST_KEPT: usize = crate::MOST_BOOK + crate::MOST_PRICES;
+
+// Whether an item has as many numbers as a call of its tag takes, and there is room for its list.
+fn is_call(tag: u64, item: &[u64]) -> bool {
+    match tag {
+        PRICE => item.len() == 2,
+        TRADE => item.len() == 5,
+        CREATE | REDEEM => item.len() == 4 && state::size_at(item, ROOM) <= MOST_LIST,
+        VALUE => item.len() == 0,
+        _ => false,
+    }
+}
+
+fn price(item: &[u64], day: &[u64], book: &[u64], prices: &mut [u64]) -> Numbers {
+    let answer = day::price(
+        day,
+        book,
+        prices,
+        state::size_at(item, 0),
+        state::at(item, 1),
+    );
+    let r = answers::of_answer(answer);
+    replies::print(b"price", r);
+    r
+}
+
+fn trade(item: &[u64], day: &[u64], book: &mut [u64], prices: &[u64]) -> Numbers {
+    let answer = day::trade(
+        day,
+        book,
+        prices,
+        state::size_at(item, 0),
+        state::at(item, 1),
+        state::at(item, 2),
+        state::size_at(item, 3),
+        state::size_at(item, 4),
+    );
+    let r = answers::of_answer(answer);
+    replies::print(b"trade", r);
+    r
+}
+
+fn value(day: &[u64], book: &[u64], prices: &[u64]) -> Numbers {
+    let r = answers::of_value(day::reference_value(day, book, prices));
+    replies::print(b"value", r);
+    r
+}
+
+// The list after an order: whole where the item says so, else only where it was refused, and then whether it is the same.
+fn print_list(list: &[u64], is_whole: bool, number: u64) {
+    if is_whole {
+        output::run(b"list", list);
+        return;
+    }
+    if number == 0 {
+        return;
+    }
+    let i = runs::first_marred(list);
+    if i < list.len() {
+        output::place(b"list", i);
+        return;
+    }
+    output::text(b"list same\n");
+}
+
+// The test of an order alone, with the length of its list.
+fn print_test(
+    tag: u64,
+    a: usize,
+    units: u64,
+    day: &[u64],
+    book: &[u64],
+    prices: &[u64],
+    length: usize,
+) {
+    let answer = match tag {
+        CREATE => day::creation_test(day, book, prices, a, units, length),
+        _ => day::redemption_test(day, book, prices, a, units, length),
+    };
+    replies::print(b"test", answers::of_order(answer));
+}
+
+fn ask_of(tag: u64, account: usize, units: u64) -> Ask {
+    let kind = match tag {
+        CREATE => rules::CREATION,
+        _ => rules::REDEMPTION,
+    };
+    Ask {
+        kind,
+        account,
+        units,
+    }
+}
+
+fn print_order(tag: u64, r: Numbers) {
+    match tag {
+        CREATE => replies::print(b"create", r),
+        _ => replies::print(b"redeem", r),
+    }
+}
+
+// The test alone, and then the order, with a list that holds other numbers.
+fn order_with(
+    tag: u64,
+    a: usize,
+    units: u64,
+    is_whole: bool,
+    day: &[u64],
+    book: &mut [u64],
+    prices: &[u64],
+    list: &mut [u64],
+) -> Numbers {
+    runs::fill(list);
+    print_test(tag, a, units, day, book, prices, list.len());
+    let r = answers::of_order(structs::order(day, book, prices, ask_of(tag, a, units), list));
+    print_order(tag, r);
+    print_list(list, is_whole, r.number);
+    r
+}
+
+fn order(tag: u64, item: &[u64], day: &[u64], book: &mut [u64], prices: &[u64]) -> Numbers {
+    let mut list = [0u64; MOST_LIST];
+    let n = runs::cut(state::size_at(item, ROOM), &list);
+    let a = state::size_at(item, 0);
+    let units = state::at(item, 1);
+    let is_whole = state::at(item, SHOWN) == 1;
+    order_with(tag, a, units, is_whole, day, book, prices, &mut list[..n])
+}
+
+fn make(tag: u64, item: &[u64], day: &[u64], book: &mut [u64], prices: &mut [u64]) -> Numbers {
+    match tag {
+        PRICE => price(item, day, book, prices),
+        TRADE => trade(item, day, book, prices),
+        VALUE => value(day, book, prices),
+        _ => order(tag, item, day, book, prices),
+    }
+}
+
+// Keeps the book, and behind it the prices.
+fn keep(book: &[u64], prices: &[u64], kept: &mut [u64]) {
+    let b = runs::cut(book.len(), kept);
+    runs::copy(prices, &mut kept[b..]);
+    runs::copy(book, kept);
+}
+
+fn put_back(book: &mut [u64], prices: &mut [u64], kept: &[u64]) {
+    let b = runs::cut(book.len(), kept);
+    runs::copy(kept, book);
+    runs::copy(&kept[b..], prices);
+}
+
+// What a refused call was lent: the same, or the first place that differs.
+fn print_kept(book: &[u64], prices: &[u64], kept: &[u64]) {
+    let b = runs::first_difference(book, kept);
+    if b < book.len() {
+        output::place(b"book", b);
+        return;
+    }
+    let from = runs::cut(book.len(), kept);
+    let p = runs::first_difference(prices, &kept[from..]);
+    if p < prices.len() {
+        output::place(b"prices", p);
+        return;
+    }
+    output::text(b"same\n");
+}
+
+// What is left of a call: printed where it was refused, and put back where calls are made on the state anew.
+fn after_call(number: u64, is_anew: bool, book: &mut [u64], prices: &mut [u64], kept: &[u64]) {
+    if number != 0 {
+        print_kept(book, prices, kept);
+    }
+    if is_anew {
+        put_back(book, prices, kept);
+    }
+}
+
+// Makes the call on the runs that are lent to it.
+fn make_on(
+    tag: u64,
+    is_anew: bool,
+    item: &[u64],
+    day: &[u64],
+    book: &mut [u64],
+    prices: &mut [u64],
+) {
+    let mut kept = [0u64; MOST_KEPT];
+    keep(book, prices, &mut kept);
+    let r = make(tag, item, day, book, prices);
+    after_call(r.number, is_anew, book, prices, &kept);
+}
+
+pub fn call_item(
+    s: Session,
+    tag: u64,
+    item: &[u64],
+    day: &[u64],
+    book: &mut [u64],
+    prices: &mut [u64],
+) -> Session {
+    if !is_call(tag, item) {
+        return state::bad(s);
+    }
+    let b = runs::cut(s.book_length, book);
+    let p = runs::cut(s.prices_length, prices);
+    make_on(tag, s.is_anew, item, day, &mut book[..b], &mut prices[..p]);
+    s
+}
+
+// The whole book and prices.
+pub fn show_item(s: Session, book: &[u64], prices: &[u64]) -> Session {
+    let b = runs::cut(s.book_length, book);
+    let p = runs::cut(s.prices_length, prices);
+    output::run(b"book", &book[..b]);
+    output::run(b"prices", &prices[..p]);
+    s
+}
