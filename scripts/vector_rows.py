@@ -18,7 +18,7 @@ import shutil
 from pathlib import Path
 
 # The crates whose definitions are computed: what `rows` may use.
-CRATES = ["sequences", "units", "lots", "flags", "fund", "rules", "balance"]
+CRATES = ["sequences", "units", "lots", "flags", "digits", "layout", "fund", "rules", "balance"]
 
 FILES = ["openings", "days", "broken_days"]
 
@@ -32,9 +32,10 @@ use lib.Dec.{eqb}
 use lib.IntN.{ℤ}
 use lib.ListN.{length, take, drop, replicate}
 use Rattle.sequences.specs.Checks.{Reply}
-use Rattle.fund.specs.declared.Fund.{Fund}
-use Rattle.fund.specs.declared.Component.{Component}
-use Rattle.rules.specs.declared.Day.{Day}
+use Rattle.layout.specs.declared.Fund.{Fund}
+use Rattle.layout.specs.declared.Component.{Component}
+use Rattle.layout.specs.Places.{dayWidth}
+use Rattle.layout.specs.Day.{Day}
 use Rattle.rules.specs.Opening.{Opening, openingReply, openedDay, openedBook, openedPrices}
 use Rattle.balance.specs.Calls.{State, Call, Result, step}
 
@@ -62,7 +63,7 @@ component code q flag r p = record { code = code; quantity = q; flag = flag; rat
 -- accounts, count, fund, components, holdings, and the lengths of the lent book and prices
 abbrev pub opening : ℕ → ℕ → Fund → List ℕ → List ℕ → ℕ → ℕ → Opening
 opening a n f cs hs b ps =
-    record { accounts = a; count = n; fund = f; components = cs; holdings = hs; book = replicate b 7; prices = replicate ps 7 }
+    record { accounts = a; count = n; fund = f; components = cs; holdings = hs; book = replicate b 7; prices = replicate ps 7; day = replicate dayWidth 7 }
 
 abbrev pub state : Day → List ℕ → List ℕ → State
 state d b ps = record { day = d; book = b; prices = ps }

@@ -7,9 +7,6 @@ use native.Mathlib.Omega.{arith}
 use Rattle.book.proofs.account_cash.Statement.{statement}
 use Rattle.book.proofs.account_cash.Tie as tie
 
-sub-result : tie.Need-sub-result
-sub-result c = omega (arith, c .before .before .pre .0 (c .before .if1 .taken))
-
 returns : tie.Need-returns
 unfolding accountCash
 returns c = sym (by-creation _ _ (c .before .if1 .taken))
@@ -19,4 +16,4 @@ unfolding accountCash
 returns-2 c = sym (by-redemption _ _ (c .before .if1 .left))
 
 pub account-cash-spec : {M : Type 1} → statement M
-account-cash-spec = tie.close (tie.spec sub-result returns (λ c. search needs) returns-2)
+account-cash-spec = tie.close (tie.spec (λ c. omega (arith, c .before .before .pre .0 (c .before .if1 .taken))) returns (λ c. search needs) returns-2)

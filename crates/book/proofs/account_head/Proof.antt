@@ -14,9 +14,6 @@ add-count : tie.Need-add-count
 unfolding headAt
 add-count c = search needs
 
-slice-write-stretch-2 : tie.Need-slice-write-stretch-2
-slice-write-stretch-2 c = simp length-set (omega arith)
-
 returns : tie.Need-returns
 unfolding headAt putHead
 returns c = rw (c .before .account-cash .ensures)
@@ -33,6 +30,6 @@ account-head-spec =
     add-count
     (λ c. search needs)
     (λ c. search needs)
-    slice-write-stretch-2
+    (λ c. simp length-set (omega arith))
     (λ c. search needs)
     returns)

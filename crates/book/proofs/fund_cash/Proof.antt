@@ -11,12 +11,9 @@ returns : tie.Need-returns
 unfolding fundCash
 returns c = sym (by-creation _ _ (c .before .if1 .taken))
 
-sub-result : tie.Need-sub-result
-sub-result c = omega (arith, c .before .before .pre .0 (c .before .if1 .left))
-
 returns-2 : tie.Need-returns-2
 unfolding fundCash
 returns-2 c = sym (by-redemption _ _ (c .before .if1 .left))
 
 pub fund-cash-spec : {M : Type 1} → statement M
-fund-cash-spec = tie.close (tie.spec (λ c. search needs) returns sub-result returns-2)
+fund-cash-spec = tie.close (tie.spec (λ c. search needs) returns (λ c. omega (arith, c .before .before .pre .0 (c .before .if1 .left))) returns-2)

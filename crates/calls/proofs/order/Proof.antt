@@ -24,12 +24,6 @@ sound c = sym (c .before .sound-day .ensures) ∙ not-false _ (c .if1 .left)
 returns : tie.Need-returns
 returns c = stays-five _ _ _ (sym (c .before .sound-day .ensures) ∙ not-true _ (c .if1 .taken)) _ _
 
-head-of-requires : tie.Need-head-of-requires
-head-of-requires c κs = sound-width _ _ _ (sound c)
-
-basket-of-requires : tie.Need-basket-of-requires
-basket-of-requires c κs = sound-width _ _ _ (sound (c .before))
-
 order-requires : tie.Need-order-requires
 order-requires c κs =
     let head = c .before .before .before in
@@ -69,8 +63,8 @@ order-spec =
     (λ c κs. search needs)
     (λ c. search needs)
     returns
-    head-of-requires
-    basket-of-requires
+    (λ c κs. sound-width _ _ _ (sound c))
+    (λ c κs. sound-width _ _ _ (sound (c .before)))
     order-requires
     (λ c. search needs)
     (λ c. search needs)

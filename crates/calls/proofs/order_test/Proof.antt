@@ -16,12 +16,6 @@ sound c = sym (c .before .is-sound .ensures) ∙ not-false _ (c .if1 .left)
 returns : tie.Need-returns
 returns c = order-five _ _ _ (sym (c .before .is-sound .ensures) ∙ not-true _ (c .if1 .taken)) _ _
 
-head-of-requires : tie.Need-head-of-requires
-head-of-requires c κs = sound-width _ _ _ (sound c)
-
-basket-of-requires : tie.Need-basket-of-requires
-basket-of-requires c κs = sound-width _ _ _ (sound (c .before))
-
 order-tested-requires : tie.Need-order-tested-requires
 order-tested-requires c κs =
     let s = sound (c .before .before) in
@@ -40,4 +34,4 @@ returns-2 c =
 
 pub order-test-spec : {M : Type 1} → statement M
 order-test-spec =
-    tie.close (tie.spec (λ c κs. search needs) returns head-of-requires basket-of-requires order-tested-requires returns-2)
+    tie.close (tie.spec (λ c κs. search needs) returns (λ c κs. sound-width _ _ _ (sound c)) (λ c κs. sound-width _ _ _ (sound (c .before))) order-tested-requires returns-2)

@@ -17,9 +17,6 @@ sound c = sym (c .before .sound-day .ensures) ∙ not-false _ (c .if1 .left)
 returns : tie.Need-returns
 returns c = price-five _ _ _ (sym (c .before .sound-day .ensures) ∙ not-true _ (c .if1 .taken)) _ _
 
-count-of-requires : tie.Need-count-of-requires
-count-of-requires c κs = sound-width _ _ _ (sound c)
-
 set-price-requires : tie.Need-set-price-requires
 set-price-requires c κs =
     let s = sound (c .before .before) in
@@ -41,7 +38,7 @@ price-spec =
     (λ c κs. search needs)
     (λ c. search needs)
     returns
-    count-of-requires
+    (λ c κs. sound-width _ _ _ (sound c))
     set-price-requires
     (λ c. search needs)
     returns-2)

@@ -18,12 +18,6 @@ sound c = sym (c .before .sound-day .ensures) ∙ not-false _ (c .if1 .left)
 returns : tie.Need-returns
 returns c = value-five _ _ _ (sym (c .before .sound-day .ensures) ∙ not-true _ (c .if1 .taken))
 
-head-of-requires : tie.Need-head-of-requires
-head-of-requires c κs = sound-width _ _ _ (sound c)
-
-basket-of-requires : tie.Need-basket-of-requires
-basket-of-requires c κs = sound-width _ _ _ (sound (c .before))
-
 reference-value-requires : tie.Need-reference-value-requires
 reference-value-requires c κs =
     let s = sound (c .before .before) in
@@ -41,4 +35,4 @@ returns-2 c =
 
 pub reference-value-spec : {M : Type 1} → statement M
 reference-value-spec =
-    tie.close (tie.spec (λ c κs. search needs) returns head-of-requires basket-of-requires reference-value-requires returns-2)
+    tie.close (tie.spec (λ c κs. search needs) returns (λ c κs. sound-width _ _ _ (sound c)) (λ c κs. sound-width _ _ _ (sound (c .before))) reference-value-requires returns-2)

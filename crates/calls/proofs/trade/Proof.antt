@@ -18,12 +18,6 @@ sound c = sym (c .before .sound-day .ensures) ∙ not-false _ (c .if1 .left)
 returns : tie.Need-returns
 returns c = trade-five _ _ _ (sym (c .before .sound-day .ensures) ∙ not-true _ (c .if1 .taken)) _ _ _ _ _
 
-accounts-of-requires : tie.Need-accounts-of-requires
-accounts-of-requires c κs = sound-width _ _ _ (sound c)
-
-count-of-requires : tie.Need-count-of-requires
-count-of-requires c κs = sound-width _ _ _ (sound (c .before))
-
 trade-requires : tie.Need-trade-requires
 trade-requires c κs =
     let s = sound (c .before .before .before) in
@@ -47,8 +41,8 @@ trade-spec =
     (λ c κs. search needs)
     (λ c. search needs)
     returns
-    accounts-of-requires
-    count-of-requires
+    (λ c κs. sound-width _ _ _ (sound c))
+    (λ c κs. sound-width _ _ _ (sound (c .before)))
     trade-requires
     (λ c. search needs)
     returns-2)

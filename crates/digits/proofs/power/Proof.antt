@@ -12,9 +12,6 @@ Inv-loop k p₀ i₀ p i = (i ≤ k) × (p ≡ 10 ^ i)
 abbrev μ-loop : tie.MeasureT-loop
 μ-loop k p₀ i₀ p i = k - i
 
-mul-p : tie.Need-mul-p Inv-loop μ-loop
-mul-p c = omega (arith, power-fits (c .before .loop .i) (omega arith))
-
 loop-again : tie.Need-loop-again Inv-loop μ-loop
 loop-again c = (omega arith, power-more _ _ (c .before .loop .inv .1))
 
@@ -23,4 +20,4 @@ returns c = power-end _ _ _ (c .before .loop .inv .1) (omega arith)
 
 pub power-spec : {M : Type 1} → statement M
 power-spec =
-    tie.close (tie.spec Inv-loop μ-loop (λ c. omega arith) mul-p (λ c. omega arith) (λ c. omega arith) loop-again returns)
+    tie.close (tie.spec Inv-loop μ-loop (λ c. omega arith) (λ c. omega (arith, power-fits (c .before .loop .i) (omega arith))) (λ c. omega arith) (λ c. omega arith) loop-again returns)

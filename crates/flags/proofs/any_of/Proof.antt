@@ -2,12 +2,6 @@
 use Rattle.flags.proofs.any_of.Statement.{statement}
 use Rattle.flags.proofs.any_of.Tie as tie
 
-returns : tie.Need-returns
-returns c = simp (c .if1 .taken)
-
-returns-2 : tie.Need-returns-2
-returns-2 c = simp (c .before .if1 .left, c .if2 .taken)
-
 returns-3 : tie.Need-returns-3
 returns-3 c = simp (c .before .before .if1 .left, c .before .if2 .left, c .if3 .taken)
 
@@ -18,4 +12,4 @@ returns-5 : tie.Need-returns-5
 returns-5 c = simp (c .before .before .before .if1 .left, c .before .before .if2 .left, c .before .if3 .left, c .if4 .left)
 
 pub any-of-spec : {M : Type 1} → statement M
-any-of-spec = tie.close (tie.spec returns returns-2 returns-3 returns-4 returns-5)
+any-of-spec = tie.close (tie.spec (λ c. simp (c .if1 .taken)) (λ c. simp (c .before .if1 .left, c .if2 .taken)) returns-3 returns-4 returns-5)

@@ -10,24 +10,6 @@ use Rattle.flags.proofs.entry_of.Tie as tie
 returns : tie.Need-returns
 returns c = sym (past-columns (c .before .args .flag) (c .before .args .column) (c .if1 .taken))
 
-of-row-requires : tie.Need-of-row-requires
-of-row-requires c κs = tt
-
-of-row-requires-2 : tie.Need-of-row-requires-2
-of-row-requires-2 c κs = tt
-
-of-row-requires-3 : tie.Need-of-row-requires-3
-of-row-requires-3 c κs = tt
-
-of-row-requires-4 : tie.Need-of-row-requires-4
-of-row-requires-4 c κs = tt
-
-of-row-requires-5 : tie.Need-of-row-requires-5
-of-row-requires-5 c κs = tt
-
-any-of-requires : tie.Need-any-of-requires
-any-of-requires c κs = tt
-
 returns-2 : tie.Need-returns-2
 unfolding entry flagTable
 returns-2 c =
@@ -46,9 +28,9 @@ entry-of-spec =
     tie.close
     (tie.spec
     returns
-    (λ c. omega arith) (λ c. omega arith) of-row-requires
-    (λ c. omega arith) (λ c. omega arith) of-row-requires-2
-    (λ c. omega arith) (λ c. omega arith) of-row-requires-3
-    (λ c. omega arith) (λ c. omega arith) of-row-requires-4
-    (λ c. omega arith) (λ c. omega arith) of-row-requires-5
-    any-of-requires returns-2)
+    (λ c. omega arith) (λ c. omega arith) (λ c κs. tt)
+    (λ c. omega arith) (λ c. omega arith) (λ c κs. tt)
+    (λ c. omega arith) (λ c. omega arith) (λ c κs. tt)
+    (λ c. omega arith) (λ c. omega arith) (λ c κs. tt)
+    (λ c. omega arith) (λ c. omega arith) (λ c κs. tt)
+    (λ c κs. tt) returns-2)

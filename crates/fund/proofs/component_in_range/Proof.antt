@@ -21,9 +21,6 @@ of-entry x p q = q ∙ ap (λ (b : Bool). zeroUnless b x) p
 returns : tie.Need-returns
 returns c = sym (component-false _ _ (λ r. omega arith))
 
-outside-group-requires : tie.Need-outside-group-requires
-outside-group-requires c κs = tt
-
 returns-2 : tie.Need-returns-2
 returns-2 c = sym (component-false _ _ (λ r. clash (c .before .outside-group .ensures) (not-true _ (c .if2 .taken)) (r .outside)))
 
@@ -39,23 +36,11 @@ returns-5 c = sym (component-false _ _ (λ r. omega arith))
 returns-6 : tie.Need-returns-6
 returns-6 c = sym (component-false _ _ (λ r. omega arith))
 
-entry-of-requires : tie.Need-entry-of-requires
-entry-of-requires c κs = tt
-
-zero-unless-requires : tie.Need-zero-unless-requires
-zero-unless-requires c κs = tt
-
 returns-7 : tie.Need-returns-7
 returns-7 c =
     sym
     (component-false _ _
     (λ r. clash (of-entry _ (c .before .before .entry-of .ensures) (c .before .zero-unless .ensures)) (not-true _ (c .if7 .taken)) (r .rate-use)))
-
-entry-of-requires-2 : tie.Need-entry-of-requires-2
-entry-of-requires-2 c κs = tt
-
-zero-unless-requires-2 : tie.Need-zero-unless-requires-2
-zero-unless-requires-2 c κs = tt
 
 returns-8 : tie.Need-returns-8
 returns-8 c =
@@ -81,15 +66,15 @@ component-in-range-spec =
     tie.close
     (tie.spec
     returns
-    outside-group-requires
+    (λ c κs. tt)
     returns-2
     returns-3
     returns-4
     returns-5
     returns-6
-    entry-of-requires
-    zero-unless-requires
+    (λ c κs. tt)
+    (λ c κs. tt)
     returns-7
-    entry-of-requires-2
-    zero-unless-requires-2
+    (λ c κs. tt)
+    (λ c κs. tt)
     returns-8)

@@ -28,9 +28,6 @@ returns-4 c = sym (fund-false _ (λ r. omega arith))
 returns-5 : tie.Need-returns-5
 returns-5 c = sym (fund-false _ (λ r. omega arith))
 
-cash-in-range-requires : tie.Need-cash-in-range-requires
-cash-in-range-requires c κs = tt
-
 -- what `cash_in_range` answers of the fund's field
 cash-test : (c : tie.After-cash-in-range) → c .cash-in-range .result ≡ cashInRange (c .before .before .before .before .before .before .before .before .before .before .args .f .«estimated_cash»)
 cash-test c =
@@ -65,7 +62,7 @@ fund-in-range-spec =
     returns-3
     returns-4
     returns-5
-    cash-in-range-requires
+    (λ c κs. tt)
     returns-6
     (λ c κs. omega arith)
     returns-7)

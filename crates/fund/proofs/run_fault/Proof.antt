@@ -40,9 +40,6 @@ abbrev μ-loop : tie.MeasureT-loop
 loop-holds : tie.Need-loop-holds Inv-loop μ-loop
 loop-holds c = (omega arith, first-none _, sym (before-none _))
 
-component-fits-requires : tie.Need-component-fits-requires Inv-loop μ-loop
-component-fits-requires c κs = tt
-
 returns : tie.Need-returns Inv-loop μ-loop
 returns c =
     let inv = c .before .before .before .before .loop .inv in
@@ -75,7 +72,7 @@ run-fault-spec =
     μ-loop
     loop-holds
     (λ c κs. omega arith)
-    component-fits-requires
+    (λ c κs. tt)
     returns
     (λ c. omega arith)
     (λ c. omega arith)

@@ -6,12 +6,6 @@ use Rattle.layout.specs.Answers.{putReply}
 use Rattle.layout.proofs.put_answer.Statement.{statement}
 use Rattle.layout.proofs.put_answer.Tie as tie
 
-slice-write-answers-2 : tie.Need-slice-write-answers-2
-slice-write-answers-2 c = simp length-set (omega arith)
-
-slice-write-answers-3 : tie.Need-slice-write-answers-3
-slice-write-answers-3 c = simp length-set (omega arith)
-
 returns : tie.Need-returns
 unfolding putReply
 returns c = search needs
@@ -25,9 +19,9 @@ put-answer-spec =
     (λ c. search needs)
     (λ c. search needs)
     (λ c. search needs)
-    slice-write-answers-2
+    (λ c. simp length-set (omega arith))
     (λ c. search needs)
     (λ c. search needs)
-    slice-write-answers-3
+    (λ c. simp length-set (omega arith))
     (λ c. search needs)
     returns)

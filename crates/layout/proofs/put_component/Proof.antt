@@ -6,18 +6,6 @@ use Rattle.layout.proofs.Components.{numbers-stored}
 use Rattle.layout.proofs.put_component.Statement.{statement}
 use Rattle.layout.proofs.put_component.Tie as tie
 
-slice-write-run-2 : tie.Need-slice-write-run-2
-slice-write-run-2 c = simp length-set (omega arith)
-
-slice-write-run-3 : tie.Need-slice-write-run-3
-slice-write-run-3 c = simp length-set (omega arith)
-
-slice-write-run-4 : tie.Need-slice-write-run-4
-slice-write-run-4 c = simp length-set (omega arith)
-
-slice-write-run-5 : tie.Need-slice-write-run-5
-slice-write-run-5 c = simp length-set (omega arith)
-
 returns : tie.Need-returns
 returns c = numbers-stored _ _ _
 
@@ -30,15 +18,15 @@ put-component-spec =
     (λ c. search needs)
     (λ c. search needs)
     (λ c. search needs)
-    slice-write-run-2
+    (λ c. simp length-set (omega arith))
     (λ c. search needs)
     (λ c. search needs)
-    slice-write-run-3
+    (λ c. simp length-set (omega arith))
     (λ c. search needs)
     (λ c. search needs)
-    slice-write-run-4
+    (λ c. simp length-set (omega arith))
     (λ c. search needs)
     (λ c. search needs)
-    slice-write-run-5
+    (λ c. simp length-set (omega arith))
     (λ c. search needs)
     returns)

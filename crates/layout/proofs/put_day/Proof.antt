@@ -9,21 +9,12 @@ use Rattle.layout.proofs.Stored.{day-stored, day-length}
 use Rattle.layout.proofs.put_day.Statement.{statement}
 use Rattle.layout.proofs.put_day.Tie as tie
 
-slice-write-day-2 : tie.Need-slice-write-day-2
-slice-write-day-2 c = simp length-set (omega arith)
-
 put-fund-requires : tie.Need-put-fund-requires
 put-fund-requires c κs = (simp length-set (omega arith), c .before .before .before .pre .1 .1)
 
 -- the run keeps its length
 size : (c : tie.After-put-fund) → length (c .put-fund .last .0) ≡ dayWidth
 size c = ap length (c .put-fund .ensures) ∙ simp (length-sets, length-set) (c .before .before .before .before .pre .0)
-
-sub-put-basket : tie.Need-sub-put-basket
-sub-put-basket c = omega (arith, size (c .before .before))
-
-part-put-basket-start : tie.Need-part-put-basket-start
-part-put-basket-start c = omega (arith, size (c .before .before))
 
 put-basket-requires : tie.Need-put-basket-requires
 put-basket-requires c κs = simp (length-take, length-drop) (omega (arith, size (c .before .before .before)))
@@ -45,10 +36,10 @@ put-day-spec =
     tie.close
     (tie.spec
     (λ c. search needs)
-    slice-write-day-2
+    (λ c. simp length-set (omega arith))
     put-fund-requires
-    sub-put-basket
-    part-put-basket-start
+    (λ c. omega (arith, size (c .before .before)))
+    (λ c. omega (arith, size (c .before .before)))
     (λ c. search needs)
     put-basket-requires
     same-length

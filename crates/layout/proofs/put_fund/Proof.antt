@@ -10,15 +10,6 @@ use Rattle.layout.proofs.Stored.{fund-stored}
 use Rattle.layout.proofs.put_fund.Statement.{statement}
 use Rattle.layout.proofs.put_fund.Tie as tie
 
-slice-write-run-2 : tie.Need-slice-write-run-2
-slice-write-run-2 c = simp length-set (omega arith)
-
-slice-write-run-3 : tie.Need-slice-write-run-3
-slice-write-run-3 c = simp length-set (omega arith)
-
-slice-write-run-4 : tie.Need-slice-write-run-4
-slice-write-run-4 c = simp length-set (omega arith)
-
 -- the estimated cash as the machine reads it back
 back : (c : tie.After-struct-told)
     → toZ w64 (ofZ w64 (c .before .before .before .args .f .«estimated_cash»)) ≡ c .before .before .before .args .f .«estimated_cash»
@@ -30,9 +21,6 @@ put-signed-requires c κs = (simp length-set (omega arith), rw (back c) (c .befo
 -- the run keeps its length
 size : (c : tie.After-put-signed) → length (c .put-signed .last .0) ≡ length (c .before .before .before .before .args .run .now)
 size c = ap length (c .put-signed .ensures) ∙ simp (length-sets, length-set)
-
-put-limits-requires : tie.Need-put-limits-requires
-put-limits-requires c κs = omega (arith, size (c .before .before .before .before))
 
 same-length : tie.Need-same-length
 same-length c =
@@ -52,16 +40,16 @@ put-fund-spec =
     (λ c. search needs)
     (λ c. search needs)
     (λ c. search needs)
-    slice-write-run-2
+    (λ c. simp length-set (omega arith))
     (λ c. search needs)
     (λ c. search needs)
-    slice-write-run-3
+    (λ c. simp length-set (omega arith))
     (λ c. search needs)
     (λ c. search needs)
-    slice-write-run-4
+    (λ c. simp length-set (omega arith))
     (λ c. search needs)
     put-signed-requires
     (λ c. search needs)
-    put-limits-requires
+    (λ c κs. omega (arith, size (c .before .before .before .before)))
     same-length
     returns)

@@ -6,12 +6,6 @@ use native.Mathlib.Omega.{arith}
 use Rattle.layout.proofs.put_lots.Statement.{statement}
 use Rattle.layout.proofs.put_lots.Tie as tie
 
-slice-write-stretch-2 : tie.Need-slice-write-stretch-2
-slice-write-stretch-2 c = simp length-set (omega arith)
-
-slice-write-stretch-3 : tie.Need-slice-write-stretch-3
-slice-write-stretch-3 c = simp length-set (omega arith)
-
 returns : tie.Need-returns
 unfolding putLots
 returns c = search needs
@@ -26,9 +20,9 @@ put-lots-spec =
     (λ c. search needs)
     (λ c. search needs)
     (λ c. search needs)
-    slice-write-stretch-2
+    (λ c. simp length-set (omega arith))
     (λ c. search needs)
     (λ c. search needs)
-    slice-write-stretch-3
+    (λ c. simp length-set (omega arith))
     (λ c. search needs)
     returns)

@@ -7,9 +7,6 @@ use Rattle.layout.proofs.Stored.{signed-stored}
 use Rattle.layout.proofs.put_signed.Statement.{statement}
 use Rattle.layout.proofs.put_signed.Tie as tie
 
-slice-write-run-2 : tie.Need-slice-write-run-2
-slice-write-run-2 c = simp length-set (omega arith)
-
 returns : tie.Need-returns
 returns c = rw (c .before .figure-of .ensures, toZ-ofZ (c .before .before .before .fits .e)) (signed-stored _ _ _)
 
@@ -23,6 +20,6 @@ put-signed-spec =
     (λ c. search needs)
     (λ c. search needs)
     (λ c. search needs)
-    slice-write-run-2
+    (λ c. simp length-set (omega arith))
     (λ c. search needs)
     returns)

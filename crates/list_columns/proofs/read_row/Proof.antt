@@ -69,12 +69,6 @@ returns-6 c =
     fault-row _ 5 _ (omega arith) (read-5 (c .before .before .before .before))
     (column-ill _ 5 (sym (c .before .before .before .read-amount .ensures) ∙ c .before .enum-told6 .given .1)) (c .faulty6 .ensures)
 
-new-requires : tie.Need-new-requires
-new-requires c κs = tt
-
-new-requires-2 : tie.Need-new-requires-2
-new-requires-2 c κs = tt
-
 returns-7 : tie.Need-returns-7
 returns-7 c =
     let r6 = c .before .before in
@@ -124,6 +118,6 @@ read-row-spec =
     (λ c. search needs)
     (λ c κs. search needs)
     returns-6
-    new-requires
-    new-requires-2
+    (λ c κs. tt)
+    (λ c κs. tt)
     returns-7)

@@ -18,29 +18,17 @@ use Rattle.list_fields.proofs.fields_in_range.Tie as tie
 fails : {r x : Bool} → r ≡ x → not r ≡ true → x ≡ true → ⊥
 fails e f t = true≢false (sym t ∙ sym e ∙ not-true _ f)
 
-fund-in-range-requires : tie.Need-fund-in-range-requires
-fund-in-range-requires c κs = tt
-
 returns : tie.Need-returns
 returns c = sym (fields-false _ (λ r. fails (c .before .fund-in-range .ensures) (c .if1 .taken) (r .fund)))
 
 returns-2 : tie.Need-returns-2
 returns-2 c = sym (fields-false _ (λ r. omega arith))
 
-is-date-requires : tie.Need-is-date-requires
-is-date-requires c κs = tt
-
 returns-3 : tie.Need-returns-3
 returns-3 c = sym (fields-false _ (λ r. fails (c .before .is-date .ensures) (c .if3 .taken) (r .trading-day)))
 
-is-date-requires-2 : tie.Need-is-date-requires-2
-is-date-requires-2 c κs = tt
-
 returns-4 : tie.Need-returns-4
 returns-4 c = sym (fields-false _ (λ r. fails (c .before .is-date2 .ensures) (c .if4 .taken) (r .pre-trading-day)))
-
-cash-in-range-requires : tie.Need-cash-in-range-requires
-cash-in-range-requires c κs = tt
 
 abbrev cash : tie.After-cash-in-range → ℤ
 cash c = c .before .before .before .before .before .before .before .before .before .before .args .l .«cash_component»
@@ -77,14 +65,14 @@ pub fields-in-range-spec : {M : Type 1} → statement M
 fields-in-range-spec =
     tie.close
     (tie.spec
-    fund-in-range-requires
+    (λ c κs. tt)
     returns
     returns-2
-    is-date-requires
+    (λ c κs. tt)
     returns-3
-    is-date-requires-2
+    (λ c κs. tt)
     returns-4
-    cash-in-range-requires
+    (λ c κs. tt)
     returns-5
     returns-6
     returns-7)

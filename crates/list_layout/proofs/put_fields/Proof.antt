@@ -11,9 +11,6 @@ use Rattle.list_layout.proofs.Laws.{fields-stored}
 use Rattle.list_layout.proofs.put_fields.Statement.{statement}
 use Rattle.list_layout.proofs.put_fields.Tie as tie
 
-slice-write-run-3 : tie.Need-slice-write-run-3
-slice-write-run-3 c = simp length-set (omega arith)
-
 -- the start, from the call of `put_signed`, and there the cash component as the machine reads it back
 abbrev start : tie.After-struct-told → tie.Start
 start c = c .before .before .before .before .before .before .before .before
@@ -29,15 +26,6 @@ size : (c : tie.After-put-signed) → length (c .put-signed .last .0) ≡ fields
 size c =
     let fund = ap length (c .before .before .before .before .before .put-fund .ensures) in
     ap length (c .put-signed .ensures) ∙ simp (length-sets, length-set) (fund ∙ simp length-sets (start (c .before) .pre .0))
-
-slice-write-run-4 : tie.Need-slice-write-run-4
-slice-write-run-4 c = omega (arith, size (c .before .before))
-
-slice-write-run-5 : tie.Need-slice-write-run-5
-slice-write-run-5 c = simp length-set (omega (arith, size (c .before .before)))
-
-slice-write-run-6 : tie.Need-slice-write-run-6
-slice-write-run-6 c = simp length-set (omega (arith, size (c .before .before)))
 
 same-length : tie.Need-same-length
 same-length c = simp length-set (size (c .before .before)) ∙ sym (start (c .before .before .before) .pre .0)
@@ -55,10 +43,10 @@ put-fields-spec =
     (λ c κs. search needs)
     (λ c. search needs)
     (λ c. search needs)
-    slice-write-run-3
+    (λ c. simp length-set (omega arith))
     put-signed-requires
-    slice-write-run-4
-    slice-write-run-5
-    slice-write-run-6
+    (λ c. omega (arith, size (c .before .before)))
+    (λ c. simp length-set (omega (arith, size (c .before .before))))
+    (λ c. simp length-set (omega (arith, size (c .before .before))))
     same-length
     returns)

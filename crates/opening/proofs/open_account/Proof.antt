@@ -15,9 +15,6 @@ abbrev μ-loop : tie.MeasureT-loop
 loop-holds : tie.Need-loop-holds Inv-loop μ-loop
 loop-holds c = (omega arith, fronted-none _ _ _ _ (c .before .before .before .before .before .before .before .pre .0) (c .before .before .put-three .ensures))
 
-put-three-requires-2 : tie.Need-put-three-requires-2 Inv-loop μ-loop
-put-three-requires-2 c κs = omega (arith, c .before .before .before .loop .inv .1 .size)
-
 loop-again : tie.Need-loop-again Inv-loop μ-loop
 loop-again c = (omega arith, fronted-more _ _ _ _ _ (omega arith) (c .before .before .put-three2 .ensures) (c .before .before .before .before .before .before .loop .inv .1))
 
@@ -42,7 +39,7 @@ open-account-spec =
     (λ c. omega arith)
     (λ c. omega arith)
     (λ c. omega arith)
-    put-three-requires-2
+    (λ c κs. omega (arith, c .before .before .before .loop .inv .1 .size))
     (λ c. omega arith)
     (λ c. omega arith)
     loop-again

@@ -14,18 +14,6 @@ use Rattle.opening.proofs.open_part.Tie as tie
 place : (c : tie.After-width-of) → c .before .before .before .args .a * c .width-of .result ≡ c .before .before .before .args .a * widthOf (c .before .before .before .args .count)
 place c = ap (λ (w : ℕ). c .before .before .before .args .a * w) (c .width-of .ensures)
 
-mul-start : tie.Need-mul-start
-mul-start c = omega (arith, place c)
-
-add-end : tie.Need-add-end
-add-end c = omega (arith, place c)
-
-mul-open-account : tie.Need-mul-open-account
-mul-open-account c = omega (arith, place c)
-
-part-open-account-end : tie.Need-part-open-account-end
-part-open-account-end c = omega (arith, place c)
-
 returns : tie.Need-returns
 unfolding putStretch
 returns c = rw (c .before .before .open-account .ensures, c .before .before .before .before .before .width-of .ensures, part-is, add-sub-cancel-left)
@@ -36,14 +24,14 @@ open-part-spec =
     (tie.spec
     (λ c κs. search needs)
     (λ c. search needs)
-    mul-start
-    add-end
+    (λ c. omega (arith, place c))
+    (λ c. omega (arith, place c))
     (λ c. search needs)
     (λ c. search needs)
-    mul-open-account
+    (λ c. omega (arith, place c))
     (λ c. search needs)
     (λ c. search needs)
-    part-open-account-end
+    (λ c. omega (arith, place c))
     (λ c. search needs)
     (λ c. search needs)
     (λ c. search needs)

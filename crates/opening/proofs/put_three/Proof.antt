@@ -7,9 +7,6 @@ use Rattle.opening.specs.Given.{putThree}
 use Rattle.opening.proofs.put_three.Statement.{statement}
 use Rattle.opening.proofs.put_three.Tie as tie
 
-slice-write-stretch-2 : tie.Need-slice-write-stretch-2
-slice-write-stretch-2 c = simp length-set (omega arith)
-
 returns : tie.Need-returns
 unfolding putThree
 returns c = refl
@@ -22,7 +19,7 @@ put-three-spec =
     (λ c. search needs)
     (λ c. search needs)
     (λ c. search needs)
-    slice-write-stretch-2
+    (λ c. simp length-set (omega arith))
     (λ c. search needs)
     (λ c. search needs)
     (λ c. search needs)

@@ -21,9 +21,6 @@ day c = sizes-facts _ _ _ _ (sym (c .before .sizes-fit .ensures) ∙ not-false _
 returns : tie.Need-returns
 returns c = sym (lent-false _ _ _ _ _ _ _ (λ s. true≢false (sym (sizes-true _ _ _ _ (s .own)) ∙ sym (c .before .sizes-fit .ensures) ∙ not-true _ (c .if1 .taken))))
 
-mul-if2 : tie.Need-mul-if2
-mul-if2 c = omega (arith, day c .count-high)
-
 returns-2 : tie.Need-returns-2
 returns-2 c = sym (lent-false _ _ _ _ _ _ _ (λ s. c .if2 .taken (s .components-size)))
 
@@ -45,4 +42,4 @@ returns-4 c =
 pub sizes-fit-spec : {M : Type 1} → statement M
 sizes-fit-spec =
     tie.close
-    (tie.spec (λ c κs. search needs) returns mul-if2 returns-2 (λ c. search needs) mul-if3 returns-3 returns-4)
+    (tie.spec (λ c κs. search needs) returns (λ c. omega (arith, day c .count-high)) returns-2 (λ c. search needs) mul-if3 returns-3 returns-4)

@@ -46,32 +46,8 @@ bounded c p h =
           (now (c .before .before .before .before .args .book)) p (omega arith),
     )
 
-mul-made : tie.Need-mul-made Inv-loop μ-loop
-mul-made c = omega (arith, place c)
-
-add-made : tie.Need-add-made Inv-loop μ-loop
-add-made c = omega (arith, place c)
-
-mul-made-2 : tie.Need-mul-made-2 Inv-loop μ-loop
-mul-made-2 c = omega (arith, place c)
-
-shared-slice-read-made : tie.Need-shared-slice-read-made Inv-loop μ-loop
-shared-slice-read-made c = omega (arith, place (c .before))
-
 add-made-2 : tie.Need-add-made-2 Inv-loop μ-loop
 add-made-2 c = omega (arith, next (c .before) _ _ (omega arith) (c .before .before .loop .inv .2), bounded (c .before) _ (c .before .before .before .before .before .pre .1 .0))
-
-mul-reverse : tie.Need-mul-reverse Inv-loop μ-loop
-mul-reverse c = omega (arith, place (c .before))
-
-add-reverse : tie.Need-add-reverse Inv-loop μ-loop
-add-reverse c = omega (arith, place (c .before))
-
-mul-reverse-2 : tie.Need-mul-reverse-2 Inv-loop μ-loop
-mul-reverse-2 c = omega (arith, place (c .before))
-
-shared-slice-read-reverse : tie.Need-shared-slice-read-reverse Inv-loop μ-loop
-shared-slice-read-reverse c = omega (arith, place (c .before .before))
 
 add-reverse-2 : tie.Need-add-reverse-2 Inv-loop μ-loop
 add-reverse-2 c =
@@ -105,15 +81,15 @@ counts-of-all-spec =
     (λ c. omega arith)
     (λ c. omega arith)
     loop-holds
-    mul-made
-    add-made
-    mul-made-2
-    shared-slice-read-made
+    (λ c. omega (arith, place c))
+    (λ c. omega (arith, place c))
+    (λ c. omega (arith, place c))
+    (λ c. omega (arith, place (c .before)))
     add-made-2
-    mul-reverse
-    add-reverse
-    mul-reverse-2
-    shared-slice-read-reverse
+    (λ c. omega (arith, place (c .before)))
+    (λ c. omega (arith, place (c .before)))
+    (λ c. omega (arith, place (c .before)))
+    (λ c. omega (arith, place (c .before .before)))
     add-reverse-2
     (λ c. omega arith)
     (λ c. omega arith)

@@ -24,9 +24,6 @@ all-most : (c : tie.After-counts-of-all) → c .counts-of-all .result .made ≤ 
 unfolding allCounts
 all-most c = omega (arith, ap (λ (x : Counts). x .made) (c .counts-of-all .ensures), sum-most _ _ _ _ (c .before .before .pre .0) (c .before .before .args .ask .kind) (c .before .before .pre .1 .0))
 
-within-both-requires : tie.Need-within-both-requires
-within-both-requires c κs = omega (arith, all-most (c .before .before))
-
 returns : tie.Need-returns
 returns c =
     over-all _ _ _ _ _ _ _ _ _ (c .before .before .before .before .counts-of-all .ensures) (c .before .before .before .limit-of .ensures) (c .before .before .limit-of2 .ensures)
@@ -74,7 +71,7 @@ limits-held-spec =
     counts-of-all-requires
     (λ c κs. search needs)
     (λ c κs. search needs)
-    within-both-requires
+    (λ c κs. omega (arith, all-most (c .before .before)))
     returns
     counts-of-requires
     (λ c κs. search needs)

@@ -5,21 +5,6 @@ use Rattle.order_scan.proofs.OneLine.{chosen-le, missing-le, need-le, a
 use Rattle.order_scan.proofs.creation_line.Statement.{statement}
 use Rattle.order_scan.proofs.creation_line.Tie as tie
 
-mul-need : tie.Need-mul-need
-mul-need c = omega (arith, need-le _ _ (c .before .pre .0) (c .before .pre .1))
-
-entry-of-requires : tie.Need-entry-of-requires
-entry-of-requires c κs = tt
-
-entry-of-requires-2 : tie.Need-entry-of-requires-2
-entry-of-requires-2 c κs = tt
-
-entry-of-requires-3 : tie.Need-entry-of-requires-3
-entry-of-requires-3 c κs = tt
-
-missing-of-requires : tie.Need-missing-of-requires
-missing-of-requires c κs = tt
-
 -- the worth of what is missing
 worth : (c : tie.After-missing-of) → c .missing-of .result * c .before .before .before .before .before .args .price ≤ 20_000_000_000_000_000
 worth c =
@@ -31,26 +16,14 @@ worth c =
 amount : (c : tie.Start) → c .args .m * c .args .c .amount .0 ≤ 1_999_999_999_980
 amount c = amount-le _ _ (c .pre .0) (c .pre .1)
 
-mul-t13 : tie.Need-mul-t13
-mul-t13 c = omega (arith, worth c)
-
 mul-t13-2 : tie.Need-mul-t13-2
 mul-t13-2 c = omega (arith, amount (c .before .before .before .before .before .before))
-
-chosen-requires : tie.Need-chosen-requires
-chosen-requires c κs = tt
 
 with-premium-requires : tie.Need-with-premium-requires
 with-premium-requires c κs =
     let start = c .before .before .before .before .before .before .before in
     let moves = c .before .before .before .before .before .entry-of .result in
     (rw (c .chosen .ensures) (chosen-le moves _ _ _ (worth (c .before .before)) (omega (arith, amount start))), start .pre .0 .rate)
-
-is-short-requires : tie.Need-is-short-requires
-is-short-requires c κs = tt
-
-moved-of-requires : tie.Need-moved-of-requires
-moved-of-requires c κs = tt
 
 returns : tie.Need-returns
 returns c =
@@ -66,15 +39,15 @@ returns c =
 
 pub creation-line-spec : {M : Type 1} → statement M
 creation-line-spec = tie.close (tie.spec
-    mul-need
-    entry-of-requires
-    entry-of-requires-2
-    entry-of-requires-3
-    missing-of-requires
-    mul-t13
+    (λ c. omega (arith, need-le _ _ (c .before .pre .0) (c .before .pre .1)))
+    (λ c κs. tt)
+    (λ c κs. tt)
+    (λ c κs. tt)
+    (λ c κs. tt)
+    (λ c. omega (arith, worth c))
     mul-t13-2
-    chosen-requires
+    (λ c κs. tt)
     with-premium-requires
-    is-short-requires
-    moved-of-requires
+    (λ c κs. tt)
+    (λ c κs. tt)
     returns)

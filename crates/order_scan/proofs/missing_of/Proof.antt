@@ -4,9 +4,6 @@ use borrow.Author.Tests.{not-true, not-false}
 use Rattle.order_scan.proofs.missing_of.Statement.{statement}
 use Rattle.order_scan.proofs.missing_of.Tie as tie
 
-returns : tie.Need-returns
-returns c = simp (not-true (c .before .args .in-cash) (c .if1 .taken))
-
 returns-2 : tie.Need-returns-2
 returns-2 c = simp (not-false (c .before .before .args .in-cash) (c .before .if1 .left)) (omega arith)
 
@@ -14,4 +11,4 @@ returns-3 : tie.Need-returns-3
 returns-3 c = simp (not-false (c .before .before .args .in-cash) (c .before .if1 .left))
 
 pub missing-of-spec : {M : Type 1} → statement M
-missing-of-spec = tie.close (tie.spec returns returns-2 (λ c. omega arith) returns-3)
+missing-of-spec = tie.close (tie.spec (λ c. simp (not-true (c .before .args .in-cash) (c .if1 .taken))) returns-2 (λ c. omega arith) returns-3)

@@ -4,9 +4,6 @@ use borrow.Author.Tests.{not-true, not-false}
 use Rattle.order_scan.proofs.moved_of.Statement.{statement}
 use Rattle.order_scan.proofs.moved_of.Tie as tie
 
-returns : tie.Need-returns
-returns c = simp (not-true (c .before .args .moves) (c .if1 .taken))
-
 returns-2 : tie.Need-returns-2
 returns-2 c = simp (not-false (c .before .before .args .moves) (c .before .if1 .left)) (omega arith)
 
@@ -14,4 +11,4 @@ returns-3 : tie.Need-returns-3
 returns-3 c = simp (not-false (c .before .before .args .moves) (c .before .if1 .left)) (omega arith)
 
 pub moved-of-spec : {M : Type 1} → statement M
-moved-of-spec = tie.close (tie.spec returns returns-2 returns-3)
+moved-of-spec = tie.close (tie.spec (λ c. simp (not-true (c .before .args .moves) (c .if1 .taken))) returns-2 returns-3)

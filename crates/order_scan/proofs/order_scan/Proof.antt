@@ -20,9 +20,6 @@ Inv-loop kind basket stretch fund prices m n t₀ i₀ t i = (i ≤ n) × (t ≡
 abbrev μ-loop : tie.MeasureT-loop
 μ-loop kind basket stretch fund prices m n t₀ i₀ t i = n - i
 
-no-lines-requires : tie.Need-no-lines-requires Inv-loop μ-loop
-no-lines-requires c κs = tt
-
 loop-holds : tie.Need-loop-holds Inv-loop μ-loop
 loop-holds c = (zero-le, c .no-lines .ensures ∙ scan-none _)
 
@@ -83,7 +80,7 @@ order-scan-spec =
     (tie.spec
     Inv-loop
     μ-loop
-    no-lines-requires
+    (λ c κs. tt)
     loop-holds
     component-of-requires
     held-at-requires

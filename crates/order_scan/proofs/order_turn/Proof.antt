@@ -11,9 +11,6 @@ use Rattle.order_scan.proofs.order_turn.Tie as tie
 mul-need : tie.Need-mul-need
 mul-need c = omega (arith, need-le _ _ (c .before .pre .0 .0) (c .before .pre .0 .1))
 
-is-covered-requires : tie.Need-is-covered-requires
-is-covered-requires c κs = tt
-
 with-stock-requires : tie.Need-with-stock-requires
 with-stock-requires c κs =
     let room = c .before .before .before .pre .1 in
@@ -36,4 +33,4 @@ returns-2 c = c .with-line .ensures ∙ rw (c .before .order-line .ensures)
 
 pub order-turn-spec : {M : Type 1} → statement M
 order-turn-spec =
-    tie.close (tie.spec mul-need is-covered-requires with-stock-requires returns order-line-requires with-line-requires returns-2)
+    tie.close (tie.spec mul-need (λ c κs. tt) with-stock-requires returns order-line-requires with-line-requires returns-2)

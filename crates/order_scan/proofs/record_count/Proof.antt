@@ -5,14 +5,8 @@ use Rattle.order_scan.proofs.Counts.{cash-count-le}
 use Rattle.order_scan.proofs.record_count.Statement.{statement}
 use Rattle.order_scan.proofs.record_count.Tie as tie
 
-cash-count-requires : tie.Need-cash-count-requires
-cash-count-requires c κs = tt
-
 add-result-2 : tie.Need-add-result-2
 add-result-2 c = omega (arith, c .cash-count .ensures, cash-count-le (c .before .before .args .t .cash .other .0))
-
-cash-count-requires-2 : tie.Need-cash-count-requires-2
-cash-count-requires-2 c κs = tt
 
 add-result-3 : tie.Need-add-result-3
 add-result-3 c =
@@ -24,4 +18,4 @@ unfolding recordCount
 returns c = rw (c .before .cash-count .ensures, c .cash-count2 .ensures)
 
 pub record-count-spec : {M : Type 1} → statement M
-record-count-spec = tie.close (tie.spec (λ c. omega arith) cash-count-requires add-result-2 cash-count-requires-2 add-result-3 returns)
+record-count-spec = tie.close (tie.spec (λ c. omega arith) (λ c κs. tt) add-result-2 (λ c κs. tt) add-result-3 returns)

@@ -3,11 +3,5 @@ use borrow.Author.Tests.{lt-ltb, le-ltb}
 use Rattle.order_scan.proofs.records_of.Statement.{statement}
 use Rattle.order_scan.proofs.records_of.Tie as tie
 
-returns : tie.Need-returns
-returns c = simp (lt-ltb _ _ (c .if1 .taken))
-
-returns-2 : tie.Need-returns-2
-returns-2 c = simp (le-ltb _ _ (c .if1 .left))
-
 pub records-of-spec : {M : Type 1} → statement M
-records-of-spec = tie.close (tie.spec returns returns-2)
+records-of-spec = tie.close (tie.spec (λ c. simp (lt-ltb _ _ (c .if1 .taken))) (λ c. simp (le-ltb _ _ (c .if1 .left))))

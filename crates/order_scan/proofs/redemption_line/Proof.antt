@@ -5,29 +5,11 @@ use Rattle.order_scan.proofs.OneLine.{need-le, amount-le, redemption-pa
 use Rattle.order_scan.proofs.redemption_line.Statement.{statement}
 use Rattle.order_scan.proofs.redemption_line.Tie as tie
 
-mul-need : tie.Need-mul-need
-mul-need c = omega (arith, need-le _ _ (c .before .pre .0) (c .before .pre .1))
-
-entry-of-requires : tie.Need-entry-of-requires
-entry-of-requires c κs = tt
-
-entry-of-requires-2 : tie.Need-entry-of-requires-2
-entry-of-requires-2 c κs = tt
-
-moved-of-requires : tie.Need-moved-of-requires
-moved-of-requires c κs = tt
-
 amount : (c : tie.Start) → c .args .m * c .args .c .amount .0 ≤ 1_999_999_999_980
 amount c = amount-le _ _ (c .pre .0) (c .pre .1)
 
-mul-t9 : tie.Need-mul-t9
-mul-t9 c = omega (arith, amount (c .before .before .before .before .before))
-
 with-discount-requires : tie.Need-with-discount-requires
 with-discount-requires c κs = (omega (arith, amount (c .before .before .before .before .before)), c .before .before .before .before .before .pre .0 .rate)
-
-chosen-requires : tie.Need-chosen-requires
-chosen-requires c κs = tt
 
 returns : tie.Need-returns
 returns c =
@@ -40,11 +22,11 @@ returns c =
 
 pub redemption-line-spec : {M : Type 1} → statement M
 redemption-line-spec = tie.close (tie.spec
-    mul-need
-    entry-of-requires
-    entry-of-requires-2
-    moved-of-requires
-    mul-t9
+    (λ c. omega (arith, need-le _ _ (c .before .pre .0) (c .before .pre .1)))
+    (λ c κs. tt)
+    (λ c κs. tt)
+    (λ c κs. tt)
+    (λ c. omega (arith, amount (c .before .before .before .before .before)))
     with-discount-requires
-    chosen-requires
+    (λ c κs. tt)
     returns)

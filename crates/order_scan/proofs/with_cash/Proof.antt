@@ -6,17 +6,11 @@ use Rattle.order_scan.proofs.OneLine.{chosen-le, cash-parts}
 use Rattle.order_scan.proofs.with_cash.Statement.{statement}
 use Rattle.order_scan.proofs.with_cash.Tie as tie
 
-chosen-requires : tie.Need-chosen-requires
-chosen-requires c κs = tt
-
 plus-requires : tie.Need-plus-requires
 plus-requires c κs =
     let x = c .before .args .line in
     let small : c .chosen .result .0 ≤ x .cash .0 = rw (c .chosen .ensures) (chosen-le (x .shanghai) _ _ _ (le-refl _) zero-le) in
     omega (arith, c .before .pre .0)
-
-chosen-requires-2 : tie.Need-chosen-requires-2
-chosen-requires-2 c κs = tt
 
 plus-requires-2 : tie.Need-plus-requires-2
 plus-requires-2 c κs =
@@ -29,4 +23,4 @@ returns c = cash-parts _ _ _ _ _ _ (c .before .before .before .chosen .ensures) 
 
 pub with-cash-spec : {M : Type 1} → statement M
 with-cash-spec =
-    tie.close (tie.spec chosen-requires plus-requires chosen-requires-2 plus-requires-2 returns)
+    tie.close (tie.spec (λ c κs. tt) plus-requires (λ c κs. tt) plus-requires-2 returns)

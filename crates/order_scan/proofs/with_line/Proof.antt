@@ -8,17 +8,8 @@ use Rattle.order_scan.proofs.with_line.Tie as tie
 next-short-requires : tie.Need-next-short-requires
 next-short-requires c κs = c .pre .index
 
-also-missing-requires : tie.Need-also-missing-requires
-also-missing-requires c κs = tt
-
-plus-requires : tie.Need-plus-requires
-plus-requires c κs = omega (arith, c .before .before .pre .worth)
-
 with-cash-requires : tie.Need-with-cash-requires
 with-cash-requires c κs = (omega (arith, c .before .before .before .pre .shanghai), omega (arith, c .before .before .before .pre .other))
-
-records-of-requires : tie.Need-records-of-requires
-records-of-requires c κs = tt
 
 add-t9 : tie.Need-add-t9
 add-t9 c =
@@ -39,9 +30,9 @@ with-line-spec =
     tie.close
     (tie.spec
     next-short-requires
-    also-missing-requires
-    plus-requires
+    (λ c κs. tt)
+    (λ c κs. omega (arith, c .before .before .pre .worth))
     with-cash-requires
-    records-of-requires
+    (λ c κs. tt)
     add-t9
     returns)

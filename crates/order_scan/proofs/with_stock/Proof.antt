@@ -8,9 +8,6 @@ use Rattle.order_scan.proofs.with_stock.Tie as tie
 next-short-requires : tie.Need-next-short-requires
 next-short-requires c κs = c .before .before .pre .0
 
-records-of-requires : tie.Need-records-of-requires
-records-of-requires c κs = tt
-
 add-t8 : tie.Need-add-t8
 add-t8 c =
     let start = c .before .before .before .before .before in
@@ -22,4 +19,4 @@ returns c =
     stock-parts (start .args .t) (start .args .i) (start .args .need) _ _ (c .before .before .next-short .ensures) (c .before .records-of .ensures)
 
 pub with-stock-spec : {M : Type 1} → statement M
-with-stock-spec = tie.close (tie.spec next-short-requires records-of-requires add-t8 returns)
+with-stock-spec = tie.close (tie.spec next-short-requires (λ c κs. tt) add-t8 returns)

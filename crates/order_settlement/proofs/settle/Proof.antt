@@ -9,9 +9,6 @@ use native.Mathlib.Omega.{arith}
 use Rattle.order_settlement.proofs.settle.Statement.{statement}
 use Rattle.order_settlement.proofs.settle.Tie as tie
 
-rest-side-requires : tie.Need-rest-side-requires
-rest-side-requires c κs = tt
-
 put-record-requires : tie.Need-put-record-requires
 put-record-requires c κs = fits-first _ (order-fits (c .before .before .rest-side .ensures) (c .before .record-of .ensures) (c .before .before .before .before .before .before .pre .1 .0))
 
@@ -68,7 +65,7 @@ pub settle-spec : {M : Type 1} → statement M
 settle-spec =
     tie.close
     (tie.spec
-    rest-side-requires
+    (λ c κs. tt)
     (λ c κs. omega arith)
     put-record-requires
     settle-stock-requires

@@ -21,9 +21,6 @@ Inv-loop d basket book₀ m out₀ from kind a w side at₀ i₀ book out at i =
 abbrev μ-loop : tie.MeasureT-loop
 μ-loop d basket book₀ m out₀ from kind a w side at₀ i₀ book out at i = d .count - i
 
-stock-side-requires : tie.Need-stock-side-requires Inv-loop μ-loop
-stock-side-requires c κs = tt
-
 loop-holds : tie.Need-loop-holds Inv-loop μ-loop
 loop-holds c =
     let p = c .before .before .before .before .before .pre in
@@ -95,7 +92,7 @@ settle-stock-spec =
     Inv-loop
     μ-loop
     (λ c κs. search needs)
-    stock-side-requires
+    (λ c κs. tt)
     loop-holds
     (λ c κs. search needs)
     move-line-requires

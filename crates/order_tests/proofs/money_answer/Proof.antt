@@ -7,9 +7,6 @@ use Rattle.order_tests.proofs.Laws.{ratio-passes, ratio-stops}
 use Rattle.order_tests.proofs.money_answer.Statement.{statement}
 use Rattle.order_tests.proofs.money_answer.Tie as tie
 
-total-requires : tie.Need-total-requires
-total-requires c κs = omega (arith, c .before .before .pre .1 .0 .3)
-
 returns : tie.Need-returns
 returns c =
     (rw (c .before .before .before .before .record-count .ensures, c .before .before .before .before .before .total .ensures) at (c .last-answer .ensures))
@@ -22,7 +19,7 @@ pub money-answer-spec : {M : Type 1} → statement M
 money-answer-spec =
     tie.close
     (tie.spec
-    total-requires
+    (λ c κs. omega (arith, c .before .before .pre .1 .0 .3))
     (λ c κs. search needs)
     (λ c κs. search needs)
     (λ c. search needs)

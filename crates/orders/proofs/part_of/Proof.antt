@@ -11,18 +11,6 @@ use Rattle.orders.proofs.part_of.Tie as tie
 place : (c : tie.After-width-of) → c .before .before .args .a * c .width-of .result ≡ c .before .before .args .a * widthOf (c .before .before .args .count)
 place c = ap (λ (w : ℕ). c .before .before .args .a * w) (c .width-of .ensures)
 
-mul-start : tie.Need-mul-start
-mul-start c = omega (arith, place c)
-
-add-end : tie.Need-add-end
-add-end c = omega (arith, place c)
-
-mul-result : tie.Need-mul-result
-mul-result c = omega (arith, place c)
-
-part-result-end : tie.Need-part-result-end
-part-result-end c = omega (arith, place c)
-
 returns : tie.Need-returns
 returns c = rw (c .before .width-of .ensures) (part-is _ _ _)
 
@@ -31,10 +19,10 @@ part-of-spec =
     tie.close
     (tie.spec
     (λ c κs. search needs)
-    mul-start
-    add-end
-    mul-result
+    (λ c. omega (arith, place c))
+    (λ c. omega (arith, place c))
+    (λ c. omega (arith, place c))
     (λ c. search needs)
     (λ c. search needs)
-    part-result-end
+    (λ c. omega (arith, place c))
     returns)

@@ -4,11 +4,5 @@ use borrow.Author.Tests.{eq-eqb, ne-eqb}
 use Rattle.ranges.proofs.switch_allows.Statement.{statement}
 use Rattle.ranges.proofs.switch_allows.Tie as tie
 
-returns : tie.Need-returns
-returns c = simp (eq-eqb _ _ (c .if1 .taken))
-
-returns-2 : tie.Need-returns-2
-returns-2 c = simp (ne-eqb _ _ (c .if1 .left))
-
 pub switch-allows-spec : {M : Type 1} → statement M
-switch-allows-spec = tie.close (tie.spec returns (λ c. search needs) returns-2)
+switch-allows-spec = tie.close (tie.spec (λ c. simp (eq-eqb _ _ (c .if1 .taken))) (λ c. search needs) (λ c. simp (ne-eqb _ _ (c .if1 .left))))

@@ -14,9 +14,6 @@ use Rattle.ranges.proofs.whole_baskets.Tie as tie
 parts : (size units m : ℕ) → m ≡ units / size → m * size + units % size ≡ units
 parts size units m e = rw e (omega (arith, div-add-mod units size, mul-comm (units / size) size))
 
-mul-if1 : tie.Need-mul-if1
-mul-if1 c = omega (arith, parts _ _ _ (c .pre .1))
-
 returns : tie.Need-returns
 unfolding every
 returns c =
@@ -30,4 +27,4 @@ returns-2 c =
     c .is-inside .ensures ∙ rw (c .before .before .pre .1) (simp (eq-eqb _ _ none, and-true))
 
 pub whole-baskets-spec : {M : Type 1} → statement M
-whole-baskets-spec = tie.close (tie.spec mul-if1 returns (λ c κs. search needs) returns-2)
+whole-baskets-spec = tie.close (tie.spec (λ c. omega (arith, parts _ _ _ (c .pre .1))) returns (λ c κs. search needs) returns-2)

@@ -13,12 +13,6 @@ use Rattle.sound.proofs.line_fits.Tie as tie
 lots : (c : tie.Start) → let t = c .args .totals .now in let at = lineFrom (c .args .line) in (getD t at 0 ≤ top) × (getD t (at + 1) 0 ≤ top) × (getD t (at + 2) 0 ≤ top)
 lots c = (c .pre .2 _ (omega arith), c .pre .2 _ (omega arith), c .pre .2 _ (omega arith))
 
-add-result-2 : tie.Need-add-result-2
-add-result-2 c = omega (arith, lots (c .before .before))
-
-add-result-4 : tie.Need-add-result-4
-add-result-4 c = omega (arith, lots (c .before .before .before))
-
 returns : tie.Need-returns
 unfolding lineFits numberAt
 returns c = rw (c .most-of .ensures)
@@ -34,10 +28,10 @@ line-fits-spec =
     (λ c. search needs)
     (λ c. search needs)
     (λ c. search needs)
-    add-result-2
+    (λ c. omega (arith, lots (c .before .before)))
     (λ c. search needs)
     (λ c. search needs)
     (λ c. search needs)
-    add-result-4
+    (λ c. omega (arith, lots (c .before .before .before)))
     (λ c κs. search needs)
     returns)

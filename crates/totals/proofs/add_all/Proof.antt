@@ -26,9 +26,6 @@ loop-holds c = (c .add-eights .ensures .0, started _ _ _ _ _ (c .add-eights .ens
 inside : (c : tie.After-add-one-arg Inv-loop μ-loop) → let s = c .before .before .before .before .before .before .args in c .before .before .loop .a * s .width + s .width ≤ s .rows * s .width
 inside c = within _ _ _ (c .before .loop-test .taken)
 
-mul-add-one : tie.Need-mul-add-one Inv-loop μ-loop
-mul-add-one c = omega (arith, inside c)
-
 add-one-requires : tie.Need-add-one-requires Inv-loop μ-loop
 add-one-requires c κs =
     let l = c .before .before .loop in
@@ -63,7 +60,7 @@ add-all-spec =
     μ-loop
     add-eights-requires
     loop-holds
-    mul-add-one
+    (λ c. omega (arith, inside c))
     add-one-requires
     returns
     (λ c. omega arith)

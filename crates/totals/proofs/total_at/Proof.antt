@@ -21,18 +21,6 @@ inside c = within _ _ _ (c .loop-test .taken)
 loop-holds : tie.Need-loop-holds Inv-loop μ-loop
 loop-holds c = (omega arith, sym (capped-none _ _ _))
 
-mul-add-capped : tie.Need-mul-add-capped Inv-loop μ-loop
-mul-add-capped c = omega (arith, inside c)
-
-add-add-capped : tie.Need-add-add-capped Inv-loop μ-loop
-add-add-capped c = omega (arith, inside c)
-
-mul-add-capped-2 : tie.Need-mul-add-capped-2 Inv-loop μ-loop
-mul-add-capped-2 c = omega (arith, inside c)
-
-shared-slice-read-add-capped : tie.Need-shared-slice-read-add-capped Inv-loop μ-loop
-shared-slice-read-add-capped c = omega (arith, inside (c .before))
-
 add-capped-requires : tie.Need-add-capped-requires Inv-loop μ-loop
 add-capped-requires c κs =
     let a = c .before .before .before .before .args in
@@ -59,10 +47,10 @@ total-at-spec =
     Inv-loop
     μ-loop
     loop-holds
-    mul-add-capped
-    add-add-capped
-    mul-add-capped-2
-    shared-slice-read-add-capped
+    (λ c. omega (arith, inside c))
+    (λ c. omega (arith, inside c))
+    (λ c. omega (arith, inside c))
+    (λ c. omega (arith, inside (c .before)))
     add-capped-requires
     (λ c. omega arith)
     (λ c. omega arith)

@@ -13,12 +13,6 @@ use Rattle.trades.proofs.set_price.Tie as tie
 inside : (c : tie.After-enum-told) → c .before .before .before .before .args .line < c .before .before .before .before .args .count
 inside c = priced-line _ _ _ (ap answerReply (sym (c .enum-told .given .1)) ∙ c .before .before .price-answer .ensures)
 
-mul-prices : tie.Need-mul-prices
-mul-prices c = omega (arith, inside c)
-
-slice-write-prices : tie.Need-slice-write-prices
-slice-write-prices c = omega (arith, inside c)
-
 returns : tie.Need-returns
 returns c =
     let e = ap answerReply (sym (c .enum-told .given .1)) ∙ c .before .before .price-answer .ensures in
@@ -35,8 +29,8 @@ set-price-spec =
     (tie.spec
     (λ c κs. search needs)
     (λ c. search needs)
-    mul-prices
-    slice-write-prices
+    (λ c. omega (arith, inside c))
+    (λ c. omega (arith, inside c))
     (λ c. search needs)
     (λ c. search needs)
     returns

@@ -7,9 +7,6 @@ use Rattle.trades.proofs.Laws.{tradable}
 use Rattle.trades.proofs.trade.Statement.{statement}
 use Rattle.trades.proofs.trade.Tie as tie
 
-new-requires : tie.Need-new-requires
-new-requires c κs = tt
-
 move-trade-requires : tie.Need-move-trade-requires
 move-trade-requires c κs =
     let b = c .before .before .before .before .before .before .before in
@@ -33,7 +30,7 @@ trade-spec =
     (tie.spec
     (λ c κs. search needs)
     (λ c. search needs)
-    new-requires
+    (λ c κs. tt)
     move-trade-requires
     (λ c. search needs)
     (λ c. search needs)

@@ -20,20 +20,8 @@ high c = under 200_000_000_000 200_000 (omega arith) (omega arith)
 low : (c : tie.Start) → c .args .v % 100_000 * c .args .k ≤ 100_000 * 200_000
 low c = under 100_000 200_000 (omega arith) (omega arith)
 
-mul-result : tie.Need-mul-result
-mul-result c = omega (arith, high (c .before))
-
-mul-result-2 : tie.Need-mul-result-2
-mul-result-2 c = omega (arith, low (c .before))
-
-add-result : tie.Need-add-result
-add-result c = omega (arith, low (c .before))
-
-add-result-2 : tie.Need-add-result-2
-add-result-2 c = omega (arith, high (c .before), low (c .before))
-
 returns-2 : tie.Need-returns-2
 returns-2 c = split 100_000 (c .before .args .v) (c .before .args .k) 50_000 (lit< tt) ∙ sym (rounded-rate (c .before .args .v * c .before .args .k))
 
 pub scaled-spec : {M : Type 1} → statement M
-scaled-spec = tie.close (tie.spec returns (λ c. omega arith) mul-result (λ c. omega arith) mul-result-2 add-result (λ c. omega arith) add-result-2 returns-2)
+scaled-spec = tie.close (tie.spec returns (λ c. omega arith) (λ c. omega (arith, high (c .before))) (λ c. omega arith) (λ c. omega (arith, low (c .before))) (λ c. omega (arith, low (c .before))) (λ c. omega arith) (λ c. omega (arith, high (c .before), low (c .before))) returns-2)

@@ -8,9 +8,6 @@ use Rattle.value.specs.Worth.{lacks}
 use Rattle.value.proofs.lacks_price.Statement.{statement}
 use Rattle.value.proofs.lacks_price.Tie as tie
 
-entry-of-requires : tie.Need-entry-of-requires
-entry-of-requires c κs = tt
-
 returns : tie.Need-returns
 unfolding lacks every
 returns c = simp (sym (c .before .entry-of .ensures) ∙ not-true _ (c .if1 .taken))
@@ -28,4 +25,4 @@ returns-3 c =
     simp (sym (c .before .before .before .entry-of .ensures) ∙ e, lt-ltb 0 (c .before .before .before .before .args .c .quantity) (omega arith), and-true)
 
 pub lacks-price-spec : {M : Type 1} → statement M
-lacks-price-spec = tie.close (tie.spec entry-of-requires returns returns-2 returns-3)
+lacks-price-spec = tie.close (tie.spec (λ c κs. tt) returns returns-2 returns-3)

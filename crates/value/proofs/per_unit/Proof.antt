@@ -4,12 +4,9 @@ use Rattle.units.specs.Units.{rounded}
 use Rattle.value.proofs.per_unit.Statement.{statement}
 use Rattle.value.proofs.per_unit.Tie as tie
 
-new-requires : tie.Need-new-requires
-new-requires c κs = tt
-
 returns : tie.Need-returns
 unfolding rounded
 returns c = c .new .ensures
 
 pub per-unit-spec : {M : Type 1} → statement M
-per-unit-spec = tie.close (tie.spec (λ c. omega arith) (λ c. omega arith) (λ c. omega arith) (λ c. omega arith) (λ c. omega arith) new-requires returns)
+per-unit-spec = tie.close (tie.spec (λ c. omega arith) (λ c. omega arith) (λ c. omega arith) (λ c. omega arith) (λ c. omega arith) (λ c κs. tt) returns)

@@ -36,9 +36,6 @@ day c = dayOf (c .args .d) (now (c .args .basket))
 component-of-requires : tie.Need-component-of-requires Inv-loop μ-loop
 component-of-requires c κs = (omega arith, c .before .before .before .before .pre .1)
 
-lacks-price-requires : tie.Need-lacks-price-requires Inv-loop μ-loop
-lacks-price-requires c κs = tt
-
 -- the component at the loop's index and its price are in their ranges
 here : (c : tie.After-component-of Inv-loop μ-loop)
     → Countable (c .component-of .result) (priceOf (now (c .before .before .before .before .before .args .prices)) (c .before .before .loop .i))
@@ -123,7 +120,7 @@ reference-value-spec =
     component-of-requires
     (λ c. omega arith)
     (λ c. omega arith)
-    lacks-price-requires
+    (λ c κs. tt)
     returns
     worth-of-requires
     plus-requires

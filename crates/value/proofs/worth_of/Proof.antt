@@ -6,9 +6,6 @@ use Rattle.value.specs.Worth.{worth}
 use Rattle.value.proofs.worth_of.Statement.{statement}
 use Rattle.value.proofs.worth_of.Tie as tie
 
-entry-of-requires : tie.Need-entry-of-requires
-entry-of-requires c κs = tt
-
 mul-t4 : tie.Need-mul-t4
 mul-t4 c =
     let ranges = c .before .before .before .pre in
@@ -23,4 +20,4 @@ unfolding worth
 returns-2 c = simp (sym (c .before .entry-of .ensures) ∙ c .if1 .left)
 
 pub worth-of-spec : {M : Type 1} → statement M
-worth-of-spec = tie.close (tie.spec entry-of-requires mul-t4 returns returns-2)
+worth-of-spec = tie.close (tie.spec (λ c κs. tt) mul-t4 returns returns-2)

@@ -20,18 +20,6 @@ high c = under 20_000_000_000 100_000 (omega (arith, worth c)) (omega arith)
 low : (c : tie.Start) → c .args .baskets * c .args .size * c .args .self .0 % 1_000_000 * c .args .ratio .0 ≤ 1_000_000 * 100_000
 low c = under 1_000_000 100_000 (omega arith) (omega arith)
 
-mul-worth : tie.Need-mul-worth
-mul-worth c = omega (arith, units c)
-
-mul-worth-2 : tie.Need-mul-worth-2
-mul-worth-2 c = omega (arith, worth (c .before))
-
-mul-t7 : tie.Need-mul-t7
-mul-t7 c = omega (arith, high (c .before .before))
-
-mul-t9 : tie.Need-mul-t9
-mul-t9 c = omega (arith, low (c .before .before .before))
-
 add-t11 : tie.Need-add-t11
 add-t11 c = omega (arith, high (c .before .before .before), low (c .before .before .before))
 
@@ -43,4 +31,4 @@ returns c =
     at (split 1_000_000 (start .args .baskets * start .args .size * start .args .self .0) (start .args .ratio .0) 0 (lit< tt))
 
 pub ratio-bound-spec : {M : Type 1} → statement M
-ratio-bound-spec = tie.close (tie.spec mul-worth mul-worth-2 mul-t7 mul-t9 add-t11 returns)
+ratio-bound-spec = tie.close (tie.spec (λ c. omega (arith, units c)) (λ c. omega (arith, worth (c .before))) (λ c. omega (arith, high (c .before .before))) (λ c. omega (arith, low (c .before .before .before))) add-t11 returns)
