@@ -1,7 +1,7 @@
 // Answers as the paper's three numbers: a refusal's number (0 accepted), its place, and the value of an accepted call.
 ghost use mathlib.Core.Path.{_≡_};
 ghost use Rattle.sequences.specs.Checks.{reply};
-ghost use Rattle.rules.specs.Replies.{refusalReply, answerReply, orderReply, valueReply};
+ghost use Rattle.rules.specs.Replies.{refusalReply, answerReply, orderAnswerReply, valueAnswerReply};
 ghost use Rattle.answers.specs.Numbers.{replyOf};
 use rules::Answer;
 use rules::OrderAnswer;
@@ -73,7 +73,7 @@ pub fn of_answer(answer: Answer) -> Numbers
 }
 
 pub fn of_order(answer: OrderAnswer) -> Numbers
-    ensures { λ r. ⌜ replyOf r ≡ orderReply answer ⌝ }
+    ensures { λ r. ⌜ replyOf r ≡ orderAnswerReply answer ⌝ }
 {
     match answer {
         OrderAnswer::Made(count) => accepted(count as u64),
@@ -82,7 +82,7 @@ pub fn of_order(answer: OrderAnswer) -> Numbers
 }
 
 pub fn of_value(answer: ValueAnswer) -> Numbers
-    ensures { λ r. ⌜ replyOf r ≡ valueReply answer ⌝ }
+    ensures { λ r. ⌜ replyOf r ≡ valueAnswerReply answer ⌝ }
 {
     match answer {
         ValueAnswer::Worth(v) => accepted(v.0),

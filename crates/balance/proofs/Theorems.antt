@@ -12,7 +12,7 @@ use Rattle.rules.specs.Sound.{isSound, onSoundDay}
 use Rattle.rules.specs.Opening.{Opening, openingReply}
 use Rattle.rules.specs.Price.{priceChecks, priceReply}
 use Rattle.rules.specs.Trade.{tradeMeans, tradeChecks, tradeReply}
-use Rattle.rules.specs.Value.{valueChecks, worthReply}
+use Rattle.rules.specs.Value.{valueChecks, valueReply}
 use Rattle.rules.specs.Orders.{formChecks, permissionChecks}
 use Rattle.rules.specs.Creation.{creationMeans, creationChecks, creationReply}
 use Rattle.rules.specs.Redemption.{redemptionMeans, redemptionChecks, redemptionReply}
@@ -33,7 +33,7 @@ unfolding answered
 sound-answer d b ps cs v e t q = never-answered 5 cs v tt t (rw e at q)
 
 pub never-five : (s : State) (c : Call) (lent : Lent) → KeptState s → step s c lent .reply .number ≡ 5 → ⊥
-unfolding step priceReply priceChecks tradeReply tradeChecks tradeMeans worthReply valueChecks
+unfolding step priceReply priceChecks tradeReply tradeChecks tradeMeans valueReply valueChecks
     creationReply creationChecks redemptionReply redemptionChecks formChecks permissionChecks creationMeans redemptionMeans
 never-five s (price line p) lent k q = sound-answer _ _ _ (priceChecks (s .day .count) line p) _ (sound-true _ _ _ (k .sound)) tt q
 never-five s (trade line n p seller buyer) lent k q = sound-answer _ _ _ (tradeChecks (s .day .accounts) (s .day .count) (s .book) line n p seller buyer) _ (sound-true _ _ _ (k .sound)) tt q

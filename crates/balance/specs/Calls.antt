@@ -6,7 +6,7 @@ use Rattle.sequences.specs.Checks.{Reply}
 use Rattle.layout.specs.Day.{Day}
 use Rattle.rules.specs.Price.{priceReply, pricedPrices}
 use Rattle.rules.specs.Trade.{tradeReply, tradedBook}
-use Rattle.rules.specs.Value.{worthReply}
+use Rattle.rules.specs.Value.{valueReply}
 use Rattle.layout.specs.Records.{roomIn}
 use Rattle.rules.specs.Creation.{creationReply, createdBook, createdList}
 use Rattle.rules.specs.Redemption.{redemptionReply, redeemedBook, redeemedList}
@@ -62,7 +62,7 @@ step s (redeem a units) lent =
       after = record { day = s .day; book = redeemedBook (s .day) (s .book) (s .prices) a units (roomIn (lent .records)); prices = s .prices };
       lent = record { records = redeemedList (s .day) (s .book) (s .prices) a units (lent .records) };
     }
-step s value lent = record { reply = worthReply (s .day) (s .book) (s .prices); after = s; lent = lent }
+step s value lent = record { reply = valueReply (s .day) (s .book) (s .prices); after = s; lent = lent }
 
 -- what was observed of one call
 pub record Event : Type 0 where

@@ -9,7 +9,7 @@ ghost use Prim.Native.Nat.{_/_, _≤_};
 ghost use Rattle.digits.specs.Digits.{cap};
 ghost use Rattle.rules.specs.Price.{priceReply, pricedPrices};
 ghost use Rattle.rules.specs.Trade.{tradeReply, tradedBook};
-ghost use Rattle.rules.specs.Value.{worthReply};
+ghost use Rattle.rules.specs.Value.{valueReply};
 ghost use Rattle.layout.specs.Places.{recordWidth};
 ghost use Rattle.layout.specs.Records.{roomIn};
 ghost use Rattle.rules.specs.Creation.{creationReply, createdBook, createdList};
@@ -108,7 +108,7 @@ pub extern "C" fn roffelaine_reference_value(
     place: &mut u64,
     value: &mut u64,
 ) -> u64
-    ensures { λ r. ⌜ Told (worthReply (dayAt (now (day .entry))) (now (book .entry)) (now (prices .entry))) r (now (place .exit)) (now (value .exit)) ⌝ }
+    ensures { λ r. ⌜ Told (valueReply (dayAt (now (day .entry))) (now (book .entry)) (now (prices .entry))) r (now (place .exit)) (now (value .exit)) ⌝ }
 {
     let answer = day::reference_value(day, book, prices);
     tell(answers::of_value(answer), place, value)

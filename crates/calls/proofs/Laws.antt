@@ -13,7 +13,7 @@ use Rattle.rules.specs.Replies.{ifAccepted}
 use Rattle.rules.specs.Sound.{isSound, onSoundDay}
 use Rattle.rules.specs.Price.{priceChecks, priceReply, pricedPrices}
 use Rattle.rules.specs.Trade.{tradeChecks, tradeReply, tradeMoves, tradedBook}
-use Rattle.rules.specs.Value.{referenceValue, valueChecks, worthReply}
+use Rattle.rules.specs.Value.{referenceValue, valueChecks, valueReply}
 use Rattle.layout.specs.Records.{roomIn, withRecords}
 use Rattle.rules.specs.Kinds.{askedRecords, askedChecks, askedReply, askedMoves, askedBook, askedList}
 use Rattle.rules.proofs.Replies.{on-sound, on-unsound, leaves-before}
@@ -31,8 +31,8 @@ module _ (d : Day) (b ps : List ℕ) (unsound : isSound d b ps ≡ false) where
   unfolding tradeReply tradedBook
   trade-five line q p seller buyer = let e = five (tradeChecks (d .accounts) (d .count) b line q p seller buyer) 0 in (e, leaves-before _ _ UnsoundDay _ e)
 
-  pub value-five : reply 5 0 0 ≡ worthReply d b ps
-  unfolding worthReply
+  pub value-five : reply 5 0 0 ≡ valueReply d b ps
+  unfolding valueReply
   value-five = five (valueChecks d ps) (referenceValue d ps)
 
   pub order-five : (ask : Ask) (room : ℕ) → reply 5 0 0 ≡ askedReply d b ps ask room
@@ -59,8 +59,8 @@ module _ (d : Day) (b ps : List ℕ) (sound : isSound d b ps ≡ true) where
       let e = own (tradeChecks (d .accounts) (d .count) b line q p seller buyer) 0 in
       (e, ap (λ (r : Reply). ifAccepted r (tradeMoves (d .count) line q p seller buyer b) b) e)
 
-  pub value-own : answered (valueChecks d ps) (referenceValue d ps) ≡ worthReply d b ps
-  unfolding worthReply
+  pub value-own : answered (valueChecks d ps) (referenceValue d ps) ≡ valueReply d b ps
+  unfolding valueReply
   value-own = own (valueChecks d ps) (referenceValue d ps)
 
   pub order-own : (ask : Ask) (room : ℕ) → askedAnswer d b ps ask room ≡ askedReply d b ps ask room

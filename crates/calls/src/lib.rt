@@ -6,10 +6,10 @@ ghost use mathlib.Core.Bool.{true};
 ghost use Rattle.layout.specs.Places.{recordWidth};
 ghost use Rattle.layout.specs.Day.{dayAt};
 ghost use Rattle.layout.specs.Records.{roomIn};
-ghost use Rattle.rules.specs.Replies.{answerReply, orderReply, valueReply};
+ghost use Rattle.rules.specs.Replies.{answerReply, orderAnswerReply, valueAnswerReply};
 ghost use Rattle.rules.specs.Price.{priceReply, pricedPrices};
 ghost use Rattle.rules.specs.Trade.{tradeReply, tradedBook};
-ghost use Rattle.rules.specs.Value.{worthReply};
+ghost use Rattle.rules.specs.Value.{valueReply};
 ghost use Rattle.rules.specs.Kinds.{askedReply, askedBook, askedList};
 ghost use Rattle.rules.specs.Sound.{isSound, isKept};
 use rules::Answer;
@@ -95,7 +95,7 @@ pub fn trade(
 // The reference value at this moment.
 pub fn reference_value(known: bool, day: &[u64], book: &[u64], prices: &[u64]) -> ValueAnswer
     requires { ⌜ (known ≡ true → isSound (dayAt (now day)) (now book) (now prices) ≡ true) ⌝ }
-    ensures { λ r. ⌜ valueReply r ≡ worthReply (dayAt (now (day .entry))) (now (book .entry)) (now (prices .entry)) ⌝ }
+    ensures { λ r. ⌜ valueAnswerReply r ≡ valueReply (dayAt (now (day .entry))) (now (book .entry)) (now (prices .entry)) ⌝ }
 {
     if !sound_day(known, day, book, prices) {
         return ValueAnswer::Refused(Refusal::UnsoundDay);
@@ -114,7 +114,7 @@ pub fn order(
 ) -> OrderAnswer
     requires { ⌜ (known ≡ true → isSound (dayAt (now day)) (now book) (now prices) ≡ true) ⌝ }
     requires { ⌜ ask .kind < 2 ⌝ }
-    ensures { λ r. ⌜ orderReply r ≡ askedReply (dayAt (now (day .entry))) (now (book .entry)) (now (prices .entry)) ask (roomIn (now (list .entry))) ⌝ }
+    ensures { λ r. ⌜ orderAnswerReply r ≡ askedReply (dayAt (now (day .entry))) (now (book .entry)) (now (prices .entry)) ask (roomIn (now (list .entry))) ⌝ }
     ensures book { λ r. ⌜ now (book .exit) ≡ askedBook (dayAt (now (day .entry))) (now (book .entry)) (now (prices .entry)) ask (roomIn (now (list .entry))) ⌝ }
     ensures list { λ r. ⌜ now (list .exit) ≡ askedList (dayAt (now (day .entry))) (now (book .entry)) (now (prices .entry)) ask (now (list .entry)) ⌝ }
 {
@@ -134,7 +134,7 @@ pub fn order_test(
     list_length: usize,
 ) -> OrderAnswer
     requires { ⌜ ask .kind < 2 ⌝ }
-    ensures { λ r. ⌜ orderReply r ≡ askedReply (dayAt (now (day .entry))) (now (book .entry)) (now (prices .entry)) ask («list_length» / recordWidth) ⌝ }
+    ensures { λ r. ⌜ orderAnswerReply r ≡ askedReply (dayAt (now (day .entry))) (now (book .entry)) (now (prices .entry)) ask («list_length» / recordWidth) ⌝ }
 {
     if !is_sound(day, book, prices) {
         return OrderAnswer::Refused(Refusal::UnsoundDay);

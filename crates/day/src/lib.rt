@@ -5,10 +5,10 @@ ghost use Prim.Native.Nat.{_/_};
 ghost use Rattle.layout.specs.Places.{recordWidth};
 ghost use Rattle.layout.specs.Day.{dayAt};
 ghost use Rattle.layout.specs.Records.{roomIn};
-ghost use Rattle.rules.specs.Replies.{answerReply, orderReply, valueReply};
+ghost use Rattle.rules.specs.Replies.{answerReply, orderAnswerReply, valueAnswerReply};
 ghost use Rattle.rules.specs.Price.{priceReply, pricedPrices};
 ghost use Rattle.rules.specs.Trade.{tradeReply, tradedBook};
-ghost use Rattle.rules.specs.Value.{worthReply};
+ghost use Rattle.rules.specs.Value.{valueReply};
 ghost use Rattle.rules.specs.Kinds.{creationOf, redemptionOf};
 ghost use Rattle.rules.specs.Creation.{creationReply, createdBook, createdList};
 ghost use Rattle.rules.specs.Redemption.{redemptionReply, redeemedBook, redeemedList};
@@ -71,7 +71,7 @@ pub fn trade(
 
 // The reference value at this moment.
 pub fn reference_value(day: &[u64], book: &[u64], prices: &[u64]) -> ValueAnswer
-    ensures { λ r. ⌜ valueReply r ≡ worthReply (dayAt (now (day .entry))) (now (book .entry)) (now (prices .entry)) ⌝ }
+    ensures { λ r. ⌜ valueAnswerReply r ≡ valueReply (dayAt (now (day .entry))) (now (book .entry)) (now (prices .entry)) ⌝ }
 {
     calls::reference_value(false, day, book, prices)
 }
@@ -107,7 +107,7 @@ pub fn create(
     units: u64,
     list: &mut [u64],
 ) -> OrderAnswer
-    ensures { λ r. ⌜ orderReply r ≡ creationReply (dayAt (now (day .entry))) (now (book .entry)) (now (prices .entry)) account units (roomIn (now (list .entry))) ⌝ }
+    ensures { λ r. ⌜ orderAnswerReply r ≡ creationReply (dayAt (now (day .entry))) (now (book .entry)) (now (prices .entry)) account units (roomIn (now (list .entry))) ⌝ }
     ensures book { λ r. ⌜ now (book .exit) ≡ createdBook (dayAt (now (day .entry))) (now (book .entry)) (now (prices .entry)) account units (roomIn (now (list .entry))) ⌝ }
     ensures list { λ r. ⌜ now (list .exit) ≡ createdList (dayAt (now (day .entry))) (now (book .entry)) (now (prices .entry)) account units (now (list .entry)) ⌝ }
 {
@@ -124,7 +124,7 @@ pub fn redeem(
     units: u64,
     list: &mut [u64],
 ) -> OrderAnswer
-    ensures { λ r. ⌜ orderReply r ≡ redemptionReply (dayAt (now (day .entry))) (now (book .entry)) (now (prices .entry)) account units (roomIn (now (list .entry))) ⌝ }
+    ensures { λ r. ⌜ orderAnswerReply r ≡ redemptionReply (dayAt (now (day .entry))) (now (book .entry)) (now (prices .entry)) account units (roomIn (now (list .entry))) ⌝ }
     ensures book { λ r. ⌜ now (book .exit) ≡ redeemedBook (dayAt (now (day .entry))) (now (book .entry)) (now (prices .entry)) account units (roomIn (now (list .entry))) ⌝ }
     ensures list { λ r. ⌜ now (list .exit) ≡ redeemedList (dayAt (now (day .entry))) (now (book .entry)) (now (prices .entry)) account units (now (list .entry)) ⌝ }
 {
@@ -141,7 +141,7 @@ pub fn creation_test(
     units: u64,
     length: usize,
 ) -> OrderAnswer
-    ensures { λ r. ⌜ orderReply r ≡ creationReply (dayAt (now (day .entry))) (now (book .entry)) (now (prices .entry)) account units (length / recordWidth) ⌝ }
+    ensures { λ r. ⌜ orderAnswerReply r ≡ creationReply (dayAt (now (day .entry))) (now (book .entry)) (now (prices .entry)) account units (length / recordWidth) ⌝ }
 {
     let ask = creation(account, units);
     calls::order_test(day, book, prices, ask, length)
@@ -156,7 +156,7 @@ pub fn redemption_test(
     units: u64,
     length: usize,
 ) -> OrderAnswer
-    ensures { λ r. ⌜ orderReply r ≡ redemptionReply (dayAt (now (day .entry))) (now (book .entry)) (now (prices .entry)) account units (length / recordWidth) ⌝ }
+    ensures { λ r. ⌜ orderAnswerReply r ≡ redemptionReply (dayAt (now (day .entry))) (now (book .entry)) (now (prices .entry)) account units (length / recordWidth) ⌝ }
 {
     let ask = redemption(account, units);
     calls::order_test(day, book, prices, ask, length)

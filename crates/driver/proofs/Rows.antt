@@ -8,7 +8,7 @@ use Rattle.sequences.specs.Checks.{Reply, reply}
 use Rattle.layout.specs.Day.{Day}
 use Rattle.rules.specs.Price.{priceReply, pricedPrices}
 use Rattle.rules.specs.Trade.{tradeReply, tradedBook}
-use Rattle.rules.specs.Value.{worthReply}
+use Rattle.rules.specs.Value.{valueReply}
 use Rattle.layout.specs.Records.{roomIn}
 use Rattle.rules.specs.declared.Ask.{Ask}
 use Rattle.rules.specs.Creation.{creationReply, createdBook, createdList}
@@ -67,7 +67,7 @@ module _ (d : Day) (b ps rs : List ℕ) (row : Row) (r : Reply) where
   unfolding step rowReply rowLeaves
   trade-meets line n p seller buyer left q e f = rw (q, e, f, le-leb 0 (length rs) zero-le) (refl, refl)
 
-  pub value-meets : row ≡ call value 0 0 → r ≡ worthReply d b ps → Meets (workOf d b ps rs) row r (workOf d b ps rs)
+  pub value-meets : row ≡ call value 0 0 → r ≡ valueReply d b ps → Meets (workOf d b ps rs) row r (workOf d b ps rs)
   unfolding step rowReply rowLeaves
   value-meets q e = rw (q, e, le-leb 0 (length rs) zero-le) (refl, refl)
 

@@ -18,8 +18,8 @@ use Rattle.digits.specs.declared.Size.the-variants.{Known, Ill}
 use Rattle.digits.specs.Digits.{allBlank, isPlain, plainSize, hasMinus, isSigned, signedFigure, trimmed, isNumber, figureOf, sizeReading}
 use Rattle.digits.proofs.Read.{size-ill, size-known}
 use Rattle.lines.specs.Lines.{nameByte, allBytes}
-use Rattle.list_rules.specs.Columns.{columnCount, rowWidth, columnTable, columnEntry, columnStart, columnWidth, columnForm, holdsName}
-use Rattle.list_rules.specs.Columns.{isUsed, isRow, columnPart, isColumn, columnValue, flagOf, columnFault, componentOf}
+use Rattle.list_rules.specs.Columns.{columnCount, bytesInRow, columnTable, columnEntry, columnStart, columnWidth, columnForm, holdsName}
+use Rattle.list_rules.specs.Columns.{isUsed, isRow, columnPart, isColumn, columnValue, flagOf, columnFault, lineComponent}
 use Rattle.list_columns.specs.declared.Row.{Row}
 use Rattle.list_columns.specs.Read.{rightForm, numberSize, columnSize}
 use Rattle.list_columns.proofs.Entries.{entry-facts}
@@ -99,7 +99,7 @@ unfolding columnPart
 part-is l k a w e f = rw (add-sub-cancel-left a w, e, f)
 
 -- a column of a line is as long as it is wide
-pub part-long : (l : List ℕ) (k : ℕ) → length l ≡ rowWidth → k < columnCount → {s : List ℕ} → s ≡ columnPart k l → length s ≡ columnWidth k
+pub part-long : (l : List ℕ) (k : ℕ) → length l ≡ bytesInRow → k < columnCount → {s : List ℕ} → s ≡ columnPart k l → length s ≡ columnWidth k
 unfolding columnPart columnStart columnWidth
 part-long l k long h e =
     ap length e
@@ -116,7 +116,7 @@ fault-first l = refl
 
 -- a line with a column at fault, and none before it
 pub fault-row : (l : List ℕ) (k : ℕ) (r : Row) → k < columnCount → Sought (faultAt l) columnCount k → faultAt l k ≡ true → r .fault ≡ k
-    → (r .fault ≡ columnFault l) × (6 ≤ r .fault → r .component ≡ componentOf l)
+    → (r .fault ≡ columnFault l) × (6 ≤ r .fault → r .component ≡ lineComponent l)
 fault-row l k r h v e f = (f ∙ sought-found (faultAt l) columnCount k v h e ∙ fault-first l, λ high. absurd (omega (arith, f)))
 
 -- the name
@@ -173,6 +173,6 @@ pub component-is : (l : List ℕ) {flag code quantity rate amount : ℕ} → fla
     → amount ≡ columnValue (flagOf l) 5 (columnPart 5 l)
     → _≡_ {A = Component}
     (record { code = code; quantity = quantity; flag = flag; rate = record { 0 = rate }; amount = record { 0 = amount } })
-    (componentOf l)
-unfolding componentOf
+    (lineComponent l)
+unfolding lineComponent
 component-is l f a b c d = rw (a, b, c, d, f)

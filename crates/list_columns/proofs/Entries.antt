@@ -9,13 +9,13 @@ use Rattle.sequences.specs.Below.{allBelow}
 use Rattle.sequences.specs.Every.{every}
 use Rattle.sequences.proofs.Below.{all-at}
 use Rattle.sequences.proofs.Every.{every-at}
-use Rattle.list_rules.specs.Columns.{columnCount, rowWidth, columnTable, columnEntry}
+use Rattle.list_rules.specs.Columns.{columnCount, bytesInRow, columnTable, columnEntry}
 
 -- the column stands within the line, and its number is short
 entryTests : ℕ → List Bool
 entryTests k =
     leb (columnEntry k 0) 35
-    ∷ ltb (columnEntry k 0 + columnEntry k 1) rowWidth
+    ∷ ltb (columnEntry k 0 + columnEntry k 1) bytesInRow
     ∷ leb (columnEntry k 2) 20
     ∷ leb (columnEntry k 3) 9
     ∷ []
@@ -26,7 +26,7 @@ tested = refl
 
 pub record Entry (k : ℕ) : Type 0 where
   pub start : columnEntry k 0 ≤ 35
-  pub width : columnEntry k 0 + columnEntry k 1 < rowWidth
+  pub width : columnEntry k 0 + columnEntry k 1 < bytesInRow
   pub digits : columnEntry k 2 ≤ 20
   pub decimals : columnEntry k 3 ≤ 9
 

@@ -7,7 +7,7 @@ ghost use Rattle.digits.specs.Digits.{fixed, plain, numberText, allBlank, sizeR
 ghost use Rattle.digits.specs.Right.{alignedForm};
 ghost use Rattle.digits.specs.Written.{Written};
 ghost use Rattle.lines.specs.Lines.{lineText};
-ghost use Rattle.list_rules.specs.Columns.{columnEntry, columnStart, columnWidth, columnPart, isRow, isColumn, flagOf, columnFault, componentOf, rowText};
+ghost use Rattle.list_rules.specs.Columns.{columnEntry, columnStart, columnWidth, columnPart, isRow, isColumn, flagOf, columnFault, lineComponent, rowText};
 ghost use Rattle.list_columns.specs.Read.{rightForm, numberSize, columnSize};
 ghost use Rattle.list_columns.specs.Fitting.{Fitting, Pointed, usedText};
 use digits::Size;
@@ -217,7 +217,7 @@ fn faulty(k: usize) -> Row
 pub fn read_row(line: &[u8]) -> Row
     requires { ⌜ length (now line) ≡ 48 ⌝ }
     ensures { λ r. ⌜ r .fault ≡ columnFault (now (line .entry)) ⌝ }
-    ensures { λ r. ⌜ (6 ≤ r .fault → r .component ≡ componentOf (now (line .entry))) ⌝ }
+    ensures { λ r. ⌜ (6 ≤ r .fault → r .component ≡ lineComponent (now (line .entry))) ⌝ }
 {
     let flag = flag_of(line);
     let Size::Known(code) = read_code(line) else {

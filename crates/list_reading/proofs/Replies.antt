@@ -12,7 +12,7 @@ use Rattle.lines.specs.Lines.{same, nextAt}
 use Rattle.list_rules.specs.Head.{headLines, fieldCount, endWord}
 use Rattle.list_rules.specs.Fields.{fieldsInRange}
 use Rattle.list_rules.specs.Reading.{startOf, lineStands, wrongLine, rowCount, endStart, shapeChecks, wrongField, fieldStart, wrongRow}
-use Rattle.list_rules.specs.Reading.{columnPlace, fieldChecks, figureRead, fieldsRead, isCounted, readFault, valueChecks, readChecks, readReply}
+use Rattle.list_rules.specs.Reading.{columnPlace, fieldChecks, figureRead, fieldsRead, isCounted, readFault, rangeChecks, readChecks, readReply}
 
 module _ (text : List ℕ) where
   -- the tests of 18
@@ -84,23 +84,23 @@ module _ (text : List ℕ) where
 
       module _ (f : passes (fieldChecks text) ≡ true) where
         pub reply-20 : countWrong ≡ true → reply 20 0 0 ≡ readReply text room
-        unfolding readReply readChecks shapeChecks fieldChecks valueChecks answered
+        unfolding readReply readChecks shapeChecks fieldChecks rangeChecks answered
         reply-20 e = let p = shape-facts s in let q = field-facts f in rw (p .0, p .1, p .2, q .0, q .1, e)
 
         pub reply-2 : countWrong ≡ false → rangeWrong ≡ true → reply 2 0 0 ≡ readReply text room
-        unfolding readReply readChecks shapeChecks fieldChecks valueChecks answered
+        unfolding readReply readChecks shapeChecks fieldChecks rangeChecks answered
         reply-2 a e = let p = shape-facts s in let q = field-facts f in rw (p .0, p .1, p .2, q .0, q .1, a, e)
 
         module _ (a : countWrong ≡ false) (b : rangeWrong ≡ false) where
           pub reply-3 : ltb (readFault text) (rowCount text) ≡ true → reply 3 (readFault text) 0 ≡ readReply text room
-          unfolding readReply readChecks shapeChecks fieldChecks valueChecks answered
+          unfolding readReply readChecks shapeChecks fieldChecks rangeChecks answered
           reply-3 e = let p = shape-facts s in let q = field-facts f in rw (p .0, p .1, p .2, q .0, q .1, a, b, e)
 
           module _ (c : ltb (readFault text) (rowCount text) ≡ false) where
             pub reply-16 : ltb room (componentWidth * rowCount text) ≡ true → reply 16 0 0 ≡ readReply text room
-            unfolding readReply readChecks shapeChecks fieldChecks valueChecks answered
+            unfolding readReply readChecks shapeChecks fieldChecks rangeChecks answered
             reply-16 e = let p = shape-facts s in let q = field-facts f in rw (p .0, p .1, p .2, q .0, q .1, a, b, c, e)
 
             pub reply-0 : ltb room (componentWidth * rowCount text) ≡ false → reply 0 0 (rowCount text) ≡ readReply text room
-            unfolding readReply readChecks shapeChecks fieldChecks valueChecks answered
+            unfolding readReply readChecks shapeChecks fieldChecks rangeChecks answered
             reply-0 e = let p = shape-facts s in let q = field-facts f in rw (p .0, p .1, p .2, q .0, q .1, a, b, c, e)

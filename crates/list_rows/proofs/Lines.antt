@@ -14,7 +14,7 @@ use Rattle.sequences.proofs.Below.{first-end}
 use Rattle.layout.specs.declared.Component.{Component}
 use Rattle.lines.specs.Lines.{nameByte, allBytes}
 use Rattle.list_rules.specs.Head.{headLines}
-use Rattle.list_rules.specs.Columns.{columnCount, rowWidth, rowPitch, columnTable, columnEntry, columnStart, columnWidth, columnPart, nameOf, columnFault, componentOf}
+use Rattle.list_rules.specs.Columns.{columnCount, bytesInRow, rowPitch, columnTable, columnEntry, columnStart, columnWidth, columnPart, nameOf, columnFault, lineComponent}
 use Rattle.list_rules.specs.Reading.{startOf, rowStart, rowCount, rowOf, wrongRow, columnPlace, componentRead, nameFrom}
 use Rattle.list_rules.specs.Writing.{nameAt, nameFault}
 use Rattle.list_rows.specs.Rows.{rowFrom}
@@ -22,14 +22,14 @@ use Rattle.list_rows.specs.Rows.{rowFrom}
 -- The j-th component line.
 
 module _ (text : List ℕ) (start j : ℕ) where
-  pub part-row : take (start + rowPitch * j + rowWidth - (start + rowPitch * j)) (drop (start + rowPitch * j) text) ≡ rowFrom text start j
+  pub part-row : take (start + rowPitch * j + bytesInRow - (start + rowPitch * j)) (drop (start + rowPitch * j) text) ≡ rowFrom text start j
   unfolding rowFrom
-  part-row = rw (add-sub-cancel-left (start + rowPitch * j) rowWidth)
+  part-row = rw (add-sub-cancel-left (start + rowPitch * j) bytesInRow)
 
-  pub row-long : start + (rowPitch * j + rowWidth) ≤ length text → {l : List ℕ} → l ≡ rowFrom text start j → length l ≡ rowWidth
+  pub row-long : start + (rowPitch * j + bytesInRow) ≤ length text → {l : List ℕ} → l ≡ rowFrom text start j → length l ≡ bytesInRow
   unfolding rowFrom
   row-long h e =
-      ap length e ∙ length-take-le rowWidth (drop (start + rowPitch * j) text) (omega (arith, length-drop (start + rowPitch * j) text))
+      ap length e ∙ length-take-le bytesInRow (drop (start + rowPitch * j) text) (omega (arith, length-drop (start + rowPitch * j) text))
 
   module _ (first : start ≡ startOf text headLines) where
     pub row-is : {l : List ℕ} → l ≡ rowFrom text start j → l ≡ rowOf text j
@@ -55,9 +55,9 @@ pub wrong-here : (text : List ℕ) (j : ℕ) {k : ℕ} → k ≡ columnFault (ro
 unfolding wrongAt
 wrong-here text j e = ap (λ (x : ℕ). ltb x columnCount) e
 
-pub component-read : (text : List ℕ) (j : ℕ) {l : List ℕ} {x : Component} → l ≡ rowOf text j → x ≡ componentOf l → x ≡ componentRead text j
+pub component-read : (text : List ℕ) (j : ℕ) {l : List ℕ} {x : Component} → l ≡ rowOf text j → x ≡ lineComponent l → x ≡ componentRead text j
 unfolding componentRead
-component-read text j e f = f ∙ ap componentOf e
+component-read text j e f = f ∙ ap lineComponent e
 
 -- The name of the j-th component line behind a place.
 
@@ -79,7 +79,7 @@ module _ (text : List ℕ) (first j : ℕ) where
   name-part h {a} e =
       let p : ℕ = first + rowPitch * j in
       rw (add-sub-cancel-left (p + a) 8, e, le-leb (p + rowPitch) (length text) h)
-      (sym (part-within 7 8 rowWidth (drop p text) (omega arith) ∙ ap (take 8) (drop-drop 7 p text)))
+      (sym (part-within 7 8 bytesInRow (drop p text) (omega arith) ∙ ap (take 8) (drop-drop 7 p text)))
 
 -- The names of a list.
 

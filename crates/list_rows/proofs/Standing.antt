@@ -11,7 +11,7 @@ use Rattle.sequences.proofs.Below.{first-none, first-more, first-here}
 use Rattle.lines.specs.Lines.{lineLen, ended, firstLine}
 use Rattle.lines.proofs.Laws.{first-length, line-room, part-ended, part-open, part-first}
 use Rattle.list_rules.specs.Head.{headLines}
-use Rattle.list_rules.specs.Columns.{rowWidth, rowPitch, isRow}
+use Rattle.list_rules.specs.Columns.{bytesInRow, rowPitch, isRow}
 use Rattle.list_rules.specs.Reading.{startOf, lineOf, lineStands, rowStart, rowCount}
 
 -- What the code's tests say of a line at a place, n its length.
@@ -26,9 +26,9 @@ module _ (test : List ℕ → Bool) (text : List ℕ) (at n : ℕ) (e : n ≡ li
   stands-ended h f = f ∙ rw (part-first text at n e, part-ended text at n e h)
 
 -- a component line and its end take 50 bytes
-row-length : (l : List ℕ) → isRow l ≡ true → length l ≡ rowWidth
+row-length : (l : List ℕ) → isRow l ≡ true → length l ≡ bytesInRow
 unfolding isRow
-row-length l e = eqb-true (length l) rowWidth (and-eq-true-iff _ _ .0 e .0)
+row-length l e = eqb-true (length l) bytesInRow (and-eq-true-iff _ _ .0 e .0)
 
 pub row-next : (text : List ℕ) (at : ℕ) → at ≤ length text → lineStands isRow text at ≡ true → at + rowPitch ≤ length text
 unfolding lineStands lineOf ended

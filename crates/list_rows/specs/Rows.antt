@@ -5,12 +5,12 @@ use lib.ListN.{take, drop}
 use Rattle.sequences.specs.Below.{joinBelow}
 use Rattle.layout.specs.Components.{componentAt}
 use Rattle.lines.specs.Lines.{lineText}
-use Rattle.list_rules.specs.Columns.{rowWidth, rowPitch, rowText}
+use Rattle.list_rules.specs.Columns.{bytesInRow, rowPitch, rowText}
 use Rattle.list_rules.specs.Writing.{nameAt}
 
 -- the j-th component line behind a place
 unfoldable pub rowFrom : List ℕ → ℕ → ℕ → List ℕ
-rowFrom text start j = take rowWidth (drop (start + rowPitch * j) text)
+rowFrom text start j = take bytesInRow (drop (start + rowPitch * j) text)
 
 -- the first n component lines as they are written
 unfoldable pub rowBytes : List ℕ → List ℕ → ℕ → List ℕ

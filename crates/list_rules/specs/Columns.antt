@@ -15,8 +15,8 @@ abbrev pub columnCount : ℕ
 columnCount = 6
 
 -- a component line's bytes, and with its 0D 0A
-abbrev pub rowWidth : ℕ
-rowWidth = 48
+abbrev pub bytesInRow : ℕ
+bytesInRow = 48
 
 abbrev pub rowPitch : ℕ
 rowPitch = 50
@@ -67,7 +67,7 @@ isUsed flag k = cond (ltb (columnEntry k 4) 6) (entry flag (columnEntry k 4)) tr
 
 -- the line has its width and its bars
 unfoldable pub isRow : List ℕ → Bool
-isRow l = eqb (length l) rowWidth && allBelow (λ k. eqb (getD l (columnStart k + columnWidth k) 0) 124) columnCount
+isRow l = eqb (length l) bytesInRow && allBelow (λ k. eqb (getD l (columnStart k + columnWidth k) 0) 124) columnCount
 
 unfoldable pub columnPart : ℕ → List ℕ → List ℕ
 columnPart k l = take (columnWidth k) (drop (columnStart k) l)
@@ -90,8 +90,8 @@ unfoldable pub columnFault : List ℕ → ℕ
 columnFault l = firstBelow (λ k. not (isColumn (flagOf l) k (columnPart k l))) columnCount
 
 -- the component that the line says
-unfoldable pub componentOf : List ℕ → Component
-componentOf l =
+unfoldable pub lineComponent : List ℕ → Component
+lineComponent l =
     record {
       code = columnValue (flagOf l) 0 (columnPart 0 l);
       quantity = columnValue (flagOf l) 2 (columnPart 2 l);

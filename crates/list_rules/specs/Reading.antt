@@ -17,7 +17,7 @@ use Rattle.digits.specs.Digits.{figureOf}
 use Rattle.lines.specs.Lines.{ended, firstLine, nextAt, same}
 use Rattle.list_rules.specs.declared.ListFields.{ListFields}
 use Rattle.list_rules.specs.Head.{fieldCount, headLines, fieldName, fieldForm, isField, isHeadLine, lettersOf, endWord}
-use Rattle.list_rules.specs.Columns.{columnCount, rowWidth, rowPitch, columnStart, isRow, columnFault, componentOf, nameOf}
+use Rattle.list_rules.specs.Columns.{columnCount, bytesInRow, rowPitch, columnStart, isRow, columnFault, lineComponent, nameOf}
 use Rattle.list_rules.specs.Fields.{fieldsFrom, fieldsInRange, blankFields}
 
 -- ---- lines: where line k of the text starts, and whether it has its end and is the line to stand there
@@ -70,10 +70,10 @@ wrongField text = firstBelow (λ k. not (isField k (fieldOf text k))) fieldCount
 
 -- ---- the j-th component line, its component and its name
 unfoldable pub rowOf : List ℕ → ℕ → List ℕ
-rowOf text j = take rowWidth (drop (rowStart text j) text)
+rowOf text j = take bytesInRow (drop (rowStart text j) text)
 
 unfoldable pub componentRead : List ℕ → ℕ → Component
-componentRead text j = componentOf (rowOf text j)
+componentRead text j = lineComponent (rowOf text j)
 
 -- the first component line with a column at fault, their count where there is none
 unfoldable pub wrongRow : List ℕ → ℕ
@@ -101,8 +101,8 @@ unfoldable pub readFault : List ℕ → ℕ
 readFault text =
     componentFault (fieldsRead text .fund .«first_code») (placesOf (componentRead text) (rowCount text)) (rowCount text)
 
-unfoldable pub valueChecks : List ℕ → List Check
-valueChecks text =
+unfoldable pub rangeChecks : List ℕ → List Check
+rangeChecks text =
     check (not (isCounted (fieldsRead text .count) (rowCount text))) 20 0
     ∷ check (not (leb 1 (figureRead text 0 .size) && fieldsInRange (fieldsRead text))) 2 0
     ∷ check (ltb (readFault text) (rowCount text)) 3 (readFault text)
@@ -111,7 +111,7 @@ valueChecks text =
 -- the tests of reading into a lent component run of so many numbers
 unfoldable pub readChecks : List ℕ → ℕ → List Check
 readChecks text room =
-    shapeChecks text ++ (fieldChecks text ++ (valueChecks text ++ (check (ltb room (componentWidth * rowCount text)) 16 0 ∷ [])))
+    shapeChecks text ++ (fieldChecks text ++ (rangeChecks text ++ (check (ltb room (componentWidth * rowCount text)) 16 0 ∷ [])))
 
 unfoldable pub readReply : List ℕ → ℕ → Reply
 readReply text room = answered (readChecks text room) (rowCount text)
@@ -140,4 +140,4 @@ lettersRead text = cond (lineStands (isHeadLine 0) text 0) (lettersOf (lineOf te
 -- the name of the j-th component line behind a place, where the text has so many bytes
 unfoldable pub nameFrom : List ℕ → ℕ → ℕ → List ℕ
 nameFrom text first j =
-    cond (leb (first + rowPitch * j + rowPitch) (length text)) (nameOf (take rowWidth (drop (first + rowPitch * j) text))) []
+    cond (leb (first + rowPitch * j + rowPitch) (length text)) (nameOf (take bytesInRow (drop (first + rowPitch * j) text))) []

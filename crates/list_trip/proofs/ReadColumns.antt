@@ -20,8 +20,8 @@ use Rattle.digits.specs.declared.Form.{Form}
 use Rattle.digits.specs.declared.Figure.{Figure}
 use Rattle.digits.specs.Digits.{plain, cap, capped, from, blanks, isDigit, allDigits, isWhole, isPlain, plainSize, hasMinus, isSigned, signedFigure, trimmed, isNumber, figureOf, numberText, allBlank}
 use Rattle.lines.specs.Lines.{nameByte, allBytes}
-use Rattle.list_rules.specs.Columns.{columnCount, rowWidth, columnTable, columnEntry, columnStart, columnWidth, columnForm, holdsName, isUsed, isRow}
-use Rattle.list_rules.specs.Columns.{columnPart, isColumn, columnValue, flagOf, columnFault, componentOf, nameOf, valueAt, columnText, rowText}
+use Rattle.list_rules.specs.Columns.{columnCount, bytesInRow, columnTable, columnEntry, columnStart, columnWidth, columnForm, holdsName, isUsed, isRow}
+use Rattle.list_rules.specs.Columns.{columnPart, isColumn, columnValue, flagOf, columnFault, lineComponent, nameOf, valueAt, columnText, rowText}
 use Rattle.digits.proofs.Trip.{number-again, figure-sign, blank-is}
 use Rattle.list_trip.proofs.Below.{each-at, implied, join-same}
 use Rattle.list_trip.proofs.ReadRows.{row-facts}
@@ -51,7 +51,7 @@ unfolding allBelow sumBelow columnStart columnWidth columnEntry columnTable
 starts k h = eqb-true _ _ (all-at (λ i. eqb (columnStart i) (sumBelow (λ j. columnWidth j + 1) i)) columnCount refl k h)
 
 -- and they all are the line
-width-all : sumBelow (λ i. columnWidth i + 1) columnCount ≡ rowWidth
+width-all : sumBelow (λ i. columnWidth i + 1) columnCount ≡ bytesInRow
 unfolding sumBelow columnWidth columnEntry columnTable
 width-all = refl
 
@@ -64,7 +64,7 @@ row-parts l e =
     ∙ sym (parts-join columnWidth 124 l columnCount (le-of-eq (width-all ∙ sym (p .0)))
     (λ k h. ap (λ (s : ℕ). getD l (s + columnWidth k) 0) (sym (starts k h)) ∙ eqb-true _ _ (all-at _ columnCount (p .1) k h)))
     ∙ ap (λ (n : ℕ). take n l) width-all
-    ∙ take-all rowWidth l (le-of-eq (p .0))
+    ∙ take-all bytesInRow l (le-of-eq (p .0))
 
 -- each column has its width
 part-length : (l : List ℕ) (k : ℕ) → isRow l ≡ true → k < columnCount → length (columnPart k l) ≡ columnWidth k
@@ -139,8 +139,8 @@ module _ (l : List ℕ) (row : isRow l ≡ true) (fine : columnFault l ≡ colum
   -- a column that is used says its number, the flag's column the flag
   value-read : (k : ℕ) → k < columnCount → holdsName k ≡ false → isUsed (flagOf l) k ≡ true
       → isNumber (columnForm k) (columnPart k l) ≡ true
-      → valueAt (componentOf l) k ≡ figureOf (columnForm k) (columnPart k l) .size
-  unfolding valueAt componentOf columnValue holdsName columnEntry columnTable
+      → valueAt (lineComponent l) k ≡ figureOf (columnForm k) (columnPart k l) .size
+  unfolding valueAt lineComponent columnValue holdsName columnEntry columnTable
   value-read zero h n u e = rw u
   value-read (suc zero) h n u e = absurd (true≢false n)
   value-read (suc (suc zero)) h n u e = rw u
@@ -176,24 +176,24 @@ name-column : (k : ℕ) → k < columnCount → holdsName k ≡ true → k ≡ 1
 unfolding allBelow holdsName columnEntry columnTable
 name-column k h e = eqb-true k 1 (implied holdsName (λ i. eqb i 1) columnCount k refl h e)
 
-module _ (l : List ℕ) (g : ℕ) (row : isRow l ≡ true) (fine : columnFault l ≡ columnCount) (r : ComponentRanges g (componentOf l)) where
+module _ (l : List ℕ) (g : ℕ) (row : isRow l ≡ true) (fine : columnFault l ≡ columnCount) (r : ComponentRanges g (lineComponent l)) where
   -- a column by what it holds and whether it is used
   text-cases : (k : ℕ) (name used : Bool) → k < columnCount → holdsName k ≡ name → isUsed (flagOf l) k ≡ used
       → cond name (allBytes nameByte (columnPart k l)) (cond used (isNumber (columnForm k) (columnPart k l)) (allBlank (columnPart k l))) ≡ true
-      → cond name (nameOf l) (cond used (numberText (columnForm k) (plain (valueAt (componentOf l) k))) (replicate (columnWidth k) 32))
+      → cond name (nameOf l) (cond used (numberText (columnForm k) (plain (valueAt (lineComponent l) k))) (replicate (columnWidth k) 32))
       ≡ columnPart k l
   unfolding nameOf columnForm
   text-cases k true used h n u e = ap (λ (i : ℕ). columnPart i l) (sym (name-column k h n))
   text-cases k false true h n u e =
-      number-column (columnForm k) (columnPart k l) (valueAt (componentOf l) k) refl (part-length l k row h)
-      (values-small g (componentOf l) k r) e (value-read l row fine k h n u e)
+      number-column (columnForm k) (columnPart k l) (valueAt (lineComponent l) k) refl (part-length l k row h)
+      (values-small g (lineComponent l) k r) e (value-read l row fine k h n u e)
   text-cases k false false h n u e = blank-column (columnPart k l) (columnWidth k) (part-length l k row h) e
 
-  column-again : (k : ℕ) → k < columnCount → columnText (componentOf l) (nameOf l) k ≡ columnPart k l
-  unfolding columnText isColumn componentOf
+  column-again : (k : ℕ) → k < columnCount → columnText (lineComponent l) (nameOf l) k ≡ columnPart k l
+  unfolding columnText isColumn lineComponent
   column-again k h = text-cases k (holdsName k) (isUsed (flagOf l) k) h refl refl (column-fine l row fine k h)
 
   -- the line is written again
-  pub row-again : rowText (componentOf l) (nameOf l) ≡ l
+  pub row-again : rowText (lineComponent l) (nameOf l) ≡ l
   unfolding rowText
   row-again = join-same _ _ columnCount (λ k h. ap (λ (s : List ℕ). s ++ 124 ∷ []) (column-again k h)) ∙ row-parts l row

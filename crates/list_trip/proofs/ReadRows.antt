@@ -12,7 +12,7 @@ use Rattle.sequences.specs.Below.{joinBelow, allBelow}
 use Rattle.lines.specs.Lines.{lineLen, ended, firstLine, nextAt, lineText, same}
 use Rattle.lines.proofs.Laws.{first-length, line-bytes, ended-split, same-is}
 use Rattle.list_rules.specs.Head.{headLines, endWord}
-use Rattle.list_rules.specs.Columns.{columnCount, rowWidth, rowPitch, columnStart, columnWidth, isRow}
+use Rattle.list_rules.specs.Columns.{columnCount, bytesInRow, rowPitch, columnStart, columnWidth, isRow}
 use Rattle.list_rules.specs.Reading.{startOf, lineOf, lineStands, rowStart, rowCount, endStart, rowOf}
 use Rattle.list_trip.proofs.ReadTests.{Reads}
 
@@ -31,21 +31,21 @@ stands test text at = and-eq-true-iff (ended (drop at text)) (test (lineOf text 
 
 -- a component line has 48 bytes, and a bar behind each column
 pub row-facts : (l : List ℕ) → isRow l ≡ true
-    → (length l ≡ rowWidth) × (allBelow (λ k. eqb (getD l (columnStart k + columnWidth k) 0) 124) columnCount ≡ true)
+    → (length l ≡ bytesInRow) × (allBelow (λ k. eqb (getD l (columnStart k + columnWidth k) 0) 124) columnCount ≡ true)
 unfolding isRow
-row-facts l e = let p = and-eq-true-iff (eqb (length l) rowWidth) _ .0 e in (eqb-true _ _ (p .0), p .1)
+row-facts l e = let p = and-eq-true-iff (eqb (length l) bytesInRow) _ .0 e in (eqb-true _ _ (p .0), p .1)
 
 -- the component line at a place is the 48 bytes from there on
-line-is : (text : List ℕ) (at : ℕ) → isRow (lineOf text at) ≡ true → lineLen (drop at text) ≡ rowWidth
+line-is : (text : List ℕ) (at : ℕ) → isRow (lineOf text at) ≡ true → lineLen (drop at text) ≡ bytesInRow
 unfolding lineOf
 line-is text at e = sym (first-length (drop at text)) ∙ row-facts _ e .0
 
-pub row-is : (text : List ℕ) (at : ℕ) → isRow (lineOf text at) ≡ true → lineOf text at ≡ take rowWidth (drop at text)
+pub row-is : (text : List ℕ) (at : ℕ) → isRow (lineOf text at) ≡ true → lineOf text at ≡ take bytesInRow (drop at text)
 unfolding lineOf firstLine
 row-is text at e = ap (λ (n : ℕ). take n (drop at text)) (line-is text at e)
 
 -- and with its end the 50
-row-bytes : (text : List ℕ) (at : ℕ) → lineStands isRow text at ≡ true → take rowPitch (drop at text) ≡ lineText (take rowWidth (drop at text))
+row-bytes : (text : List ℕ) (at : ℕ) → lineStands isRow text at ≡ true → take rowPitch (drop at text) ≡ lineText (take bytesInRow (drop at text))
 unfolding lineOf
 row-bytes text at e =
     let p = stands isRow text at e in

@@ -18,7 +18,7 @@ use Rattle.list_rules.specs.Head.{fieldCount, headLines, isField, isHeadLine, e
 use Rattle.list_rules.specs.Columns.{columnCount, isRow, columnFault}
 use Rattle.list_rules.specs.Fields.{fieldsInRange}
 use Rattle.list_rules.specs.Reading.{startOf, lineStands, wrongLine, rowStart, rowCount, endStart, shapeChecks, fieldOf, figureRead, wrongField}
-use Rattle.list_rules.specs.Reading.{rowOf, wrongRow, fieldChecks, fieldsRead, isCounted, readFault, valueChecks, readChecks, readReply}
+use Rattle.list_rules.specs.Reading.{rowOf, wrongRow, fieldChecks, fieldsRead, isCounted, readFault, rangeChecks, readChecks, readReply}
 use Rattle.list_trip.proofs.Below.{first-before}
 
 pub record Reads (text : List ℕ) : Type 0 where
@@ -65,7 +65,7 @@ module _ (text : List ℕ) where
 
   -- a text is read where all this is so
   pub reads : (room : ℕ) → isAccepted (readReply text room) ≡ true → Reads text
-  unfolding readReply readChecks shapeChecks fieldChecks valueChecks
+  unfolding readReply readChecks shapeChecks fieldChecks rangeChecks
   reads room e =
       let p = all-passed (readChecks text room) (rowCount text) tt e in
       let q = p .1 .1 .1 in

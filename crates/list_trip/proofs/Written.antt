@@ -20,7 +20,7 @@ use Rattle.digits.specs.declared.Figure.{Figure}
 use Rattle.list_rules.specs.declared.ListFields.{ListFields}
 use Rattle.list_rules.specs.Fields.{figureAt, fieldsInRange}
 use Rattle.list_rules.specs.Reading.{rowCount, shapeChecks, fieldChecks, rowOf, componentRead, figureRead, fieldsRead}
-use Rattle.list_rules.specs.Reading.{isCounted, readFault, valueChecks, readChecks, readReply, componentsRun, nameRead}
+use Rattle.list_rules.specs.Reading.{isCounted, readFault, rangeChecks, readChecks, readReply, componentsRun, nameRead}
 use Rattle.list_rules.specs.Columns.{nameOf}
 use Rattle.list_rules.specs.Writing.{Listing, nameAt, textOf}
 use Rattle.list_trip.specs.Trips.{namesRead, listRead, WrittenReads}
@@ -79,10 +79,10 @@ module _ (l : Listing) (eight : length (l .fields .fund .limits) ≡ 8) (p : Pas
       (ap fieldsInRange fields-there ∙ p .ranges)
 
   -- 20, 2 and 3 pass
-  values-pass : passes (valueChecks (textOf l)) ≡ true
-  unfolding valueChecks
+  values-pass : passes (rangeChecks (textOf l)) ≡ true
+  unfolding rangeChecks
   values-pass =
-      passes-all (valueChecks (textOf l))
+      passes-all (rangeChecks (textOf l))
       (ap not counted, (ap not in-range, (le-ltb _ _ (le-of-eq (sym no-fault)), tt)))
 
   -- all of them, with room for the run
@@ -91,7 +91,7 @@ module _ (l : Listing) (eight : length (l .fields .fund .limits) ≡ 8) (p : Pas
   reply-there room h =
       answered-next (shapeChecks (textOf l)) _ _ shape-passes
       ∙ answered-next (fieldChecks (textOf l)) _ _ fields-pass
-      ∙ answered-next (valueChecks (textOf l)) _ _ values-pass
+      ∙ answered-next (rangeChecks (textOf l)) _ _ values-pass
       ∙ answered-passed (check (ltb room (componentWidth * rowCount (textOf l))) 16 0 ∷ []) (rowCount (textOf l))
       (passes-all _ (le-ltb room (componentWidth * rowCount (textOf l)) (omega (arith, count-there l p)), tt))
       ∙ ap (λ (n : ℕ). reply 0 0 n) (count-there l p)

@@ -17,7 +17,7 @@ use Rattle.digits.specs.Digits.{plain, fixed, wholeText, plainText, signedText,
 use Rattle.lines.specs.Lines.{nameByte, allBytes}
 use Rattle.lines.proofs.Laws.{noCR, noCR-append, names-noCR}
 use Rattle.list_rules.specs.Columns.{columnTable, columnEntry, columnStart, columnWidth, columnForm, holdsName, isUsed, isRow, columnPart}
-use Rattle.list_rules.specs.Columns.{isColumn, columnValue, flagOf, columnFault, componentOf, nameOf, valueAt, columnText, rowText}
+use Rattle.list_rules.specs.Columns.{isColumn, columnValue, flagOf, columnFault, lineComponent, nameOf, valueAt, columnText, rowText}
 use Rattle.digits.proofs.Trip.{number-read, figure-read, number-width, blank-all}
 use Rattle.list_trip.proofs.WrittenLines.{parts-noCR}
 use Rattle.list_trip.proofs.WrittenHead.{number-noCR}
@@ -72,7 +72,7 @@ pub record RowWritten (c : Component) (name : List ℕ) : Type 0 where
   pub clean : noCR (rowText c name) ≡ true
   pub stands : isRow (rowText c name) ≡ true
   pub fault : columnFault (rowText c name) ≡ 6
-  pub component : componentOf (rowText c name) ≡ c
+  pub component : lineComponent (rowText c name) ≡ c
   pub name-read : nameOf (rowText c name) ≡ name
 
 module _ (g : ℕ) (c : Component) (r : ComponentRanges g c)
@@ -153,8 +153,8 @@ module _ (g : ℕ) (c : Component) (r : ComponentRanges g c)
       case false p = sym (column-unused g c r k h p)
 
   -- so the line says the component and the name
-  row-component : componentOf (rowText c name) ≡ c
-  unfolding componentOf valueAt holdsName columnEntry columnTable
+  row-component : lineComponent (rowText c name) ≡ c
+  unfolding lineComponent valueAt holdsName columnEntry columnTable
   row-component =
       λ i. record {
         code = value-is 0 (omega arith) refl i;

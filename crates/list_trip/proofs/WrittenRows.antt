@@ -13,7 +13,7 @@ use Rattle.layout.specs.Components.{componentAt}
 use Rattle.lines.specs.Lines.{nextAt, lineText, same}
 use Rattle.lines.proofs.Laws.{noCR, same-refl, length-lineText}
 use Rattle.list_rules.specs.Head.{endWord}
-use Rattle.list_rules.specs.Columns.{isRow, columnFault, componentOf, nameOf}
+use Rattle.list_rules.specs.Columns.{isRow, columnFault, lineComponent, nameOf}
 use Rattle.list_rules.specs.Reading.{startOf, lineStands, rowStart, rowCount, endStart, rowOf, componentRead, wrongRow}
 use Rattle.list_rules.specs.Writing.{Listing, nameAt, rowsText, textOf}
 use Rattle.list_trip.proofs.WrittenLines.{part-drop, part-end, stands-there, next-there}
@@ -115,7 +115,7 @@ module _ (l : Listing) (p : Passing l) where
   -- the components and the names are the ones written
   pub component-there : (j : ℕ) → j < l .fields .count → componentRead (textOf l) j ≡ componentAt (l .run) j
   unfolding componentRead
-  component-there j h = ap componentOf (row-there j h) ∙ row-fine j h .component
+  component-there j h = ap lineComponent (row-there j h) ∙ row-fine j h .component
 
   pub name-there : (j : ℕ) → j < l .fields .count → nameOf (rowOf (textOf l) j) ≡ nameAt (l .names) j
   name-there j h = ap nameOf (row-there j h) ∙ row-fine j h .name-read

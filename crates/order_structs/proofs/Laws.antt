@@ -20,7 +20,7 @@ use Rattle.rules.specs.declared.Ask.{Ask}
 use Rattle.rules.specs.declared.OrderAnswer.{OrderAnswer}
 use Rattle.rules.specs.declared.OrderAnswer.the-variants.{Made, Refused}
 use Rattle.rules.specs.Records.{recordOf}
-use Rattle.rules.specs.Replies.{orderReply, ifAccepted}
+use Rattle.rules.specs.Replies.{orderAnswerReply, ifAccepted}
 use Rattle.rules.specs.Orders.{creation, redemption}
 use Rattle.rules.specs.Sound.{onSoundDay}
 use Rattle.rules.specs.Creation.{creationRecords, creationChecks, creationReply}
@@ -86,11 +86,11 @@ unfolding tabulate
 none-read flat = refl
 
 -- a refused answer has no records, and an accepted one the count in the reply
-count-none : (x : OrderAnswer) (r : Reply) → orderReply x ≡ r → isAccepted r ≡ false → madeCount x ≡ 0
+count-none : (x : OrderAnswer) (r : Reply) → orderAnswerReply x ≡ r → isAccepted r ≡ false → madeCount x ≡ 0
 count-none (Made n) r e f = absurd (false≢true (sym f ∙ is-accepted n r e))
 count-none (Refused why) r e f = refl
 
-count-made : (x : OrderAnswer) (r : Reply) → orderReply x ≡ r → isAccepted r ≡ true → madeCount x ≡ r .value
+count-made : (x : OrderAnswer) (r : Reply) → orderAnswerReply x ≡ r → isAccepted r ≡ true → madeCount x ≡ r .value
 count-made (Made n) r e f = ap (λ (z : Reply). z .value) e
 count-made (Refused why) r e f = absurd (false≢true (sym (is-refused why r e) ∙ f))
 
@@ -140,7 +140,7 @@ module _ (d : Day) (b ps : List ℕ) (ask : Ask) where
         ap (λ (t : List ℕ). t ++ drop (recordWidth * n) flat) is
         ∙ append-assoc (flatten rs) (drop (recordWidth * length rs) front) (drop (recordWidth * n) flat)
 
-    pub settling : orderReply answer ≡ askedReply d b ps ask (roomIn front) → after ≡ askedBook d b ps ask (roomIn front) → left ≡ askedList d b ps ask front
+    pub settling : orderAnswerReply answer ≡ askedReply d b ps ask (roomIn front) → after ≡ askedBook d b ps ask (roomIn front) → left ≡ askedList d b ps ask front
         → Settling d b ps ask room (record { answer = answer; count = count }) after whole
     settling replies book list = go (isAccepted (askedReply d b ps ask room)) refl
       where
@@ -196,5 +196,5 @@ module _ (d : Day) (b ps : List ℕ) (ask : Ask) where
   -- what the whole call leaves
   pub order-leaves : (list : List Record) (s : Settled) (after flat : List ℕ) (left : List Record)
       → Settling d b ps ask (length list) s after flat → left ≡ withFirst (s .count) flat list
-      → (orderReply (s .answer) ≡ askedReply d b ps ask (length list)) × (after ≡ askedBook d b ps ask (length list)) × (left ≡ madeRecords d b ps ask list)
+      → (orderAnswerReply (s .answer) ≡ askedReply d b ps ask (length list)) × (after ≡ askedBook d b ps ask (length list)) × (left ≡ madeRecords d b ps ask list)
   order-leaves list s after flat left t e = (t .replies, t .book, e ∙ first-is list s after flat t)

@@ -9,7 +9,7 @@ use Rattle.layout.specs.Records.{recordAt}
 use Rattle.rules.specs.declared.Ask.{Ask}
 use Rattle.rules.specs.declared.OrderAnswer.{OrderAnswer}
 use Rattle.rules.specs.declared.OrderAnswer.the-variants.{Made, Refused}
-use Rattle.rules.specs.Replies.{orderReply, ifAccepted}
+use Rattle.rules.specs.Replies.{orderAnswerReply, ifAccepted}
 use Rattle.rules.specs.Kinds.{askedReply, askedBook}
 use Rattle.order_structs.specs.declared.Settled.{Settled}
 use Rattle.order_structs.specs.Made.{recordsOf}
@@ -29,7 +29,7 @@ madeCount (Refused why) = 0
 
 -- the answer and the book are the order's, and its records stand at the front of the flat run
 pub record Settling (d : Day) (b ps : List ℕ) (ask : Ask) (room : ℕ) (s : Settled) (after flat : List ℕ) : Type 0 where
-  pub replies : orderReply (s .answer) ≡ askedReply d b ps ask room
+  pub replies : orderAnswerReply (s .answer) ≡ askedReply d b ps ask room
   pub book : after ≡ askedBook d b ps ask room
   pub listed : s .count ≤ room
   pub held : s .count ≤ mostRecords

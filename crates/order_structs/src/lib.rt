@@ -6,7 +6,7 @@ ghost use mathlib.Core.List.{_++_};
 ghost use lib.ListN.{length, take, drop};
 ghost use Rattle.layout.specs.Places.{recordWidth};
 ghost use Rattle.layout.specs.Day.{dayAt};
-ghost use Rattle.rules.specs.Replies.{orderReply};
+ghost use Rattle.rules.specs.Replies.{orderAnswerReply};
 ghost use Rattle.rules.specs.Kinds.{askedReply, askedBook};
 ghost use Rattle.order_structs.specs.Made.{knownKind, madeRecords};
 ghost use Rattle.order_structs.specs.Stored.{pushed, withFirst};
@@ -136,7 +136,7 @@ pub fn order(
     ask: Ask,
     list: &mut [Record],
 ) -> OrderAnswer
-    ensures { λ r. ⌜ (orderReply r ≡ askedReply (dayAt (now (day .entry))) (now (book .entry)) (now (prices .entry)) ask (length (now (list .entry)))) × (now (book .exit) ≡ askedBook (dayAt (now (day .entry))) (now (book .entry)) (now (prices .entry)) ask (length (now (list .entry)))) × (now (list .exit) ≡ madeRecords (dayAt (now (day .entry))) (now (book .entry)) (now (prices .entry)) ask (now (list .entry))) ⌝ }
+    ensures { λ r. ⌜ (orderAnswerReply r ≡ askedReply (dayAt (now (day .entry))) (now (book .entry)) (now (prices .entry)) ask (length (now (list .entry)))) × (now (book .exit) ≡ askedBook (dayAt (now (day .entry))) (now (book .entry)) (now (prices .entry)) ask (length (now (list .entry)))) × (now (list .exit) ≡ madeRecords (dayAt (now (day .entry))) (now (book .entry)) (now (prices .entry)) ask (now (list .entry))) ⌝ }
 {
     let mut flat = [0u64; FLAT_LENGTH];
     let s = settle(day, book, prices, ask, list.len(), &mut flat);
@@ -160,7 +160,7 @@ fn order_in_room(
     records: [Record; MOST_RECORDS],
 ) -> Listed
     requires { ⌜ room ≤ mostRecords ⌝ }
-    ensures { λ r. ⌜ (orderReply (r .answer) ≡ askedReply (dayAt (now (day .entry))) (now (book .entry)) (now (prices .entry)) ask room) × (now (book .exit) ≡ askedBook (dayAt (now (day .entry))) (now (book .entry)) (now (prices .entry)) ask room) × (r .records ≡ madeRecords (dayAt (now (day .entry))) (now (book .entry)) (now (prices .entry)) ask (take room records) ++ drop room records) ⌝ }
+    ensures { λ r. ⌜ (orderAnswerReply (r .answer) ≡ askedReply (dayAt (now (day .entry))) (now (book .entry)) (now (prices .entry)) ask room) × (now (book .exit) ≡ askedBook (dayAt (now (day .entry))) (now (book .entry)) (now (prices .entry)) ask room) × (r .records ≡ madeRecords (dayAt (now (day .entry))) (now (book .entry)) (now (prices .entry)) ask (take room records) ++ drop room records) ⌝ }
 {
     let mut list = records;
     let answer = order(day, book, prices, ask, &mut list[..room]);
@@ -179,7 +179,7 @@ pub fn order_by_value(
     room: usize,
     records: [Record; MOST_RECORDS],
 ) -> Listed
-    ensures { λ r. ⌜ orderReply (r .answer) ≡ askedReply (dayAt (now (day .entry))) (now (book .entry)) (now (prices .entry)) ask (lentRecords room) ⌝ }
+    ensures { λ r. ⌜ orderAnswerReply (r .answer) ≡ askedReply (dayAt (now (day .entry))) (now (book .entry)) (now (prices .entry)) ask (lentRecords room) ⌝ }
     ensures { λ r. ⌜ r .records ≡ madeRecords (dayAt (now (day .entry))) (now (book .entry)) (now (prices .entry)) ask (take (lentRecords room) records) ++ drop (lentRecords room) records ⌝ }
     ensures book { λ r. ⌜ now (book .exit) ≡ askedBook (dayAt (now (day .entry))) (now (book .entry)) (now (prices .entry)) ask (lentRecords room) ⌝ }
 {

@@ -7,7 +7,7 @@ ghost use Rattle.layout.specs.Places.{basketWidth, mostComponents};
 ghost use Rattle.layout.specs.Day.{dayOf};
 ghost use Rattle.rules.specs.declared.OrderAnswer.the-variants.{Refused};
 ghost use Rattle.layout.specs.Book.{cash, headAt, behindLine};
-ghost use Rattle.rules.specs.Replies.{refusalReply, answerReply, orderReply, ifAccepted};
+ghost use Rattle.rules.specs.Replies.{refusalReply, answerReply, orderAnswerReply, ifAccepted};
 ghost use Rattle.rules.specs.Orders.{mostBaskets, baskets};
 ghost use Rattle.rules.specs.Creation.{available};
 ghost use Rattle.rules.specs.Kinds.{byKind, total, noCash, askedCash};
@@ -73,7 +73,7 @@ fn cash_refusal(kind: usize, n: usize) -> Refusal
 
 // The tests 10 or 17 at cash, and 16.
 fn last_answer(kind: usize, n: usize, held: u64, due: u64, room: usize, count: usize) -> OrderAnswer
-    ensures { λ r. ⌜ orderReply r ≡ answered (lastTests (cashNumber kind) (cashPlace kind n) held due room count) count ⌝ }
+    ensures { λ r. ⌜ orderAnswerReply r ≡ answered (lastTests (cashNumber kind) (cashPlace kind n) held due room count) count ⌝ }
 {
     if held < due {
         return OrderAnswer::Refused(cash_refusal(kind, n));
@@ -119,7 +119,7 @@ fn money_answer(
     requires { ⌜ Priceable (dayOf d (now basket)) (now prices) ⌝ }
     requires { ⌜ (m ≤ mostBaskets) × (d .fund .«max_cash_ratio» .0 ≤ 100_000) × (t .«stock_records» ≤ mostComponents) × (total (t .cash) ≤ 12_000_000_000_000_000_000) ⌝ }
     requires { ⌜ length (now basket) ≡ basketWidth ⌝ }
-    ensures { λ r. ⌜ orderReply r ≡ answered (moneyTests (dayOf d (now (basket .entry))) (now (prices .entry)) kind m t held room) (recordCount t) ⌝ }
+    ensures { λ r. ⌜ orderAnswerReply r ≡ answered (moneyTests (dayOf d (now (basket .entry))) (now (prices .entry)) kind m t held room) (recordCount t) ⌝ }
 {
     let n = d.count;
     let due = t.cash.total();
@@ -157,7 +157,7 @@ fn order_from(
     requires { ⌜ (m ≤ mostBaskets) × (d .fund .«max_cash_ratio» .0 ≤ 100_000) × (t .«stock_records» ≤ mostComponents) × (total (t .cash) ≤ 12_000_000_000_000_000_000) ⌝ }
     requires { ⌜ (behindLine (d .count) ≤ length (now stretch)) × (available (now stretch) (d .count) < 2 ^ 64) ⌝ }
     requires { ⌜ length (now basket) ≡ basketWidth ⌝ }
-    ensures { λ r. ⌜ orderReply r ≡ answered (orderTests (dayOf d (now (basket .entry))) (now (prices .entry)) (ask .kind) m t (available (now (stretch .entry)) (d .count)) (ask .units) held room) (recordCount t) ⌝ }
+    ensures { λ r. ⌜ orderAnswerReply r ≡ answered (orderTests (dayOf d (now (basket .entry))) (now (prices .entry)) (ask .kind) m t (available (now (stretch .entry)) (d .count)) (ask .units) held room) (recordCount t) ⌝ }
 {
     match stock_answer(ask, d.count, stretch, t.short) {
         Answer::Done => money_answer(d, basket, prices, ask.kind, m, t, held, room),
@@ -193,7 +193,7 @@ pub fn order_means(
     requires { ⌜ Priceable (dayOf d (now basket)) (now prices) ⌝ }
     requires { ⌜ (m ≡ baskets (dayOf d (now basket)) (ask .units)) × (d .fund .«max_cash_ratio» .0 ≤ 100_000) × (available (now stretch) (d .count) ≤ 2_000_000_000_000_000_000) ⌝ }
     requires { ⌜ length (now basket) ≡ basketWidth ⌝ }
-    ensures { λ r. ⌜ orderReply (r .answer) ≡ meansAnswer (dayOf d (now (basket .entry))) (now (stretch .entry)) (now (fund .entry)) (now (prices .entry)) ask room ⌝ }
+    ensures { λ r. ⌜ orderAnswerReply (r .answer) ≡ meansAnswer (dayOf d (now (basket .entry))) (now (stretch .entry)) (now (fund .entry)) (now (prices .entry)) ask room ⌝ }
     ensures cash { λ r. ⌜ r .cash ≡ ifAccepted (meansAnswer (dayOf d (now (basket .entry))) (now (stretch .entry)) (now (fund .entry)) (now (prices .entry)) ask room) (askedCash (dayOf d (now (basket .entry))) (now (stretch .entry)) (now (prices .entry)) ask) noCash ⌝ }
 {
     let t = order_scan::order_scan(ask.kind, d, basket, stretch, fund, prices, m);

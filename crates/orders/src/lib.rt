@@ -7,7 +7,7 @@ ghost use Rattle.sequences.specs.Stretch.{stretchOf};
 ghost use Rattle.layout.specs.Places.{basketWidth, mostComponents};
 ghost use Rattle.layout.specs.Day.{dayOf};
 ghost use Rattle.layout.specs.Book.{widthOf, account};
-ghost use Rattle.rules.specs.Replies.{orderReply, ifAccepted};
+ghost use Rattle.rules.specs.Replies.{orderAnswerReply, ifAccepted};
 ghost use Rattle.rules.specs.Sound.{isSound};
 ghost use Rattle.rules.specs.Orders.{baskets};
 ghost use Rattle.layout.specs.Records.{roomIn, withRecords};
@@ -46,7 +46,7 @@ fn order_stage(
 ) -> Tested
     requires { ⌜ Formed (dayOf d (now basket)) (now book) (now prices) ask ⌝ }
     requires { ⌜ (m ≡ baskets (dayOf d (now basket)) (ask .units)) × (length (now basket) ≡ basketWidth) ⌝ }
-    ensures { λ r. ⌜ orderReply (r .answer) ≡ meansAnswer (dayOf d (now (basket .entry))) (account (dayOf d (now (basket .entry))) (now (book .entry)) (ask .account)) (account (dayOf d (now (basket .entry))) (now (book .entry)) 0) (now (prices .entry)) ask room ⌝ }
+    ensures { λ r. ⌜ orderAnswerReply (r .answer) ≡ meansAnswer (dayOf d (now (basket .entry))) (account (dayOf d (now (basket .entry))) (now (book .entry)) (ask .account)) (account (dayOf d (now (basket .entry))) (now (book .entry)) 0) (now (prices .entry)) ask room ⌝ }
     ensures cash { λ r. ⌜ r .cash ≡ ifAccepted (meansAnswer (dayOf d (now (basket .entry))) (account (dayOf d (now (basket .entry))) (now (book .entry)) (ask .account)) (account (dayOf d (now (basket .entry))) (now (book .entry)) 0) (now (prices .entry)) ask room) (askedCash (dayOf d (now (basket .entry))) (account (dayOf d (now (basket .entry))) (now (book .entry)) (ask .account)) (now (prices .entry)) ask) noCash ⌝ }
 {
     let n = d.count;
@@ -67,7 +67,7 @@ fn tested_in(
 ) -> Tested
     requires { ⌜ isSound (dayOf d (now basket)) (now book) (now prices) ≡ true ⌝ }
     requires { ⌜ (ask .kind < 2) × (m ≡ baskets (dayOf d (now basket)) (ask .units)) × (length (now basket) ≡ basketWidth) ⌝ }
-    ensures { λ r. ⌜ orderReply (r .answer) ≡ askedAnswer (dayOf d (now (basket .entry))) (now (book .entry)) (now (prices .entry)) ask room ⌝ }
+    ensures { λ r. ⌜ orderAnswerReply (r .answer) ≡ askedAnswer (dayOf d (now (basket .entry))) (now (book .entry)) (now (prices .entry)) ask room ⌝ }
     ensures cash { λ r. ⌜ r .cash ≡ ifAccepted (askedAnswer (dayOf d (now (basket .entry))) (now (book .entry)) (now (prices .entry)) ask room) (askedCash (dayOf d (now (basket .entry))) (account (dayOf d (now (basket .entry))) (now (book .entry)) (ask .account)) (now (prices .entry)) ask) noCash ⌝ }
 {
     let fund = d.fund;
@@ -88,7 +88,7 @@ pub fn order_tested(
 ) -> Tested
     requires { ⌜ isSound (dayOf d (now basket)) (now book) (now prices) ≡ true ⌝ }
     requires { ⌜ (ask .kind < 2) × (length (now basket) ≡ basketWidth) ⌝ }
-    ensures { λ r. ⌜ orderReply (r .answer) ≡ askedAnswer (dayOf d (now (basket .entry))) (now (book .entry)) (now (prices .entry)) ask room ⌝ }
+    ensures { λ r. ⌜ orderAnswerReply (r .answer) ≡ askedAnswer (dayOf d (now (basket .entry))) (now (book .entry)) (now (prices .entry)) ask room ⌝ }
     ensures cash { λ r. ⌜ r .cash ≡ ifAccepted (askedAnswer (dayOf d (now (basket .entry))) (now (book .entry)) (now (prices .entry)) ask room) (askedCash (dayOf d (now (basket .entry))) (account (dayOf d (now (basket .entry))) (now (book .entry)) (ask .account)) (now (prices .entry)) ask) noCash ⌝ }
 {
     let m = ask.units / d.fund.basket_size;
@@ -106,7 +106,7 @@ pub fn order(
 ) -> OrderAnswer
     requires { ⌜ isSound (dayOf d (now basket)) (now book) (now prices) ≡ true ⌝ }
     requires { ⌜ (ask .kind < 2) × (length (now basket) ≡ basketWidth) ⌝ }
-    ensures { λ r. ⌜ orderReply r ≡ askedAnswer (dayOf d (now (basket .entry))) (now (book .entry)) (now (prices .entry)) ask (roomIn (now (list .entry))) ⌝ }
+    ensures { λ r. ⌜ orderAnswerReply r ≡ askedAnswer (dayOf d (now (basket .entry))) (now (book .entry)) (now (prices .entry)) ask (roomIn (now (list .entry))) ⌝ }
     ensures book { λ r. ⌜ now (book .exit) ≡ ifAccepted (askedAnswer (dayOf d (now (basket .entry))) (now (book .entry)) (now (prices .entry)) ask (roomIn (now (list .entry)))) (askedMoves (dayOf d (now (basket .entry))) (now (prices .entry)) ask (now (book .entry))) (now (book .entry)) ⌝ }
     ensures list { λ r. ⌜ now (list .exit) ≡ ifAccepted (askedAnswer (dayOf d (now (basket .entry))) (now (book .entry)) (now (prices .entry)) ask (roomIn (now (list .entry)))) (withRecords (askedRecords (dayOf d (now (basket .entry))) (account (dayOf d (now (basket .entry))) (now (book .entry)) (ask .account)) (now (prices .entry)) ask) (now (list .entry))) (now (list .entry)) ⌝ }
 {

@@ -22,7 +22,7 @@ use Rattle.rules.specs.Opening.{Opening, cashOpened, heldOpened, openedT
 use Rattle.rules.specs.Opening.{totalFault, totalChecks, dayChecks, componentsOpened, lentSizesFit, openingReply, openedDay, openedStretch, openedBook}
 use Rattle.rules.specs.Sound.{opens, fundStill, isSound}
 use Rattle.rules.specs.Trade.{isInvestor}
-use Rattle.rules.specs.Value.{worthAt, lacksPrice, cashAdded, cashTaken, worthBefore, referenceValue, hasValue, valueChecks, worthReply}
+use Rattle.rules.specs.Value.{worthAt, lacksPrice, cashAdded, cashTaken, worthBefore, referenceValue, hasValue, valueChecks, valueReply}
 use Rattle.rules.specs.Records.{sideB, cashParts, cashRecords, stockRecord, orderRecords}
 use Rattle.layout.specs.Records.{flatten, roomIn, withRecords}
 use Rattle.rules.specs.Orders.{baskets, wholeBaskets, formChecks, switchAllows, withinLimit, countOf, fundCount, withinLimits, permissionChecks, need, shanghaiCash, otherCash}
@@ -116,7 +116,7 @@ abbrev redeemList : Opening → List ℕ
 redeemList o = redeemedList (openedDay o) (openedBook o) prices 1 basket lent
 
 abbrev valueOf : Opening → List ℕ
-valueOf o = three (worthReply (openedDay o) (openedBook o) prices)
+valueOf o = three (valueReply (openedDay o) (openedBook o) prices)
 
 abbrev cashOf : ℕ → List ℕ
 cashOf c = flatten (cashRecords 510_302 sideB c)
@@ -182,7 +182,7 @@ unfolding sumBelow anyBelow allBelow firstBelow joinBelow tabulate every inside 
     codeOf quantity column creationRate redemptionRate creationAmount redemptionAmount priceOf
     cashOpened heldOpened openedTotal openedCash daySizesFit sizeChecks fundChecks overAt totalFault totalChecks dayChecks
     componentsOpened placesOf lentSizesFit openingReply openedDay openedStretch openedBook
-    opens fundStill isSound isInvestor worthAt lacksPrice cashAdded cashTaken worthBefore referenceValue hasValue valueChecks worthReply
+    opens fundStill isSound isInvestor worthAt lacksPrice cashAdded cashTaken worthBefore referenceValue hasValue valueChecks valueReply
     cashParts cashRecords stockRecord orderRecords flatten roomIn withRecords
     baskets wholeBaskets formChecks switchAllows withinLimit countOf fundCount withinLimits permissionChecks need shanghaiCash otherCash
     available handedIn isShort missing missingWorth isMissing creationCash creationDue ratioPassed creationRecords firstShort creationMeans creationChecks creationReply createdList

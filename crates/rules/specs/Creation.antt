@@ -14,7 +14,7 @@ use Rattle.layout.specs.Day.{Day}
 use Rattle.layout.specs.declared.Record.{Record}
 use Rattle.rules.specs.Replies.{ifAccepted}
 use Rattle.layout.specs.Book.{cash, headAt, lotsAt, width, account}
-use Rattle.rules.specs.Lines.{movesStock, shortageInCash, creationRate, creationAmount, priceOf}
+use Rattle.rules.specs.Lines.{movesStock, cashForShortage, creationRate, creationAmount, priceOf}
 use Rattle.rules.specs.Sound.{onSoundDay}
 use Rattle.rules.specs.Value.{referenceValue, hasValue}
 use Rattle.rules.specs.Orders.{creation, baskets, formChecks, permissionChecks, need, shanghaiCash, otherCash, accountSide, fundSide}
@@ -31,7 +31,7 @@ handedIn d s m i = cond (movesStock d i) (min (need d m i) (available s i)) 0
 
 -- flag 0 short
 unfoldable pub isShort : Day → List ℕ → ℕ → ℕ → Bool
-isShort d s m i = every (movesStock d i ∷ not (shortageInCash d i) ∷ ltb (available s i) (need d m i) ∷ [])
+isShort d s m i = every (movesStock d i ∷ not (cashForShortage d i) ∷ ltb (available s i) (need d m i) ∷ [])
 
 -- the first component short, N where none is
 unfoldable pub firstShort : Day → List ℕ → ℕ → ℕ
@@ -39,7 +39,7 @@ firstShort d s m = firstBelow (isShort d s m) (d .count)
 
 -- flag 1: missing, and v = missing times price
 unfoldable pub missing : Day → List ℕ → ℕ → ℕ → ℕ
-missing d s m i = cond (shortageInCash d i) (need d m i - available s i) 0
+missing d s m i = cond (cashForShortage d i) (need d m i - available s i) 0
 
 unfoldable pub missingWorth : Day → List ℕ → List ℕ → ℕ → ℕ → ℕ
 missingWorth d s ps m i = missing d s m i * priceOf ps i

@@ -25,8 +25,8 @@ column d k i = Table.entry (componentOf d i .flag) k
 abbrev pub movesStock : Day → ℕ → Bool
 movesStock d i = column d Table.stockMoves i
 
-abbrev pub shortageInCash : Day → ℕ → Bool
-shortageInCash d i = column d Table.shortageInCash i
+abbrev pub cashForShortage : Day → ℕ → Bool
+cashForShortage d i = column d Table.shortageInCash i
 
 abbrev pub isShanghai : Day → ℕ → Bool
 isShanghai d i = column d Table.shanghai i

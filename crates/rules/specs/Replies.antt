@@ -38,13 +38,13 @@ abbrev pub answerReply : Answer → Reply
 answerReply Done = reply 0 0 0
 answerReply (Refused why) = refusalReply why
 
-abbrev pub orderReply : OrderAnswer → Reply
-orderReply (Made count) = reply 0 0 count
-orderReply (OrderRefused why) = refusalReply why
+abbrev pub orderAnswerReply : OrderAnswer → Reply
+orderAnswerReply (Made count) = reply 0 0 count
+orderAnswerReply (OrderRefused why) = refusalReply why
 
-abbrev pub valueReply : ValueAnswer → Reply
-valueReply (Worth v) = reply 0 0 (v .0)
-valueReply (ValueRefused why) = refusalReply why
+abbrev pub valueAnswerReply : ValueAnswer → Reply
+valueAnswerReply (Worth v) = reply 0 0 (v .0)
+valueAnswerReply (ValueRefused why) = refusalReply why
 
 -- what an accepted call leaves, and what was there where it is refused
 abbrev pub ifAccepted : {A : Type 0} → Reply → A → A → A

@@ -49,5 +49,5 @@ hasValue d ps =
 unfoldable pub valueChecks : Day → List ℕ → List Check
 valueChecks d ps = check (not (hasValue d ps)) 14 0 ∷ []
 
-unfoldable pub worthReply : Day → List ℕ → List ℕ → Reply
-worthReply d b ps = answered (onSoundDay d b ps (valueChecks d ps)) (referenceValue d ps)
+unfoldable pub valueReply : Day → List ℕ → List ℕ → Reply
+valueReply d b ps = answered (onSoundDay d b ps (valueChecks d ps)) (referenceValue d ps)

@@ -13,7 +13,7 @@ use Rattle.units.specs.declared.ReferenceValue.{ReferenceValue}
 use Rattle.layout.specs.Day.{Day}
 use Rattle.rules.specs.declared.Refusal.{Refusal}
 use Rattle.rules.specs.declared.ValueAnswer.the-variants.{Worth, Refused}
-use Rattle.rules.specs.Replies.{refusalReply, valueReply}
+use Rattle.rules.specs.Replies.{refusalReply, valueAnswerReply}
 use Rattle.rules.proofs.Replies.{refused}
 use Rattle.rules.specs.Value.{lacksPrice, cashTaken, worthBefore, referenceValue, hasValue, valueChecks}
 
@@ -37,13 +37,13 @@ falls true x r n e = absurd (false≢true (sym n ∙ ap isAccepted e))
 falls false x r n e = refl
 
 module _ (d : Day) (ps : List ℕ) where
-  pub worth-facts : (v : ReferenceValue) → valueReply (Worth v) ≡ answered (valueChecks d ps) (referenceValue d ps)
+  pub worth-facts : (v : ReferenceValue) → valueAnswerReply (Worth v) ≡ answered (valueChecks d ps) (referenceValue d ps)
       → (hasValue d ps ≡ true) × (v .0 ≡ referenceValue d ps) × (v .0 ≤ 9_999_999)
   unfolding valueChecks answered
   worth-facts v e =
       let s = stands (hasValue d ps) (v .0) (referenceValue d ps) e in
       (s .0, s .1, omega (arith, s .1, value-range d ps (s .0)))
 
-  pub refused-facts : (why : Refusal) → valueReply (Refused why) ≡ answered (valueChecks d ps) (referenceValue d ps) → hasValue d ps ≡ false
+  pub refused-facts : (why : Refusal) → valueAnswerReply (Refused why) ≡ answered (valueChecks d ps) (referenceValue d ps) → hasValue d ps ≡ false
   unfolding valueChecks answered
   refused-facts why e = falls (hasValue d ps) (referenceValue d ps) (refusalReply why) (refused why) e

@@ -9,7 +9,7 @@ ghost use Rattle.fund.specs.Fund.{cashInRange};
 ghost use Rattle.layout.specs.Places.{basketWidth};
 ghost use Rattle.layout.specs.Day.{dayOf};
 ghost use Rattle.rules.specs.Value.{cashAdded, cashTaken, valueChecks, referenceValue};
-ghost use Rattle.rules.specs.Replies.{valueReply};
+ghost use Rattle.rules.specs.Replies.{valueAnswerReply};
 ghost use Rattle.value.specs.Worth.{worth, lacks, valueFrom, Countable, Priceable};
 use layout::Component;
 use layout::DayHead;
@@ -79,7 +79,7 @@ fn per_unit(basket: Money, size: u64) -> ReferenceValue
 // The answer from the sum of the components and what the estimated cash adds to it and takes from it.
 fn value_with(sum: Money, added: Money, taken: Money, size: u64) -> ValueAnswer
     requires { ⌜ (sum .0 + added .0 ≤ 400_000_000_000_000_000) × (1 ≤ size) × (size ≤ 99_999_999) ⌝ }
-    ensures { λ r. ⌜ valueReply r ≡ valueFrom (sum .0 + added .0) (taken .0) size ⌝ }
+    ensures { λ r. ⌜ valueAnswerReply r ≡ valueFrom (sum .0 + added .0) (taken .0) size ⌝ }
 {
     let before = sum.plus(added);
     if before.0 < taken.0 {
@@ -96,7 +96,7 @@ fn value_with(sum: Money, added: Money, taken: Money, size: u64) -> ValueAnswer
 pub fn reference_value(d: DayHead, basket: &[u64], prices: &[u64]) -> ValueAnswer
     requires { ⌜ Priceable (dayOf d (now basket)) (now prices) ⌝ }
     requires { ⌜ length (now basket) ≡ basketWidth ⌝ }
-    ensures { λ r. ⌜ valueReply r ≡ answered (valueChecks (dayOf d (now (basket .entry))) (now (prices .entry))) (referenceValue (dayOf d (now (basket .entry))) (now (prices .entry))) ⌝ }
+    ensures { λ r. ⌜ valueAnswerReply r ≡ answered (valueChecks (dayOf d (now (basket .entry))) (now (prices .entry))) (referenceValue (dayOf d (now (basket .entry))) (now (prices .entry))) ⌝ }
 {
     let n = d.count;
     let mut sum = Money(0);

@@ -51,7 +51,7 @@ use denote.Signature.{plain}
 use borrow.Rule.Array.Share.{room-take}
 use Rattle.layout.specs.declared.Record.{Record}
 use Rattle.rules.specs.declared.OrderAnswer.the-variants.{the-data as OrderAnswer}
-use Rattle.rules.specs.Replies.{orderReply}
+use Rattle.rules.specs.Replies.{orderAnswerReply}
 use Rattle.layout.proofs.Record as T
 use Rattle.layout.proofs.Record.Laws as T′
 use Rattle.rules.specs.declared.Ask.{Ask}
@@ -185,7 +185,7 @@ module _ {M : Type 1} (𝓤 : URA M) (H : Heap 𝓤) (A : Atoms 𝓤) (W : Given
   -- what `order` says
   abbrev Made : OrderAnswer → List ℕ → List Record → Type 0
   Made r zs ws =
-      (orderReply r ≡ askedReply (dayAt (y .now)) ys₁ (z .now) ask (length front)) × (zs ≡ askedBook (dayAt (y .now)) ys₁ (z .now) ask (length front))
+      (orderAnswerReply r ≡ askedReply (dayAt (y .now)) ys₁ (z .now) ask (length front)) × (zs ≡ askedBook (dayAt (y .now)) ys₁ (z .now) ask (length front))
       × (ws ≡ madeRecords (dayAt (y .now)) ys₁ (z .now) ask front)
 
   -- `order`: the book for good, the front lent for the lifetime μ

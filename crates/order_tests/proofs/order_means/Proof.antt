@@ -2,7 +2,7 @@
 use mathlib.Core.Path.{sym, ap, _∙_}
 use native.Mathlib.Omega.{arith}
 use borrow.Author.Needs.{needs}
-use Rattle.rules.specs.Replies.{orderReply}
+use Rattle.rules.specs.Replies.{orderAnswerReply}
 use Rattle.rules.proofs.Replies.{leaves-after, leaves-before}
 use Rattle.order_tests.proofs.Laws.{means-done, means-cash, means-fit}
 use Rattle.order_tests.proofs.order_means.Statement.{statement}
@@ -22,7 +22,7 @@ returns c =
     let p = c .before .before .before .before .before .before .before .before .before .before .before .pre in
     let scanned = c .before .before .before .before .before .before .order-scan .ensures in
     let answered = rw (c .before .before .before .before .before .cash-held .ensures) at (c .before .before .before .order-from .ensures) in
-    let made = ap orderReply (sym (c .before .count .given .1)) ∙ answered ∙ means-done _ _ _ _ _ _ _ _ scanned (p .1 .1 .0 .0) (p .0) in
+    let made = ap orderAnswerReply (sym (c .before .count .given .1)) ∙ answered ∙ means-done _ _ _ _ _ _ _ _ scanned (p .1 .1 .0 .0) (p .0) in
     (made, means-cash _ _ _ _ 0 _ _ _ scanned (p .1 .1 .0 .0) (p .0) ∙ leaves-after _ _ _ _ made)
 
 returns-2 : tie.Need-returns-2
@@ -30,9 +30,9 @@ returns-2 c =
     let p = c .before .before .before .before .before .before .before .before .before .before .before .before .pre in
     let answered = rw (c .before .before .before .before .before .before .cash-held .ensures) at (c .before .before .before .before .order-from .ensures) in
     let stopped =
-    ap orderReply (sym (c .before .before .why .given .1)) ∙ answered ∙ means-done _ _ _ _ _ _ _ _
+    ap orderAnswerReply (sym (c .before .before .why .given .1)) ∙ answered ∙ means-done _ _ _ _ _ _ _ _
     (c .before .before .before .before .before .before .before .order-scan .ensures) (p .1 .1 .0 .0) (p .0) in
-    (ap orderReply (c .turned-back .ensures .0) ∙ stopped, c .turned-back .ensures .1 ∙ leaves-before _ _ (c .before .before .why .given .0 .0) _ stopped)
+    (ap orderAnswerReply (c .turned-back .ensures .0) ∙ stopped, c .turned-back .ensures .1 ∙ leaves-before _ _ (c .before .before .why .given .0 .0) _ stopped)
 
 pub order-means-spec : {M : Type 1} → statement M
 order-means-spec =

@@ -6,7 +6,7 @@ use borrow.Author.Needs.{needs}
 use borrow.Author.Tests.{not-true, not-false}
 use denote.Ref.{now}
 use Rattle.layout.specs.Day.{dayOf}
-use Rattle.rules.specs.Replies.{valueReply}
+use Rattle.rules.specs.Replies.{valueAnswerReply}
 use Rattle.rules.specs.Value.{referenceValue, hasValue}
 use Rattle.value.proofs.Answers.{worth-facts, refused-facts}
 use Rattle.order_tests.proofs.Laws.{ratio-none, ratio-no-value, ratio-over, ratio-within}
@@ -22,7 +22,7 @@ worth : (c : tie.After-known-told)
     (hasValue (dayOf (a .d) (now (a .basket))) (now (a .prices)) ≡ true)
     × (c .before .v .given .0 .0 .0 ≡ referenceValue (dayOf (a .d) (now (a .basket))) (now (a .prices)))
     × (c .before .v .given .0 .0 .0 ≤ 9_999_999)
-worth c = worth-facts _ _ _ (ap valueReply (sym (c .before .v .given .1)) ∙ c .before .before .before .reference-value .ensures)
+worth c = worth-facts _ _ _ (ap valueAnswerReply (sym (c .before .v .given .1)) ∙ c .before .before .before .reference-value .ensures)
 
 ratio-passed-requires : tie.Need-ratio-passed-requires
 ratio-passed-requires c κs =
@@ -43,7 +43,7 @@ returns-3 c =
 returns-4 : tie.Need-returns-4
 returns-4 c =
     ratio-no-value _ _ _ _ _ (not-false _ (c .before .before .before .before .if1 .left))
-    (refused-facts _ _ (c .enum-told .given .0 .0) (ap valueReply (sym (c .enum-told .given .1)) ∙ c .before .before .reference-value .ensures))
+    (refused-facts _ _ (c .enum-told .given .0 .0) (ap valueAnswerReply (sym (c .enum-told .given .1)) ∙ c .before .before .reference-value .ensures))
 
 pub ratio-answer-spec : {M : Type 1} → statement M
 ratio-answer-spec =

@@ -6,7 +6,7 @@ use denote.Ref.{now}
 use Rattle.fund.proofs.Laws.{fund-sound}
 use Rattle.rules.specs.Orders.{baskets}
 use Rattle.layout.specs.Records.{roomIn}
-use Rattle.rules.specs.Replies.{orderReply}
+use Rattle.rules.specs.Replies.{orderAnswerReply}
 use Rattle.rules.proofs.SoundDay.{sound-facts}
 use Rattle.rules.proofs.Replies.{leaves-after, leaves-before}
 use Rattle.orders.proofs.Laws.{order-makes, order-made}
@@ -26,7 +26,7 @@ settle-requires : tie.Need-settle-requires
 unfolding roomIn baskets
 settle-requires c κs =
     let p = c .before .before .before .before .before .before .before .before .before .before .before .before .before .before .pre in
-    let made = ap orderReply (sym (c .before .before .before .answer .given .1)) ∙ c .before .before .before .before .before .before .tested-in .ensures .0 in
+    let made = ap orderAnswerReply (sym (c .before .before .before .answer .given .1)) ∙ c .before .before .before .before .before .before .tested-in .ensures .0 in
     let paid = c .before .before .before .before .before .before .tested-in .ensures .1 ∙ sym (leaves-after _ _ _ _ made) in
     let ready =
     order-makes _ _ _ _ (now (c .before .before .before .before .before .before .before .before .before .before .before .before .before .before .args .list)) (p .1 .0)
@@ -39,7 +39,7 @@ returns c =
     let tests = c .before .before .before .before .before .before .before .before .before .before .before in
     let start = tests .before .before .before .before .before .before .before .before in
     let p = start .pre in
-    let made = ap orderReply (sym (c .before .before .before .before .before .before .before .before .answer .given .1)) ∙ tests .tested-in .ensures .0 in
+    let made = ap orderAnswerReply (sym (c .before .before .before .before .before .before .before .before .answer .given .1)) ∙ tests .tested-in .ensures .0 in
     let paid = tests .tested-in .ensures .1 ∙ sym (leaves-after _ _ _ _ made) in
     let settled = c .before .before .before .before .settle .ensures in
     let done = order-made _ _ _ _ (now (start .args .list)) (p .1 .0) (p .0) _ made _ refl _ paid _ _ (settled .0) (settled .1) in
@@ -49,7 +49,7 @@ returns-2 : tie.Need-returns-2
 unfolding roomIn
 returns-2 c =
     let why = c .before .answer2 .given .0 .0 in
-    let e = ap orderReply (sym (c .before .answer2 .given .1)) ∙ c .before .before .before .before .tested-in .ensures .0 in
+    let e = ap orderAnswerReply (sym (c .before .answer2 .given .1)) ∙ c .before .before .before .before .tested-in .ensures .0 in
     (e, (leaves-before _ _ why _ e, leaves-before _ _ why _ e))
 
 pub order-spec : {M : Type 1} → statement M

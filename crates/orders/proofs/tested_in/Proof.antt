@@ -3,7 +3,7 @@ use mathlib.Core.Path.{sym, ap, _∙_}
 use borrow.Author.Needs.{needs}
 use denote.Ref.{now}
 use Rattle.layout.specs.Day.{dayOf}
-use Rattle.rules.specs.Replies.{answerReply, orderReply}
+use Rattle.rules.specs.Replies.{answerReply, orderAnswerReply}
 use Rattle.rules.specs.Orders.{baskets}
 use Rattle.rules.proofs.SoundDay.{sound-facts}
 use Rattle.rules.proofs.Replies.{leaves-before}
@@ -39,7 +39,7 @@ returns-2 c =
     let stopped =
     form-stopped _ _ _ _ _ (c .before .before .before .before .before .before .before .before .before .pre .1 .0) why
     (ap answerReply (sym (c .before .before .why .given .1)) ∙ c .before .before .before .before .order-form .ensures) in
-    (ap orderReply (c .turned-back .ensures .0) ∙ stopped, c .turned-back .ensures .1 ∙ leaves-before _ _ why _ stopped)
+    (ap orderAnswerReply (c .turned-back .ensures .0) ∙ stopped, c .turned-back .ensures .1 ∙ leaves-before _ _ why _ stopped)
 
 pub tested-in-spec : {M : Type 1} → statement M
 tested-in-spec =
