@@ -10,6 +10,7 @@ use lib.Seq.{length-take-le, drop-append-seam}
 use Rattle.sequences.specs.Below.{tabulate}
 use Rattle.sequences.specs.Checks.{Reply, isAccepted, answered}
 use Rattle.sequences.proofs.Below.{table-length, table-ext}
+use Rattle.sequences.proofs.Checks.{accepted-value}
 use Rattle.layout.specs.Places.{recordWidth}
 use Rattle.layout.specs.Day.{Day}
 use Rattle.layout.specs.Book.{account}
@@ -21,12 +22,12 @@ use Rattle.rules.specs.declared.OrderAnswer.{OrderAnswer}
 use Rattle.rules.specs.declared.OrderAnswer.the-variants.{Made, Refused}
 use Rattle.rules.specs.Records.{recordOf}
 use Rattle.rules.specs.Replies.{orderAnswerReply, ifAccepted}
-use Rattle.rules.specs.Orders.{creation, redemption}
+use Rattle.rules.specs.Orders.{creation, redemption, formChecks, permissionChecks}
 use Rattle.rules.specs.Sound.{onSoundDay}
 use Rattle.rules.specs.Creation.{creationRecords, creationChecks, creationReply}
-use Rattle.rules.specs.Redemption.{redemptionRecords, redemptionChecks, redemptionReply}
+use Rattle.rules.specs.Redemption.{redemptionRecords, redemptionMeans, redemptionChecks, redemptionReply}
 use Rattle.rules.specs.Kinds.{byKind, askedRecords, askedChecks, askedReply, askedMoves, askedBook, askedList}
-use Rattle.rules.proofs.Accepted.{creation-facts, creation-value, redemption-facts, redemption-value}
+use Rattle.rules.proofs.Accepted.{creation-facts, creation-value, redemption-facts}
 use Rattle.rules.proofs.Asked.{either-kind}
 use Rattle.rules.proofs.Replies.{is-accepted, is-refused}
 use Rattle.order_structs.specs.declared.Settled.{Settled}
@@ -34,6 +35,12 @@ use Rattle.order_structs.specs.Made.{knownKind, recordsOf, atFront, made
 use Rattle.order_structs.specs.Settling.{mostRecords, lentRecords, madeCount, Settling}
 use Rattle.order_structs.specs.Stored.{withFirst}
 use Rattle.order_structs.proofs.Room.{lent-most, lent-bound, lent-fits, reply-room, book-room}
+
+-- The value of an accepted redemption is the count of its records.
+
+redemption-value : (d : Day) (b ps : List ℕ) (a units room : ℕ) → isAccepted (redemptionReply d b ps a units room) ≡ true → redemptionReply d b ps a units room .value ≡ length (redemptionRecords d units)
+unfolding redemptionReply redemptionChecks formChecks permissionChecks redemptionMeans
+redemption-value d b ps a units room e = accepted-value (onSoundDay d b ps (redemptionChecks d b a units room)) _ tt e
 
 -- The kind of an ask.
 
