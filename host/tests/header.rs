@@ -132,7 +132,7 @@ fn refusals(lines: &[&str], start: &str, equals: &str) -> BTreeMap<String, u64> 
 fn refusals_are_the_same_everywhere() {
     let rules = file("../crates/rules/specs/Replies.antt");
     let rules = numbered(&rules, "refusalReply ", " = reply ");
-    let numbers = file("../crates/numbers/src/lib.rt");
+    let numbers = file("../crates/answers/src/lib.rt");
     let numbers = numbered(&numbers, "Refusal::", " => refused_at(");
     assert_eq!(numbers, rules, "crate numbers");
     let places: BTreeMap<_, _> = rules
