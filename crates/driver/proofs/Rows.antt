@@ -49,7 +49,8 @@ module _ (x1 x2 x3 x4 x5 : ℕ) where
 abbrev pub Meets : Work → Row → Reply → Work → Type 0
 Meets w row r left = (r ≡ rowReply w row) × (left ≡ rowLeaves w row)
 
-pub call-meets : (w left : Work) (row : Row) (c : Call) (start len : ℕ) (r : Reply) → row ≡ call c start len → r ≡ resultOf w c start len .reply → left ≡ rowLeaves w (call c start len) → Meets w row r left
+pub call-meets : (w left : Work) (row : Row) (c : Call) (start len : ℕ) (r : Reply) → row ≡ call c start len → r ≡ resultOf w c start len .reply
+    → left ≡ rowLeaves w (call c start len) → Meets w row r left
 unfolding rowReply
 call-meets w left row c start len r q e f = rw q (e, f)
 
@@ -59,11 +60,13 @@ none-meets w row r q e = rw q (e, refl)
 
 -- the calls that are lent no list
 module _ (d : Day) (b ps rs : List ℕ) (row : Row) (r : Reply) where
-  pub price-meets : (line p : ℕ) (left : List ℕ) → row ≡ call (price line p) 0 0 → r ≡ priceReply d b ps line p → left ≡ pricedPrices d b ps line p → Meets (workOf d b ps rs) row r (workOf d b left rs)
+  pub price-meets : (line p : ℕ) (left : List ℕ) → row ≡ call (price line p) 0 0 → r ≡ priceReply d b ps line p → left ≡ pricedPrices d b ps line p
+      → Meets (workOf d b ps rs) row r (workOf d b left rs)
   unfolding step rowReply rowLeaves
   price-meets line p left q e f = rw (q, e, f, le-leb 0 (length rs) zero-le) (refl, refl)
 
-  pub trade-meets : (line n p seller buyer : ℕ) (left : List ℕ) → row ≡ call (trade line n p seller buyer) 0 0 → r ≡ tradeReply d b ps line n p seller buyer → left ≡ tradedBook d b ps line n p seller buyer → Meets (workOf d b ps rs) row r (workOf d left ps rs)
+  pub trade-meets : (line n p seller buyer : ℕ) (left : List ℕ) → row ≡ call (trade line n p seller buyer) 0 0 → r ≡ tradeReply d b ps line n p seller buyer
+      → left ≡ tradedBook d b ps line n p seller buyer → Meets (workOf d b ps rs) row r (workOf d left ps rs)
   unfolding step rowReply rowLeaves
   trade-meets line n p seller buyer left q e f = rw (q, e, f, le-leb 0 (length rs) zero-le) (refl, refl)
 

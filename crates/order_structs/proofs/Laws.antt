@@ -38,7 +38,8 @@ use Rattle.order_structs.proofs.Room.{lent-most, lent-bound, lent-fits,
 
 -- The value of an accepted redemption is the count of its records.
 
-redemption-value : (d : Day) (b ps : List ℕ) (a units room : ℕ) → isAccepted (redemptionReply d b ps a units room) ≡ true → redemptionReply d b ps a units room .value ≡ length (redemptionRecords d units)
+redemption-value : (d : Day) (b ps : List ℕ) (a units room : ℕ)
+    → isAccepted (redemptionReply d b ps a units room) ≡ true → redemptionReply d b ps a units room .value ≡ length (redemptionRecords d units)
 unfolding redemptionReply redemptionChecks formChecks permissionChecks redemptionMeans
 redemption-value d b ps a units room e = accepted-value (onSoundDay d b ps (redemptionChecks d b a units room)) _ tt e
 

@@ -9,7 +9,8 @@ use Rattle.driver.proofs.do_rows.Statement.{statement}
 use Rattle.driver.proofs.do_rows.Tie as tie
 
 abbrev Inv-loop : tie.InvT-loop
-Inv-loop known day book₀ prices₀ rows records₀ answers₀ n i₀ book prices records answers i = Going known rows n (batchOf (dayAt day) book₀ prices₀ records₀ answers₀) i (batchOf (dayAt day) book prices records answers)
+Inv-loop known day book₀ prices₀ rows records₀ answers₀ n i₀ book prices records answers i =
+    Going known rows n (batchOf (dayAt day) book₀ prices₀ records₀ answers₀) i (batchOf (dayAt day) book prices records answers)
 
 abbrev μ-loop : tie.MeasureT-loop
 μ-loop known day book₀ prices₀ rows records₀ answers₀ n i₀ book prices records answers i = n - i
@@ -23,7 +24,11 @@ do-row-requires c κs =
     (going-sound inv, (omega (arith, inv .within), omega (arith, inv .lengths .answers)))
 
 loop-again : tie.Need-loop-again Inv-loop μ-loop
-loop-again c = going-on (c .before .before .before .before .before .before .before .before .before .before .before .before .before .before .loop .inv) _ _ (c .before .before .before .before .before .before .before .before .before .before .before .before .before .loop-test .taken) (omega arith) (c .before .before .before .before .before .before .before .before .do-row .ensures) (record { book = search needs; prices = search needs; records = omega arith; answers = search needs })
+loop-again c =
+    going-on (c .before .before .before .before .before .before .before .before .before .before .before .before .before .before .loop .inv) _ _
+    (c .before .before .before .before .before .before .before .before .before .before .before .before .before .loop-test .taken) (omega arith)
+    (c .before .before .before .before .before .before .before .before .do-row .ensures)
+    (record { book = search needs; prices = search needs; records = omega arith; answers = search needs })
 
 same-length : tie.Need-same-length Inv-loop μ-loop
 same-length c = c .before .loop .inv .lengths .book

@@ -10,7 +10,9 @@ returns : tie.Need-returns
 returns c = price-meets _ _ _ _ _ _ _ _ _ (row-price _ _ _ _ _ _ (omega arith)) (c .of-answer .ensures ∙ c .before .before .before .price .ensures .0) (c .before .before .before .price .ensures .1)
 
 returns-2 : tie.Need-returns-2
-returns-2 c = trade-meets _ _ _ _ _ _ _ _ _ _ _ _ (row-trade _ _ _ _ _ _ (omega arith)) (c .of-answer2 .ensures ∙ c .before .before .before .trade .ensures .0) (c .before .before .before .trade .ensures .1)
+returns-2 c =
+    trade-meets _ _ _ _ _ _ _ _ _ _ _ _ (row-trade _ _ _ _ _ _ (omega arith)) (c .of-answer2 .ensures ∙ c .before .before .before .trade .ensures .0)
+    (c .before .before .before .trade .ensures .1)
 
 order-row-requires : tie.Need-order-row-requires
 order-row-requires c κs = (search needs, rw (c .before .before .before .asked .ensures) (omega arith))

@@ -16,7 +16,11 @@ do-rows-requires c κs =
     (c .before .before .before .before .before .before .before .before .before .before .before .before .pre, (omega (arith, facts .0), omega (arith, facts .1)))
 
 returns-2 : tie.Need-returns-2
-returns-2 c = run-done _ _ _ (sym (c .before .before .before .before .before .before .before .before .before .before .before .before .before .before .rows-fit .ensures) ∙ not-false _ (c .before .before .before .before .before .before .before .before .before .before .before .before .before .if1 .left)) (c .before .before .before .before .before .before .before .before .do-rows .ensures)
+returns-2 c =
+    run-done _ _ _
+    (sym (c .before .before .before .before .before .before .before .before .before .before .before .before .before .before .rows-fit .ensures)
+    ∙ not-false _ (c .before .before .before .before .before .before .before .before .before .before .before .before .before .if1 .left))
+    (c .before .before .before .before .before .before .before .before .do-rows .ensures)
 
 pub run-rows-spec : {M : Type 1} → statement M
 run-rows-spec =

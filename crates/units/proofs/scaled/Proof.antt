@@ -24,4 +24,6 @@ returns-2 : tie.Need-returns-2
 returns-2 c = split 100_000 (c .before .args .v) (c .before .args .k) 50_000 (lit< tt) ∙ sym (rounded-rate (c .before .args .v * c .before .args .k))
 
 pub scaled-spec : {M : Type 1} → statement M
-scaled-spec = tie.close (tie.spec returns (λ c. omega arith) (λ c. omega (arith, high (c .before))) (λ c. omega arith) (λ c. omega (arith, low (c .before))) (λ c. omega (arith, low (c .before))) (λ c. omega arith) (λ c. omega (arith, high (c .before), low (c .before))) returns-2)
+scaled-spec =
+    tie.close (tie.spec returns (λ c. omega arith) (λ c. omega (arith, high (c .before))) (λ c. omega arith)
+    (λ c. omega (arith, low (c .before))) (λ c. omega (arith, low (c .before))) (λ c. omega arith) (λ c. omega (arith, high (c .before), low (c .before))) returns-2)

@@ -31,4 +31,6 @@ returns c =
     at (split 1_000_000 (start .args .baskets * start .args .size * start .args .self .0) (start .args .ratio .0) 0 (lit< tt))
 
 pub ratio-bound-spec : {M : Type 1} → statement M
-ratio-bound-spec = tie.close (tie.spec (λ c. omega (arith, units c)) (λ c. omega (arith, worth (c .before))) (λ c. omega (arith, high (c .before .before))) (λ c. omega (arith, low (c .before .before .before))) add-t11 returns)
+ratio-bound-spec =
+    tie.close (tie.spec (λ c. omega (arith, units c)) (λ c. omega (arith, worth (c .before)))
+    (λ c. omega (arith, high (c .before .before))) (λ c. omega (arith, low (c .before .before .before))) add-t11 returns)
