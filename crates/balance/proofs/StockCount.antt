@@ -21,9 +21,9 @@ unfoldable pub stockRecords : ℕ → List ℕ → ℕ → ℕ
 stockRecords code list n = sumBelow (λ k. whenSame (getD list (recordWidth * k) 0) code 1) n
 
 -- the third number of a record is its quantity
-quantity-later : (r : Record) (xs : List ℕ) (p : ℕ) → getD (recordNumbers r ++ xs) (5 + p + 2) 0 ≡ getD xs (p + 2) 0
+quantity-later : (r : Record) (xs : List ℕ) (p : ℕ) → getD (recordNumbers r ++ xs) (recordWidth + p + 2) 0 ≡ getD xs (p + 2) 0
 quantity-later r xs p =
-    let e : 5 + p + 2 ≡ suc (suc (suc (suc (suc (p + 2))))) = omega arith in
+    let e : recordWidth + p + 2 ≡ suc (suc (suc (suc (suc (p + 2))))) = omega arith in
     rw e
 
 module _ (d : Day) (b ps : List ℕ) (sound : SoundDay d b ps) (l : ℕ) (inside : l < d .count) (side rest units : ℕ) (moved : ℕ → ℕ) (other shanghai : ℕ) (list : List ℕ) where

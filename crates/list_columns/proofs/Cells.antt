@@ -116,7 +116,7 @@ fault-first l = refl
 
 -- a line with a column at fault, and none before it
 pub fault-row : (l : List ℕ) (k : ℕ) (r : Row) → k < columnCount → Sought (faultAt l) columnCount k → faultAt l k ≡ true → r .fault ≡ k
-    → (r .fault ≡ columnFault l) × (6 ≤ r .fault → r .component ≡ lineComponent l)
+    → (r .fault ≡ columnFault l) × (columnCount ≤ r .fault → r .component ≡ lineComponent l)
 fault-row l k r h v e f = (f ∙ sought-found (faultAt l) columnCount k v h e ∙ fault-first l, λ high. absurd (omega (arith, f)))
 
 -- the name

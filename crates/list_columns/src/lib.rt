@@ -7,7 +7,7 @@ ghost use Rattle.digits.specs.Digits.{fixed, plain, numberText, allBlank, sizeR
 ghost use Rattle.digits.specs.Right.{alignedForm};
 ghost use Rattle.digits.specs.Written.{Written};
 ghost use Rattle.lines.specs.Lines.{lineText};
-ghost use Rattle.list_rules.specs.Columns.{columnEntry, columnStart, columnWidth, columnPart, isRow, isColumn, flagOf, columnFault, lineComponent, rowText};
+ghost use Rattle.list_rules.specs.Columns.{columnCount, columnEntry, columnStart, columnWidth, columnPart, isRow, isColumn, flagOf, columnFault, lineComponent, rowText};
 ghost use Rattle.list_columns.specs.Read.{rightForm, numberSize, columnSize};
 ghost use Rattle.list_columns.specs.Fitting.{Fitting, Pointed, usedText};
 use digits::Size;
@@ -58,7 +58,7 @@ const AMOUNT_DECIMALS: usize = TABLE[5][3];
 const BAR: u8 = 124;
 
 fn table_entry(k: usize, column: usize) -> usize
-    requires { ⌜ (k < 6) × (column < 5) ⌝ }
+    requires { ⌜ (k < columnCount) × (column < 5) ⌝ }
     ensures { λ r. ⌜ r ≡ columnEntry k column ⌝ }
 {
     let table = TABLE;
@@ -66,14 +66,14 @@ fn table_entry(k: usize, column: usize) -> usize
 }
 
 pub fn column_start(k: usize) -> usize
-    requires { ⌜ k < 6 ⌝ }
+    requires { ⌜ k < columnCount ⌝ }
     ensures { λ r. ⌜ (r ≡ columnStart k) × (r ≤ 35) ⌝ }
 {
     table_entry(k, 0)
 }
 
 fn column_width(k: usize) -> usize
-    requires { ⌜ k < 6 ⌝ }
+    requires { ⌜ k < columnCount ⌝ }
     ensures { λ r. ⌜ (r ≡ columnWidth k) × (columnStart k + r < 48) ⌝ }
 {
     table_entry(k, 1)
@@ -99,7 +99,7 @@ pub fn is_row(line: &[u8]) -> bool
 // Column k of a component line.
 fn column_part(line: &[u8], k: usize) -> &[u8]
     requires { ⌜ length (now line) ≡ 48 ⌝ }
-    requires { ⌜ k < 6 ⌝ }
+    requires { ⌜ k < columnCount ⌝ }
     ensures { λ r. ⌜ now r ≡ columnPart k (now (line .entry)) ⌝ }
 {
     let a = column_start(k);
@@ -217,7 +217,7 @@ fn faulty(k: usize) -> Row
 pub fn read_row(line: &[u8]) -> Row
     requires { ⌜ length (now line) ≡ 48 ⌝ }
     ensures { λ r. ⌜ r .fault ≡ columnFault (now (line .entry)) ⌝ }
-    ensures { λ r. ⌜ (6 ≤ r .fault → r .component ≡ lineComponent (now (line .entry))) ⌝ }
+    ensures { λ r. ⌜ (columnCount ≤ r .fault → r .component ≡ lineComponent (now (line .entry))) ⌝ }
 {
     let flag = flag_of(line);
     let Size::Known(code) = read_code(line) else {

@@ -102,8 +102,8 @@ module _ (l : Listing) (eight : length (l .fields .fund .limits) ≡ 8) (p : Pas
   run-there =
       ap (joinBelow (λ j. componentNumbers (componentRead (textOf l) j))) (count-there l p)
       ∙ sym
-      (join-ext (λ j. componentNumbers (componentRead (textOf l) j)) (l .fields .count) 5 (l .run)
-      (p .run-length ∙ mul-comm 5 (l .fields .count))
+      (join-ext (λ j. componentNumbers (componentRead (textOf l) j)) (l .fields .count) componentWidth (l .run)
+      (p .run-length ∙ mul-comm componentWidth (l .fields .count))
       (λ a h. run-stretch (l .run) (l .fields .count) a (p .run-length) h ∙ ap componentNumbers (sym (component-there l p a h))))
 
   name-is : (j : ℕ) → j < l .fields .count → nameRead (textOf l) j ≡ nameAt (l .names) j

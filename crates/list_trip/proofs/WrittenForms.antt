@@ -13,7 +13,7 @@ use Rattle.layout.specs.declared.Component.{Component}
 use Rattle.fund.proofs.Laws.{ComponentRanges, unused-zero}
 use Rattle.digits.specs.declared.Form.{Form}
 use Rattle.digits.specs.Digits.{plain, cap, wholeText, plainText, signedText}
-use Rattle.list_rules.specs.Columns.{columnTable, columnEntry, columnWidth, columnForm, isUsed, valueAt}
+use Rattle.list_rules.specs.Columns.{columnCount, columnTable, columnEntry, columnWidth, columnForm, isUsed, valueAt}
 use Rattle.digits.proofs.Count.{fixed-length}
 use Rattle.digits.proofs.Trip.{Fits, decimal-short}
 use Rattle.list_trip.proofs.WrittenTables.{none, both, paired-at}
@@ -60,7 +60,7 @@ always f = record { fits = f; unused = λ e. absurd (true≢false e) }
 
 module _ (g : ℕ) (c : Component) (r : ComponentRanges g c) where
   -- every column of the table
-  columns-hold : (k : ℕ) → k < 6 → Holds (c .flag) (getD columnTable k []) (valueAt c k)
+  columns-hold : (k : ℕ) → k < columnCount → Holds (c .flag) (getD columnTable k []) (valueAt c k)
   unfolding columnTable valueAt
   columns-hold =
       paired-at (Holds (c .flag)) 0 {rs = columnTable}
@@ -88,10 +88,10 @@ module _ (g : ℕ) (c : Component) (r : ComponentRanges g c) where
       amount-low = div-lt-iff-lt-mul {k = 1_000} {x = c .amount .0} {y = 100_000_000} (omega arith) .1 (omega (arith, r .amount))
 
   -- the number of each column fits its form, and is 0 where it is not used
-  pub column-fits : (k : ℕ) → k < 6 → Fits (columnForm k) (plain (valueAt c k))
+  pub column-fits : (k : ℕ) → k < columnCount → Fits (columnForm k) (plain (valueAt c k))
   unfolding columnForm columnWidth columnEntry
   column-fits k h = columns-hold k h .fits
 
-  pub column-unused : (k : ℕ) → k < 6 → isUsed (c .flag) k ≡ false → valueAt c k ≡ 0
+  pub column-unused : (k : ℕ) → k < columnCount → isUsed (c .flag) k ≡ false → valueAt c k ≡ 0
   unfolding isUsed columnEntry
   column-unused k h = columns-hold k h .unused

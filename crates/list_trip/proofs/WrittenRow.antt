@@ -16,7 +16,7 @@ use Rattle.digits.specs.declared.Figure.{Figure}
 use Rattle.digits.specs.Digits.{plain, fixed, wholeText, plainText, signedText, numberText, isNumber, figureOf, allBlank}
 use Rattle.lines.specs.Lines.{nameByte, allBytes}
 use Rattle.lines.proofs.Laws.{noCR, noCR-append, names-noCR}
-use Rattle.list_rules.specs.Columns.{columnTable, columnEntry, columnStart, columnWidth, columnForm, holdsName, isUsed, isRow, columnPart}
+use Rattle.list_rules.specs.Columns.{columnCount, columnTable, columnEntry, columnStart, columnWidth, columnForm, holdsName, isUsed, isRow, columnPart}
 use Rattle.list_rules.specs.Columns.{isColumn, columnValue, flagOf, columnFault, lineComponent, nameOf, valueAt, columnText, rowText}
 use Rattle.digits.proofs.Trip.{number-read, figure-read, number-width, blank-all}
 use Rattle.list_trip.proofs.WrittenLines.{parts-noCR}
@@ -27,19 +27,19 @@ use Rattle.list_trip.proofs.WrittenForms.{column-fits, column-unused}
 -- The table of the columns.
 
 -- a name has eight bytes
-name-width : (k : ℕ) → k < 6 → holdsName k ≡ true → columnWidth k ≡ 8
+name-width : (k : ℕ) → k < columnCount → holdsName k ≡ true → columnWidth k ≡ 8
 unfolding allBelow holdsName columnWidth columnEntry columnTable
 name-width k h e =
     eqb-true (columnWidth k) 8
-    (ap (λ (b : Bool). not b || eqb (columnWidth k) 8) (sym e) ∙ all-at (λ i. not (holdsName i) || eqb (columnWidth i) 8) 6 refl k h)
+    (ap (λ (b : Bool). not b || eqb (columnWidth k) 8) (sym e) ∙ all-at (λ i. not (holdsName i) || eqb (columnWidth i) 8) columnCount refl k h)
 
 -- no column is empty
-some-width : (k : ℕ) → k < 6 → columnWidth k ≡ 0 → ⊥
+some-width : (k : ℕ) → k < columnCount → columnWidth k ≡ 0 → ⊥
 unfolding allBelow columnWidth columnEntry columnTable
-some-width k h e = omega (arith, ltb-true 0 (columnWidth k) (all-at (λ i. ltb 0 (columnWidth i)) 6 refl k h))
+some-width k h e = omega (arith, ltb-true 0 (columnWidth k) (all-at (λ i. ltb 0 (columnWidth i)) columnCount refl k h))
 
 -- each starts behind the bar of the one before it
-next-start : (k : ℕ) → suc k < 6 → columnStart (suc k) ≡ columnStart k + columnWidth k + 1
+next-start : (k : ℕ) → suc k < columnCount → columnStart (suc k) ≡ columnStart k + columnWidth k + 1
 unfolding allBelow columnStart columnWidth columnEntry columnTable
 next-start k h = eqb-true _ _ (all-at (λ i. eqb (columnStart (suc i)) (columnStart i + columnWidth i + 1)) 5 refl k (le-of-suc-le-suc h))
 
@@ -71,14 +71,14 @@ pub record RowWritten (c : Component) (name : List ℕ) : Type 0 where
   pub wide : length (rowText c name) ≡ 48
   pub clean : noCR (rowText c name) ≡ true
   pub stands : isRow (rowText c name) ≡ true
-  pub fault : columnFault (rowText c name) ≡ 6
+  pub fault : columnFault (rowText c name) ≡ columnCount
   pub component : lineComponent (rowText c name) ≡ c
   pub name-read : nameOf (rowText c name) ≡ name
 
 module _ (g : ℕ) (c : Component) (r : ComponentRanges g c)
     (name : List ℕ) (eight : length name ≡ 8) (fine : allBytes nameByte name ≡ true) where
   -- a column is as wide as it is to be
-  column-wide : (k : ℕ) → k < 6 → length (columnText c name k) ≡ columnWidth k
+  column-wide : (k : ℕ) → k < columnCount → length (columnText c name k) ≡ columnWidth k
   unfolding columnText columnForm
   column-wide k h = case (holdsName k) (isUsed (c .flag) k) refl
     where
@@ -90,22 +90,22 @@ module _ (g : ℕ) (c : Component) (r : ComponentRanges g c)
   -- the line has its width and its bars
   row-length : length (rowText c name) ≡ 48
   unfolding rowText columnStart columnWidth columnEntry columnTable
-  row-length = barred-length (columnText c name) columnStart columnWidth 6 column-wide first-start next-start 5 refl
+  row-length = barred-length (columnText c name) columnStart columnWidth columnCount column-wide first-start next-start 5 refl
 
-  row-bars : (k : ℕ) → k < 6 → eqb (getD (rowText c name) (columnStart k + columnWidth k) 0) 124 ≡ true
+  row-bars : (k : ℕ) → k < columnCount → eqb (getD (rowText c name) (columnStart k + columnWidth k) 0) 124 ≡ true
   unfolding rowText
-  row-bars k h = eq-eqb _ _ (bar-there (columnText c name) columnStart columnWidth 6 column-wide first-start next-start k h)
+  row-bars k h = eq-eqb _ _ (bar-there (columnText c name) columnStart columnWidth columnCount column-wide first-start next-start k h)
 
   row-is : isRow (rowText c name) ≡ true
   unfolding isRow
   row-is =
       ap₂ (λ (a b : Bool). a && b) (eq-eqb _ _ row-length)
-      (all-true (λ k. eqb (getD (rowText c name) (columnStart k + columnWidth k) 0) 124) 6 row-bars)
+      (all-true (λ k. eqb (getD (rowText c name) (columnStart k + columnWidth k) 0) 124) columnCount row-bars)
 
   -- its columns are the ones written
-  part-is : (k : ℕ) → k < 6 → columnPart k (rowText c name) ≡ columnText c name k
+  part-is : (k : ℕ) → k < columnCount → columnPart k (rowText c name) ≡ columnText c name k
   unfolding rowText columnPart
-  part-is k h = column-there (columnText c name) columnStart columnWidth 6 column-wide first-start next-start k h
+  part-is k h = column-there (columnText c name) columnStart columnWidth columnCount column-wide first-start next-start k h
 
   -- its flag
   flag-text : columnText c name 3 ≡ numberText (columnForm 3) (plain (c .flag))
@@ -121,7 +121,7 @@ module _ (g : ℕ) (c : Component) (r : ComponentRanges g c)
       ∙ flag-digit (c .flag) (r .flag)
 
   -- each column is as it is to be written
-  column-is : (k : ℕ) → k < 6 → isColumn (c .flag) k (columnText c name k) ≡ true
+  column-is : (k : ℕ) → k < columnCount → isColumn (c .flag) k (columnText c name k) ≡ true
   unfolding isColumn columnText
   column-is k h = case (holdsName k) (isUsed (c .flag) k)
     where
@@ -133,14 +133,14 @@ module _ (g : ℕ) (c : Component) (r : ComponentRanges g c)
       case false true = number-read (columnForm k) (plain (valueAt c k)) (column-fits g c r k h)
       case false false = blank-all (columnWidth k)
 
-  row-fault : columnFault (rowText c name) ≡ 6
+  row-fault : columnFault (rowText c name) ≡ columnCount
   unfolding columnFault
   row-fault =
-      first-end (λ k. not (isColumn (flagOf (rowText c name)) k (columnPart k (rowText c name)))) 6
+      first-end (λ k. not (isColumn (flagOf (rowText c name)) k (columnPart k (rowText c name)))) columnCount
       (λ k h. ap not (ap₂ (λ (f : ℕ) (s : List ℕ). isColumn f k s) row-flag (part-is k h) ∙ column-is k h))
 
   -- the number of a column is the one written
-  value-is : (k : ℕ) → k < 6 → holdsName k ≡ false
+  value-is : (k : ℕ) → k < columnCount → holdsName k ≡ false
       → columnValue (flagOf (rowText c name)) k (columnPart k (rowText c name)) ≡ valueAt c k
   unfolding columnValue columnText
   value-is k h n =
@@ -169,7 +169,7 @@ module _ (g : ℕ) (c : Component) (r : ComponentRanges g c)
   row-name = part-is 1 (omega arith)
 
   -- no byte of it is 0D
-  column-noCR : (k : ℕ) → k < 6 → noCR (columnText c name k ++ 124 ∷ []) ≡ true
+  column-noCR : (k : ℕ) → k < columnCount → noCR (columnText c name k ++ 124 ∷ []) ≡ true
   unfolding columnText noCR
   column-noCR k h = noCR-append (columnText c name k) (124 ∷ []) (case (holdsName k) (isUsed (c .flag) k)) refl
     where
@@ -180,7 +180,7 @@ module _ (g : ℕ) (c : Component) (r : ComponentRanges g c)
 
   row-noCR : noCR (rowText c name) ≡ true
   unfolding rowText
-  row-noCR = parts-noCR (λ k. columnText c name k ++ 124 ∷ []) 6 column-noCR
+  row-noCR = parts-noCR (λ k. columnText c name k ++ 124 ∷ []) columnCount column-noCR
 
   pub row-written : RowWritten c name
   row-written =

@@ -13,7 +13,7 @@ use Rattle.layout.specs.Components.{componentAt}
 use Rattle.lines.specs.Lines.{nextAt, lineText, same}
 use Rattle.lines.proofs.Laws.{noCR, same-refl, length-lineText}
 use Rattle.list_rules.specs.Head.{endWord}
-use Rattle.list_rules.specs.Columns.{isRow, columnFault, lineComponent, nameOf}
+use Rattle.list_rules.specs.Columns.{columnCount, isRow, columnFault, lineComponent, nameOf}
 use Rattle.list_rules.specs.Reading.{startOf, lineStands, rowStart, rowCount, endStart, rowOf, componentRead, wrongRow}
 use Rattle.list_rules.specs.Writing.{Listing, nameAt, rowsText, textOf}
 use Rattle.list_trip.proofs.WrittenLines.{part-drop, part-end, stands-there, next-there}
@@ -105,12 +105,12 @@ module _ (l : Listing) (p : Passing l) where
   -- no column is at fault
   pub no-row : wrongRow (textOf l) ≡ rowCount (textOf l)
   unfolding wrongRow
-  no-row = first-end (λ j. ltb (columnFault (rowOf (textOf l) j)) 6) (rowCount (textOf l)) sound
+  no-row = first-end (λ j. ltb (columnFault (rowOf (textOf l) j)) columnCount) (rowCount (textOf l)) sound
     where
-      sound : (j : ℕ) → j < rowCount (textOf l) → ltb (columnFault (rowOf (textOf l) j)) 6 ≡ false
+      sound : (j : ℕ) → j < rowCount (textOf l) → ltb (columnFault (rowOf (textOf l) j)) columnCount ≡ false
       sound j h =
           let k : j < l .fields .count = omega (arith, count-there) in
-          ap (λ (n : ℕ). ltb n 6) (ap columnFault (row-there j k) ∙ row-fine j k .fault)
+          ap (λ (n : ℕ). ltb n columnCount) (ap columnFault (row-there j k) ∙ row-fine j k .fault)
 
   -- the components and the names are the ones written
   pub component-there : (j : ℕ) → j < l .fields .count → componentRead (textOf l) j ≡ componentAt (l .run) j

@@ -17,15 +17,15 @@ unfolding putThree
 three-length at a b c s = simp length-set
 
 -- what stands as far as the three numbers
-three-front : (at a b c : ℕ) (s : List ℕ) → at + 3 ≤ length s → take (at + 3) (putThree at a b c s) ≡ take at s ++ (a ∷ b ∷ c ∷ [])
+three-front : (at a b c : ℕ) (s : List ℕ) → at + lineWidth ≤ length s → take (at + lineWidth) (putThree at a b c s) ≡ take at s ++ (a ∷ b ∷ c ∷ [])
 unfolding putThree
 three-front at a b c s h =
     let one : at + 1 ≡ suc at = omega arith in
     let two : at + 2 ≡ suc (suc at) = omega arith in
     let front : length (take at s) ≡ at = length-take-le at s (omega arith) in
-    let cut : (t : List ℕ) → take (at + 3) ((take at s ++ (a ∷ b ∷ c ∷ [])) ++ t) ≡ take at s ++ (a ∷ b ∷ c ∷ []) =
-    λ t. take-at (take at s ++ (a ∷ b ∷ c ∷ [])) t (at + 3) (rw length-append (omega arith)) in
-    rw (one, two, sets-eq (a ∷ b ∷ c ∷ []) s at h) (cut (drop (at + 3) s))
+    let cut : (t : List ℕ) → take (at + lineWidth) ((take at s ++ (a ∷ b ∷ c ∷ [])) ++ t) ≡ take at s ++ (a ∷ b ∷ c ∷ []) =
+    λ t. take-at (take at s ++ (a ∷ b ∷ c ∷ [])) t (at + lineWidth) (rw length-append (omega arith)) in
+    rw (one, two, sets-eq (a ∷ b ∷ c ∷ []) s at h) (cut (drop (at + lineWidth) s))
 
 -- a stretch that is opened as far as line l
 pub record Fronted (n : ℕ) (h : List ℕ) (l : ℕ) (s : List ℕ) : Type 0 where

@@ -15,7 +15,7 @@ use Rattle.sequences.specs.Stretch.{stretchOf, over}
 use Rattle.sequences.proofs.Below.{sum-none, sum-more, sum-grows, sum-part}
 use Rattle.sequences.proofs.Every.{every-at, inside-facts}
 use Rattle.sequences.proofs.Stretch.{within, stretch-at}
-use Rattle.layout.specs.Places.{linesFrom}
+use Rattle.layout.specs.Places.{linesFrom, lineWidth}
 use Rattle.layout.specs.declared.Fund.{Fund}
 use Rattle.fund.specs.Fund.{ceiling, limitOf, cumulativeLimit, cumulativeLimitEach, netLimit, netLimitEach}
 use Rattle.fund.proofs.Laws.{fund-sound}
@@ -62,7 +62,7 @@ unfolding allCounts
 all-counts k n b kind made reverse e f = cc
 
 -- an account's place in the book, where w is the width
-pub slot : (k n : ℕ) (b : List ℕ) (a w : ℕ) → length b ≡ k * widthOf n → w ≡ widthOf n → a < k → (a * w + w ≤ length b) × (6 ≤ w)
+pub slot : (k n : ℕ) (b : List ℕ) (a w : ℕ) → length b ≡ k * widthOf n → w ≡ widthOf n → a < k → (a * w + w ≤ length b) × (linesFrom + lineWidth ≤ w)
 slot k n b a w size e h = (rw (size, e) (within (widthOf n) a k h), omega arith)
 
 -- an order that passes 11 is small

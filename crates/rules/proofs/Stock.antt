@@ -115,14 +115,14 @@ module _ (d : Day) (sound : componentFault (d .fund .«first_code») (d .compone
 
 -- the same read off the lent run, where `read` reads a record's number v behind its first place
 module _ (v : Record → ℕ) (read : List ℕ → ℕ → ℕ) (here : (r : Record) (xs : List ℕ) → read (recordNumbers r ++ xs) 0 ≡ v r)
-    (there : (r : Record) (xs : List ℕ) (p : ℕ) → read (recordNumbers r ++ xs) (5 + p) ≡ read xs p) (code : ℕ) where
+    (there : (r : Record) (xs : List ℕ) (p : ℕ) → read (recordNumbers r ++ xs) (recordWidth + p) ≡ read xs p) (code : ℕ) where
   abbrev readAt : List ℕ → ℕ → ℕ
   readAt xs k = whenSame (getD xs (recordWidth * k) 0) code (read xs (recordWidth * k))
 
   next-record : (r : Record) (xs : List ℕ) (k : ℕ) → readAt (recordNumbers r ++ xs) (suc k) ≡ readAt xs k
   next-record r xs k =
-      let e : recordWidth * suc k ≡ 5 + recordWidth * k = omega arith in
-      let f : 5 + recordWidth * k ≡ suc (suc (suc (suc (suc (recordWidth * k))))) = omega arith in
+      let e : recordWidth * suc k ≡ recordWidth + recordWidth * k = omega arith in
+      let f : recordWidth + recordWidth * k ≡ suc (suc (suc (suc (suc (recordWidth * k))))) = omega arith in
       rw (e, there r xs (recordWidth * k), f)
 
   read-tally : (rs : List Record) (xs : List ℕ) → sumBelow (readAt (flatten rs ++ xs)) (length rs) ≡ tally v code rs
