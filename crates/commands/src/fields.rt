@@ -36,7 +36,7 @@ fn digits_of(count: usize, s: &[u8]) -> Field {
         signed: false,
         width: 0,
     };
-    let r = digits::read_number(form, s);
+    let r = digits_reading::read_number(form, s);
     match r {
         Reading::Good(z) => good(z.size),
         Reading::Ill => ill(),

@@ -5,5 +5,4 @@ pub mod Sign
 pub mod Write
 pub mod Trip
 pub mod Bytes
-pub mod Right
 pub mod Signed

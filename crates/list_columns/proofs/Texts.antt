@@ -15,7 +15,7 @@ use Rattle.digits.specs.Right.{alignedForm}
 use Rattle.digits.specs.Written.{Written}
 use Rattle.digits.proofs.Count.{fixed-length}
 use Rattle.digits.proofs.Put.{written-then, written-length}
-use Rattle.digits.proofs.Right.{number-digits, right-length, pointed-length}
+use Rattle.digits_writing.proofs.Right.{number-digits, right-length, pointed-length}
 use Rattle.lines.specs.Lines.{lineText}
 use Rattle.list_rules.specs.Columns.{columnCount, columnTable, columnEntry, columnWidth, columnForm, holdsName, isUsed, valueAt, columnText, rowText}
 use Rattle.list_columns.specs.Fitting.{Fitting, Pointed, usedText}

@@ -123,8 +123,8 @@ fn flag_of(line: &[u8]) -> u64
 fn read_right(n: usize, s: &[u8]) -> Size
     ensures { λ r. ⌜ r ≡ numberSize (rightForm n 0) (now (s .entry)) ⌝ }
 {
-    let b = digits::leading_blanks(s);
-    digits::read_whole(n, &s[b..])
+    let b = digits_reading::leading_blanks(s);
+    digits_reading::read_whole(n, &s[b..])
 }
 
 // A number with decimals, right in its column, so that the point stands at a known place.
@@ -139,7 +139,7 @@ fn read_point(decimals: usize, s: &[u8]) -> Size
     let head = read_right(0, &s[..p]);
     match head {
         Size::Ill => Size::Ill,
-        Size::Known(v) => digits::read_on(&s[p + 1..], v),
+        Size::Known(v) => digits_reading::read_on(&s[p + 1..], v),
     }
 }
 
@@ -147,7 +147,7 @@ fn read_point(decimals: usize, s: &[u8]) -> Size
 fn read_blanks(s: &[u8]) -> Size
     ensures { λ r. ⌜ r ≡ sizeReading (allBlank (now (s .entry))) 0 ⌝ }
 {
-    if digits::is_blank(s) {
+    if digits_reading::is_blank(s) {
         return Size::Known(0);
     }
     Size::Ill
@@ -274,8 +274,8 @@ fn put_name(dst: &mut [u8], at: usize, name: &[u8]) -> usize
     ensures { λ r. ⌜ Written (now (dst .entry)) at (now (name .entry) ++ 124 ∷ []) (now (dst .exit)) r ⌝ }
 {
     let bytes = name_bytes(name);
-    let p = digits::put_bytes(dst, at, &bytes);
-    digits::put_byte(dst, p, BAR)
+    let p = digits_writing::put_bytes(dst, at, &bytes);
+    digits_writing::put_byte(dst, p, BAR)
 }
 
 // Writes a number of so many digits and its bar.
@@ -283,8 +283,8 @@ fn put_digits(dst: &mut [u8], at: usize, width: usize, n: u64) -> usize
     requires { ⌜ at + (width + 1) ≤ length (now dst) ⌝ }
     ensures { λ r. ⌜ Written (now (dst .entry)) at (fixed width n ++ 124 ∷ []) (now (dst .exit)) r ⌝ }
 {
-    let p = digits::put_fixed(dst, at, width, n);
-    digits::put_byte(dst, p, BAR)
+    let p = digits_writing::put_fixed(dst, at, width, n);
+    digits_writing::put_byte(dst, p, BAR)
 }
 
 // Writes a whole number right in its column, and its bar.
@@ -292,8 +292,8 @@ fn put_whole(dst: &mut [u8], at: usize, width: usize, n: u64) -> usize
     requires { ⌜ (0 < width) × (n < 10 ^ width) × (at + (width + 1) ≤ length (now dst)) ⌝ }
     ensures { λ r. ⌜ Written (now (dst .entry)) at (numberText (alignedForm width 0) (plain n) ++ 124 ∷ []) (now (dst .exit)) r ⌝ }
 {
-    let p = digits::aligned::put_whole(dst, at, width, n);
-    digits::put_byte(dst, p, BAR)
+    let p = digits_writing::aligned::put_whole(dst, at, width, n);
+    digits_writing::put_byte(dst, p, BAR)
 }
 
 // Writes a number with decimals right in its column where it is used, and blanks where it is not.
@@ -302,9 +302,9 @@ fn put_used(dst: &mut [u8], at: usize, used: bool, width: usize, decimals: usize
     ensures { λ r. ⌜ Written (now (dst .entry)) at (usedText used width decimals n) (now (dst .exit)) r ⌝ }
 {
     if used {
-        return digits::aligned::put_pointed(dst, at, width, decimals, n);
+        return digits_writing::aligned::put_pointed(dst, at, width, decimals, n);
     }
-    digits::put_blanks(dst, at, width)
+    digits_writing::put_blanks(dst, at, width)
 }
 
 // The same with its bar.
@@ -320,7 +320,7 @@ fn put_pointed(
     ensures { λ r. ⌜ Written (now (dst .entry)) at (usedText used width decimals n ++ 124 ∷ []) (now (dst .exit)) r ⌝ }
 {
     let p = put_used(dst, at, used, width, decimals, n);
-    digits::put_byte(dst, p, BAR)
+    digits_writing::put_byte(dst, p, BAR)
 }
 
 // Writes a component's line. Each column is written by its own call with what the table has for it, which is known when the code is
@@ -345,5 +345,5 @@ pub fn put_row(dst: &mut [u8], at: usize, c: Component, name: &[u8]) -> usize
         AMOUNT_DECIMALS,
         c.amount.0,
     );
-    digits::put_bytes(dst, p6, b"\r\n")
+    digits_writing::put_bytes(dst, p6, b"\r\n")
 }

@@ -131,7 +131,7 @@ fn read_field(k: usize, s: &[u8]) -> Reading
     requires { ⌜ k < 20 ⌝ }
     ensures { λ r. ⌜ r ≡ reading (isField k (now (s .entry))) (figureOf (fieldForm k) (now (s .entry))) ⌝ }
 {
-    let r = digits::read_number(field_form(k), s);
+    let r = digits_reading::read_number(field_form(k), s);
     match r {
         Reading::Ill => Reading::Ill,
         Reading::Good(z) => of_kind(table_entry(k, 3), z),
@@ -293,7 +293,7 @@ fn line_size(k: usize, letters: &[u8], z: Figure) -> usize
         return letters.len() + 7;
     }
     if k <= FIELDS {
-        return name_len(k - 1) + (digits::number_size(field_form(k - 1), z) + 3);
+        return name_len(k - 1) + (digits_writing::number_size(field_form(k - 1), z) + 3);
     }
     8
 }
@@ -317,9 +317,9 @@ fn put_opening(dst: &mut [u8], at: usize, letters: &[u8]) -> usize
     requires { ⌜ at + (length (now letters) + 7) ≤ length (now dst) ⌝ }
     ensures { λ r. ⌜ Written (now (dst .entry)) at (lineText (91 ∷ 69 ∷ 84 ∷ 70 ∷ (now (letters .entry) ++ 93 ∷ []))) (now (dst .exit)) r ⌝ }
 {
-    let p = digits::put_bytes(dst, at, b"[ETF");
-    let q = digits::put_bytes(dst, p, letters);
-    digits::put_bytes(dst, q, b"]\r\n")
+    let p = digits_writing::put_bytes(dst, at, b"[ETF");
+    let q = digits_writing::put_bytes(dst, p, letters);
+    digits_writing::put_bytes(dst, q, b"]\r\n")
 }
 
 // Writes the line of field k.
@@ -329,10 +329,10 @@ fn put_field(dst: &mut [u8], at: usize, k: usize, z: Figure) -> usize
     ensures { λ r. ⌜ Written (now (dst .entry)) at (lineText (fieldName k ++ 61 ∷ numberText (fieldForm k) z)) (now (dst .exit)) r ⌝ }
 {
     let names = tables::NAMES;
-    let p = digits::put_bytes(dst, at, name_part(&names, k));
-    let q = digits::put_byte(dst, p, 61);
-    let r = digits::put_number(dst, q, field_form(k), z);
-    digits::put_bytes(dst, r, b"\r\n")
+    let p = digits_writing::put_bytes(dst, at, name_part(&names, k));
+    let q = digits_writing::put_byte(dst, p, 61);
+    let r = digits_writing::put_number(dst, q, field_form(k), z);
+    digits_writing::put_bytes(dst, r, b"\r\n")
 }
 
 // Writes line k of the head.
@@ -346,7 +346,7 @@ fn put_line(dst: &mut [u8], at: usize, k: usize, letters: &[u8], z: Figure) -> u
     if k <= FIELDS {
         return put_field(dst, at, k - 1, z);
     }
-    digits::put_bytes(dst, at, b"TAGTAG\r\n")
+    digits_writing::put_bytes(dst, at, b"TAGTAG\r\n")
 }
 
 // Writes the head.

@@ -96,7 +96,7 @@ fn put_list(output: &mut [u8], fields: ListFields, run: &[u64], names: &[u8], le
     let figures = list_fields::figures_of(fields);
     let p = list_head::put_head(output, 0, letters, figures);
     let q = list_rows::put_rows(output, p, run, names, fields.count);
-    digits::put_bytes(output, q, b"ENDENDEND\r\n");
+    digits_writing::put_bytes(output, q, b"ENDENDEND\r\n");
 }
 
 // Writes a list at the front of the lent output, and answers how many bytes it takes. A refusal changes nothing.

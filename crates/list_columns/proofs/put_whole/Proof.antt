@@ -1,7 +1,7 @@
 -- `list_columns::put_whole` meets its contract: the number, then the bar.
 use native.Mathlib.Omega.{arith}
 use borrow.Author.Needs.{needs}
-use Rattle.digits.proofs.Right.{right-length}
+use Rattle.digits_writing.proofs.Right.{right-length}
 use Rattle.list_columns.proofs.Texts.{bar-room, barred-put}
 use Rattle.list_columns.proofs.put_whole.Statement.{statement}
 use Rattle.list_columns.proofs.put_whole.Tie as tie

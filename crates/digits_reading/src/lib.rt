@@ -1,0 +1,178 @@
+// Reads a number's field, by its form.
+ghost use mathlib.Core.Path.{_≡_};
+ghost use Prim.Native.Nat.{_+_, _*_, _≤_, _<_};
+ghost use lib.ListN.{length};
+ghost use Rattle.digits.specs.Digits.{cap, from, capped, isWhole, isPlain, plainSize, isSigned, signedFigure, blanks, allBlank, isNumber, figureOf, sizeReading, reading, readOn, minusFigure, belowZero, aboveZero};
+use digits::Form;
+use digits::Figure;
+use digits::Size;
+use digits::Reading;
+
+// Above every range: what a number that is more is read as.
+const CAP: u64 = 1_000_000_000_000_000_000;
+
+// a * 10 + digit, as far as the cap.
+fn next_size(a: u64, digit: u64) -> u64
+    requires { ⌜ (a ≤ cap) × (digit ≤ 9) ⌝ }
+    ensures { λ r. ⌜ r ≡ capped (a * 10 + digit) ⌝ }
+{
+    let v = a * 10 + digit;
+    if CAP < v {
+        return CAP;
+    }
+    v
+}
+
+// The digits of s, read on after the number before; any count of them.
+pub fn read_on(s: &[u8], before: u64) -> Size
+    requires { ⌜ before ≤ cap ⌝ }
+    ensures { λ r. ⌜ r ≡ readOn before (now (s .entry)) ⌝ }
+{
+    let mut a: u64 = before;
+    let mut i = 0;
+    while i < s.len() {
+        let b = s[i];
+        if b < 48 {
+            return Size::Ill;
+        }
+        if 57 < b {
+            return Size::Ill;
+        }
+        a = next_size(a, (b - 48) as u64);
+        i += 1;
+    }
+    Size::Known(a)
+}
+
+// What stands before the point.
+pub fn read_whole(digits: usize, s: &[u8]) -> Size
+    ensures { λ r. ⌜ r ≡ sizeReading (isWhole digits (now (s .entry))) (capped (from 0 (now (s .entry)))) ⌝ }
+{
+    if digits == 0 {
+        if s.len() == 0 {
+            return Size::Ill;
+        }
+        if 1 < s.len() {
+            if s[0] == 48 {
+                return Size::Ill;
+            }
+        }
+        return read_on(s, 0);
+    }
+    if s.len() != digits {
+        return Size::Ill;
+    }
+    read_on(s, 0)
+}
+
+// A number with the decimals of the form.
+fn read_plain(form: Form, s: &[u8]) -> Size
+    requires { ⌜ form .decimals ≤ 9 ⌝ }
+    ensures { λ r. ⌜ r ≡ sizeReading (isPlain form (now (s .entry))) (plainSize form (now (s .entry))) ⌝ }
+{
+    let k = form.decimals;
+    let digits = form.digits;
+    if k == 0 {
+        return read_whole(digits, s);
+    }
+    if s.len() <= k {
+        return Size::Ill;
+    }
+    let p = s.len() - (k + 1);
+    if s[p] != 46 {
+        return Size::Ill;
+    }
+    let head = read_whole(digits, &s[..p]);
+    match head {
+        Size::Ill => Size::Ill,
+        Size::Known(v) => read_on(&s[p + 1..], v),
+    }
+}
+
+// A size behind a "-"; 0 is none.
+fn minus_figure(size: u64) -> Reading
+    ensures { λ r. ⌜ r ≡ minusFigure size ⌝ }
+{
+    if size == 0 {
+        return Reading::Ill;
+    }
+    let z = Figure {
+        negative: true,
+        size,
+    };
+    Reading::Good(z)
+}
+
+// What is read behind a "-".
+fn below_zero(size: Size) -> Reading
+    ensures { λ r. ⌜ r ≡ belowZero size ⌝ }
+{
+    match size {
+        Size::Ill => Reading::Ill,
+        Size::Known(v) => minus_figure(v),
+    }
+}
+
+// What is read with no sign.
+fn above_zero(size: Size) -> Reading
+    ensures { λ r. ⌜ r ≡ aboveZero size ⌝ }
+{
+    match size {
+        Size::Ill => Reading::Ill,
+        Size::Known(v) => {
+            let z = Figure {
+                negative: false,
+                size: v,
+            };
+            Reading::Good(z)
+        }
+    }
+}
+
+// A number with its sign.
+fn read_signed(form: Form, s: &[u8]) -> Reading
+    requires { ⌜ form .decimals ≤ 9 ⌝ }
+    ensures { λ r. ⌜ r ≡ reading (isSigned form (now (s .entry))) (signedFigure form (now (s .entry))) ⌝ }
+{
+    if form.signed {
+        if 0 < s.len() {
+            if s[0] == 45 {
+                return below_zero(read_plain(form, &s[1..]));
+            }
+        }
+    }
+    above_zero(read_plain(form, s))
+}
+
+// How many blanks stand first.
+pub fn leading_blanks(s: &[u8]) -> usize
+    ensures { λ r. ⌜ (r ≡ blanks (now (s .entry))) × (r ≤ length (now (s .entry))) ⌝ }
+{
+    let mut i = 0;
+    while i < s.len() {
+        if s[i] != 32 {
+            return i;
+        }
+        i += 1;
+    }
+    i
+}
+
+// Whether the field is nothing but blanks.
+pub fn is_blank(s: &[u8]) -> bool
+    ensures { λ r. ⌜ r ≡ allBlank (now (s .entry)) ⌝ }
+{
+    leading_blanks(s) == s.len()
+}
+
+// What the field says in the form.
+pub fn read_number(form: Form, s: &[u8]) -> Reading
+    requires { ⌜ form .decimals ≤ 9 ⌝ }
+    ensures { λ r. ⌜ r ≡ reading (isNumber form (now (s .entry))) (figureOf form (now (s .entry))) ⌝ }
+{
+    if form.width == 0 {
+        return read_signed(form, s);
+    }
+    let b = leading_blanks(s);
+    read_signed(form, &s[b..])
+}
