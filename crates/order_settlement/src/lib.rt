@@ -42,7 +42,7 @@ fn settle_stock(
     let mut i: usize = 0;
     while i < d.count {
         let c = layout::component_of(basket, i);
-        let q = book::move_line(kind, c, book, w, a, m, i);
+        let q = order_stock::move_line(kind, c, book, w, a, m, i);
         at = order_records::put_line(out, at, c.code, side, q);
         i += 1;
     }
@@ -73,5 +73,5 @@ pub fn settle(
     let stock_at = order_records::put_record(list, 0, unit);
     let cash_at = settle_stock(ask, d, basket, book, m, list, stock_at);
     order_records::put_after_stock(list, cash_at, first_code, side, units, cash);
-    book::move_rest(ask.kind, count, book, ask.account, units, cash.total());
+    order_units::move_rest(ask.kind, count, book, ask.account, units, cash.total());
 }

@@ -123,7 +123,7 @@ pub fn trade(
     let answer = trade_answer(accounts, count, book, line, q, price, seller, buyer);
     match answer {
         Answer::Done => {
-            book::move_trade(book, count, line, q, Money::new(price), seller, buyer);
+            trade_moves::move_trade(book, count, line, q, Money::new(price), seller, buyer);
             Answer::Done
         }
         Answer::Refused(why) => Answer::Refused(why),
