@@ -2,6 +2,8 @@ pub mod Held
 pub mod Called
 pub mod Filled
 pub mod Local
+pub mod OrderLocals
+pub mod RecordArray
 pub mod Room
 pub mod Flat
 pub mod Laws
