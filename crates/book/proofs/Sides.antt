@@ -65,3 +65,14 @@ module _ (w a : ℕ) (b : List ℕ) (low : 0 < a) (fits : a * w + w ≤ length b
   pub sides-by : (g h : List ℕ → List ℕ) → length (g (stretchOf w b 0)) ≡ w
       → onStretch w a h (onStretch w 0 g b) ≡ withSides w a (g (stretchOf w b 0)) (h (stretchOf w b a)) b
   sides-by g h lg = ap (λ (s : List ℕ). withSides w a (g (stretchOf w b 0)) (h s) b) (account-kept (g (stretchOf w b 0)) lg)
+
+  -- a change of the account's stretch leaves the fund's as it is
+  pub fund-kept : (s : List ℕ) → length s ≡ w → stretchOf w (putStretch w b a s) 0 ≡ stretchOf w b 0
+  fund-kept s ls = stretch-put-other w b a 0 s (λ z. omega arith) fits ls
+
+  -- the account's stretch changed, and then the fund's
+  pub sides-turned : (g h : List ℕ → List ℕ) → length (g (stretchOf w b 0)) ≡ w → length (h (stretchOf w b a)) ≡ w
+      → onStretch w 0 g (onStretch w a h b) ≡ withSides w a (g (stretchOf w b 0)) (h (stretchOf w b a)) b
+  sides-turned g h lg lh =
+      ap (λ (f : List ℕ). putStretch w (putStretch w b a (h (stretchOf w b a))) 0 (g f)) (fund-kept (h (stretchOf w b a)) lh)
+      ∙ sides-swap w a b (g (stretchOf w b 0)) (h (stretchOf w b a)) low fits lg

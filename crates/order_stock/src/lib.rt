@@ -71,10 +71,10 @@ pub fn move_line(
     if q == 0 {
         return 0;
     }
+    let own = stock_lots(kind, x, q);
+    book::put_lots_of(book, w, a, line, own);
     let f = book::lots_of(book, w, book::FUND, line);
     let fund = fund_lots(kind, f, q);
-    let own = stock_lots(kind, x, q);
     book::put_lots_of(book, w, book::FUND, line, fund);
-    book::put_lots_of(book, w, a, line, own);
     q
 }
