@@ -1,4 +1,4 @@
-pub mod OneLine
+pub mod Parts
 pub mod Lines
 pub mod Ready
 pub mod Counts

@@ -19,12 +19,13 @@ use Rattle.rules.specs.Creation.{handedIn, isShort, firstShort, missing, missin
 use Rattle.rules.specs.Redemption.{delivered, redemptionCash, fundLacks, firstLacking}
 use Rattle.rules.specs.Kinds.{movedBy, cashBy}
 use Rattle.rules.proofs.Asked.{by-kind}
-use Rattle.order_scan.specs.declared.Line.{Line}
+use Rattle.order_lines.specs.declared.Line.{Line}
 use Rattle.order_scan.specs.declared.Scan.{Scan}
-use Rattle.order_scan.specs.Lines.{missingOf, worthOf, creationLine, redemptionLine, orderLine, heldOf, otherOf, shanghaiOf, stockCount, nextShort, withCash, withLine, noLines, money}
+use Rattle.order_lines.specs.Lines.{missingOf, worthOf, creationLine, redemptionLine, orderLine, otherOf, shanghaiOf, money}
+use Rattle.order_scan.specs.Lines.{heldOf, stockCount, nextShort, withCash, withLine, noLines}
 use Rattle.order_scan.specs.Scans.{orderScan}
 use Rattle.order_scan.specs.Ready.{Room}
-use Rattle.order_scan.proofs.OneLine.{Small}
+use Rattle.order_lines.proofs.Laws.{Small}
 
 -- the scan of the lines below an index
 unfoldable pub scanBelow : (ℕ → Line) → ℕ → Scan

@@ -21,9 +21,10 @@ use Rattle.rules.specs.Redemption.{redemptionCash}
 use Rattle.rules.specs.Kinds.{total, cashBy}
 use Rattle.rules.proofs.SoundDay.{SoundDay}
 use Rattle.rules.proofs.Asked.{either-kind}
-use Rattle.order_scan.specs.Lines.{creationLine, redemptionLine, missingOf, worthOf}
-use Rattle.order_scan.specs.Ready.{Ranged, Scannable}
-use Rattle.order_scan.proofs.OneLine.{creation-small, redemption-small}
+use Rattle.order_lines.specs.Lines.{creationLine, redemptionLine, missingOf, worthOf}
+use Rattle.order_lines.specs.Ready.{Ranged}
+use Rattle.order_scan.specs.Ready.{Scannable}
+use Rattle.order_lines.proofs.Laws.{creation-small, redemption-small}
 
 module _ (d : Day) (b ps : List ℕ) (s : SoundDay d b ps) (m : ℕ) (few : m ≤ mostBaskets) where
   ranged : (k : ℕ) → k < d .count → Ranged (componentOf d k)

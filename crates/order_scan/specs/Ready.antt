@@ -4,21 +4,15 @@ use mathlib.Core.List.{List}
 use Prim.Native.Nat.{ℕ, _+_, _≤_, _<_}
 use lib.ListN.{length}
 use Rattle.layout.specs.Places.{mostComponents}
-use Rattle.layout.specs.declared.Component.{Component}
 use Rattle.layout.specs.Day.{Day}
 use Rattle.layout.specs.Book.{width}
 use Rattle.rules.specs.Lines.{componentOf, priceOf}
 use Rattle.rules.specs.Sound.{mostPrice}
 use Rattle.rules.specs.Orders.{mostBaskets}
 use Rattle.rules.specs.Creation.{available}
-use Rattle.order_scan.specs.declared.Line.{Line}
+use Rattle.order_lines.specs.declared.Line.{Line}
+use Rattle.order_lines.specs.Ready.{Ranged}
 use Rattle.order_scan.specs.declared.Scan.{Scan}
-
--- a component
-pub record Ranged (c : Component) : Type 0 where
-  pub quantity : c .quantity ≤ 99_999_999
-  pub rate : c .rate .0 ≤ 100_000
-  pub amount : c .amount .0 ≤ 99_999_999_999
 
 -- a scan of i lines, and one line more
 pub record Room (t : Scan) (i : ℕ) (x : Line) : Type 0 where

@@ -8,7 +8,8 @@ use Rattle.rules.specs.Creation.{firstShort, isMissing, missingWorth}
 use Rattle.rules.specs.Redemption.{firstLacking}
 use Rattle.rules.specs.Kinds.{byKind, movedBy, cashBy}
 use Rattle.order_scan.specs.declared.Scan.{Scan}
-use Rattle.order_scan.specs.Lines.{money, stockCount}
+use Rattle.order_lines.specs.Lines.{money}
+use Rattle.order_scan.specs.Lines.{stockCount}
 
 -- an order of m baskets by an account with the stretch s, from or to the fund with the stretch f; only on creation is stock missing
 unfoldable pub orderScan : ℕ → Day → List ℕ → List ℕ → List ℕ → ℕ → Scan

@@ -1,24 +1,24 @@
 // One pass over the basket for the third stage of an order.
-ghost use mathlib.Core.Bool.{cond, not, _||_};
-ghost use mathlib.Core.List.{[], _∷_};
+ghost use mathlib.Core.Bool.{cond, _||_};
 ghost use mathlib.Core.Path.{_≡_};
-ghost use Prim.Native.Nat.{_+_, _-_, _≤_, _<_, _^_, min};
-ghost use lib.Dec.{leb, ltb};
+ghost use Prim.Native.Nat.{_+_, _≤_, _<_, _^_};
+ghost use lib.Dec.{ltb};
 ghost use lib.ListN.{length};
-ghost use Rattle.sequences.specs.Every.{every};
 ghost use Rattle.units.specs.Units.{ratioBound};
-ghost use Rattle.flags.specs.Table.{entry, stockMoves};
 ghost use Rattle.layout.specs.Book.{behindLine};
 ghost use Rattle.layout.specs.Places.{basketWidth, mostComponents};
 ghost use Rattle.layout.specs.Day.{dayOf};
 ghost use Rattle.rules.specs.Sound.{mostPrice};
 ghost use Rattle.rules.specs.Orders.{mostBaskets};
 ghost use Rattle.rules.specs.Creation.{available};
-ghost use Rattle.order_scan.specs.Lines.{creationLine, redemptionLine, orderLine, heldOf, nextShort, stockLine, withCash, withLine, noLines, cashCount, recordCount};
+ghost use Rattle.order_lines.specs.Lines.{orderLine, stockLine};
+ghost use Rattle.order_scan.specs.Lines.{heldOf, nextShort, withCash, withLine, noLines, cashCount, recordCount};
 ghost use Rattle.order_scan.specs.Scans.{orderScan};
-ghost use Rattle.order_scan.specs.Ready.{Ranged, Room, Scannable};
+ghost use Rattle.order_lines.specs.Ready.{Ranged};
+ghost use Rattle.order_scan.specs.Ready.{Room, Scannable};
 use layout::Component;
 use layout::DayHead;
+use order_lines::Line;
 use rules::CashByMarket;
 use units::Money;
 use units::Rate;
@@ -35,16 +35,6 @@ pub struct Scan {
     pub cash: CashByMarket,
     // How many components have stock moved.
     pub stock_records: usize,
-}
-
-// What it makes of one component.
-struct Line {
-    short: bool,
-    missing: u64,
-    worth: Money,
-    cash: Money,
-    shanghai: bool,
-    moved: u64,
 }
 
 // What an account can hand in of a line.
@@ -65,109 +55,6 @@ fn held_at(kind: usize, stretch: &[u64], fund: &[u64], line: usize) -> u64
     }
     let x = layout::lots_at(fund, line);
     x.old
-}
-
-// The first amount where the test passes, and the second where it does not.
-fn chosen(test: bool, x: Money, y: Money) -> Money
-    ensures { λ r. ⌜ r ≡ cond test x y ⌝ }
-{
-    if test {
-        return x;
-    }
-    y
-}
-
-// Whether a component of which stock moves, with no cash for a shortage, is short.
-fn is_short(moves: bool, in_cash: bool, need: u64, have: u64) -> bool
-    ensures { λ r. ⌜ r ≡ every (moves ∷ not «in_cash» ∷ ltb have need ∷ []) ⌝ }
-{
-    if !moves {
-        return false;
-    }
-    if in_cash {
-        return false;
-    }
-    have < need
-}
-
-// What is missing where cash stands for a shortage.
-fn missing_of(in_cash: bool, need: u64, have: u64) -> u64
-    ensures { λ r. ⌜ r ≡ cond «in_cash» (need - have) 0 ⌝ }
-{
-    if !in_cash {
-        return 0;
-    }
-    if need <= have {
-        return 0;
-    }
-    need - have
-}
-
-// What moves of a need, at most so much.
-fn moved_of(moves: bool, need: u64, most: u64) -> u64
-    ensures { λ r. ⌜ r ≡ cond moves (min need most) 0 ⌝ }
-{
-    if !moves {
-        return 0;
-    }
-    if need <= most {
-        return need;
-    }
-    most
-}
-
-// A component in a creation of m baskets, for an account that has so much of it to hand in.
-fn creation_line(c: Component, have: u64, price: u64, m: u64) -> Line
-    requires { ⌜ Ranged c × (m ≤ mostBaskets) × (price ≤ mostPrice) ⌝ }
-    ensures { λ r. ⌜ r ≡ creationLine c have price m ⌝ }
-{
-    let need = m * c.quantity;
-    let moves = flags::entry_of(c.flag, flags::STOCK_MOVES);
-    let in_cash = flags::entry_of(c.flag, flags::SHORTAGE_IN_CASH);
-    let shanghai = flags::entry_of(c.flag, flags::SHANGHAI);
-    let missing = missing_of(in_cash, need, have);
-    let worth = Money(missing * price);
-    let amount = Money(m * c.amount.0);
-    let cash = chosen(moves, worth, amount).with_premium(c.rate);
-    Line {
-        short: is_short(moves, in_cash, need, have),
-        missing: missing,
-        worth: worth,
-        cash: cash,
-        shanghai: shanghai,
-        moved: moved_of(moves, need, have),
-    }
-}
-
-// A component in a redemption of m baskets, of which the fund has so much. Stock is delivered in full.
-fn redemption_line(c: Component, have: u64, m: u64) -> Line
-    requires { ⌜ Ranged c × (m ≤ mostBaskets) ⌝ }
-    ensures { λ r. ⌜ r ≡ redemptionLine c have m ⌝ }
-{
-    let need = m * c.quantity;
-    let moves = flags::entry_of(c.flag, flags::STOCK_MOVES);
-    let shanghai = flags::entry_of(c.flag, flags::SHANGHAI);
-    let moved = moved_of(moves, need, need);
-    let paid = Money(m * c.amount.0).with_discount(c.rate);
-    Line {
-        short: have < moved,
-        missing: 0,
-        worth: Money(0),
-        cash: chosen(moves, Money(0), paid),
-        shanghai: shanghai,
-        moved: moved,
-    }
-}
-
-// A component in an order of either kind.
-fn order_line(kind: usize, c: Component, have: u64, price: u64, m: u64) -> Line
-    requires { ⌜ Ranged c × (m ≤ mostBaskets) × (price ≤ mostPrice) ⌝ }
-    ensures { λ r. ⌜ r ≡ orderLine kind c have price m ⌝ }
-{
-    if kind == rules::CREATION {
-        return creation_line(c, have, price, m);
-    }
-    redemption_line(c, have, m)
 }
 
 // The first short component of the first i + 1, from that of the first i.
@@ -211,8 +98,8 @@ fn with_cash(cash: CashByMarket, line: Line) -> CashByMarket
 {
     CashByMarket {
         shanghai: cash.shanghai
-            .plus(chosen(line.shanghai, line.cash, Money(0))),
-        other: cash.other.plus(chosen(line.shanghai, Money(0), line.cash)),
+            .plus(order_lines::chosen(line.shanghai, line.cash, Money(0))),
+        other: cash.other.plus(order_lines::chosen(line.shanghai, Money(0), line.cash)),
     }
 }
 
@@ -228,16 +115,6 @@ fn with_line(t: Scan, i: usize, line: Line) -> Scan
         cash: with_cash(t.cash, line),
         stock_records: t.stock_records + records_of(line.moved),
     }
-}
-
-// Whether stock of a component moves and is there in full.
-fn is_covered(flag: u64, need: u64, have: u64) -> bool
-    ensures { λ r. ⌜ r ≡ every (leb need have ∷ entry flag stockMoves ∷ []) ⌝ }
-{
-    if have < need {
-        return false;
-    }
-    flags::entry_of(flag, flags::STOCK_MOVES)
 }
 
 // The scan of the first i components with one whose stock is there in full: it adds no cash.
@@ -263,10 +140,10 @@ fn order_turn(kind: usize, t: Scan, i: usize, c: Component, have: u64, price: u6
     ensures { λ r. ⌜ r ≡ withLine t i (orderLine kind c have price m) ⌝ }
 {
     let need = m * c.quantity;
-    if is_covered(c.flag, need, have) {
+    if order_lines::is_covered(c.flag, need, have) {
         return with_stock(t, i, need);
     }
-    with_line(t, i, order_line(kind, c, have, price, m))
+    with_line(t, i, order_lines::order_line(kind, c, have, price, m))
 }
 
 // The scan of no component.

@@ -7,9 +7,9 @@ use Rattle.layout.specs.Places.{mostComponents}
 use Rattle.layout.specs.Components.{componentAt, placesOf}
 use Rattle.rules.specs.Lines.{priceOf}
 use Rattle.layout.specs.Day.{dayOf}
-use Rattle.order_scan.specs.declared.Line.{Line}
-use Rattle.order_scan.specs.Lines.{orderLine}
-use Rattle.order_scan.proofs.OneLine.{Small, order-small}
+use Rattle.order_lines.specs.declared.Line.{Line}
+use Rattle.order_lines.specs.Lines.{orderLine}
+use Rattle.order_lines.proofs.Laws.{Small, order-small}
 use Rattle.order_scan.proofs.Lines.{orderLines, scan-none, scan-more, scan-room, scan-is, scanBelow}
 use Rattle.order_scan.proofs.order_scan.Statement.{statement}
 use Rattle.order_scan.proofs.order_scan.Tie as tie

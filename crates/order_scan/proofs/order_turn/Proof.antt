@@ -2,9 +2,9 @@
 -- but its stock.
 use mathlib.Core.Path.{sym, ap, _∙_}
 use native.Mathlib.Omega.{arith}
-use Rattle.order_scan.specs.declared.Line.{Line}
+use Rattle.order_lines.specs.declared.Line.{Line}
 use Rattle.order_scan.specs.Lines.{withLine}
-use Rattle.order_scan.proofs.OneLine.{need-le, covered-line}
+use Rattle.order_lines.proofs.Laws.{need-le, covered-line}
 use Rattle.order_scan.proofs.order_turn.Statement.{statement}
 use Rattle.order_scan.proofs.order_turn.Tie as tie
 

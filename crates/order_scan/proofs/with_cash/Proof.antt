@@ -2,7 +2,8 @@
 use native.Mathlib.Nat.{le-refl}
 use Prim.Native.Nat.{_≤_, zero-le}
 use native.Mathlib.Omega.{arith}
-use Rattle.order_scan.proofs.OneLine.{chosen-le, cash-parts}
+use Rattle.order_lines.proofs.Laws.{chosen-le}
+use Rattle.order_scan.proofs.Parts.{cash-parts}
 use Rattle.order_scan.proofs.with_cash.Statement.{statement}
 use Rattle.order_scan.proofs.with_cash.Tie as tie
 

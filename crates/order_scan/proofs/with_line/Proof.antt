@@ -1,6 +1,6 @@
 -- `order_scan::with_line` meets its contract: each part is the definition's, and the room holds each sum.
 use native.Mathlib.Omega.{arith}
-use Rattle.order_scan.proofs.OneLine.{scan-parts}
+use Rattle.order_scan.proofs.Parts.{scan-parts}
 use Rattle.order_scan.proofs.Counts.{stock-count-le}
 use Rattle.order_scan.proofs.with_line.Statement.{statement}
 use Rattle.order_scan.proofs.with_line.Tie as tie

@@ -1,6 +1,6 @@
 -- `order_scan::with_stock` meets its contract: the sums stay, and the records may be one more.
 use native.Mathlib.Omega.{arith}
-use Rattle.order_scan.proofs.OneLine.{stock-parts}
+use Rattle.order_scan.proofs.Parts.{stock-parts}
 use Rattle.order_scan.proofs.Counts.{stock-count-le}
 use Rattle.order_scan.proofs.with_stock.Statement.{statement}
 use Rattle.order_scan.proofs.with_stock.Tie as tie

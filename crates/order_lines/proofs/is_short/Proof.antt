@@ -1,9 +1,9 @@
--- `order_scan::is_short` meets its contract: each test that fails decides, and where two pass the third does.
+-- `order_lines::is_short` meets its contract: each test that fails decides, and where two pass the third does.
 use mathlib.Core.Bool.{and-true}
 use borrow.Author.Tests.{not-true, not-false}
 use Rattle.sequences.specs.Every.{every}
-use Rattle.order_scan.proofs.is_short.Statement.{statement}
-use Rattle.order_scan.proofs.is_short.Tie as tie
+use Rattle.order_lines.proofs.is_short.Statement.{statement}
+use Rattle.order_lines.proofs.is_short.Tie as tie
 
 returns : tie.Need-returns
 unfolding every

@@ -1,9 +1,9 @@
--- `order_scan::creation_line` meets its contract: the ranges bound each product, and each part is the definition's.
+-- `order_lines::creation_line` meets its contract: the ranges bound each product, and each part is the definition's.
 use Prim.Native.Nat.{_*_, _≤_}
 use native.Mathlib.Omega.{arith}
-use Rattle.order_scan.proofs.OneLine.{chosen-le, missing-le, need-le, amount-le, worth-le, creation-parts}
-use Rattle.order_scan.proofs.creation_line.Statement.{statement}
-use Rattle.order_scan.proofs.creation_line.Tie as tie
+use Rattle.order_lines.proofs.Laws.{chosen-le, missing-le, need-le, amount-le, worth-le, creation-parts}
+use Rattle.order_lines.proofs.creation_line.Statement.{statement}
+use Rattle.order_lines.proofs.creation_line.Tie as tie
 
 -- the worth of what is missing
 worth : (c : tie.After-missing-of) → c .missing-of .result * c .before .before .before .before .before .args .price ≤ 20_000_000_000_000_000

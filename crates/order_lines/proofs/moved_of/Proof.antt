@@ -1,8 +1,8 @@
--- `order_scan::moved_of` meets its contract: the smaller of the two moves, and nothing where no stock moves.
+-- `order_lines::moved_of` meets its contract: the smaller of the two moves, and nothing where no stock moves.
 use native.Mathlib.Omega.{arith}
 use borrow.Author.Tests.{not-true, not-false}
-use Rattle.order_scan.proofs.moved_of.Statement.{statement}
-use Rattle.order_scan.proofs.moved_of.Tie as tie
+use Rattle.order_lines.proofs.moved_of.Statement.{statement}
+use Rattle.order_lines.proofs.moved_of.Tie as tie
 
 returns-2 : tie.Need-returns-2
 returns-2 c = simp (not-false (c .before .before .args .moves) (c .before .if1 .left)) (omega arith)

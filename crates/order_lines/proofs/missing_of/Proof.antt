@@ -1,8 +1,8 @@
--- `order_scan::missing_of` meets its contract: the difference is 0 where there is enough.
+-- `order_lines::missing_of` meets its contract: the difference is 0 where there is enough.
 use native.Mathlib.Omega.{arith}
 use borrow.Author.Tests.{not-true, not-false}
-use Rattle.order_scan.proofs.missing_of.Statement.{statement}
-use Rattle.order_scan.proofs.missing_of.Tie as tie
+use Rattle.order_lines.proofs.missing_of.Statement.{statement}
+use Rattle.order_lines.proofs.missing_of.Tie as tie
 
 returns-2 : tie.Need-returns-2
 returns-2 c = simp (not-false (c .before .before .args .in-cash) (c .before .if1 .left)) (omega arith)

@@ -1,9 +1,9 @@
--- `order_scan::redemption_line` meets its contract: the ranges bound each product, and each part is the definition's.
+-- `order_lines::redemption_line` meets its contract: the ranges bound each product, and each part is the definition's.
 use Prim.Native.Nat.{_*_, _≤_}
 use native.Mathlib.Omega.{arith}
-use Rattle.order_scan.proofs.OneLine.{need-le, amount-le, redemption-parts}
-use Rattle.order_scan.proofs.redemption_line.Statement.{statement}
-use Rattle.order_scan.proofs.redemption_line.Tie as tie
+use Rattle.order_lines.proofs.Laws.{need-le, amount-le, redemption-parts}
+use Rattle.order_lines.proofs.redemption_line.Statement.{statement}
+use Rattle.order_lines.proofs.redemption_line.Tie as tie
 
 amount : (c : tie.Start) → c .args .m * c .args .c .amount .0 ≤ 1_999_999_999_980
 amount c = amount-le _ _ (c .pre .0) (c .pre .1)

@@ -1,9 +1,9 @@
 -- One component in an order: its numbers are small, and the parts that the code finds make its line.
-use mathlib.Core.Path.{_≡_, refl, sym, ap, _∙_}
-use mathlib.Core.Bool.{Bool, true, false, cond, not, _||_}
+use mathlib.Core.Path.{_≡_, refl, ap, _∙_}
+use mathlib.Core.Bool.{Bool, true, false, cond, not}
 use mathlib.Core.List.{[], _∷_}
-use Prim.Native.Nat.{ℕ, _+_, _-_, _*_, _≤_, min, zero-le}
-use native.Mathlib.Nat.{le-trans, sub-le, add-zero, zero-mul}
+use Prim.Native.Nat.{ℕ, _-_, _*_, _≤_, min, zero-le}
+use native.Mathlib.Nat.{le-trans, sub-le, zero-mul}
 use native.Mathlib.Omega.{arith}
 use lib.Dec.{leb, ltb, lit≤}
 use borrow.Author.Tests.{leb-true, le-ltb}
@@ -14,16 +14,14 @@ use Rattle.units.specs.declared.Money.{Money}
 use Rattle.units.specs.Units.{rounded, premium, discount}
 use Rattle.units.proofs.Laws.{under, premium-le, discount-le}
 use Rattle.flags.specs.Table.{entry, stockMoves, shortageInCash, shanghai}
-use Rattle.flags.proofs.Laws.{or-false, moves-rules}
+use Rattle.flags.proofs.Laws.{moves-rules}
 use Rattle.layout.specs.declared.Component.{Component}
-use Rattle.rules.specs.declared.CashByMarket.{CashByMarket}
 use Rattle.rules.specs.Sound.{mostPrice}
 use Rattle.rules.specs.Orders.{mostBaskets}
 use Rattle.rules.proofs.Asked.{either-kind}
-use Rattle.order_scan.specs.declared.Line.{Line}
-use Rattle.order_scan.specs.declared.Scan.{Scan}
-use Rattle.order_scan.specs.Lines.{money, missingOf, worthOf, creationLine, redemptionLine, orderLine, stockCount, nextShort, stockLine, withCash, withLine}
-use Rattle.order_scan.specs.Ready.{Ranged}
+use Rattle.order_lines.specs.declared.Line.{Line}
+use Rattle.order_lines.specs.Lines.{money, missingOf, worthOf, creationLine, redemptionLine, orderLine, stockLine}
+use Rattle.order_lines.specs.Ready.{Ranged}
 
 -- Bounds.
 
@@ -79,7 +77,7 @@ module _ (c : Component) (m : ℕ) (r : Ranged c) (few : m ≤ mostBaskets) wher
 -- Parts.
 
 -- an amount chosen by a test is the number chosen by it
-chosen-number : (b : Bool) (x y : Money) → cond b x y .0 ≡ cond b (x .0) (y .0)
+pub chosen-number : (b : Bool) (x y : Money) → cond b x y .0 ≡ cond b (x .0) (y .0)
 chosen-number true x y = refl
 chosen-number false x y = refl
 
@@ -89,12 +87,6 @@ line short missing worth cash shanghai moved =
 
 line-eq : {a a′ e e′ : Bool} {b b′ c c′ d d′ f f′ : ℕ} → a ≡ a′ → b ≡ b′ → c ≡ c′ → d ≡ d′ → e ≡ e′ → f ≡ f′ → line a b c d e f ≡ line a′ b′ c′ d′ e′ f′
 line-eq p q r s t u = cc
-
-abbrev cashOf : ℕ → ℕ → CashByMarket
-cashOf shanghai other = record { shanghai = money shanghai; other = money other }
-
-cash-eq : {a a′ b b′ : ℕ} → a ≡ a′ → b ≡ b′ → cashOf a b ≡ cashOf a′ b′
-cash-eq p q = cc
 
 -- a creation's line from its parts
 pub creation-parts : (c : Component) (have price m : ℕ) (moves in-cash inside short : Bool) (missing moved : ℕ) (base cash : Money)
@@ -144,47 +136,7 @@ none-missing c have m h =
     let none : m * c .quantity - have ≡ 0 = omega arith in
     rw none (cond-same (entry (c .flag) shortageInCash) 0)
 
--- cash with one line more, from its parts
-pub cash-parts : (c : CashByMarket) (x : Line) (here shanghai there other : Money)
-    → here ≡ cond (x .shanghai) (x .cash) (money 0)
-    → shanghai .0 ≡ c .shanghai .0 + here .0
-    → there ≡ cond (x .shanghai) (money 0) (x .cash)
-    → other .0 ≡ c .other .0 + there .0
-    → cashOf (shanghai .0) (other .0) ≡ withCash c x
-unfolding withCash
-cash-parts c x here shanghai there other eh ei et eo =
-    cash-eq
-    (ei ∙ ap (λ (y : ℕ). c .shanghai .0 + y) (ap (λ (y : Money). y .0) eh ∙ chosen-number (x .shanghai) _ _))
-    (eo ∙ ap (λ (y : ℕ). c .other .0 + y) (ap (λ (y : Money). y .0) et ∙ chosen-number (x .shanghai) _ _))
-
-abbrev scan : ℕ → Bool → ℕ → CashByMarket → ℕ → Scan
-scan short missing worth cash records =
-    record { short = short; missing = missing; «missing_worth» = money worth; cash = cash; «stock_records» = records }
-
-scan-eq : {b b′ : Bool} {a a′ c c′ f f′ : ℕ} {d d′ : CashByMarket} → a ≡ a′ → b ≡ b′ → c ≡ c′ → d ≡ d′ → f ≡ f′ → scan a b c d f ≡ scan a′ b′ c′ d′ f′
-scan-eq p q r s u = cc
-
--- a scan with one line more, from its parts
-pub scan-parts : (t : Scan) (i : ℕ) (x : Line) (short records : ℕ) (missing : Bool) (worth : Money) (cash : CashByMarket)
-    → short ≡ nextShort (t .short) i (x .short)
-    → missing ≡ (t .missing || ltb 0 (x .missing))
-    → worth .0 ≡ t .«missing_worth» .0 + x .worth .0
-    → cash ≡ withCash (t .cash) x
-    → records ≡ stockCount (x .moved)
-    → scan short missing (worth .0) cash (t .«stock_records» + records) ≡ withLine t i x
-unfolding withLine
-scan-parts t i x short records missing worth cash es em ew ec er = scan-eq es em ew ec (ap (λ (y : ℕ). t .«stock_records» + y) er)
-
--- with a component whose stock is there in full
-pub stock-parts : (t : Scan) (i need short records : ℕ)
-    → short ≡ nextShort (t .short) i false
-    → records ≡ stockCount need
-    → scan short (t .missing) (t .«missing_worth» .0) (t .cash) (t .«stock_records» + records) ≡ withLine t i (stockLine need)
-unfolding withLine withCash stockLine
-stock-parts t i need short records es er =
-    scan-eq es (sym (or-false (t .missing))) (sym (add-zero _)) (cash-eq (sym (add-zero _)) (sym (add-zero _))) (ap (λ (y : ℕ). t .«stock_records» + y) er)
-
--- which is the line of such a component in an order
+-- a component whose stock is there in full, in an order
 covered-short : (b : Bool) → every (true ∷ not b ∷ false ∷ []) ≡ false
 unfolding every
 covered-short true = refl

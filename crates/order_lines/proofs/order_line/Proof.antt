@@ -1,10 +1,10 @@
--- `order_scan::order_line` meets its contract: the kinds are told apart as in the definition.
+-- `order_lines::order_line` meets its contract: the kinds are told apart as in the definition.
 use mathlib.Core.Path.{_∙_}
 use borrow.Author.Needs.{needs}
 use borrow.Author.Tests.{eq-eqb, ne-eqb}
-use Rattle.order_scan.specs.Lines.{orderLine}
-use Rattle.order_scan.proofs.order_line.Statement.{statement}
-use Rattle.order_scan.proofs.order_line.Tie as tie
+use Rattle.order_lines.specs.Lines.{orderLine}
+use Rattle.order_lines.proofs.order_line.Statement.{statement}
+use Rattle.order_lines.proofs.order_line.Tie as tie
 
 returns : tie.Need-returns
 unfolding orderLine

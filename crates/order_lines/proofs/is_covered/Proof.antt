@@ -1,10 +1,10 @@
--- `order_scan::is_covered` meets its contract: stock that is short is not there in full, and else the flag decides.
+-- `order_lines::is_covered` meets its contract: stock that is short is not there in full, and else the flag decides.
 use mathlib.Core.Path.{_∙_}
 use mathlib.Core.Bool.{and-true}
 use borrow.Author.Tests.{lt-leb, le-leb}
 use Rattle.sequences.specs.Every.{every}
-use Rattle.order_scan.proofs.is_covered.Statement.{statement}
-use Rattle.order_scan.proofs.is_covered.Tie as tie
+use Rattle.order_lines.proofs.is_covered.Statement.{statement}
+use Rattle.order_lines.proofs.is_covered.Tie as tie
 
 returns : tie.Need-returns
 unfolding every
