@@ -3,11 +3,9 @@ use mathlib.Core.Path.{_≡_, refl, sym, ap, _∙_}
 use mathlib.Core.Bool.{Bool, true, false}
 use mathlib.Core.List.{List, _++_}
 use Prim.Native.Nat.{ℕ, _≤_, _<_}
-use lib.Dec.{T, ltb}
+use lib.Dec.{ltb}
 use lib.ListN.{length}
-use borrow.Author.Tests.{lt-ltb, le-ltb, eq-eqb, ne-eqb}
 use Rattle.sequences.specs.Checks.{Check, reply, answered}
-use Rattle.sequences.proofs.Checks.{numbered}
 use Rattle.units.specs.Units.{ratioBound}
 use Rattle.layout.specs.Places.{mostComponents}
 use Rattle.layout.specs.Day.{Day}
@@ -15,48 +13,22 @@ use Rattle.rules.specs.declared.Ask.{Ask}
 use Rattle.rules.specs.declared.Refusal.{Refusal}
 use Rattle.layout.specs.Book.{cash, headAt}
 use Rattle.rules.specs.Replies.{refusalReply}
-use Rattle.rules.specs.Orders.{creation, baskets}
+use Rattle.rules.specs.Orders.{baskets}
 use Rattle.rules.specs.Creation.{available, creationDue, ratioPassed, creationMeans}
 use Rattle.rules.specs.Redemption.{unitsAvailable, redemptionPaid, redemptionMeans}
 use Rattle.rules.specs.Value.{referenceValue, hasValue}
 use Rattle.rules.specs.Kinds.{byKind, total, cashBy, askedCash, askedRecords, askedMeans}
 use Rattle.rules.proofs.Replies.{stage-passed, stage-stopped}
-use Rattle.rules.proofs.Asked.{either-kind, by-ask}
+use Rattle.rules.proofs.Asked.{by-ask}
 use Rattle.order_scan.specs.declared.Scan.{Scan}
 use Rattle.order_scan.specs.Lines.{recordCount}
 use Rattle.order_scan.specs.Scans.{orderScan}
 use Rattle.order_scan.specs.Ready.{Scannable}
 use Rattle.order_scan.proofs.Ready.{cash-fits}
 use Rattle.order_scan.proofs.Counts.{scan-count, scan-records-le}
-use Rattle.order_tests.specs.Tests.{stockTests, ratioTests, cashNumber, cashPlace, lastTests, moneyTests, orderTests, meansAnswer}
-
--- 9 and 17, by the kind
-module _ (kind n held units short : ℕ) where
-  stock-numbered : T (numbered (stockTests kind n held units short))
-  unfolding stockTests
-  stock-numbered = either-kind (λ (cs : List Check). T (numbered cs)) _ _ tt tt kind
-
-  module _ (e : kind ≡ creation) where
-    pub hands-short : short < n → reply 9 short 0 ≡ answered (stockTests kind n held units short) 0
-    unfolding answered stockTests
-    hands-short h = simp (eq-eqb kind creation e, lt-ltb short n h)
-
-    pub hands-all : n ≤ short → reply 0 0 0 ≡ answered (stockTests kind n held units short) 0
-    unfolding answered stockTests
-    hands-all h = simp (eq-eqb kind creation e, le-ltb short n h)
-
-  module _ (e : kind ≡ creation → ⊥) where
-    pub units-short : held < units → reply 9 0 0 ≡ answered (stockTests kind n held units short) 0
-    unfolding answered stockTests
-    units-short h = simp (ne-eqb kind creation e, lt-ltb held units h)
-
-    pub fund-short : units ≤ held → short < n → reply 17 short 0 ≡ answered (stockTests kind n held units short) 0
-    unfolding answered stockTests
-    fund-short h g = simp (ne-eqb kind creation e, le-ltb held units h, lt-ltb short n g)
-
-    pub fund-delivers : units ≤ held → n ≤ short → reply 0 0 0 ≡ answered (stockTests kind n held units short) 0
-    unfolding answered stockTests
-    fund-delivers h g = simp (ne-eqb kind creation e, le-ltb held units h, le-ltb short n g)
+use Rattle.order_shortage.specs.Tests.{stockTests, lastTests, cashNumber, cashPlace}
+use Rattle.order_shortage.proofs.Laws.{stock-numbered}
+use Rattle.order_tests.specs.Tests.{ratioTests, moneyTests, orderTests, meansAnswer}
 
 -- 14 and 15, from whether anything is missing
 module _ (d : Day) (ps : List ℕ) (m : ℕ) (missing : Bool) (worth : ℕ) where
@@ -81,19 +53,6 @@ module _ (d : Day) (ps : List ℕ) (m : ℕ) (missing : Bool) (worth : ℕ) wher
     pub ratio-within : r ≡ false → reply 0 0 0 ≡ answered (ratioTests d ps m missing worth) 0
     unfolding answered ratioTests
     ratio-within e = simp (some, has, same ∙ e)
-
-module _ (number place held due room count : ℕ) where
-  pub last-cash : held < due → reply number place 0 ≡ answered (lastTests number place held due room count) count
-  unfolding answered lastTests
-  last-cash h = simp (lt-ltb held due h)
-
-  pub last-room : due ≤ held → room < count → reply 16 0 0 ≡ answered (lastTests number place held due room count) count
-  unfolding answered lastTests
-  last-room h g = simp (le-ltb held due h, lt-ltb room count g)
-
-  pub last-made : due ≤ held → count ≤ room → reply 0 0 count ≡ answered (lastTests number place held due room count) count
-  unfolding answered lastTests
-  last-made h g = simp (le-ltb held due h, le-ltb room count g)
 
 -- the stages, from a scan
 module _ (d : Day) (ps : List ℕ) (kind m : ℕ) (t : Scan) (held room : ℕ) where

@@ -9,16 +9,10 @@ use Rattle.units.specs.Units.{ratioBound}
 use Rattle.layout.specs.Day.{Day}
 use Rattle.rules.specs.declared.Ask.{Ask}
 use Rattle.rules.specs.Value.{referenceValue, hasValue}
-use Rattle.rules.specs.Kinds.{byKind, total, askedRecords, askedMeans}
+use Rattle.rules.specs.Kinds.{total, askedRecords, askedMeans}
 use Rattle.order_scan.specs.declared.Scan.{Scan}
 use Rattle.order_scan.specs.Lines.{recordCount}
-
--- 9 of a creation, at the first component that is short; 9 of a redemption with so many units available, and 17
-unfoldable pub stockTests : ℕ → ℕ → ℕ → ℕ → ℕ → List Check
-stockTests kind n available units short =
-    byKind kind
-    (check (ltb short n) 9 short ∷ [])
-    (check (ltb available units) 9 0 ∷ check (ltb short n) 17 short ∷ [])
+use Rattle.order_shortage.specs.Tests.{stockTests, lastTests, cashNumber, cashPlace}
 
 -- 14 and 15: whether anything is missing, and its worth
 unfoldable pub ratioTests : Day → List ℕ → ℕ → Bool → ℕ → List Check
@@ -26,20 +20,6 @@ ratioTests d ps m missing worth =
     check (missing && not (hasValue d ps)) 14 0
     ∷ check (missing && ltb (ratioBound m (d .fund .«basket_size») (referenceValue d ps) (d .fund .«max_cash_ratio» .0)) worth) 15 0
     ∷ []
-
--- cash that must be there, with a refusal's number and place, and 16: the room for the records
-unfoldable pub lastTests : ℕ → ℕ → ℕ → ℕ → ℕ → ℕ → List Check
-lastTests number place held due room count =
-    check (ltb held due) number place
-    ∷ check (ltb room count) 16 0
-    ∷ []
-
--- 10 where the account lacks cash, 17 and the unit's line n where the fund does
-unfoldable pub cashNumber : ℕ → ℕ
-cashNumber kind = byKind kind 10 17
-
-unfoldable pub cashPlace : ℕ → ℕ → ℕ
-cashPlace kind n = byKind kind 0 n
 
 -- the tests behind those of stock, from a scan t and the cash held; and all of them
 unfoldable pub moneyTests : Day → List ℕ → ℕ → ℕ → Scan → ℕ → ℕ → List Check

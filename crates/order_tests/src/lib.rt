@@ -2,19 +2,19 @@
 ghost use mathlib.Core.Path.{_≡_};
 ghost use Prim.Native.Nat.{_≤_, _<_, _^_};
 ghost use lib.ListN.{length};
-ghost use Rattle.sequences.specs.Checks.{reply, answered};
+ghost use Rattle.sequences.specs.Checks.{answered};
 ghost use Rattle.layout.specs.Places.{basketWidth, mostComponents};
 ghost use Rattle.layout.specs.Day.{dayOf};
 ghost use Rattle.rules.specs.declared.OrderAnswer.the-variants.{Refused};
 ghost use Rattle.layout.specs.Book.{cash, headAt, behindLine};
-ghost use Rattle.rules.specs.Replies.{refusalReply, answerReply, orderAnswerReply, ifAccepted};
+ghost use Rattle.rules.specs.Replies.{answerReply, orderAnswerReply, ifAccepted};
 ghost use Rattle.rules.specs.Orders.{mostBaskets, baskets};
 ghost use Rattle.rules.specs.Creation.{available};
 ghost use Rattle.rules.specs.Kinds.{byKind, total, noCash, askedCash};
 ghost use Rattle.value.specs.Worth.{Priceable};
 ghost use Rattle.order_scan.specs.Lines.{recordCount};
 ghost use Rattle.order_scan.specs.Ready.{Scannable};
-ghost use Rattle.order_tests.specs.Tests.{ratioTests, cashNumber, cashPlace, lastTests, stockTests, moneyTests, orderTests, meansAnswer};
+ghost use Rattle.order_tests.specs.Tests.{ratioTests, moneyTests, orderTests, meansAnswer};
 use layout::DayHead;
 use order_scan::Scan;
 use rules::Answer;
@@ -61,50 +61,6 @@ fn ratio_answer(
     }
 }
 
-// What an account or a fund is told that lacks cash.
-fn cash_refusal(kind: usize, n: usize) -> Refusal
-    ensures { λ r. ⌜ refusalReply r ≡ reply (cashNumber kind) (cashPlace kind n) 0 ⌝ }
-{
-    if kind == rules::CREATION {
-        return Refusal::ShortOfCash;
-    }
-    Refusal::FundShort(n)
-}
-
-// The tests 10 or 17 at cash, and 16.
-fn last_answer(kind: usize, n: usize, held: u64, due: u64, room: usize, count: usize) -> OrderAnswer
-    ensures { λ r. ⌜ orderAnswerReply r ≡ answered (lastTests (cashNumber kind) (cashPlace kind n) held due room count) count ⌝ }
-{
-    if held < due {
-        return OrderAnswer::Refused(cash_refusal(kind, n));
-    }
-    if room < count {
-        return OrderAnswer::Refused(Refusal::ListTooShort);
-    }
-    OrderAnswer::Made(count)
-}
-
-// The tests of stock: 9 of a creation, at the first component that is short; 9 of a redemption, at the units, and 17.
-fn stock_answer(ask: Ask, n: usize, stretch: &[u64], short: usize) -> Answer
-    requires { ⌜ (behindLine n ≤ length (now stretch)) × (available (now stretch) n < 2 ^ 64) ⌝ }
-    ensures { λ r. ⌜ answerReply r ≡ answered (stockTests (ask .kind) n (available (now (stretch .entry)) n) (ask .units) short) 0 ⌝ }
-{
-    if ask.kind == rules::CREATION {
-        if short < n {
-            return Answer::Refused(Refusal::ShortOfStock(short));
-        }
-        return Answer::Done;
-    }
-    let held = order_scan::handable_at(stretch, n);
-    if held < ask.units {
-        return Answer::Refused(Refusal::ShortOfStock(0));
-    }
-    if n > short {
-        return Answer::Refused(Refusal::FundShort(short));
-    }
-    Answer::Done
-}
-
 // The tests behind those of stock, from the scan t and the cash held.
 fn money_answer(
     d: DayHead,
@@ -125,7 +81,7 @@ fn money_answer(
     let due = t.cash.total();
     let count = order_scan::record_count(t);
     match ratio_answer(d, basket, prices, m, t.missing, t.missing_worth) {
-        Answer::Done => last_answer(kind, n, held, due.0, room, count),
+        Answer::Done => order_shortage::last_answer(kind, n, held, due.0, room, count),
         Answer::Refused(why) => OrderAnswer::Refused(why),
     }
 }
@@ -159,7 +115,7 @@ fn order_from(
     requires { ⌜ length (now basket) ≡ basketWidth ⌝ }
     ensures { λ r. ⌜ orderAnswerReply r ≡ answered (orderTests (dayOf d (now (basket .entry))) (now (prices .entry)) (ask .kind) m t (available (now (stretch .entry)) (d .count)) (ask .units) held room) (recordCount t) ⌝ }
 {
-    match stock_answer(ask, d.count, stretch, t.short) {
+    match order_shortage::stock_answer(ask, d.count, stretch, t.short) {
         Answer::Done => money_answer(d, basket, prices, ask.kind, m, t, held, room),
         Answer::Refused(why) => OrderAnswer::Refused(why),
     }

@@ -1,9 +1,9 @@
--- `order_tests::last_answer` meets its contract: cash is tested first, then the room.
+-- `order_shortage::last_answer` meets its contract: cash is tested first, then the room.
 use mathlib.Core.Path.{_∙_}
 use borrow.Author.Needs.{needs}
-use Rattle.order_tests.proofs.Laws.{last-cash, last-room, last-made}
-use Rattle.order_tests.proofs.last_answer.Statement.{statement}
-use Rattle.order_tests.proofs.last_answer.Tie as tie
+use Rattle.order_shortage.proofs.Laws.{last-cash, last-room, last-made}
+use Rattle.order_shortage.proofs.last_answer.Statement.{statement}
+use Rattle.order_shortage.proofs.last_answer.Tie as tie
 
 returns : tie.Need-returns
 returns c = c .cash-refusal .ensures ∙ last-cash _ _ _ _ _ _ (c .before .if1 .taken)

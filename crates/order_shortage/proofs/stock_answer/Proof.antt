@@ -1,8 +1,8 @@
--- `order_tests::stock_answer` meets its contract: on each side the tests come in the definition's order.
+-- `order_shortage::stock_answer` meets its contract: on each side the tests come in the definition's order.
 use borrow.Author.Needs.{needs}
-use Rattle.order_tests.proofs.Laws.{hands-short, hands-all, units-short, fund-short, fund-delivers}
-use Rattle.order_tests.proofs.stock_answer.Statement.{statement}
-use Rattle.order_tests.proofs.stock_answer.Tie as tie
+use Rattle.order_shortage.proofs.Laws.{hands-short, hands-all, units-short, fund-short, fund-delivers}
+use Rattle.order_shortage.proofs.stock_answer.Statement.{statement}
+use Rattle.order_shortage.proofs.stock_answer.Tie as tie
 
 returns : tie.Need-returns
 returns c = hands-short _ _ _ _ _ (c .before .if1 .taken) (c .if2 .taken)

@@ -1,8 +1,8 @@
--- `order_tests::cash_refusal` meets its contract: the kinds are told apart as in the definitions.
+-- `order_shortage::cash_refusal` meets its contract: the kinds are told apart as in the definitions.
 use borrow.Author.Tests.{eq-eqb, ne-eqb}
-use Rattle.order_tests.specs.Tests.{cashNumber, cashPlace}
-use Rattle.order_tests.proofs.cash_refusal.Statement.{statement}
-use Rattle.order_tests.proofs.cash_refusal.Tie as tie
+use Rattle.order_shortage.specs.Tests.{cashNumber, cashPlace}
+use Rattle.order_shortage.proofs.cash_refusal.Statement.{statement}
+use Rattle.order_shortage.proofs.cash_refusal.Tie as tie
 
 returns : tie.Need-returns
 unfolding cashNumber cashPlace
