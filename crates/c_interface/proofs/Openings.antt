@@ -14,7 +14,7 @@ use Rattle.rules.specs.declared.Answer.{Answer}
 use Rattle.rules.specs.Replies.{answerReply}
 use Rattle.rules.specs.Opening.{Opening, openingReply, openedRun, openedBook, openedPrices}
 use Rattle.balance.specs.Balanced.{opened}
-use Rattle.driver.specs.Batch.{stateOf}
+use Rattle.driver_rows.specs.Rows.{stateOf}
 use Rattle.opening.specs.Given.{given, Outcome}
 use Rattle.answers.specs.declared.Numbers.{Numbers}
 use Rattle.answers.specs.Numbers.{replyOf, Told}

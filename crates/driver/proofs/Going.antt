@@ -9,7 +9,7 @@ use Rattle.sequences.specs.Checks.{Reply}
 use Rattle.rules.specs.Sound.{isSound, isKept}
 use Rattle.rules.proofs.SoundDay.{kept-facts, sound-true}
 use Rattle.balance.proofs.Theorems.{KeptState, kept-step}
-use Rattle.driver.specs.Rows.{Row, call, none, rowAt, Work, lentTo, rowReply, rowLeaves}
+use Rattle.driver_rows.specs.Rows.{Row, call, none, rowAt, Work, lentTo, rowReply, rowLeaves}
 use Rattle.layout.specs.Answers.{putReply}
 use Rattle.driver.specs.Batch.{Batch, rowDone, runFrom}
 

@@ -9,7 +9,7 @@ use Rattle.balance.specs.Calls.{State, Event, Happened}
 use Rattle.balance.specs.Balanced.{opened, Balanced}
 use Rattle.balance.proofs.Joined.{happened-joined}
 use Rattle.balance.proofs.Whole.{demand-3}
-use Rattle.driver.specs.Rows.{Row, call, none, rowAt, Work, rowReply, rowLeaves}
+use Rattle.driver_rows.specs.Rows.{Row, call, none, rowAt, Work, rowReply, rowLeaves}
 use Rattle.driver.specs.Batch.{Batch, rowDone, runFrom, withEvent, eventsFrom, rowsIn, fits, ran, eventsOf, replyFrom, eventsPast, answersFrom, answersOf, Demand3}
 
 -- a row's event, and then those of the rest

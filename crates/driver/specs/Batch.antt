@@ -12,19 +12,13 @@ use Rattle.layout.specs.Day.{Day}
 use Rattle.rules.specs.Opening.{Opening, openingReply}
 use Rattle.balance.specs.Calls.{State, Event, Happened}
 use Rattle.balance.specs.Balanced.{opened, Balanced}
-use Rattle.driver.specs.Rows.{Row, call, none, rowAt, Work, lentTo, resultOf, rowReply, rowLeaves}
+use Rattle.driver_rows.specs.Rows.{Row, call, none, rowAt, Work, workOf, lentTo, resultOf, rowReply, rowLeaves}
 use Rattle.layout.specs.Answers.{putReply}
 
 -- what the driver is lent: the work and the answers
 pub record Batch : Type 0 where
   pub work : Work
   pub answers : List ℕ
-
-abbrev pub stateOf : Day → List ℕ → List ℕ → State
-stateOf d book prices = record { day = d; book = book; prices = prices }
-
-abbrev pub workOf : Day → List ℕ → List ℕ → List ℕ → Work
-workOf d book prices records = record { state = stateOf d book prices; records = records }
 
 abbrev pub batchOf : Day → List ℕ → List ℕ → List ℕ → List ℕ → Batch
 batchOf d book prices records answers = record { work = workOf d book prices records; answers = answers }

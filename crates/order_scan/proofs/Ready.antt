@@ -18,7 +18,7 @@ use Rattle.rules.specs.Lines.{componentOf, priceOf, column, quantity, creationR
 use Rattle.rules.specs.Orders.{mostBaskets, need, otherCash, shanghaiCash}
 use Rattle.rules.specs.Creation.{available, missing, missingWorth, creationCash}
 use Rattle.rules.specs.Redemption.{redemptionCash}
-use Rattle.rules.specs.Kinds.{total, cashBy}
+use Rattle.rules.specs.Kinds.{allCash, cashBy}
 use Rattle.rules.proofs.SoundDay.{SoundDay}
 use Rattle.rules.proofs.Asked.{either-kind}
 use Rattle.order_lines.specs.Lines.{creationLine, redemptionLine, missingOf, worthOf}
@@ -79,7 +79,7 @@ module _ (kind : ℕ) (d : Day) (s f ps : List ℕ) (m : ℕ) (r : Scannable kin
   redemption-cash-le k l = redemption-small (componentOf d k) m (r .ranges k l) (r .baskets) 0 .cash
 
   -- the cash fits
-  pub cash-fits : total (cashBy kind d s ps m) ≤ 12_000_000_000_000_000_000
+  pub cash-fits : allCash (cashBy kind d s ps m) ≤ 12_000_000_000_000_000_000
   unfolding cashBy
   cash-fits =
       cash-le d _ (r .count)

@@ -6,7 +6,7 @@ ghost use Rattle.layout.specs.Places.{basketWidth};
 ghost use Rattle.layout.specs.Day.{dayOf};
 ghost use Rattle.layout.specs.Book.{width, account};
 ghost use Rattle.layout.specs.Records.{withRecords};
-ghost use Rattle.rules.specs.Kinds.{total, recordsBy, orderMoves};
+ghost use Rattle.rules.specs.Kinds.{allCash, recordsBy, orderMoves};
 ghost use Rattle.book.specs.Moved.{stockMoves};
 ghost use Rattle.book.specs.Ready.{StockReady, FundReady, OrderReady};
 ghost use Rattle.order_records.specs.Written.{Fits, Wrote, stockRecords};
@@ -59,10 +59,10 @@ pub fn settle(
     cash: CashByMarket,
     list: &mut [u64],
 )
-    requires { ⌜ OrderReady (ask .kind) (dayOf d (now basket)) (now book) (ask .account) (ask .units) m (total cash) ⌝ }
+    requires { ⌜ OrderReady (ask .kind) (dayOf d (now basket)) (now book) (ask .account) (ask .units) m (allCash cash) ⌝ }
     requires { ⌜ Writable (dayOf d (now basket)) (account (dayOf d (now basket)) (now book) (ask .account)) ask m cash (now list) ⌝ }
     requires { ⌜ length (now basket) ≡ basketWidth ⌝ }
-    ensures book { λ _. ⌜ now (book .exit) ≡ orderMoves (ask .kind) (dayOf d (now (basket .entry))) (ask .account) (ask .units) m (total cash) (now (book .entry)) ⌝ }
+    ensures book { λ _. ⌜ now (book .exit) ≡ orderMoves (ask .kind) (dayOf d (now (basket .entry))) (ask .account) (ask .units) m (allCash cash) (now (book .entry)) ⌝ }
     ensures list { λ _. ⌜ now (list .exit) ≡ withRecords (recordsBy (ask .kind) (dayOf d (now (basket .entry))) (account (dayOf d (now (basket .entry))) (now (book .entry)) (ask .account)) (ask .units) m cash) (now (list .entry)) ⌝ }
 {
     let count = d.count;

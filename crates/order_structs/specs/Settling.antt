@@ -10,13 +10,14 @@ use Rattle.rules.specs.declared.Ask.{Ask}
 use Rattle.rules.specs.declared.OrderAnswer.{OrderAnswer}
 use Rattle.rules.specs.declared.OrderAnswer.the-variants.{Made, Refused}
 use Rattle.rules.specs.Replies.{orderAnswerReply, ifAccepted}
+use Rattle.rules.specs.Records.{besideStock}
 use Rattle.rules.specs.Kinds.{askedReply, askedBook}
 use Rattle.order_structs.specs.declared.Settled.{Settled}
 use Rattle.order_structs.specs.Made.{recordsOf}
 
--- the most records of an order: one for each component, two of units, and two for each of the two kinds of cash
+-- the most records of an order: one for each component, and those beside stock
 abbrev pub mostRecords : ℕ
-mostRecords = mostComponents + 6
+mostRecords = mostComponents + besideStock
 
 -- how many records of the flat run are lent
 unfoldable pub lentRecords : ℕ → ℕ

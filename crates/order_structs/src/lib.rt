@@ -15,8 +15,8 @@ use layout::Record;
 use rules::Ask;
 use rules::OrderAnswer;
 
-// The most records of an order: one for each component, two of units, and two for each of the two kinds of cash.
-pub const MOST_RECORDS: usize = layout::MOST_COMPONENTS + 6;
+// The most records of an order.
+pub const MOST_RECORDS: usize = rules::MOST_RECORDS;
 
 // How many numbers they take in a flat run.
 const FLAT_LENGTH: usize = layout::RECORD_WIDTH * MOST_RECORDS;

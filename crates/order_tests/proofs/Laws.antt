@@ -17,7 +17,7 @@ use Rattle.rules.specs.Orders.{baskets}
 use Rattle.rules.specs.Creation.{available, creationDue, ratioPassed, creationMeans}
 use Rattle.rules.specs.Redemption.{unitsAvailable, redemptionPaid, redemptionMeans}
 use Rattle.rules.specs.Value.{referenceValue, hasValue}
-use Rattle.rules.specs.Kinds.{byKind, total, cashBy, askedCash, askedRecords, askedMeans}
+use Rattle.rules.specs.Kinds.{byKind, allCash, cashBy, askedCash, askedRecords, askedMeans}
 use Rattle.rules.proofs.Replies.{stage-passed, stage-stopped}
 use Rattle.rules.proofs.Asked.{by-ask}
 use Rattle.order_scan.specs.declared.Scan.{Scan}
@@ -57,7 +57,7 @@ module _ (d : Day) (ps : List ℕ) (m : ℕ) (missing : Bool) (worth : ℕ) wher
 -- the stages, from a scan
 module _ (d : Day) (ps : List ℕ) (kind m : ℕ) (t : Scan) (held room : ℕ) where
   pub ratio-passes : reply 0 0 0 ≡ answered (ratioTests d ps m (t .missing) (t .«missing_worth» .0)) 0
-      → answered (lastTests (cashNumber kind) (cashPlace kind (d .count)) held (total (t .cash)) room (recordCount t)) (recordCount t) ≡ answered (moneyTests d ps kind m t held room) (recordCount t)
+      → answered (lastTests (cashNumber kind) (cashPlace kind (d .count)) held (allCash (t .cash)) room (recordCount t)) (recordCount t) ≡ answered (moneyTests d ps kind m t held room) (recordCount t)
   unfolding moneyTests ratioTests
   ratio-passes e = stage-passed (ratioTests d ps m (t .missing) (t .«missing_worth» .0)) _ _ tt e
 
@@ -84,7 +84,7 @@ module _ (d : Day) (s f ps : List ℕ) (room : ℕ) where
       let t = orderScan (ask .kind) d s f ps (baskets d (ask .units)) in
       stockTests (ask .kind) (d .count) (available s (d .count)) (ask .units) (t .short)
       ++ (ratioTests d ps (baskets d (ask .units)) (t .missing) (t .«missing_worth» .0)
-      ++ lastTests (cashNumber (ask .kind)) (cashPlace (ask .kind) (d .count)) (headAt (byKind (ask .kind) s f) cash) (total (t .cash)) room (length (askedRecords d s ps ask)))
+      ++ lastTests (cashNumber (ask .kind)) (cashPlace (ask .kind) (d .count)) (headAt (byKind (ask .kind) s f) cash) (allCash (t .cash)) room (length (askedRecords d s ps ask)))
 
   tests-are : (v : ℕ) (ask : Ask) → ask .kind < 2 → answered (tests ask) v ≡ answered (askedMeans d s f ps ask room) v
   unfolding answered stockTests ratioTests lastTests cashNumber cashPlace orderScan cashBy available unitsAvailable askedRecords askedMeans
@@ -102,6 +102,6 @@ module _ (d : Day) (s f ps : List ℕ) (room : ℕ) where
     means-cash = rw (scanned, whole)
 
     -- and its sums fit
-    pub means-fit : (t .«stock_records» ≤ mostComponents) × (total (t .cash) ≤ 12_000_000_000_000_000_000)
+    pub means-fit : (t .«stock_records» ≤ mostComponents) × (allCash (t .cash) ≤ 12_000_000_000_000_000_000)
     unfolding orderScan
     means-fit = rw scanned (scan-records-le (ask .kind) d s f ps m (r .count), cash-fits (ask .kind) d s f ps m r)

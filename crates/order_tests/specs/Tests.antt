@@ -9,7 +9,7 @@ use Rattle.units.specs.Units.{ratioBound}
 use Rattle.layout.specs.Day.{Day}
 use Rattle.rules.specs.declared.Ask.{Ask}
 use Rattle.rules.specs.Value.{referenceValue, hasValue}
-use Rattle.rules.specs.Kinds.{total, askedRecords, askedMeans}
+use Rattle.rules.specs.Kinds.{allCash, askedRecords, askedMeans}
 use Rattle.order_scan.specs.declared.Scan.{Scan}
 use Rattle.order_scan.specs.Lines.{recordCount}
 use Rattle.order_shortage.specs.Tests.{stockTests, lastTests, cashNumber, cashPlace}
@@ -25,7 +25,7 @@ ratioTests d ps m missing worth =
 unfoldable pub moneyTests : Day → List ℕ → ℕ → ℕ → Scan → ℕ → ℕ → List Check
 moneyTests d ps kind m t held room =
     ratioTests d ps m (t .missing) (t .«missing_worth» .0)
-    ++ lastTests (cashNumber kind) (cashPlace kind (d .count)) held (total (t .cash)) room (recordCount t)
+    ++ lastTests (cashNumber kind) (cashPlace kind (d .count)) held (allCash (t .cash)) room (recordCount t)
 
 unfoldable pub orderTests : Day → List ℕ → ℕ → ℕ → Scan → ℕ → ℕ → ℕ → ℕ → List Check
 orderTests d ps kind m t available units held room = stockTests kind (d .count) available units (t .short) ++ moneyTests d ps kind m t held room

@@ -10,7 +10,7 @@ ghost use Rattle.layout.specs.Book.{cash, headAt, behindLine};
 ghost use Rattle.rules.specs.Replies.{answerReply, orderAnswerReply, ifAccepted};
 ghost use Rattle.rules.specs.Orders.{mostBaskets, baskets};
 ghost use Rattle.rules.specs.Creation.{available};
-ghost use Rattle.rules.specs.Kinds.{byKind, total, noCash, askedCash};
+ghost use Rattle.rules.specs.Kinds.{byKind, allCash, noCash, askedCash};
 ghost use Rattle.value.specs.Worth.{Priceable};
 ghost use Rattle.order_scan.specs.Lines.{recordCount};
 ghost use Rattle.order_scan.specs.Ready.{Scannable};
@@ -73,7 +73,7 @@ fn money_answer(
     room: usize,
 ) -> OrderAnswer
     requires { ⌜ Priceable (dayOf d (now basket)) (now prices) ⌝ }
-    requires { ⌜ (m ≤ mostBaskets) × (d .fund .«max_cash_ratio» .0 ≤ 100_000) × (t .«stock_records» ≤ mostComponents) × (total (t .cash) ≤ 12_000_000_000_000_000_000) ⌝ }
+    requires { ⌜ (m ≤ mostBaskets) × (d .fund .«max_cash_ratio» .0 ≤ 100_000) × (t .«stock_records» ≤ mostComponents) × (allCash (t .cash) ≤ 12_000_000_000_000_000_000) ⌝ }
     requires { ⌜ length (now basket) ≡ basketWidth ⌝ }
     ensures { λ r. ⌜ orderAnswerReply r ≡ answered (moneyTests (dayOf d (now (basket .entry))) (now (prices .entry)) kind m t held room) (recordCount t) ⌝ }
 {
@@ -110,7 +110,7 @@ fn order_from(
     room: usize,
 ) -> OrderAnswer
     requires { ⌜ Priceable (dayOf d (now basket)) (now prices) ⌝ }
-    requires { ⌜ (m ≤ mostBaskets) × (d .fund .«max_cash_ratio» .0 ≤ 100_000) × (t .«stock_records» ≤ mostComponents) × (total (t .cash) ≤ 12_000_000_000_000_000_000) ⌝ }
+    requires { ⌜ (m ≤ mostBaskets) × (d .fund .«max_cash_ratio» .0 ≤ 100_000) × (t .«stock_records» ≤ mostComponents) × (allCash (t .cash) ≤ 12_000_000_000_000_000_000) ⌝ }
     requires { ⌜ (behindLine (d .count) ≤ length (now stretch)) × (available (now stretch) (d .count) < 2 ^ 64) ⌝ }
     requires { ⌜ length (now basket) ≡ basketWidth ⌝ }
     ensures { λ r. ⌜ orderAnswerReply r ≡ answered (orderTests (dayOf d (now (basket .entry))) (now (prices .entry)) (ask .kind) m t (available (now (stretch .entry)) (d .count)) (ask .units) held room) (recordCount t) ⌝ }

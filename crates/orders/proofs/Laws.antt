@@ -22,7 +22,7 @@ use Rattle.rules.specs.Orders.{baskets, wholeBaskets, countOf, fundCount, withi
 use Rattle.layout.specs.Records.{roomIn, withRecords}
 use Rattle.rules.specs.Creation.{available, creationDue, creationChecks, creationReply}
 use Rattle.rules.specs.Redemption.{redemptionPaid, redemptionChecks, redemptionReply}
-use Rattle.rules.specs.Kinds.{creationOf, redemptionOf, total, cashBy, orderMoves, recordsBy, askedCash, askedRecords, askedMeans, askedChecks, askedReply, askedMoves}
+use Rattle.rules.specs.Kinds.{creationOf, redemptionOf, allCash, cashBy, orderMoves, recordsBy, askedCash, askedRecords, askedMeans, askedChecks, askedReply, askedMoves}
 use Rattle.rules.proofs.SoundDay.{SoundDay, sound-facts}
 use Rattle.rules.proofs.Accepted.{Orders, order-facts, creation-facts, redemption-facts}
 use Rattle.rules.proofs.Replies.{is-accepted, on-sound, stage-passed, stage-stopped}
@@ -98,7 +98,7 @@ module _ (d : Day) (b ps : List ℕ) (room : ℕ) where
 -- what an accepted order has
 record Accepted (d : Day) (b ps : List ℕ) (room : ℕ) (ask : Ask) : Type 0 where
   pub sound : SoundDay d b ps
-  pub movable : OrderReady (ask .kind) d b (ask .account) (ask .units) (baskets d (ask .units)) (total (askedCash d (account d b (ask .account)) ps ask))
+  pub movable : OrderReady (ask .kind) d b (ask .account) (ask .units) (baskets d (ask .units)) (allCash (askedCash d (account d b (ask .account)) ps ask))
   pub listed : length (askedRecords d (account d b (ask .account)) ps ask) ≤ room
 
 accepted : (d : Day) (b ps : List ℕ) (room : ℕ) (ask : Ask) → ask .kind < 2 → isAccepted (askedReply d b ps ask room) ≡ true → Accepted d b ps room ask
@@ -119,10 +119,10 @@ module _ (d : Day) (b ps : List ℕ) (ask : Ask) (list : List ℕ) (k : ask .kin
   records : recordsBy (ask .kind) d (account d b (ask .account)) (ask .units) m c ≡ askedRecords d (account d b (ask .account)) ps ask
   records = rw (in-baskets, paid) (asked-records d (account d b (ask .account)) ps ask k)
 
-  pub order-makes : OrderReady (ask .kind) d b (ask .account) (ask .units) m (total c) × Writable d (account d b (ask .account)) ask m c list
+  pub order-makes : OrderReady (ask .kind) d b (ask .account) (ask .units) m (allCash c) × Writable d (account d b (ask .account)) ask m c list
   order-makes = (rw (in-baskets, paid) (facts .movable), sound-writable d b ps (facts .sound) _ ask m c list (rw records (facts .listed)))
 
-  pub order-made : (after written : List ℕ) → after ≡ orderMoves (ask .kind) d (ask .account) (ask .units) m (total c) b
+  pub order-made : (after written : List ℕ) → after ≡ orderMoves (ask .kind) d (ask .account) (ask .units) m (allCash c) b
       → written ≡ withRecords (recordsBy (ask .kind) d (account d b (ask .account)) (ask .units) m c) list
       → (after ≡ askedMoves d ps ask b) × (written ≡ withRecords (askedRecords d (account d b (ask .account)) ps ask) list)
   order-made after written e w = (

@@ -12,7 +12,7 @@ use Rattle.layout.specs.Book.{account}
 use Rattle.rules.specs.Orders.{creation, redemption, baskets}
 use Rattle.rules.specs.Creation.{creationDue, creationRecords, creationReply, creationMoves, createdBook, createdList}
 use Rattle.rules.specs.Redemption.{redemptionPaid, redemptionRecords, redemptionReply, redemptionMoves, redeemedBook, redeemedList}
-use Rattle.rules.specs.Kinds.{byKind, creationOf, redemptionOf, total, movedBy, stockLots, fundLots, unitLots, accountCash, fundCash}
+use Rattle.rules.specs.Kinds.{byKind, creationOf, redemptionOf, allCash, movedBy, stockLots, fundLots, unitLots, accountCash, fundCash}
 use Rattle.rules.specs.Kinds.{orderMoves, recordsBy, cashBy, askedCash, askedRecords, askedChecks, askedReply, askedMoves, askedBook, askedList}
 
 -- what holds of creation and of redemption holds of a kind
@@ -72,9 +72,9 @@ asked-records d s ps =
     (λ a units. refl)
 
 pub asked-moves : (d : Day) (b ps : List ℕ) (k : Ask) → k .kind < 2
-    → orderMoves (k .kind) d (k .account) (k .units) (baskets d (k .units)) (total (askedCash d (account d b (k .account)) ps k)) b ≡ askedMoves d ps k b
+    → orderMoves (k .kind) d (k .account) (k .units) (baskets d (k .units)) (allCash (askedCash d (account d b (k .account)) ps k)) b ≡ askedMoves d ps k b
 unfolding orderMoves creationMoves redemptionMoves movedBy stockLots fundLots unitLots accountCash fundCash askedCash cashBy creationDue redemptionPaid askedMoves
 asked-moves d b ps =
-    by-ask (λ k. orderMoves (k .kind) d (k .account) (k .units) (baskets d (k .units)) (total (askedCash d (account d b (k .account)) ps k)) b ≡ askedMoves d ps k b)
+    by-ask (λ k. orderMoves (k .kind) d (k .account) (k .units) (baskets d (k .units)) (allCash (askedCash d (account d b (k .account)) ps k)) b ≡ askedMoves d ps k b)
     (λ a units. refl)
     (λ a units. refl)

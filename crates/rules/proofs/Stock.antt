@@ -16,7 +16,7 @@ use Rattle.fund.proofs.Laws.{components-fine, outside-codes, codes-differ}
 use Rattle.layout.specs.Day.{Day}
 use Rattle.layout.specs.declared.Record.{Record}
 use Rattle.rules.specs.Lines.{codeOf}
-use Rattle.rules.specs.Records.{recordOf, cashParts, cashRecords, stockRecord, orderRecords}
+use Rattle.rules.specs.Records.{recordOf, cashParts, cashRecords, stockRecord, secondUnit, shanghaiStep, otherStep, orderRecords}
 use Rattle.layout.specs.Places.{recordWidth}
 use Rattle.layout.specs.Records.{recordNumbers, flatten, withRecords}
 
@@ -81,9 +81,9 @@ module _ (d : Day) (v : Record → ℕ) (sound : componentFault (d .fund .«firs
       let g = d .fund .«first_code» in
       let code = codeOf d l in
       let stock = joinBelow (stockRecord d side moved) (d .count) in
-      let last = recordOf (g + 1) rest units 0 ∷ [] in
-      let sh = cashRecords (g + 2) rest shanghai in
-      let ot = cashRecords (g + 5) rest other in
+      let last = recordOf (g + secondUnit) rest units 0 ∷ [] in
+      let sh = cashRecords (g + shanghaiStep) rest shanghai in
+      let ot = cashRecords (g + otherStep) rest other in
       let first-none = when-other g code (v (recordOf g rest units 0)) (λ e. group 0 (omega arith) (omega arith)) in
       let stock-sum =
       tally-join v code (stockRecord d side moved) (d .count) ∙ sum-only (λ i. tally v code (stockRecord d side moved i)) (d .count) l inside (stock-elsewhere side moved)
@@ -95,9 +95,9 @@ module _ (d : Day) (v : Record → ℕ) (sound : componentFault (d .fund .«firs
         tally-append v code stock (ot ++ (sh ++ last)),
         tally-append v code ot (sh ++ last),
         tally-append v code sh last,
-        tally-cash v code (g + 5) rest other (group 5 (omega arith)),
-        tally-cash v code (g + 2) rest shanghai (group 2 (omega arith)),
-        tally-one v code (recordOf (g + 1) rest units 0) (group 1 (omega arith)),
+        tally-cash v code (g + otherStep) rest other (group otherStep (omega arith)),
+        tally-cash v code (g + shanghaiStep) rest shanghai (group shanghaiStep (omega arith)),
+        tally-one v code (recordOf (g + secondUnit) rest units 0) (group secondUnit (omega arith)),
       )
 
 -- so its quantity is what moved, and there is at most one

@@ -35,8 +35,8 @@ redemptionOf a units = record { kind = redemption; account = a; units = units }
 abbrev pub byMarket : Day → (ℕ → ℕ) → CashByMarket
 byMarket d f = record { shanghai = record { 0 = shanghaiCash d f }; other = record { 0 = otherCash d f } }
 
-abbrev pub total : CashByMarket → ℕ
-total c = c .other .0 + c .shanghai .0
+abbrev pub allCash : CashByMarket → ℕ
+allCash c = c .other .0 + c .shanghai .0
 
 abbrev pub noCash : CashByMarket
 noCash = record { shanghai = record { 0 = 0 }; other = record { 0 = 0 } }

@@ -46,6 +46,10 @@ shanghaiStep = 2
 abbrev pub otherStep : ℕ
 otherStep = 5
 
+-- the most records of an order beside stock: two of units, and two for each of the two kinds of cash
+abbrev pub besideStock : ℕ
+besideStock = 6
+
 -- in order: unit (g); each component with stock moved; other cash (g+5); Shanghai cash (g+2); unit (g+1).
 -- Stock is on one side and the rest on the other.
 unfoldable pub orderRecords : Day → ℕ → ℕ → ℕ → (ℕ → ℕ) → ℕ → ℕ → List Record

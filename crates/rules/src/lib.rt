@@ -1,7 +1,7 @@
 // What the day book promises: the types of the day and its answers. The definitions are in specs/, their laws in proofs/.
 ghost use mathlib.Core.Path.{_≡_};
 ghost use Prim.Native.Nat.{_<_, _^_};
-ghost use Rattle.rules.specs.Kinds.{total};
+ghost use Rattle.rules.specs.Kinds.{allCash};
 use units::Money;
 use units::ReferenceValue;
 
@@ -68,8 +68,8 @@ pub struct CashByMarket {
 impl CashByMarket {
     // All of it.
     pub fn total(self) -> Money
-        requires { ⌜ total self < 2 ^ 64 ⌝ }
-        ensures { λ r. ⌜ r .0 ≡ total self ⌝ }
+        requires { ⌜ allCash self < 2 ^ 64 ⌝ }
+        ensures { λ r. ⌜ r .0 ≡ allCash self ⌝ }
     {
         Money(self.other.0 + self.shanghai.0)
     }
@@ -81,6 +81,9 @@ pub const SECOND_UNIT: u64 = 1;
 pub const SHANGHAI_CASH: u64 = 2;
 
 pub const OTHER_CASH: u64 = 5;
+
+// The most records of an order: one for each component, two of units, and two for each of the two kinds of cash.
+pub const MOST_RECORDS: usize = layout::MOST_COMPONENTS + 6;
 
 // The most baskets of one order.
 pub const MOST_BASKETS: u64 = 20;

@@ -2,11 +2,8 @@
 use program_io::output;
 use rules::Refusal;
 
-// The units twice, a record of each component, and of the cash of each kind two.
-const MOST_RECORDS: usize = layout::MOST_COMPONENTS + 6;
-
-// So many numbers are room for all of them.
-pub const MOST_LIST: usize = layout::RECORD_WIDTH * MOST_RECORDS;
+// So many numbers are room for all the records of an order.
+pub const MOST_LIST: usize = layout::RECORD_WIDTH * rules::MOST_RECORDS;
 
 // The last digit of a number.
 fn digit(x: u64) -> u8 {
@@ -43,7 +40,7 @@ fn money(x: u64) {
 
 // The k-th record of a flat list.
 fn record(list: &[u64], k: usize) {
-    if MOST_RECORDS <= k {
+    if rules::MOST_RECORDS <= k {
         return;
     }
     if list.len() < layout::RECORD_WIDTH * k + layout::RECORD_WIDTH {

@@ -1,5 +1,5 @@
 -- `driver::do_row` meets its contract: the row's call, and then its answer.
-use Rattle.driver.specs.Rows.{rowAt}
+use Rattle.driver_rows.specs.Rows.{rowAt}
 use Rattle.driver.proofs.Going.{row-is-done}
 use borrow.Author.Needs.{needs}
 use Rattle.driver.proofs.do_row.Statement.{statement}

@@ -6,6 +6,7 @@ use lib.Dec.{eqb, leb}
 use lib.ListN.{length, getD, take, drop}
 use Rattle.sequences.specs.Checks.{Reply, reply}
 use Rattle.layout.specs.Places.{rowWidth}
+use Rattle.layout.specs.Day.{Day}
 use Rattle.rules.specs.declared.Ask.{Ask}
 use Rattle.rules.specs.Kinds.{byKind}
 use Rattle.balance.specs.Calls.{State, Lent, Call, Result, price, trade, create, redeem, value, step}
@@ -32,7 +33,8 @@ rowOf kind x1 x2 x3 x4 x5 =
 -- the i-th row
 unfoldable pub rowAt : List ℕ → ℕ → Row
 rowAt rows i =
-    rowOf (getD rows (rowWidth * i) 0) (getD rows (rowWidth * i + 1) 0) (getD rows (rowWidth * i + 2) 0) (getD rows (rowWidth * i + 3) 0) (getD rows (rowWidth * i + 4) 0) (getD rows (rowWidth * i + 5) 0)
+    rowOf (getD rows (rowWidth * i) 0) (getD rows (rowWidth * i + 1) 0) (getD rows (rowWidth * i + 2) 0)
+    (getD rows (rowWidth * i + 3) 0) (getD rows (rowWidth * i + 4) 0) (getD rows (rowWidth * i + 5) 0)
 
 -- the part of a run of n numbers that is lent: the empty one at the front, where the part named lies outside the run
 abbrev pub partStart : ℕ → ℕ → ℕ → ℕ
@@ -52,6 +54,13 @@ putPart start len run part = take start run ++ (part ++ drop len (drop start run
 pub record Work : Type 0 where
   pub state : State
   pub records : List ℕ
+
+-- a state, and the work on it, from the parts
+abbrev pub stateOf : Day → List ℕ → List ℕ → State
+stateOf d book prices = record { day = d; book = book; prices = prices }
+
+abbrev pub workOf : Day → List ℕ → List ℕ → List ℕ → Work
+workOf d book prices records = record { state = stateOf d book prices; records = records }
 
 -- the list that is lent to a call, and the call's result on it
 abbrev pub lentTo : Work → ℕ → ℕ → Lent

@@ -16,8 +16,7 @@ use Rattle.rules.specs.Redemption.{redemptionReply, redeemedBook, redeemedList}
 use Rattle.rules.specs.Kinds.{askedRecords, askedChecks, askedReply, askedMoves, askedBook, askedList}
 use Rattle.rules.proofs.Asked.{by-ask}
 use Rattle.balance.specs.Calls.{State, Lent, Call, price, trade, create, redeem, value, step}
-use Rattle.driver.specs.Rows.{Row, call, none, orderOf, rowOf, Work, resultOf, rowReply, rowLeaves}
-use Rattle.driver.specs.Batch.{workOf}
+use Rattle.driver_rows.specs.Rows.{Row, call, none, orderOf, rowOf, Work, resultOf, rowReply, rowLeaves, workOf}
 
 -- the row of each kind
 module _ (x1 x2 x3 x4 x5 : ℕ) where

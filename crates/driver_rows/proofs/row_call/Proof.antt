@@ -1,10 +1,10 @@
--- `driver::row_call` meets its contract: the call that the kind names, and 1 for any other kind.
+-- `driver_rows::row_call` meets its contract: the call that the kind names, and 1 for any other kind.
 use mathlib.Core.Path.{_∙_}
-use Rattle.driver.proofs.Rows.{row-price, row-trade, row-create, row-redeem, row-value, row-none, call-meets, none-meets, price-meets, trade-meets, value-meets}
+use Rattle.driver_rows.proofs.Rows.{row-price, row-trade, row-create, row-redeem, row-value, row-none, call-meets, none-meets, price-meets, trade-meets, value-meets}
 use borrow.Author.Needs.{needs}
 use native.Mathlib.Omega.{arith}
-use Rattle.driver.proofs.row_call.Statement.{statement}
-use Rattle.driver.proofs.row_call.Tie as tie
+use Rattle.driver_rows.proofs.row_call.Statement.{statement}
+use Rattle.driver_rows.proofs.row_call.Tie as tie
 
 returns : tie.Need-returns
 returns c = price-meets _ _ _ _ _ _ _ _ _ (row-price _ _ _ _ _ _ (omega arith)) (c .of-answer .ensures ∙ c .before .before .before .price .ensures .0) (c .before .before .before .price .ensures .1)

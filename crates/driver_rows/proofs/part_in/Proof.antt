@@ -1,8 +1,8 @@
--- `driver::part_in` meets its contract: the part lies in the run, or it is the empty one.
+-- `driver_rows::part_in` meets its contract: the part lies in the run, or it is the empty one.
 use native.Mathlib.Omega.{arith}
-use Rattle.driver.proofs.Parts.{part-inside, part-outside}
-use Rattle.driver.proofs.part_in.Statement.{statement}
-use Rattle.driver.proofs.part_in.Tie as tie
+use Rattle.driver_rows.proofs.Parts.{part-inside, part-outside}
+use Rattle.driver_rows.proofs.part_in.Statement.{statement}
+use Rattle.driver_rows.proofs.part_in.Tie as tie
 
 returns : tie.Need-returns
 returns c = part-outside _ (c .before .args .start) (c .before .args .length) (omega arith)

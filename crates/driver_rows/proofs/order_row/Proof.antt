@@ -1,11 +1,11 @@
--- `driver::order_row` meets its contract: the part lent is the row's, and what comes back stands in its place.
+-- `driver_rows::order_row` meets its contract: the part lent is the row's, and what comes back stands in its place.
 use mathlib.Core.Path.{refl}
 use native.Mathlib.Nat.{add-sub-cancel-left}
-use Rattle.driver.specs.Rows.{rowLeaves}
-use Rattle.driver.proofs.Rows.{order-step}
+use Rattle.driver_rows.specs.Rows.{rowLeaves}
+use Rattle.driver_rows.proofs.Rows.{order-step}
 use borrow.Author.Needs.{needs}
-use Rattle.driver.proofs.order_row.Statement.{statement}
-use Rattle.driver.proofs.order_row.Tie as tie
+use Rattle.driver_rows.proofs.order_row.Statement.{statement}
+use Rattle.driver_rows.proofs.order_row.Tie as tie
 
 returns : tie.Need-returns
 unfolding rowLeaves
