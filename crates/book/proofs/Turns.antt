@@ -17,7 +17,7 @@ use Rattle.layout.proofs.Account.{on-length, each-length, each-later, each-more
 use Rattle.book.specs.Moved.{movedOf, stockBy, fundBy, withSides, lineMoves, stockMoves}
 use Rattle.book.specs.Ready.{LineReady, StockReady, FundReady}
 use Rattle.book.proofs.Stock.{stock-zero, fund-zero}
-use Rattle.book.proofs.Sides.{sides-length, sides-account, sides-fund, sides-again, sides-back, fund-kept, sides-turned}
+use Rattle.book.proofs.Sides.{sides-length, sides-account, sides-fund, sides-again, sides-back, fund-kept, sides-swap, put-lots-length}
 use Rattle.book.proofs.Moved.{moved-of}
 
 -- One line.
@@ -34,10 +34,9 @@ module _ (kind w a l : ℕ) (b : List ℕ) (low : 0 < a) (fits : a * w + w ≤ l
       sym (rw (on-none (λ x. fundLots kind x 0) l (stretchOf w b 0) (fund-zero kind _), on-none (λ x. stockLots kind x 0) l (stretchOf w b a) (stock-zero kind _)) (sides-back w a b low fits))
 
   -- the account's lots stored leave the fund's
-  module _ {y : Lots} {t : List ℕ} (et : t ≡ onStretch w a (λ s. putLots s l y) b) where
+  module _ (y : Lots) (t : List ℕ) (et : t ≡ onStretch w a (λ s. putLots s l y) b) where
     pub fund-lots-kept : stretchOf w t 0 ≡ stretchOf w b 0
-    unfolding putLots
-    fund-lots-kept = rw et (fund-kept w a b low fits (putLots (stretchOf w b a) l y) (simp length-set ∙ stretch-length w b a fits))
+    fund-lots-kept = rw et (fund-kept w a b low fits (putLots (stretchOf w b a) l y) (put-lots-length (stretchOf w b a) l y ∙ stretch-length w b a fits))
 
     -- and then the fund's are stored
     pub line-moved : (q : ℕ) {f g x : Lots} {u : List ℕ} → x ≡ lotsAt (stretchOf w b a) l → y ≡ stockLots kind x q → f ≡ lotsAt (stretchOf w t 0) l → g ≡ fundLots kind f q
@@ -46,8 +45,8 @@ module _ (kind w a l : ℕ) (b : List ℕ) (low : 0 < a) (fits : a * w + w ≤ l
     line-moved q ex ey ef eg eu =
         eu
         ∙ rw (eg, ef, fund-lots-kept, et, ey, ex)
-        (sides-turned w a b low fits (λ s. putLots s l (fundLots kind (lotsAt (stretchOf w b 0) l) q)) (onLine (λ x. stockLots kind x q) l)
-        (on-length (λ x. fundLots kind x q) l (stretchOf w b 0) ∙ stretch-length w b 0 (omega arith)) (on-length (λ x. stockLots kind x q) l (stretchOf w b a) ∙ stretch-length w b a fits))
+        (sides-swap w a b (onLine (λ x. fundLots kind x q) l (stretchOf w b 0)) (onLine (λ x. stockLots kind x q) l (stretchOf w b a)) low fits
+        (on-length (λ x. fundLots kind x q) l (stretchOf w b 0) ∙ stretch-length w b 0 (omega arith)))
 
 -- The lines below i.
 

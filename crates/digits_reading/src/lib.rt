@@ -3,10 +3,10 @@ ghost use mathlib.Core.Path.{_≡_};
 ghost use Prim.Native.Nat.{_+_, _*_, _≤_, _<_};
 ghost use lib.ListN.{length};
 ghost use Rattle.digits.specs.Digits.{cap, from, capped, isWhole, isPlain, plainSize, isSigned, signedFigure, blanks, allBlank, isNumber, figureOf, sizeReading, reading, readOn, minusFigure, belowZero, aboveZero};
-use digits::Form;
 use digits::Figure;
-use digits::Size;
+use digits::Form;
 use digits::Reading;
+use digits::Size;
 
 // Above every range: what a number that is more is read as.
 const CAP: u64 = 1_000_000_000_000_000_000;

@@ -5,8 +5,8 @@ ghost use mathlib.Core.List.{[], _∷_};
 ghost use lib.ListN.{length, replicate};
 ghost use Rattle.digits.specs.Digits.{fixed, tens, wholeText, plainText, signedText, numberText};
 ghost use Rattle.digits.specs.Written.{Written};
-use digits::Form;
 use digits::Figure;
+use digits::Form;
 
 pub mod aligned;
 

@@ -99,7 +99,8 @@ fn with_cash(cash: CashByMarket, line: Line) -> CashByMarket
     CashByMarket {
         shanghai: cash.shanghai
             .plus(order_lines::chosen(line.shanghai, line.cash, Money(0))),
-        other: cash.other.plus(order_lines::chosen(line.shanghai, Money(0), line.cash)),
+        other: cash.other
+            .plus(order_lines::chosen(line.shanghai, Money(0), line.cash)),
     }
 }
 

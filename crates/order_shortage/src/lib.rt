@@ -23,7 +23,14 @@ fn cash_refusal(kind: usize, n: usize) -> Refusal
 }
 
 // The tests 10 or 17 at cash, and 16.
-pub fn last_answer(kind: usize, n: usize, held: u64, due: u64, room: usize, count: usize) -> OrderAnswer
+pub fn last_answer(
+    kind: usize,
+    n: usize,
+    held: u64,
+    due: u64,
+    room: usize,
+    count: usize,
+) -> OrderAnswer
     ensures { λ r. ⌜ orderAnswerReply r ≡ answered (lastTests (cashNumber kind) (cashPlace kind n) held due room count) count ⌝ }
 {
     if held < due {

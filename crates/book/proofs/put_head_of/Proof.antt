@@ -7,7 +7,7 @@ use Rattle.book.proofs.put_head_of.Tie as tie
 
 returns : tie.Need-returns
 unfolding putHead
-returns c = set-stretch _ _ _ _ _ (c .before .pre .0) (c .before .pre .1)
+returns c = set-stretch _ _ _ _ _ (c .pre .0) (c .pre .1)
 
 pub put-head-of-spec : {M : Type 1} → statement M
-put-head-of-spec = tie.close (tie.spec (λ c. search needs) (λ c. search needs) (λ c. search needs) (λ c. search needs) returns)
+put-head-of-spec = tie.close (tie.spec (λ c. search needs) (λ c. search needs) (λ c. search needs) (λ c. search needs) (λ c. search needs) returns)

@@ -5,7 +5,7 @@ use Rattle.sequences.specs.Stretch.{stretchOf}
 use Rattle.layout.specs.Book.{lotsAt}
 use Rattle.book.specs.Moved.{movedOf}
 use Rattle.book.proofs.Stock.{moved-le, moved-there}
-use Rattle.book.proofs.Turns.{line-none, line-moved}
+use Rattle.book.proofs.Turns.{line-none, fund-lots-kept, line-moved}
 use borrow.Author.Needs.{needs}
 use native.Mathlib.Omega.{arith}
 use Rattle.order_stock.proofs.move_line.Statement.{statement}
@@ -20,33 +20,30 @@ returns c =
     let e = c .before .stock-moved .ensures ∙ ap (movedOf _ _ _) (c .before .before .lots-of .ensures) in
     (sym (c .if1 .taken) ∙ e, line-none _ _ _ _ _ (p .account-low) (p .account-in))
 
-fund-lots-requires : tie.Need-fund-lots-requires
-fund-lots-requires c κs =
-    let a = c .before .before .before .before .before .before .before .args in
-    let p = c .before .before .before .before .before .before .before .pre in
-    let x = lotsAt (stretchOf (a .w) (a .book .now) (a .a)) (a .line) in
-    let e : c .before .before .before .stock-moved .result ≡ movedOf (a .kind) (a .c) (a .m) x =
-    c .before .before .before .stock-moved .ensures ∙ ap (movedOf (a .kind) (a .c) (a .m)) (c .before .before .before .before .lots-of .ensures) in
-    rw (c .lots-of2 .ensures, e) (p .delivers, omega (arith, p .need, p .room, moved-le (a .kind) (a .c) (a .m) x))
-
 stock-lots-requires : tie.Need-stock-lots-requires
 stock-lots-requires c κs =
-    let a = c .before .before .before .before .before .before .before .before .args in
-    let p = c .before .before .before .before .before .before .before .before .pre in
-    rw (c .before .before .before .before .stock-moved .ensures, c .before .before .before .before .before .lots-of .ensures)
+    let a = c .before .before .before .before .before .args in
+    let p = c .before .before .before .before .before .pre in
+    rw (c .before .stock-moved .ensures, c .before .before .lots-of .ensures)
     ((λ k. moved-there _ _ _ _ k), omega (arith, p .need, p .held, moved-le (a .kind) (a .c) (a .m) (lotsAt (stretchOf (a .w) (a .book .now) (a .a)) (a .line))))
+
+fund-lots-requires : tie.Need-fund-lots-requires
+fund-lots-requires c κs =
+    let a = c .before .before .before .before .before .before .before .before .before .before .before .before .args in
+    let p = c .before .before .before .before .before .before .before .before .before .before .before .before .pre in
+    let x = lotsAt (stretchOf (a .w) (a .book .now) (a .a)) (a .line) in
+    let e : c .before .before .before .before .before .before .before .before .stock-moved .result ≡ movedOf (a .kind) (a .c) (a .m) x =
+    c .before .before .before .before .before .before .before .before .stock-moved .ensures ∙ ap (movedOf (a .kind) (a .c) (a .m)) (c .before .before .before .before .before .before .before .before .before .lots-of .ensures) in
+    let kept = fund-lots-kept (a .kind) (a .w) (a .a) (a .line) (a .book .now) (p .account-low) (p .account-in) _ _ (c .before .before .before .before .put-lots-of .ensures) in
+    rw (c .lots-of2 .ensures, kept, e) (p .delivers, omega (arith, p .need, p .room, moved-le (a .kind) (a .c) (a .m) x))
 
 returns-2 : tie.Need-returns-2
 returns-2 c =
     let p = c .before .before .before .before .before .before .before .before .before .before .before .before .before .before .before .before .before .pre in (
-      c .before .before .before .before .before .before .before .before .before .before .before .before .before .stock-moved .ensures ∙ ap (movedOf _ _ _)
-          (c .before .before .before .before .before .before .before .before .before .before .before .before .before .before .lots-of .ensures),
-      line-moved _ _ _ _ _
-          (p .account-low) (p .account-in) _ (c .before .before .before .before .before .before .before .before .before .before .lots-of2 .ensures)
-          (c .before .before .before .before .before .before .before .before .before .fund-lots .ensures)
-          (c .before .before .before .before .before .before .before .before .before .before .before .before .before .before .lots-of .ensures)
-          (c .before .before .before .before .before .before .before .before .stock-lots .ensures) (c .before .before .before .before .before .before .put-lots-of .ensures)
-          (c .before .before .put-lots-of2 .ensures),
+      c .before .before .before .before .before .before .before .before .before .before .before .before .before .stock-moved .ensures ∙ ap (movedOf _ _ _) (c .before .before .before .before .before .before .before .before .before .before .before .before .before .before .lots-of .ensures),
+      line-moved _ _ _ _ _ (p .account-low) (p .account-in) _ _ (c .before .before .before .before .before .before .before .before .before .put-lots-of .ensures) _
+          (c .before .before .before .before .before .before .before .before .before .before .before .before .before .before .lots-of .ensures) (c .before .before .before .before .before .before .before .before .before .before .before .stock-lots .ensures) (c .before .before .before .before .before .lots-of2 .ensures)
+          (c .before .before .before .before .fund-lots .ensures) (c .before .before .put-lots-of2 .ensures),
     )
 
 pub move-line-spec : {M : Type 1} → statement M
@@ -57,10 +54,10 @@ move-line-spec =
     stock-moved-requires
     (λ c. search needs)
     returns
-    (λ c κs. search needs)
-    fund-lots-requires
     stock-lots-requires
     (λ c κs. search needs)
+    (λ c κs. search needs)
+    fund-lots-requires
     (λ c κs. search needs)
     (λ c. search needs)
     returns-2)
