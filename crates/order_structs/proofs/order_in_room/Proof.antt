@@ -65,7 +65,7 @@ use Rattle.order_structs.specs.Settling.{mostRecords}
 use Rattle.order_structs.proofs.Listed as Li
 use Rattle.order_structs.proofs.Listed.Laws as Li′
 use Rattle.order_structs.proofs.OrderLocals.{askVal, word, dl, bl, pl, bm, rf}
-use Rattle.order_structs.proofs.RecordArray.{av, tells-l, is-value}
+use Rattle.order_structs.proofs.RecordArray.{av, is-field, tells-l, is-value}
 use Rattle.order_structs.proofs.Local.{Elements, Behind, array-in, array-out, lends-front, front-back}
 use Rattle.order_structs.proofs.order_in_room.Key.{name as #order_structs·order-in-room}
 use Rattle.order_structs.proofs.order_in_room as order-in-room′
