@@ -13,7 +13,7 @@ use Rattle.sequences.specs.Below.{allBelow}
 use Rattle.sequences.specs.Every.{every}
 use Rattle.sequences.proofs.Below.{all-at}
 use Rattle.sequences.proofs.Every.{every-at}
-use Rattle.flags.specs.Table.{flagTable, entry, stockMoves, amountUsed, shanghai, priced}
+use Rattle.flags.specs.Table.{flagTable, entry, stockMoves, shortageInCash, amountUsed, shanghai, priced}
 
 -- past the table every entry is false
 pub past-flags : (flag column : ℕ) → 5 ≤ flag → entry flag column ≡ false
@@ -60,6 +60,7 @@ rules flag =
     implies (entry flag stockMoves) (entry flag shanghai)
     ∷ implies (entry flag stockMoves) (entry flag priced)
     ∷ implies (entry flag stockMoves) (not (entry flag amountUsed))
+    ∷ implies (entry flag shortageInCash) (entry flag stockMoves)
     ∷ []
 
 table-rules : allBelow (λ flag. every (rules flag)) 5 ≡ true
@@ -86,3 +87,11 @@ pub moves-rules : (flag : ℕ) → entry flag stockMoves ≡ true → (entry fla
 moves-rules flag e =
     let r = rule flag (inside flag stockMoves e) in
     (follows _ _ (r 0) e, follows _ _ (r 1) e, not-true _ (follows _ _ (r 2) e))
+
+-- cash stands for a shortage only where stock moves
+pub shortage-rule : (flag : ℕ) → entry flag stockMoves ≡ false → entry flag shortageInCash ≡ false
+shortage-rule flag e = case (entry flag shortageInCash) refl
+  where
+    case : (b : Bool) → entry flag shortageInCash ≡ b → b ≡ false
+    case true f = absurd (false≢true (sym e ∙ follows _ _ (rule flag (inside flag shortageInCash f) 3) f))
+    case false f = refl

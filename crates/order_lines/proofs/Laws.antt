@@ -5,7 +5,7 @@ use mathlib.Core.List.{[], _∷_}
 use Prim.Native.Nat.{ℕ, _-_, _*_, _≤_, min, zero-le}
 use native.Mathlib.Nat.{le-trans, sub-le, zero-mul}
 use native.Mathlib.Omega.{arith}
-use lib.Dec.{leb, ltb, lit≤}
+use lib.Dec.{leb, ltb, eqb, lit≤}
 use borrow.Author.Tests.{leb-true, le-ltb}
 use Rattle.sequences.specs.Every.{every}
 use Rattle.sequences.proofs.Below.{cond-le}
@@ -14,13 +14,14 @@ use Rattle.units.specs.declared.Money.{Money}
 use Rattle.units.specs.Units.{rounded, premium, discount}
 use Rattle.units.proofs.Laws.{under, premium-le, discount-le}
 use Rattle.flags.specs.Table.{entry, stockMoves, shortageInCash, shanghai}
-use Rattle.flags.proofs.Laws.{moves-rules}
+use Rattle.flags.proofs.Laws.{moves-rules, shortage-rule}
 use Rattle.layout.specs.declared.Component.{Component}
 use Rattle.rules.specs.Sound.{mostPrice}
-use Rattle.rules.specs.Orders.{mostBaskets}
+use Rattle.rules.specs.Orders.{creation, mostBaskets}
+use Rattle.rules.specs.Kinds.{byKind}
 use Rattle.rules.proofs.Asked.{either-kind}
 use Rattle.order_lines.specs.declared.Line.{Line}
-use Rattle.order_lines.specs.Lines.{money, missingOf, worthOf, creationLine, redemptionLine, orderLine, stockLine}
+use Rattle.order_lines.specs.Lines.{money, missingOf, worthOf, creationLine, redemptionLine, amountLine, orderLine, stockLine}
 use Rattle.order_lines.specs.Ready.{Ranged}
 
 -- Bounds.
@@ -173,3 +174,36 @@ module _ (c : Component) (have price m : ℕ) (covered : every (leb (m * c .quan
   pub covered-line : (kind : ℕ) → orderLine kind c have price m ≡ stockLine (m * c .quantity)
   unfolding orderLine
   covered-line kind = either-kind (λ x. x ≡ stockLine (m * c .quantity)) _ _ covered-creation covered-redemption kind
+
+-- a component of which no stock moves, in an order
+module _ (c : Component) (have price m : ℕ) (stays : entry (c .flag) stockMoves ≡ false) where
+  abbrev paid : ℕ → Line
+  paid cash = line false 0 0 cash (entry (c .flag) shanghai) 0
+
+  amount-creation : creationLine c have price m ≡ paid (premium (m * c .amount .0) (c .rate .0))
+  unfolding creationLine worthOf missingOf every
+  amount-creation = rw (stays, shortage-rule (c .flag) stays, zero-mul price)
+
+  amount-redemption : redemptionLine c have m ≡ paid (discount (m * c .amount .0) (c .rate .0))
+  unfolding redemptionLine
+  amount-redemption = rw (stays, le-ltb have 0 zero-le)
+
+  pub amount-is : (kind : ℕ) → orderLine kind c have price m ≡ amountLine kind c m
+  unfolding orderLine amountLine
+  amount-is kind = go (eqb kind creation)
+    where
+      go : (b : Bool) → cond b (creationLine c have price m) (redemptionLine c have m) ≡ paid (cond b (premium (m * c .amount .0) (c .rate .0)) (discount (m * c .amount .0) (c .rate .0)))
+      go true = amount-creation
+      go false = amount-redemption
+
+-- from its parts
+pub amount-parts : (kind : ℕ) (c : Component) (m cash : ℕ) (inside : Bool)
+    → cash ≡ byKind kind (premium (m * c .amount .0) (c .rate .0)) (discount (m * c .amount .0) (c .rate .0)) → inside ≡ entry (c .flag) shanghai
+    → line false 0 0 cash inside 0 ≡ amountLine kind c m
+unfolding amountLine
+amount-parts kind c m cash inside ec ei = line-eq refl refl refl ec ei refl
+
+-- it adds its cash alone
+pub amount-alone : (kind : ℕ) (c : Component) (m : ℕ) (x : Line) → x ≡ amountLine kind c m → (x .short ≡ false) × (x .missing ≡ 0) × (x .worth .0 ≡ 0) × (x .moved ≡ 0)
+unfolding amountLine
+amount-alone kind c m x e = rw e (refl, refl, refl, refl)

@@ -57,6 +57,18 @@ orderLine kind c have price m = byKind kind (creationLine c have price m) (redem
 unfoldable pub stockLine : ℕ → Line
 stockLine need = record { short = false; missing = 0; worth = money 0; cash = money 0; shanghai = true; moved = need }
 
+-- a component of which no stock moves: its amount in so many baskets, with the premium or less the discount
+unfoldable pub amountLine : ℕ → Component → ℕ → Line
+amountLine kind c m =
+    record {
+      short = false;
+      missing = 0;
+      worth = money 0;
+      cash = money (byKind kind (premium (m * c .amount .0) (c .rate .0)) (discount (m * c .amount .0) (c .rate .0)));
+      shanghai = entry (c .flag) shanghai;
+      moved = 0;
+    }
+
 -- the cash of one market
 abbrev pub otherOf : Line → ℕ
 otherOf x = cond (x .shanghai) 0 (x .cash .0)

@@ -5,13 +5,16 @@ ghost use mathlib.Core.Path.{_≡_};
 ghost use Prim.Native.Nat.{_-_, _≤_, min};
 ghost use lib.Dec.{leb, ltb};
 ghost use Rattle.sequences.specs.Every.{every};
+ghost use Rattle.units.specs.Units.{premium, discount};
 ghost use Rattle.flags.specs.Table.{entry, stockMoves};
 ghost use Rattle.rules.specs.Sound.{mostPrice};
 ghost use Rattle.rules.specs.Orders.{mostBaskets};
-ghost use Rattle.order_lines.specs.Lines.{creationLine, redemptionLine, orderLine};
+ghost use Rattle.rules.specs.Kinds.{byKind};
+ghost use Rattle.order_lines.specs.Lines.{creationLine, redemptionLine, amountLine, orderLine};
 ghost use Rattle.order_lines.specs.Ready.{Ranged};
 use layout::Component;
 use units::Money;
+use units::Rate;
 
 // One component in an order of so many baskets.
 pub struct Line {
@@ -112,6 +115,32 @@ fn redemption_line(c: Component, have: u64, m: u64) -> Line
         cash: chosen(moves, Money(0), paid),
         shanghai: shanghai,
         moved: moved,
+    }
+}
+
+// An amount with the premium on creation, and less the discount on redemption.
+fn amount_due(kind: usize, amount: Money, rate: Rate) -> Money
+    requires { ⌜ (amount .0 ≤ 1_999_999_999_980) × (rate .0 ≤ 100_000) ⌝ }
+    ensures { λ r. ⌜ r .0 ≡ byKind kind (premium (amount .0) (rate .0)) (discount (amount .0) (rate .0)) ⌝ }
+{
+    if kind == rules::CREATION {
+        return amount.with_premium(rate);
+    }
+    amount.with_discount(rate)
+}
+
+// A component of which no stock moves, in an order of m baskets: its amount alone.
+pub fn amount_line(kind: usize, c: Component, m: u64) -> Line
+    requires { ⌜ Ranged c × (m ≤ mostBaskets) ⌝ }
+    ensures { λ r. ⌜ r ≡ amountLine kind c m ⌝ }
+{
+    Line {
+        short: false,
+        missing: 0,
+        worth: Money(0),
+        cash: amount_due(kind, Money(m * c.amount.0), c.rate),
+        shanghai: flags::entry_of(c.flag, flags::SHANGHAI),
+        moved: 0,
     }
 }
 

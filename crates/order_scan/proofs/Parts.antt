@@ -58,3 +58,11 @@ pub stock-parts : (t : Scan) (i need short records : ℕ)
 unfolding withLine withCash stockLine
 stock-parts t i need short records es er =
     scan-eq es (sym (or-false (t .missing))) (sym (add-zero _)) (cash-eq (sym (add-zero _)) (sym (add-zero _))) (ap (λ (y : ℕ). t .«stock_records» + y) er)
+
+-- with a component of which no stock moves
+pub amount-added : (t : Scan) (i : ℕ) (x : Line) (short : ℕ) (cash : CashByMarket) → (x .short ≡ false) × (x .missing ≡ 0) × (x .worth .0 ≡ 0) × (x .moved ≡ 0)
+    → short ≡ nextShort (t .short) i false → cash ≡ withCash (t .cash) x
+    → scan short (t .missing) (t .«missing_worth» .0) cash (t .«stock_records») ≡ withLine t i x
+unfolding withLine
+amount-added t i x short cash (es, em, ew, er) eq ec =
+    scan-eq (eq ∙ rw es) (rw em (sym (or-false (t .missing)))) (rw ew (sym (add-zero _))) ec (rw er (sym (add-zero _)))

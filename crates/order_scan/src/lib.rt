@@ -1,5 +1,5 @@
 // One pass over the basket for the third stage of an order.
-ghost use mathlib.Core.Bool.{cond, _||_};
+ghost use mathlib.Core.Bool.{false, cond, _||_};
 ghost use mathlib.Core.Path.{_≡_};
 ghost use Prim.Native.Nat.{_+_, _≤_, _<_, _^_};
 ghost use lib.Dec.{ltb};
@@ -134,6 +134,22 @@ fn with_stock(t: Scan, i: usize, need: u64) -> Scan
     }
 }
 
+// The scan of the first i components with one of which no stock moves: it adds its cash alone.
+fn with_amount(t: Scan, i: usize, line: Line) -> Scan
+    requires { ⌜ Room t i line ⌝ }
+    requires { ⌜ (line .short ≡ false) × (line .missing ≡ 0) × (line .worth .0 ≡ 0) × (line .moved ≡ 0) ⌝ }
+    ensures { λ r. ⌜ r ≡ withLine t i line ⌝ }
+{
+    let missing_worth = t.missing_worth;
+    Scan {
+        short: next_short(t.short, i, false),
+        missing: t.missing,
+        missing_worth,
+        cash: with_cash(t.cash, line),
+        stock_records: t.stock_records,
+    }
+}
+
 // The scan of the first i components with the next one, in an order of m baskets.
 fn order_turn(kind: usize, t: Scan, i: usize, c: Component, have: u64, price: u64, m: u64) -> Scan
     requires { ⌜ Ranged c × (m ≤ mostBaskets) × (price ≤ mostPrice) ⌝ }
@@ -143,6 +159,9 @@ fn order_turn(kind: usize, t: Scan, i: usize, c: Component, have: u64, price: u6
     let need = m * c.quantity;
     if order_lines::is_covered(c.flag, need, have) {
         return with_stock(t, i, need);
+    }
+    if !flags::entry_of(c.flag, flags::STOCK_MOVES) {
+        return with_amount(t, i, order_lines::amount_line(kind, c, m));
     }
     with_line(t, i, order_lines::order_line(kind, c, have, price, m))
 }
