@@ -182,8 +182,8 @@ fn no_lines() -> Scan
     }
 }
 
-// An order of m baskets by the account with the stretch lent, from or to the fund with its own.
-pub fn order_scan(
+// The pass over the components.
+fn scan_lines(
     kind: usize,
     d: DayHead,
     basket: &[u64],
@@ -206,6 +206,27 @@ pub fn order_scan(
         i += 1;
     }
     t
+}
+
+// An order of m baskets by the account with the stretch lent, from or to the fund with its own. Each kind has a pass of its own,
+// so that no turn asks for the kind.
+pub fn order_scan(
+    kind: usize,
+    d: DayHead,
+    basket: &[u64],
+    stretch: &[u64],
+    fund: &[u64],
+    prices: &[u64],
+    m: u64,
+) -> Scan
+    requires { ⌜ Scannable kind (dayOf d (now basket)) (now stretch) (now fund) (now prices) m ⌝ }
+    requires { ⌜ length (now basket) ≡ basketWidth ⌝ }
+    ensures { λ r. ⌜ r ≡ orderScan kind (dayOf d (now (basket .entry))) (now (stretch .entry)) (now (fund .entry)) (now (prices .entry)) m ⌝ }
+{
+    if kind == rules::CREATION {
+        return scan_lines(rules::CREATION, d, basket, stretch, fund, prices, m);
+    }
+    scan_lines(rules::REDEMPTION, d, basket, stretch, fund, prices, m)
 }
 
 // How many records an amount of cash takes.
