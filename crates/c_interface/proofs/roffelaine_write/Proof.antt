@@ -22,12 +22,7 @@ pub roffelaine-write-spec : {M : Type 1} → statement M
 roffelaine-write-spec =
     tie.close
     (tie.spec
-    (λ c κs. search needs)
-    (λ c κs. search needs)
+    (λ c κs. search needs) (λ c κs. search needs)
     returns
-    (λ c κs. search needs)
-    (λ c κs. search needs)
-    (λ c κs. search needs)
-    (λ c κs. search needs)
-    (λ c. search needs)
+    (λ c κs. search needs) (λ c κs. search needs) (λ c κs. search needs) (λ c κs. search needs) (λ c. search needs)
     returns-2)

@@ -60,12 +60,10 @@ pub order-spec : {M : Type 1} → statement M
 order-spec =
     tie.close
     (tie.spec
-    (λ c κs. search needs)
-    (λ c. search needs)
+    (λ c κs. search needs) (λ c. search needs)
     returns
     (λ c κs. sound-width _ _ _ (sound c))
     (λ c κs. sound-width _ _ _ (sound (c .before)))
     order-requires
-    (λ c. search needs)
-    (λ c. search needs)
+    (λ c. search needs) (λ c. search needs)
     returns-2)

@@ -38,8 +38,7 @@ pub trade-spec : {M : Type 1} → statement M
 trade-spec =
     tie.close
     (tie.spec
-    (λ c κs. search needs)
-    (λ c. search needs)
+    (λ c κs. search needs) (λ c. search needs)
     returns
     (λ c κs. sound-width _ _ _ (sound c))
     (λ c κs. sound-width _ _ _ (sound (c .before)))

@@ -33,7 +33,6 @@ leading-blanks-spec =
     loop-holds
     (λ c. omega arith)
     returns
-    (λ c. omega arith)
-    (λ c. omega arith)
+    (λ c. omega arith) (λ c. omega arith)
     loop-again
     returns-2)

@@ -17,9 +17,5 @@ read-number-spec =
     (tie.spec
     (λ c κs. omega arith)
     returns
-    (λ c κs. omega arith)
-    (λ c. omega arith)
-    (λ c. omega arith)
-    (λ c. omega arith)
-    (λ c κs. omega arith)
+    (λ c κs. omega arith) (λ c. omega arith) (λ c. omega arith) (λ c. omega arith) (λ c κs. omega arith)
     returns-2)

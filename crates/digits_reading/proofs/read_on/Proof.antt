@@ -43,9 +43,6 @@ read-on-spec =
     (λ c. omega arith)
     returns
     returns-2
-    (λ c. omega arith)
-    (λ c κs. omega arith)
-    (λ c. omega arith)
-    (λ c. omega arith)
+    (λ c. omega arith) (λ c κs. omega arith) (λ c. omega arith) (λ c. omega arith)
     loop-again
     returns-3)

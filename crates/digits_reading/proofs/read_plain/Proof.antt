@@ -47,18 +47,10 @@ read-plain-spec =
     (λ c κs. omega arith)
     returns
     returns-2
-    (λ c. omega arith)
-    (λ c. omega arith)
-    (λ c. omega arith)
+    (λ c. omega arith) (λ c. omega arith) (λ c. omega arith)
     returns-3
     slice-aggregate-read-whole
-    (λ c κs. omega arith)
-    (λ c. search needs)
-    (λ c. search needs)
-    (λ c. omega arith)
-    (λ c. omega arith)
-    (λ c. omega arith)
-    (λ c. omega arith)
+    (λ c κs. omega arith) (λ c. search needs) (λ c. search needs) (λ c. omega arith) (λ c. omega arith) (λ c. omega arith) (λ c. omega arith)
     read-on-requires
     returns-4
     returns-5)

@@ -29,13 +29,7 @@ pub read-signed-spec : {M : Type 1} → statement M
 read-signed-spec =
     tie.close
     (tie.spec
-    (λ c. omega arith)
-    (λ c. omega arith)
-    (λ c. omega arith)
-    (λ c. omega arith)
-    (λ c κs. omega arith)
-    (λ c κs. omega arith)
+    (λ c. omega arith) (λ c. omega arith) (λ c. omega arith) (λ c. omega arith) (λ c κs. omega arith) (λ c κs. omega arith)
     returns
-    (λ c κs. omega arith)
-    (λ c κs. omega arith)
+    (λ c κs. omega arith) (λ c κs. omega arith)
     returns-2)

@@ -37,7 +37,6 @@ plain-size-spec =
     returns
     (λ c κs. omega arith)
     div-whole-size
-    (λ c κs. omega arith)
-    (λ c. omega arith)
+    (λ c κs. omega arith) (λ c. omega arith)
     add-result-2
     returns-2)

@@ -35,8 +35,7 @@ pub put-number-spec : {M : Type 1} → statement M
 put-number-spec =
     tie.close
     (tie.spec
-    (λ c κs. omega arith)
-    (λ c κs. omega arith)
+    (λ c κs. omega arith) (λ c κs. omega arith)
     sub-k
     (λ c κs. omega arith)
     put-signed-requires

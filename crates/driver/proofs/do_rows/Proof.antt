@@ -53,8 +53,7 @@ do-rows-spec =
     μ-loop
     loop-holds
     do-row-requires
-    (λ c. omega arith)
-    (λ c. omega arith)
+    (λ c. omega arith) (λ c. omega arith)
     loop-again
     same-length
     same-length-2

@@ -19,8 +19,5 @@ run-spec =
     (tie.spec
     (λ c κs. search needs)
     run-rows-requires
-    (λ c. search needs)
-    (λ c. search needs)
-    (λ c. search needs)
-    (λ c. search needs)
+    (λ c. search needs) (λ c. search needs) (λ c. search needs) (λ c. search needs)
     returns)

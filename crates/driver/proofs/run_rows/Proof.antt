@@ -29,8 +29,5 @@ run-rows-spec =
     (λ c κs. search needs)
     returns
     do-rows-requires
-    (λ c. search needs)
-    (λ c. search needs)
-    (λ c. search needs)
-    (λ c. search needs)
+    (λ c. search needs) (λ c. search needs) (λ c. search needs) (λ c. search needs)
     returns-2)

@@ -74,7 +74,6 @@ run-fault-spec =
     (λ c κs. omega arith)
     (λ c κs. tt)
     returns
-    (λ c. omega arith)
-    (λ c. omega arith)
+    (λ c. omega arith) (λ c. omega arith)
     loop-again
     returns-2)

@@ -14,14 +14,6 @@ pub put-answer-spec : {M : Type 1} → statement M
 put-answer-spec =
     tie.close
     (tie.spec
-    (λ c. search needs)
-    (λ c. search needs)
-    (λ c. search needs)
-    (λ c. search needs)
-    (λ c. search needs)
-    (λ c. simp length-set (omega arith))
-    (λ c. search needs)
-    (λ c. search needs)
-    (λ c. simp length-set (omega arith))
-    (λ c. search needs)
+    (λ c. search needs) (λ c. search needs) (λ c. search needs) (λ c. search needs) (λ c. search needs) (λ c. simp length-set (omega arith)) (λ c. search needs)
+    (λ c. search needs) (λ c. simp length-set (omega arith)) (λ c. search needs)
     returns)

@@ -35,8 +35,7 @@ pub put-day-spec : {M : Type 1} → statement M
 put-day-spec =
     tie.close
     (tie.spec
-    (λ c. search needs)
-    (λ c. simp length-set (omega arith))
+    (λ c. search needs) (λ c. simp length-set (omega arith))
     put-fund-requires
     (λ c. omega (arith, size (c .before .before)))
     (λ c. omega (arith, size (c .before .before)))

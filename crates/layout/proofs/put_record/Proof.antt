@@ -13,19 +13,7 @@ pub put-record-spec : {M : Type 1} → statement M
 put-record-spec =
     tie.close
     (tie.spec
-    (λ c. omega arith)
-    (λ c. omega arith)
-    (λ c. omega arith)
-    (λ c. omega arith)
-    (λ c. simp length-set (omega arith))
-    (λ c. omega arith)
-    (λ c. omega arith)
-    (λ c. simp length-set (omega arith))
-    (λ c. omega arith)
-    (λ c. omega arith)
-    (λ c. simp length-set (omega arith))
-    (λ c. omega arith)
-    (λ c. omega arith)
-    (λ c. simp length-set (omega arith))
-    (λ c. search needs)
+    (λ c. omega arith) (λ c. omega arith) (λ c. omega arith) (λ c. omega arith) (λ c. simp length-set (omega arith)) (λ c. omega arith) (λ c. omega arith)
+    (λ c. simp length-set (omega arith)) (λ c. omega arith) (λ c. omega arith) (λ c. simp length-set (omega arith)) (λ c. omega arith) (λ c. omega arith)
+    (λ c. simp length-set (omega arith)) (λ c. search needs)
     returns)

@@ -19,7 +19,6 @@ end-at-spec =
     (tie.spec
     (λ c. search needs)
     returns
-    (λ c. search needs)
-    (λ c. search needs)
+    (λ c. search needs) (λ c. search needs)
     returns-2
     returns-3)

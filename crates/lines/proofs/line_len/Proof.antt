@@ -38,7 +38,6 @@ line-len-spec =
     loop-holds
     (λ c κs. search needs)
     returns
-    (λ c. search needs)
-    (λ c. search needs)
+    (λ c. search needs) (λ c. search needs)
     loop-again
     returns-2)

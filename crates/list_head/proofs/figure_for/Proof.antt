@@ -22,7 +22,5 @@ figure-for-spec =
     returns
     (λ c κs. search needs)
     returns-2
-    (λ c. search needs)
-    (λ c. search needs)
-    (λ c. search needs)
+    (λ c. search needs) (λ c. search needs) (λ c. search needs)
     returns-3)

@@ -20,9 +20,7 @@ is-head-line-spec =
     (tie.spec
     (λ c κs. search needs)
     returns
-    (λ c. search needs)
-    (λ c κs. search needs)
+    (λ c. search needs) (λ c κs. search needs)
     returns-2
-    (λ c. search needs)
-    (λ c κs. search needs)
+    (λ c. search needs) (λ c κs. search needs)
     returns-3)

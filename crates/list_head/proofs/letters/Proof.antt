@@ -50,12 +50,10 @@ pub letters-spec : {M : Type 1} → statement M
 letters-spec =
     tie.close
     (tie.spec
-    (λ c κs. search needs)
-    (λ c. search needs)
+    (λ c κs. search needs) (λ c. search needs)
     returns
     slice-aggregate-is-opening
-    (λ c κs. search needs)
-    (λ c. search needs)
+    (λ c κs. search needs) (λ c. search needs)
     returns-2
     sub-result
     sub-result-2

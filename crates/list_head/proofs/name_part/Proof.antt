@@ -31,9 +31,7 @@ pub name-part-spec : {M : Type 1} → statement M
 name-part-spec =
     tie.close
     (tie.spec
-    (λ c κs. search needs)
-    (λ c. search needs)
-    (λ c κs. search needs)
+    (λ c κs. search needs) (λ c. search needs) (λ c κs. search needs)
     sub-result
     part-result-start
     part-result-end

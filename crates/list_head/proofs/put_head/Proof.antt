@@ -40,8 +40,7 @@ put-head-spec =
     loop-holds
     (λ c κs. search needs)
     put-line-requires
-    (λ c. search needs)
-    (λ c. search needs)
+    (λ c. search needs) (λ c. search needs)
     loop-again
     (λ c. search needs)
     returns)

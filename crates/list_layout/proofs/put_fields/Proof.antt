@@ -40,10 +40,7 @@ pub put-fields-spec : {M : Type 1} → statement M
 put-fields-spec =
     tie.close
     (tie.spec
-    (λ c κs. search needs)
-    (λ c. search needs)
-    (λ c. search needs)
-    (λ c. simp length-set (omega arith))
+    (λ c κs. search needs) (λ c. search needs) (λ c. search needs) (λ c. simp length-set (omega arith))
     put-signed-requires
     (λ c. omega (arith, size (c .before .before)))
     (λ c. simp length-set (omega (arith, size (c .before .before))))

@@ -46,7 +46,6 @@ first-over-spec =
     loop-holds
     over-at-requires
     returns
-    (λ c. omega arith)
-    (λ c. omega arith)
+    (λ c. omega arith) (λ c. omega arith)
     loop-again
     returns-2)

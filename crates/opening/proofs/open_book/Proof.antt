@@ -41,8 +41,7 @@ open-book-spec =
     μ-loop
     loop-holds
     open-part-requires
-    (λ c. omega arith)
-    (λ c. omega arith)
+    (λ c. omega arith) (λ c. omega arith)
     loop-again
     same-length
     returns)

@@ -34,8 +34,7 @@ total-fault-spec =
     (tie.spec
     (λ c. search needs)
     fill-requires
-    (λ c. search needs)
-    (λ c. search needs)
+    (λ c. search needs) (λ c. search needs)
     shared-slice-read-first-over
     first-over-requires
     returns)

@@ -76,10 +76,7 @@ counts-of-all-spec =
     (tie.spec
     Inv-loop
     μ-loop
-    (λ c κs. omega arith)
-    (λ c. omega arith)
-    (λ c. omega arith)
-    (λ c. omega arith)
+    (λ c κs. omega arith) (λ c. omega arith) (λ c. omega arith) (λ c. omega arith)
     loop-holds
     (λ c. omega (arith, place c))
     (λ c. omega (arith, place c))
@@ -91,7 +88,6 @@ counts-of-all-spec =
     (λ c. omega (arith, place (c .before)))
     (λ c. omega (arith, place (c .before .before)))
     add-reverse-2
-    (λ c. omega arith)
-    (λ c. omega arith)
+    (λ c. omega arith) (λ c. omega arith)
     loop-again
     returns)

@@ -69,13 +69,11 @@ limits-held-spec =
     tie.close
     (tie.spec
     counts-of-all-requires
-    (λ c κs. search needs)
-    (λ c κs. search needs)
+    (λ c κs. search needs) (λ c κs. search needs)
     (λ c κs. omega (arith, all-most (c .before .before)))
     returns
     counts-of-requires
-    (λ c κs. search needs)
-    (λ c κs. search needs)
+    (λ c κs. search needs) (λ c κs. search needs)
     within-both-requires-2
     returns-2
     add-result

@@ -42,8 +42,7 @@ put-after-stock-spec =
     put-cash-requires
     (λ c. omega arith)
     put-cash-requires-2
-    (λ c. omega arith)
-    (λ c κs. omega arith)
+    (λ c. omega arith) (λ c κs. omega arith)
     put-record-requires
     same-length
     returns)

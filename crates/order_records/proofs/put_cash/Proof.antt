@@ -54,11 +54,9 @@ put-cash-spec =
     put-record-requires
     same-length
     returns-2
-    (λ c. omega arith)
-    (λ c κs. omega arith)
+    (λ c. omega arith) (λ c κs. omega arith)
     put-record-requires-2
-    (λ c. omega arith)
-    (λ c κs. omega arith)
+    (λ c. omega arith) (λ c κs. omega arith)
     put-record-requires-3
     same-length-2
     returns-3)

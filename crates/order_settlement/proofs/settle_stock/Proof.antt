@@ -97,8 +97,7 @@ settle-stock-spec =
     (λ c κs. search needs)
     move-line-requires
     put-line-requires
-    (λ c. search needs)
-    (λ c. search needs)
+    (λ c. search needs) (λ c. search needs)
     loop-again
     same-length
     same-length-2

@@ -55,9 +55,7 @@ move-line-spec =
     (λ c. search needs)
     returns
     stock-lots-requires
-    (λ c κs. search needs)
-    (λ c κs. search needs)
+    (λ c κs. search needs) (λ c κs. search needs)
     fund-lots-requires
-    (λ c κs. search needs)
-    (λ c. search needs)
+    (λ c κs. search needs) (λ c. search needs)
     returns-2)

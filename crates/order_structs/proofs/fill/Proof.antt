@@ -1,5 +1,4 @@
 -- `order_structs::fill` meets its contract: a walk of its MIR, by hand. A loop that pushes what `record_at` reads of the flat run: what the writer owns is in the invariant.
--- Assumes nothing.
 use mathlib.Core.Path.{_≡_, refl, sym, ap, subst, _∙_}
 use Prim.Native.Nat.{ℕ, _<_, _≤_, _^_, _+_, _*_, suc, _-_}
 use native.Mathlib.Omega.{arith}

@@ -1,6 +1,5 @@
 -- `order_structs::finish` meets its contract: a walk of its MIR, by hand. The struct is passed into a local, and the number is read from there.
 -- The borrow inside it is not opened, so at exit it is at the list that it was passed at.
--- Assumes nothing.
 use mathlib.Core.Path.{refl}
 use Prim.Native.Nat.{ℕ, _<_, _^_}
 use mathlib.Core.List.{[], _∷_, List}

@@ -1,6 +1,5 @@
 -- `order_structs::new` meets its contract: a walk of its MIR, by hand. The borrow of the slice goes into the result as it is, beside the number 0.
 -- The parameter is spent: the result names its lifetime, so nothing is had of it at exit, and `list .entry` is all that the contract can say.
--- Assumes nothing.
 use mathlib.Core.Path.{refl}
 use mathlib.Core.List.{[], _∷_, List}
 use lib.Dec.{lit<}

@@ -1,5 +1,4 @@
 -- `order_structs::order` meets its contract: a walk of its MIR, by hand. Two calls: `settle` has the book for good and fills the local flat run, and `fill` has the list for good and reads that run.
--- Assumes nothing.
 use mathlib.Core.Path.{_≡_, refl, ap, subst, _∙_}
 use Prim.Native.Nat.{ℕ, _≤_, _*_}
 use mathlib.Core.List.{[], _∷_, List}

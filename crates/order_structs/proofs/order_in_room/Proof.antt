@@ -1,5 +1,4 @@
 -- `order_structs::order_in_room` meets its contract: a walk of its MIR, by hand. The list is copied to a local, whose front is lent to `order`.
--- Assumes nothing.
 use mathlib.Core.Path.{_≡_, refl, sym, ap, subst, _∙_}
 use Prim.Native.Nat.{ℕ, _+_, _<_, _≤_, _^_}
 use native.Mathlib.Omega.{arith}

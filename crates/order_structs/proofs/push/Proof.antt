@@ -1,5 +1,4 @@
 -- `order_structs::push` meets its contract: a walk of its MIR, by hand. The struct is taken apart, the record is stored at its place, and the borrow and the next place go into the result.
--- Assumes nothing.
 use mathlib.Core.Path.{_≡_, refl, sym, ap, subst}
 use Prim.Native.Nat.{ℕ, _<_, _^_, _+_, _*_}
 use native.Mathlib.Omega.{arith}

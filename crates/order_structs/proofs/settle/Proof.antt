@@ -49,7 +49,5 @@ settle-spec =
     slice-relend-prefix-order
     slice-aggregate-order
     order-requires
-    (λ c κs. search needs)
-    (λ c. search needs)
-    (λ c. search needs)
+    (λ c κs. search needs) (λ c. search needs) (λ c. search needs)
     returns)

@@ -20,10 +20,6 @@ money-answer-spec =
     tie.close
     (tie.spec
     (λ c κs. omega (arith, c .before .before .pre .1 .0 .3))
-    (λ c κs. search needs)
-    (λ c κs. search needs)
-    (λ c. search needs)
-    (λ c κs. search needs)
-    (λ c. search needs)
+    (λ c κs. search needs) (λ c κs. search needs) (λ c. search needs) (λ c κs. search needs) (λ c. search needs)
     returns
     returns-2)

@@ -41,8 +41,6 @@ order-means-spec =
     (λ c κs. search needs)
     cash-held-requires
     order-from-requires
-    (λ c. search needs)
-    (λ c. search needs)
-    (λ c κs. search needs)
+    (λ c. search needs) (λ c. search needs) (λ c κs. search needs)
     returns
     returns-2)

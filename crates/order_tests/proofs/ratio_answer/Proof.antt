@@ -50,8 +50,7 @@ ratio-answer-spec =
     tie.close
     (tie.spec
     returns
-    (λ c κs. search needs)
-    (λ c. search needs)
+    (λ c κs. search needs) (λ c. search needs)
     ratio-passed-requires
     returns-2
     (λ c. search needs)

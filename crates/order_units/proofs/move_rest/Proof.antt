@@ -21,8 +21,7 @@ pub move-rest-spec : {M : Type 1} → statement M
 move-rest-spec =
     tie.close
     (tie.spec
-    (λ c κs. search needs)
-    (λ c κs. search needs)
+    (λ c κs. search needs) (λ c κs. search needs)
     fund-cash-requires
     (λ c κs. search needs)
     move-account-requires

@@ -60,9 +60,7 @@ order-spec =
     tested-in-requires
     (λ c. search needs)
     settle-requires
-    (λ c. search needs)
-    (λ c. search needs)
-    (λ c. search needs)
+    (λ c. search needs) (λ c. search needs) (λ c. search needs)
     returns
     (λ c. search needs)
     returns-2)

@@ -22,7 +22,6 @@ part-of-spec =
     (λ c. omega (arith, place c))
     (λ c. omega (arith, place c))
     (λ c. omega (arith, place c))
-    (λ c. search needs)
-    (λ c. search needs)
+    (λ c. search needs) (λ c. search needs)
     (λ c. omega (arith, place c))
     returns)

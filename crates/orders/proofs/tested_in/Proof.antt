@@ -48,7 +48,6 @@ tested-in-spec =
     order-form-requires
     (λ c. search needs)
     order-stage-requires
-    (λ c. search needs)
-    (λ c κs. search needs)
+    (λ c. search needs) (λ c κs. search needs)
     returns
     returns-2)

@@ -59,17 +59,14 @@ pub room-left-spec : {M : Type 1} → statement M
 room-left-spec =
     tie.close
     (tie.spec
-    (λ c κs. search needs)
-    (λ c. search needs)
-    (λ c. search needs)
+    (λ c κs. search needs) (λ c. search needs) (λ c. search needs)
     total-at-requires
     (λ c. search needs)
     total-at-requires-2
     (λ c. search needs)
     total-at-requires-3
     total-at-requires-4
-    (λ c. omega arith)
-    (λ c. omega arith)
+    (λ c. omega arith) (λ c. omega arith)
     sub-result
     (λ c. omega arith)
     returns)

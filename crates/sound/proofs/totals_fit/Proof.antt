@@ -74,7 +74,6 @@ totals-fit-spec =
     loop-holds
     line-fits-requires
     returns-4
-    (λ c. omega arith)
-    (λ c. omega arith)
+    (λ c. omega arith) (λ c. omega arith)
     loop-again
     returns-5)

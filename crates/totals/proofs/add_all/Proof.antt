@@ -63,7 +63,6 @@ add-all-spec =
     (λ c. omega (arith, inside c))
     add-one-requires
     returns
-    (λ c. omega arith)
-    (λ c. omega arith)
+    (λ c. omega arith) (λ c. omega arith)
     loop-again
     returns-2)

@@ -58,8 +58,7 @@ add-eights-spec =
     loop-holds
     mul-add-eight
     add-eight-requires
-    (λ c. omega arith)
-    (λ c. omega arith)
+    (λ c. omega arith) (λ c. omega arith)
     loop-again
     returns
     clear-requires

@@ -36,9 +36,6 @@ fill-by-place-spec =
     μ-loop
     loop-holds
     total-at-requires
-    (λ c. omega arith)
-    (λ c. omega arith)
-    (λ c. omega arith)
-    (λ c. omega arith)
+    (λ c. omega arith) (λ c. omega arith) (λ c. omega arith) (λ c. omega arith)
     loop-again
     returns)

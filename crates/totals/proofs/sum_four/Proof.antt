@@ -11,7 +11,5 @@ pub sum-four-spec : {M : Type 1} → statement M
 sum-four-spec =
     tie.close
     (tie.spec
-    (λ c κs. search needs)
-    (λ c κs. search needs)
-    (λ c κs. search needs)
+    (λ c κs. search needs) (λ c κs. search needs) (λ c κs. search needs)
     returns)

@@ -52,7 +52,6 @@ total-at-spec =
     (λ c. omega (arith, inside c))
     (λ c. omega (arith, inside (c .before)))
     add-capped-requires
-    (λ c. omega arith)
-    (λ c. omega arith)
+    (λ c. omega arith) (λ c. omega arith)
     loop-again
     returns)

@@ -52,8 +52,7 @@ pub move-trade-spec : {M : Type 1} → statement M
 move-trade-spec =
     tie.close
     (tie.spec
-    (λ c κs. search needs)
-    (λ c. search needs)
+    (λ c κs. search needs) (λ c. search needs)
     lots-of-requires
     sell-requires
     head-of-requires

@@ -27,11 +27,9 @@ pub set-price-spec : {M : Type 1} → statement M
 set-price-spec =
     tie.close
     (tie.spec
-    (λ c κs. search needs)
-    (λ c. search needs)
+    (λ c κs. search needs) (λ c. search needs)
     (λ c. omega (arith, inside c))
     (λ c. omega (arith, inside c))
-    (λ c. search needs)
-    (λ c. search needs)
+    (λ c. search needs) (λ c. search needs)
     returns
     returns-2)

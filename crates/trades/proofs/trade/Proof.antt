@@ -28,12 +28,10 @@ pub trade-spec : {M : Type 1} → statement M
 trade-spec =
     tie.close
     (tie.spec
-    (λ c κs. search needs)
-    (λ c. search needs)
+    (λ c κs. search needs) (λ c. search needs)
     (λ c κs. tt)
     move-trade-requires
-    (λ c. search needs)
-    (λ c. search needs)
+    (λ c. search needs) (λ c. search needs)
     returns
     (λ c. search needs)
     returns-2)

@@ -118,14 +118,12 @@ reference-value-spec =
     μ-loop
     loop-holds
     component-of-requires
-    (λ c. omega arith)
-    (λ c. omega arith)
+    (λ c. omega arith) (λ c. omega arith)
     (λ c κs. tt)
     returns
     worth-of-requires
     plus-requires
-    (λ c. omega arith)
-    (λ c. omega arith)
+    (λ c. omega arith) (λ c. omega arith)
     loop-again
     cash-added-requires
     cash-taken-requires

@@ -44,9 +44,7 @@ pub put-pointed-spec : {M : Type 1} → statement M
 put-pointed-spec =
     tie.close
     (tie.spec
-    (λ c. omega arith)
-    (λ c. omega arith)
-    (λ c κs. omega arith)
+    (λ c. omega arith) (λ c. omega arith) (λ c κs. omega arith)
     div-put-whole
     put-whole-requires
     put-byte-requires

@@ -1,5 +1,4 @@
 -- `program_io::input::fill` is safe and ends. Both runs keep their lengths.
--- Assumes nothing.
 use mathlib.Core.Path.{_≡_}
 use Prim.Native.Nat.{_-_}
 use lib.ListN.{length}
@@ -19,15 +18,5 @@ fill-spec =
     (tie.spec
     Inv-loop
     μ-loop
-    (λ c. search needs)
-    (λ c κs. search needs)
-    (λ c κs. search needs)
-    (λ c. search needs)
-    (λ c. search needs)
-    (λ c. search needs)
-    (λ c. search needs)
-    (λ c. search needs)
-    (λ c. search needs)
-    (λ c. search needs)
-    (λ c. search needs)
-    (λ c. search needs))
+    (λ c. search needs) (λ c κs. search needs) (λ c κs. search needs) (λ c. search needs) (λ c. search needs) (λ c. search needs) (λ c. search needs)
+    (λ c. search needs) (λ c. search needs) (λ c. search needs) (λ c. search needs) (λ c. search needs))

@@ -1,5 +1,4 @@
 -- `program_io::runs::cut` meets its contract: a prefix that is no longer than the run has as many elements as asked.
--- Assumes nothing.
 use mathlib.Core.Path.{sym}
 use mathlib.Core.List.{List}
 use Prim.Native.Nat.{ℕ, _≤_}

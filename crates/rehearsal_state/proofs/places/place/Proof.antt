@@ -1,5 +1,4 @@
 -- `rehearsal_state::places::place` is safe: the product of two numbers in their ranges is small, and so is its sum with a third.
--- Assumes nothing.
 use Prim.Native.Nat.{ℕ, _*_, _≤_}
 use native.Mathlib.Nat.{mul-le-mul}
 use native.Mathlib.Omega.{arith}

@@ -1,5 +1,4 @@
 -- `rehearsal_state::printing::records` is safe and ends: the place rises to the count.
--- Assumes nothing.
 use Prim.Native.Nat.{_≤_, _-_}
 use borrow.Author.Needs.{needs}
 use Rattle.rehearsal_state.proofs.printing.records.Statement.{statement}

@@ -18,11 +18,5 @@ fill-spec =
     (tie.spec
     Inv-loop
     μ-loop
-    (λ c. search needs)
-    (λ c κs. search needs)
-    (λ c. search needs)
-    (λ c. search needs)
-    (λ c. search needs)
-    (λ c. search needs)
-    (λ c. search needs)
+    (λ c. search needs) (λ c κs. search needs) (λ c. search needs) (λ c. search needs) (λ c. search needs) (λ c. search needs) (λ c. search needs)
     (λ c. search needs))
