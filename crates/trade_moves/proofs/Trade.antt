@@ -18,8 +18,12 @@ sell-side-length : (line q m : ℕ) (s : List ℕ) → length (sellSide line q m
 unfolding sellSide
 sell-side-length line q m s = side-length (λ x. sellOf x q) line (headAt s cash + m) s
 
-pub seller-ready : {n line q price seller buyer w : ℕ} {b : List ℕ} → Tradable n b line q price seller buyer → w ≡ widthOf n
-    → (seller * w + w ≤ length b) × ((behindLine line ≤ w) × ((q ≤ sellable (lotsAt (stretchOf w b seller) line)) × (headAt (stretchOf w b seller) cash + q * price < 2 ^ 64)))
+-- the seller has the stock, and room for the cash
+abbrev pub Sells : ℕ → ℕ → ℕ → ℕ → ℕ → List ℕ → Type 0
+Sells line q price seller w b =
+    (seller * w + w ≤ length b) × ((behindLine line ≤ w) × ((q ≤ sellable (lotsAt (stretchOf w b seller) line)) × (headAt (stretchOf w b seller) cash + q * price < 2 ^ 64)))
+
+pub seller-ready : {n line q price seller buyer w : ℕ} {b : List ℕ} → Tradable n b line q price seller buyer → w ≡ widthOf n → Sells line q price seller w b
 seller-ready p e = rw e (p .seller-in, (omega arith, (p .stock, p .cash-fits)))
 
 -- the seller's side, read and stored
@@ -29,10 +33,13 @@ pub seller-sold : (line q price seller w : ℕ) (b : List ℕ) {h : ℕ} {mid : 
 unfolding sellSide
 seller-sold line q price seller w b ex ey eh em = side-changed (λ x. sellOf x q) (λ k. k + q * price) w seller line b ex ey eh refl em
 
--- the buyer's stretch is as it was when the seller's has changed
+-- the buyer has the cash, and room for the stock: its stretch is as it was when the seller's has changed
+abbrev pub Buys : ℕ → ℕ → ℕ → ℕ → ℕ → List ℕ → Type 0
+Buys line q price buyer w b =
+    (buyer * w + w ≤ length b) × ((behindLine line ≤ w) × ((lotsAt (stretchOf w b buyer) line .bought + q < 2 ^ 64) × (q * price ≤ headAt (stretchOf w b buyer) cash)))
+
 pub buyer-ready : {n line q price seller buyer w : ℕ} {b mid : List ℕ} → Tradable n b line q price seller buyer → w ≡ widthOf n
-    → mid ≡ onStretch w seller (sellSide line q (q * price)) b
-    → (buyer * w + w ≤ length mid) × ((behindLine line ≤ w) × ((lotsAt (stretchOf w mid buyer) line .bought + q < 2 ^ 64) × (q * price ≤ headAt (stretchOf w mid buyer) cash)))
+    → mid ≡ onStretch w seller (sellSide line q (q * price)) b → Buys line q price buyer w mid
 buyer-ready {n} {line} {q} {price} {seller} {buyer} {w} {b} {mid} p e sold =
     let s = stretchOf (widthOf n) b seller in
     let long : length (sellSide line q (q * price) (stretchOf (widthOf n) b seller)) ≡ widthOf n = sell-side-length line q (q * price) s ∙ stretch-length (widthOf n) b seller (p .seller-in) in

@@ -28,9 +28,10 @@ amount-line-requires c κs = let p = c .before .before .before .before .before .
 
 with-amount-requires : tie.Need-with-amount-requires
 with-amount-requires c κs =
-    let a = c .before .before .before .before .before .before .args in
+    let s = c .before .before .before .before .before .before in
+    let a = s .args in
     let stays = sym (c .before .before .entry-of .ensures) ∙ not-true _ (c .before .if2 .taken) in
-    (rw (c .amount-line .ensures, ← amount-is (a .c) (a .have) (a .price) (a .m) stays (a .kind)) (c .before .before .before .before .before .before .pre .1), amount-alone _ _ _ _ (c .amount-line .ensures))
+    (rw (c .amount-line .ensures, ← amount-is (a .c) (a .have) (a .price) (a .m) stays (a .kind)) (s .pre .1), amount-alone _ _ _ _ (c .amount-line .ensures))
 
 returns-2 : tie.Need-returns-2
 returns-2 c =

@@ -29,21 +29,25 @@ stock-lots-requires c κs =
 
 fund-lots-requires : tie.Need-fund-lots-requires
 fund-lots-requires c κs =
-    let a = c .before .before .before .before .before .before .before .before .before .before .before .before .args in
-    let p = c .before .before .before .before .before .before .before .before .before .before .before .before .pre in
-    let x = lotsAt (stretchOf (a .w) (a .book .now) (a .a)) (a .line) in
-    let e : c .before .before .before .before .before .before .before .before .stock-moved .result ≡ movedOf (a .kind) (a .c) (a .m) x =
-    c .before .before .before .before .before .before .before .before .stock-moved .ensures ∙ ap (movedOf (a .kind) (a .c) (a .m)) (c .before .before .before .before .before .before .before .before .before .lots-of .ensures) in
+    let q = c .before .before .before .before .before .before .before .before in
+    let x = q .before in
+    let a = x .before .before .before .args in
+    let p = x .before .before .before .pre in
+    let own = lotsAt (stretchOf (a .w) (a .book .now) (a .a)) (a .line) in
+    let e : q .stock-moved .result ≡ movedOf (a .kind) (a .c) (a .m) own = q .stock-moved .ensures ∙ ap (movedOf (a .kind) (a .c) (a .m)) (x .lots-of .ensures) in
     let kept = fund-lots-kept (a .kind) (a .w) (a .a) (a .line) (a .book .now) (p .account-low) (p .account-in) _ _ (c .before .before .before .before .put-lots-of .ensures) in
-    rw (c .lots-of2 .ensures, kept, e) (p .delivers, omega (arith, p .need, p .room, moved-le (a .kind) (a .c) (a .m) x))
+    rw (c .lots-of2 .ensures, kept, e) (p .delivers, omega (arith, p .need, p .room, moved-le (a .kind) (a .c) (a .m) own))
 
 returns-2 : tie.Need-returns-2
 returns-2 c =
-    let p = c .before .before .before .before .before .before .before .before .before .before .before .before .before .before .before .before .before .pre in (
-      c .before .before .before .before .before .before .before .before .before .before .before .before .before .stock-moved .ensures ∙ ap (movedOf _ _ _) (c .before .before .before .before .before .before .before .before .before .before .before .before .before .before .lots-of .ensures),
-      line-moved _ _ _ _ _ (p .account-low) (p .account-in) _ _ (c .before .before .before .before .before .before .before .before .before .put-lots-of .ensures) _
-          (c .before .before .before .before .before .before .before .before .before .before .before .before .before .before .lots-of .ensures) (c .before .before .before .before .before .before .before .before .before .before .before .stock-lots .ensures) (c .before .before .before .before .before .lots-of2 .ensures)
-          (c .before .before .before .before .fund-lots .ensures) (c .before .before .put-lots-of2 .ensures),
+    let f = c .before .before .before .before .before in
+    let y = f .before .before .before .before .before .before in
+    let q = y .before .before in
+    let x = q .before in
+    let p = x .before .before .before .pre in (
+      q .stock-moved .ensures ∙ ap (movedOf _ _ _) (x .lots-of .ensures),
+      line-moved _ _ _ _ _ (p .account-low) (p .account-in) _ _ (f .before .before .before .before .put-lots-of .ensures) _
+          (x .lots-of .ensures) (y .stock-lots .ensures) (f .lots-of2 .ensures) (c .before .before .before .before .fund-lots .ensures) (c .before .before .put-lots-of2 .ensures),
     )
 
 pub move-line-spec : {M : Type 1} → statement M

@@ -231,7 +231,8 @@ module _ {M : Type 1} (𝓤 : URA M) (H : Heap 𝓤) (A : Atoms 𝓤) (W : Given
         ∷ ‵ (fat fullShare pl l₃ 0 s₂) ∷ ‵ (fdies pl l₃) ∷ ‵ (fat fullShare bl l₂ 0 s₁) ∷ ‵ (fdies bl l₂) ∷ ‵ (fat fullShare dl l₁ 0 s₀) ∷ ‵ (fdies dl l₁)
         ∷ ‵ (froom OA′.mir l₀ 0) ∷ ‵ (fdies OA′.mir l₀) ∷ []
 
-    lists : (s : Settled) (zs fs : List ℕ) → Is Se.the-row s (sv s ∷ []) → Made s zs fs → length zs ≡ length ys₁ → length fs ≡ flatLength → Sq W (Listing s zs fs) (runs C Λ En part.t-8 (atRet En Post))
+    lists : (s : Settled) (zs fs : List ℕ) → Is Se.the-row s (sv s ∷ []) → Made s zs fs → length zs ≡ length ys₁ → length fs ≡ flatLength
+        → Sq W (Listing s zs fs) (runs C Λ En part.t-8 (atRet En Post))
     lists s zs fs is t n₁ nf =
         assigns ! (addr ! (from ! (fld ! refl (hop ! (look-in ! 30 (sub ! 0 refl (whole !))) (stop !))))) (from ! (stop !)) (init ! 15 refl (tt, tt)) $
         assigns ! (agg ! (and-then ! (load ! (from ! (stop !)) (look ! 15 refl)) (and-then ! (load ! (from ! (fld ! refl (stop !))) (look-in ! 30 (sub ! 1 refl (whole !)))) (no-more !))))
@@ -350,7 +351,8 @@ module _ {M : Type 1} (𝓤 : URA M) (H : Heap 𝓤) (A : Atoms 𝓤) (W : Given
       use1 W (‵ (Array u64 flatLength .own (replicate flatLength 0) (arrayVal (replicate flatLength (vint w64 0)) ∷ []))) (array-repeat 𝓤 H A W u64 (uint-copy 𝓤 H A W w64) flatLength 0 (vint w64 0)) $
       peeks ! (Array u64 flatLength) (Is (Array u64 flatLength)) (shows 𝓤 H A (Array u64 flatLength)) (replicate flatLength 0) (arrayVal (replicate flatLength (vint w64 0)) ∷ []) (λ is.
       assigns ! (rep ! flatLength (lit ! tt)) (from ! (stop !)) (init ! 29 refl (array-lawful 𝓤 H A W u64 (uint-lawful 𝓤 H A W w64) flatLength .typed (replicate flatLength 0) _ is .0)) $
-      move ! (29 ∷ 0 ∷ []) $ use2 W (‵ (Elements u64 flatLength l₆ (replicate flatLength 0))) (array-in 𝓤 H A W u64 tt flatLength l₆ (replicate flatLength 0) (arrayVal (replicate flatLength (vint w64 0)))) $
+      move ! (29 ∷ 0 ∷ []) $ use2 W (‵ (Elements u64 flatLength l₆ (replicate flatLength 0)))
+      (array-in 𝓤 H A W u64 tt flatLength l₆ (replicate flatLength 0) (arrayVal (replicate flatLength (vint w64 0)))) $
       settles 𝓣 known-settle known-fill l₀ l₁ l₂ l₃ l₄ l₅ l₆ l₇ l₈ l₉ m₀ m₁ m₂ m₃ m₄ m₅ m₆ (replicate flatLength 0) (length-replicate {A = ℕ} flatLength 0)))))))))))))))))))
 
 module _ {M : Type 1} (𝓤 : URA M) (H : Heap 𝓤) (A : Atoms 𝓤) (W : Given 𝓤 H A) (mem : Memory → SProp 𝓤) (run : Routine → Fun 𝓤) where

@@ -12,8 +12,12 @@ account-cash-requires c κs = let p = c .before .before .before .before .before 
 
 returns : tie.Need-returns
 returns c =
-    rest-stored _ _ _ _ _ _ _ _ _ (c .before .before .before .before .before .before .before .before .before .before .before .before .before .before .before .before .before .pre .0) (c .before .before .before .before .before .before .before .before .before .before .before .before .before .before .lots-of .ensures) (c .before .before .before .before .before .before .before .before .before .before .before .before .before .unit-lots .ensures) (c .before .before .before .before .before .before .before .before .before .before .before .head-of .ensures)
-    (c .before .before .before .before .before .before .before .before .before .before .account-cash .ensures) (c .before .before .before .before .before .before .before .before .head-of2 .ensures) (c .before .before .before .before .before .before .put-side-of .ensures) (c .before .before .put-head-of .ensures)
+    let t = c .before .before .before .before .before .before in
+    let n = t .before .before in
+    let h = n .before .before .before in
+    let x = h .before .before .before in
+    rest-stored _ _ _ _ _ _ _ _ _ (x .before .before .before .pre .0) (x .lots-of .ensures) (h .before .before .unit-lots .ensures) (h .head-of .ensures)
+    (n .before .before .account-cash .ensures) (n .head-of2 .ensures) (t .put-side-of .ensures) (c .before .before .put-head-of .ensures)
 
 pub move-account-spec : {M : Type 1} → statement M
 move-account-spec =
