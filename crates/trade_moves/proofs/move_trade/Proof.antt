@@ -18,7 +18,9 @@ width s = s .before .before .before .before .before .before .before .before
 
 sold : (s : tie.After-put-side-of) → let a = width s .before .before .args in
     s .put-side-of .last .0 ≡ onStretch (width s .width-of .result) (a .seller) (sellSide (a .line) (a .q) (a .q * a .price .0)) (a .book .now)
-sold s = seller-sold _ _ _ _ _ _ (s .before .before .before .before .before .lots-of .ensures) (s .before .before .before .before .sell .ensures) (s .before .before .head-of .ensures) (s .put-side-of .ensures)
+sold s =
+    seller-sold _ _ _ _ _ _ (s .before .before .before .before .before .lots-of .ensures) (s .before .before .before .before .sell .ensures)
+    (s .before .before .head-of .ensures) (s .put-side-of .ensures)
 
 buyer : (s : tie.After-put-side-of) → let a = width s .before .before .args in Buys (a .line) (a .q) (a .price .0) (a .buyer) (width s .width-of .result) (s .put-side-of .last .0)
 buyer s = buyer-ready (width s .before .before .pre) (width s .width-of .ensures) (sold s)
@@ -57,7 +59,8 @@ returns : tie.Need-returns
 returns c =
     let h = c .before .before .before .before in
     let s = h .before .before .before .before .before .before .before in
-    trade-made _ _ _ _ _ _ _ (width s .width-of .ensures) (sold s) (h .before .before .before .lots-of2 .ensures) (h .before .before .buy .ensures) (h .head-of2 .ensures) (c .before .before .put-side-of2 .ensures)
+    trade-made _ _ _ _ _ _ _ (width s .width-of .ensures) (sold s) (h .before .before .before .lots-of2 .ensures) (h .before .before .buy .ensures)
+    (h .head-of2 .ensures) (c .before .before .put-side-of2 .ensures)
 
 pub move-trade-spec : {M : Type 1} → statement M
 move-trade-spec =
