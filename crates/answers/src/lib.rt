@@ -2,7 +2,7 @@
 ghost use mathlib.Core.Path.{_≡_};
 ghost use Rattle.sequences.specs.Checks.{reply};
 ghost use Rattle.rules.specs.Replies.{refusalReply, answerReply, orderAnswerReply, valueAnswerReply};
-ghost use Rattle.answers.specs.Numbers.{replyOf};
+ghost use Rattle.answers.specs.Numbers.{replyOf, Told};
 use rules::Answer;
 use rules::OrderAnswer;
 use rules::Refusal;
@@ -88,4 +88,13 @@ pub fn of_value(answer: ValueAnswer) -> Numbers
         ValueAnswer::Worth(v) => accepted(v.0),
         ValueAnswer::Refused(why) => of_refusal(why),
     }
+}
+
+// An answer's three numbers: the place and the value where the caller points, and the number handed back.
+pub fn tell(answer: Numbers, place: &mut u64, value: &mut u64) -> u64
+    ensures { λ r. ⌜ Told (replyOf answer) r (now (place .exit)) (now (value .exit)) ⌝ }
+{
+    *place = answer.place;
+    *value = answer.value;
+    answer.number
 }

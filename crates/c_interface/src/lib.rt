@@ -28,15 +28,6 @@ use list_rules::ListAnswer;
 use list_rules::ListFields;
 use rules::Refusal;
 
-// An answer's three numbers: the place and the value where the caller points, and the number handed back.
-fn tell(answer: Numbers, place: &mut u64, value: &mut u64) -> u64
-    ensures { λ r. ⌜ Told (replyOf answer) r (now (place .exit)) (now (value .exit)) ⌝ }
-{
-    *place = answer.place;
-    *value = answer.value;
-    answer.number
-}
-
 // Opens a day: the book, the prices and the day are filled.
 #[no_mangle]
 pub extern "C" fn roffelaine_open(
@@ -54,11 +45,11 @@ pub extern "C" fn roffelaine_open(
     ensures { λ r. ⌜ FlatOutcome (now (fund .entry)) (flatGiven accounts count (now (fund .entry)) (now (components .entry)) (now (holdings .entry)) (now (book .entry)) (now (prices .entry)) (now (day .entry))) r (now (place .exit)) (now (value .exit)) (now (book .exit)) (now (prices .exit)) (now (day .exit)) ⌝ }
 {
     if fund.len() != layout::FUND_WIDTH {
-        return tell(answers::of_refusal(Refusal::Sizes), place, value);
+        return answers::tell(answers::of_refusal(Refusal::Sizes), place, value);
     }
     let f = layout::fund_of(fund, 0);
     let answer = day::open(accounts, count, f, components, holdings, book, prices, day);
-    tell(answers::of_answer(answer), place, value)
+    answers::tell(answers::of_answer(answer), place, value)
 }
 
 // Sets a component's price.
@@ -76,7 +67,7 @@ pub extern "C" fn roffelaine_price(
     ensures prices { λ r. ⌜ now (prices .exit) ≡ pricedPrices (dayAt (now (day .entry))) (now (book .entry)) (now (prices .entry)) line price ⌝ }
 {
     let answer = day::price(day, book, prices, line, price);
-    tell(answers::of_answer(answer), place, value)
+    answers::tell(answers::of_answer(answer), place, value)
 }
 
 // Trades a quantity of a line at a price.
@@ -97,7 +88,7 @@ pub extern "C" fn roffelaine_trade(
     ensures book { λ r. ⌜ now (book .exit) ≡ tradedBook (dayAt (now (day .entry))) (now (book .entry)) (now (prices .entry)) line quantity price seller buyer ⌝ }
 {
     let answer = day::trade(day, book, prices, line, quantity, price, seller, buyer);
-    tell(answers::of_answer(answer), place, value)
+    answers::tell(answers::of_answer(answer), place, value)
 }
 
 // The reference value at this moment.
@@ -112,7 +103,7 @@ pub extern "C" fn roffelaine_reference_value(
     ensures { λ r. ⌜ Told (valueReply (dayAt (now (day .entry))) (now (book .entry)) (now (prices .entry))) r (now (place .exit)) (now (value .exit)) ⌝ }
 {
     let answer = day::reference_value(day, book, prices);
-    tell(answers::of_value(answer), place, value)
+    answers::tell(answers::of_value(answer), place, value)
 }
 
 // Creates units for an account; the records go to the lent list.
@@ -132,7 +123,7 @@ pub extern "C" fn roffelaine_create(
     ensures list { λ r. ⌜ now (list .exit) ≡ createdList (dayAt (now (day .entry))) (now (book .entry)) (now (prices .entry)) account units (now (list .entry)) ⌝ }
 {
     let answer = day::create(day, book, prices, account, units, list);
-    tell(answers::of_order(answer), place, value)
+    answers::tell(answers::of_order(answer), place, value)
 }
 
 // Redeems units of an account; the records go to the lent list.
@@ -152,7 +143,7 @@ pub extern "C" fn roffelaine_redeem(
     ensures list { λ r. ⌜ now (list .exit) ≡ redeemedList (dayAt (now (day .entry))) (now (book .entry)) (now (prices .entry)) account units (now (list .entry)) ⌝ }
 {
     let answer = day::redeem(day, book, prices, account, units, list);
-    tell(answers::of_order(answer), place, value)
+    answers::tell(answers::of_order(answer), place, value)
 }
 
 // The tests of a creation alone, with the length of the list.
@@ -170,7 +161,7 @@ pub extern "C" fn roffelaine_creation_test(
     ensures { λ r. ⌜ Told (creationReply (dayAt (now (day .entry))) (now (book .entry)) (now (prices .entry)) account units (length / recordWidth)) r (now (place .exit)) (now (value .exit)) ⌝ }
 {
     let answer = day::creation_test(day, book, prices, account, units, length);
-    tell(answers::of_order(answer), place, value)
+    answers::tell(answers::of_order(answer), place, value)
 }
 
 // The tests of a redemption alone.
@@ -188,7 +179,7 @@ pub extern "C" fn roffelaine_redemption_test(
     ensures { λ r. ⌜ Told (redemptionReply (dayAt (now (day .entry))) (now (book .entry)) (now (prices .entry)) account units (length / recordWidth)) r (now (place .exit)) (now (value .exit)) ⌝ }
 {
     let answer = day::redemption_test(day, book, prices, account, units, length);
-    tell(answers::of_order(answer), place, value)
+    answers::tell(answers::of_order(answer), place, value)
 }
 
 // The driver: a list of calls as rows, with one test of the day where every call keeps it sound.
@@ -208,7 +199,7 @@ pub extern "C" fn roffelaine_run(
     ensures demand { λ r. ⌜ Demand3 (stateOf (dayAt (now (day .entry))) (now (book .entry)) (now (prices .entry))) (eventsOf (now (rows .entry)) (batchOf (dayAt (now (day .entry))) (now (book .entry)) (now (prices .entry)) (now (records .entry)) (now (answers .entry)))) (stateOf (dayAt (now (day .entry))) (now (book .exit)) (now (prices .exit))) ⌝ }
 {
     let answer = driver::run(day, book, prices, rows, records, answers);
-    tell(answers::of_answer(answer), place, value)
+    answers::tell(answers::of_answer(answer), place, value)
 }
 
 // The same list of calls made one by one: each tests the day, as the calls above do.
@@ -228,7 +219,7 @@ pub extern "C" fn roffelaine_run_public(
     ensures demand { λ r. ⌜ Demand3 (stateOf (dayAt (now (day .entry))) (now (book .entry)) (now (prices .entry))) (eventsOf (now (rows .entry)) (batchOf (dayAt (now (day .entry))) (now (book .entry)) (now (prices .entry)) (now (records .entry)) (now (answers .entry)))) (stateOf (dayAt (now (day .entry))) (now (book .exit)) (now (prices .exit))) ⌝ }
 {
     let answer = driver::run_public(day, book, prices, rows, records, answers);
-    tell(answers::of_answer(answer), place, value)
+    answers::tell(answers::of_answer(answer), place, value)
 }
 
 // The answer of reading and writing as the paper's three numbers.
@@ -278,7 +269,7 @@ pub extern "C" fn roffelaine_read(
     ensures { λ r. ⌜ TextRead (now (text .entry)) (taking (now (run .entry)) (now (fields .entry)) (now («first_row» .entry))) r (now (place .exit)) (now (value .exit)) (taking (now (run .exit)) (now (fields .exit)) (now («first_row» .exit))) ⌝ }
 {
     if fields.len() != list_layout::FIELDS_WIDTH {
-        return tell(answers::of_refusal(Refusal::Sizes), place, value);
+        return answers::tell(answers::of_refusal(Refusal::Sizes), place, value);
     }
     let read = list_reading::read(text, run);
     let answer = read.answer;
@@ -286,7 +277,7 @@ pub extern "C" fn roffelaine_read(
     let l = read.fields;
     keep_fields(fields, told.number, l);
     keep_first(first_row, told.number, read.first_row);
-    tell(told, place, value)
+    answers::tell(told, place, value)
 }
 
 // Writes a list at the front of the lent output.
@@ -303,9 +294,9 @@ pub extern "C" fn roffelaine_write(
     ensures { λ r. ⌜ TextWritten (now (fields .entry)) (listing (fieldsAt (now (fields .entry))) (now (run .entry)) (now (names .entry)) (now (letters .entry))) (now (output .entry)) r (now (place .exit)) (now (value .exit)) (now (output .exit)) ⌝ }
 {
     if fields.len() != list_layout::FIELDS_WIDTH {
-        return tell(answers::of_refusal(Refusal::Sizes), place, value);
+        return answers::tell(answers::of_refusal(Refusal::Sizes), place, value);
     }
     let l = list_layout::fields_at(fields);
     let answer = list_writing::write(l, run, names, letters, output);
-    tell(of_list(answer), place, value)
+    answers::tell(of_list(answer), place, value)
 }

@@ -20,9 +20,6 @@ use rules::Answer;
 use rules::Ask;
 use rules::OrderAnswer;
 
-// The fund's account.
-const FUND: usize = 0;
-
 // An account's part of the book.
 fn part_of(book: &[u64], count: usize, a: usize) -> &[u64]
     requires { ⌜ (count ≤ mostComponents) × (a * widthOf count + widthOf count ≤ length (now book)) ⌝ }
@@ -51,7 +48,7 @@ fn order_stage(
 {
     let n = d.count;
     let stretch = part_of(book, n, ask.account);
-    let fund = part_of(book, n, FUND);
+    let fund = part_of(book, n, book::FUND);
     order_tests::order_means(d, basket, stretch, fund, prices, ask, m, room)
 }
 
