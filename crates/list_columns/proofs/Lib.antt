@@ -2,4 +2,3 @@ pub mod Entries
 pub mod Turns
 pub mod Numbers
 pub mod Cells
-pub mod Texts

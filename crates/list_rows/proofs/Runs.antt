@@ -17,7 +17,7 @@ use Rattle.lines.specs.Lines.{lineText}
 use Rattle.list_rules.specs.Columns.{rowText}
 use Rattle.list_rules.specs.Reading.{rowCount, wrongRow, columnPlace, componentRead, componentsRun}
 use Rattle.list_rules.specs.Writing.{nameAt}
-use Rattle.list_columns.specs.Fitting.{Fitting}
+use Rattle.list_columns_writing.specs.Fitting.{Fitting}
 use Rattle.list_columns.proofs.Turns.{Sought, sought-start, sought-again, sought-found, sought-end}
 use Rattle.list_rows.specs.declared.RowFault.{RowFault}
 use Rattle.list_rows.specs.Rows.{rowBytes}

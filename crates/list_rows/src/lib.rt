@@ -10,7 +10,7 @@ ghost use Rattle.digits.specs.Written.{Written};
 ghost use Rattle.list_rules.specs.Columns.{isRow};
 ghost use Rattle.list_rules.specs.Reading.{startOf, lineStands, rowCount, wrongRow, columnPlace, componentsRun, nameFrom};
 ghost use Rattle.list_rules.specs.Writing.{nameFault};
-ghost use Rattle.list_columns.specs.Fitting.{Fitting};
+ghost use Rattle.list_columns_writing.specs.Fitting.{Fitting};
 ghost use Rattle.list_rows.specs.Rows.{rowFrom, rowBytes};
 use layout::Component;
 use list_rules::NAME_WIDTH;
@@ -148,7 +148,7 @@ pub fn put_rows(dst: &mut [u8], at: usize, run: &[u64], names: &[u8], count: usi
     let mut j = 0;
     while j < count {
         let m = NAME_WIDTH * j;
-        p = list_columns::put_row(
+        p = list_columns_writing::put_row(
             dst,
             p,
             layout::component_at(run, j),

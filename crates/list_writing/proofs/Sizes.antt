@@ -24,7 +24,7 @@ use Rattle.list_rules.specs.Head.{fieldName, fieldForm, openingWord, isLetters,
 use Rattle.list_rules.specs.Fields.{figureAt}
 use Rattle.list_rules.specs.Writing.{Listing, headText, rowsText, textOf, listChecks}
 use Rattle.list_head.specs.Tables.{headBytes}
-use Rattle.list_columns.specs.Fitting.{Fitting}
+use Rattle.list_columns_writing.specs.Fitting.{Fitting}
 use Rattle.list_rows.specs.Rows.{rowBytes}
 use Rattle.list_trip.proofs.Below.{join-same, length-below}
 use Rattle.list_trip.proofs.WrittenPassing.{Passing, passing, component-fine, name-fine, name-eight}

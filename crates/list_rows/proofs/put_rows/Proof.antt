@@ -3,7 +3,7 @@ use Prim.Native.Nat.{_-_}
 use mathlib.Core.Path.{sym}
 use borrow.Author.Needs.{needs}
 use Rattle.list_columns.proofs.Turns.{Joined, joined-start, joined-room, joined-again, joined-end}
-use Rattle.list_columns.proofs.Texts.{text-room, text-written}
+use Rattle.list_columns_writing.proofs.Texts.{text-room, text-written}
 use Rattle.list_rows.proofs.Runs.{lineAt, lines-joined, line-is, part-fits, part-eight}
 use Rattle.list_rows.proofs.put_rows.Statement.{statement}
 use Rattle.list_rows.proofs.put_rows.Tie as tie

@@ -1,10 +1,10 @@
--- `list_columns::put_whole` meets its contract: the number, then the bar.
+-- `list_columns_writing::put_whole` meets its contract: the number, then the bar.
 use native.Mathlib.Omega.{arith}
 use borrow.Author.Needs.{needs}
 use Rattle.digits_writing.proofs.Right.{right-length}
-use Rattle.list_columns.proofs.Texts.{bar-room, barred-put}
-use Rattle.list_columns.proofs.put_whole.Statement.{statement}
-use Rattle.list_columns.proofs.put_whole.Tie as tie
+use Rattle.list_columns_writing.proofs.Texts.{bar-room, barred-put}
+use Rattle.list_columns_writing.proofs.put_whole.Statement.{statement}
+use Rattle.list_columns_writing.proofs.put_whole.Tie as tie
 
 put-byte-requires : tie.Need-put-byte-requires
 put-byte-requires c κs =

@@ -1,8 +1,8 @@
--- `list_columns::name_bytes` meets its contract: eight bytes are all of a name.
+-- `list_columns_writing::name_bytes` meets its contract: eight bytes are all of a name.
 use borrow.Author.Needs.{needs}
-use Rattle.list_columns.proofs.Texts.{eight-bytes}
-use Rattle.list_columns.proofs.name_bytes.Statement.{statement}
-use Rattle.list_columns.proofs.name_bytes.Tie as tie
+use Rattle.list_columns_writing.proofs.Texts.{eight-bytes}
+use Rattle.list_columns_writing.proofs.name_bytes.Statement.{statement}
+use Rattle.list_columns_writing.proofs.name_bytes.Tie as tie
 
 returns : tie.Need-returns
 returns c = eight-bytes _ (c .before .before .before .before .before .before .before .before .pre)

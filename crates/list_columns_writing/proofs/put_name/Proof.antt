@@ -1,12 +1,12 @@
--- `list_columns::put_name` meets its contract: its bytes, then the bar.
+-- `list_columns_writing::put_name` meets its contract: its bytes, then the bar.
 use Prim.Native.Nat.{ℕ}
 use mathlib.Core.Path.{sym, ap, _∙_}
 use mathlib.Core.List.{List, [], _∷_, _++_}
 use lib.ListN.{length}
 use borrow.Author.Needs.{needs}
-use Rattle.list_columns.proofs.Texts.{barred-put, text-written}
-use Rattle.list_columns.proofs.put_name.Statement.{statement}
-use Rattle.list_columns.proofs.put_name.Tie as tie
+use Rattle.list_columns_writing.proofs.Texts.{barred-put, text-written}
+use Rattle.list_columns_writing.proofs.put_name.Statement.{statement}
+use Rattle.list_columns_writing.proofs.put_name.Tie as tie
 
 returns : tie.Need-returns
 returns c =

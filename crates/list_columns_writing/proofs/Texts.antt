@@ -18,8 +18,8 @@ use Rattle.digits.proofs.Put.{written-then, written-length}
 use Rattle.digits_writing.proofs.Right.{number-digits, right-length, pointed-length}
 use Rattle.lines.specs.Lines.{lineText}
 use Rattle.list_rules.specs.Columns.{columnCount, columnTable, columnEntry, columnWidth, columnForm, holdsName, isUsed, valueAt, columnText, rowText}
-use Rattle.list_columns.specs.Fitting.{Fitting, Pointed, usedText}
+use Rattle.list_columns_writing.specs.Fitting.{Fitting, Pointed, usedText}
 use Rattle.list_columns.proofs.Turns.{Joined, joined-start, joined-room, joined-again, joined-end}
 
 -- what has room and what is written, by another text of the same bytes
 module _ {xs ys : List ℕ} (same : xs ≡ ys) where

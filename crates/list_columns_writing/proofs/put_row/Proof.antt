@@ -1,9 +1,9 @@
--- `list_columns::put_row` meets its contract: the columns stand one behind the other, each with its bar, and 0D 0A behind them.
+-- `list_columns_writing::put_row` meets its contract: the columns stand one behind the other, each with its bar, and 0D 0A behind them.
 use native.Mathlib.Omega.{arith}
 use borrow.Author.Needs.{needs}
-use Rattle.list_columns.proofs.Texts.{rate-pointed, amount-pointed, used-same, code-room, name-room, quantity-room, flag-room, rate-room, amount-room, end-room, row-put}
-use Rattle.list_columns.proofs.put_row.Statement.{statement}
-use Rattle.list_columns.proofs.put_row.Tie as tie
+use Rattle.list_columns_writing.proofs.Texts.{rate-pointed, amount-pointed, used-same, code-room, name-room, quantity-room, flag-room, rate-room, amount-room, end-room, row-put}
+use Rattle.list_columns_writing.proofs.put_row.Statement.{statement}
+use Rattle.list_columns_writing.proofs.put_row.Tie as tie
 
 put-digits-requires : tie.Need-put-digits-requires
 put-digits-requires c κs = let s = c .before .before .before .before .before in code-room _ _ (s .pre .0 .0) (s .pre .0 .1) (s .args .dst .now) _ (s .pre .1)

@@ -1,8 +1,8 @@
--- `list_columns::put_used` meets its contract: the number where it is used, or blanks.
+-- `list_columns_writing::put_used` meets its contract: the number where it is used, or blanks.
 use borrow.Author.Needs.{needs}
-use Rattle.list_columns.proofs.Texts.{used-put, unused-put}
-use Rattle.list_columns.proofs.put_used.Statement.{statement}
-use Rattle.list_columns.proofs.put_used.Tie as tie
+use Rattle.list_columns_writing.proofs.Texts.{used-put, unused-put}
+use Rattle.list_columns_writing.proofs.put_used.Statement.{statement}
+use Rattle.list_columns_writing.proofs.put_used.Tie as tie
 
 put-pointed-requires : tie.Need-put-pointed-requires
 put-pointed-requires c κs =

@@ -1,9 +1,9 @@
--- `list_columns::put_digits` meets its contract: the digits, then the bar.
+-- `list_columns_writing::put_digits` meets its contract: the digits, then the bar.
 use borrow.Author.Needs.{needs}
 use Rattle.digits.proofs.Count.{fixed-length}
-use Rattle.list_columns.proofs.Texts.{bar-room, barred-put}
-use Rattle.list_columns.proofs.put_digits.Statement.{statement}
-use Rattle.list_columns.proofs.put_digits.Tie as tie
+use Rattle.list_columns_writing.proofs.Texts.{bar-room, barred-put}
+use Rattle.list_columns_writing.proofs.put_digits.Statement.{statement}
+use Rattle.list_columns_writing.proofs.put_digits.Tie as tie
 
 put-byte-requires : tie.Need-put-byte-requires
 put-byte-requires c κs =

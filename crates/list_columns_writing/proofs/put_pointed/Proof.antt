@@ -1,9 +1,9 @@
--- `list_columns::put_pointed` meets its contract: the number or blanks, then the bar.
+-- `list_columns_writing::put_pointed` meets its contract: the number or blanks, then the bar.
 use native.Mathlib.Omega.{arith}
 use borrow.Author.Needs.{needs}
-use Rattle.list_columns.proofs.Texts.{used-length, bar-room, barred-put}
-use Rattle.list_columns.proofs.put_pointed.Statement.{statement}
-use Rattle.list_columns.proofs.put_pointed.Tie as tie
+use Rattle.list_columns_writing.proofs.Texts.{used-length, bar-room, barred-put}
+use Rattle.list_columns_writing.proofs.put_pointed.Statement.{statement}
+use Rattle.list_columns_writing.proofs.put_pointed.Tie as tie
 
 put-byte-requires : tie.Need-put-byte-requires
 put-byte-requires c κs =
