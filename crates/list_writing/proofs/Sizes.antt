@@ -23,7 +23,7 @@ use Rattle.lines.proofs.Laws.{length-lineText}
 use Rattle.list_rules.specs.Head.{fieldName, fieldForm, openingWord, isLetters, headLine, tagWord, endWord}
 use Rattle.list_rules.specs.Fields.{figureAt}
 use Rattle.list_rules.specs.Writing.{Listing, headText, rowsText, textOf, listChecks}
-use Rattle.list_head.specs.Tables.{headBytes}
+use Rattle.list_head_tables.specs.Tables.{headBytes}
 use Rattle.list_columns_writing.specs.Fitting.{Fitting}
 use Rattle.list_rows.specs.Rows.{rowBytes}
 use Rattle.list_trip.proofs.Below.{join-same, length-below}

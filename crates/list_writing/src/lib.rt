@@ -53,7 +53,8 @@ fn text_size(fields: ListFields, run: &[u64], names: &[u8], letters: &[u8]) -> u
     ensures { λ r. ⌜ r ≡ length (textOf (listing fields (now (run .entry)) (now (names .entry)) (now (letters .entry)))) ⌝ }
 {
     let figures = list_fields::figures_of(fields);
-    list_head::head_size(letters, figures) + (list_rules::ROW_PITCH * fields.count + END_SIZE)
+    list_head_writing::head_size(letters, figures)
+        + (list_rules::ROW_PITCH * fields.count + END_SIZE)
 }
 
 // The answer, which changes nothing.
@@ -94,7 +95,7 @@ fn put_list(output: &mut [u8], fields: ListFields, run: &[u64], names: &[u8], le
     ensures { λ _. ⌜ now (output .exit) ≡ put (now (output .entry)) 0 (textOf (listing fields (now (run .entry)) (now (names .entry)) (now (letters .entry)))) ⌝ }
 {
     let figures = list_fields::figures_of(fields);
-    let p = list_head::put_head(output, 0, letters, figures);
+    let p = list_head_writing::put_head(output, 0, letters, figures);
     let q = list_rows::put_rows(output, p, run, names, fields.count);
     digits_writing::put_bytes(output, q, b"ENDENDEND\r\n");
 }

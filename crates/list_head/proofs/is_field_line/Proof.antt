@@ -5,7 +5,7 @@ use Prim.Native.Nat.{ℕ}
 use Rattle.sequences.specs.Below.{joinBelow}
 use Rattle.lines.specs.Lines.{isNamed}
 use Rattle.list_rules.specs.Head.{fieldName, fieldNames}
-use Rattle.list_head.specs.Tables.{allNames}
+use Rattle.list_head_tables.specs.Tables.{allNames}
 use borrow.Author.Needs.{needs}
 use Rattle.list_head.proofs.is_field_line.Statement.{statement}
 use Rattle.list_head.proofs.is_field_line.Tie as tie

@@ -7,7 +7,7 @@ use Rattle.digits.specs.declared.Figure.{Figure}
 use Rattle.digits.specs.Written.{Written}
 use Rattle.lines.specs.Lines.{lineText}
 use Rattle.list_rules.specs.Writing.{Listing, listing, headText, rowsText}
-use Rattle.list_head.specs.Tables.{headBytes}
+use Rattle.list_head_tables.specs.Tables.{headBytes}
 use Rattle.list_trip.proofs.WrittenPassing.{Passing, passing}
 use Rattle.list_writing.proofs.Sizes.{numbers-fit, head-is, rows-are, head-room, rows-room, end-room, text-put}
 use Rattle.list_writing.proofs.put_list.Statement.{statement}

@@ -6,7 +6,7 @@ use native.Mathlib.Omega.{arith}
 use lib.ListN.{length}
 use Rattle.digits.specs.declared.Figure.{Figure}
 use Rattle.list_rules.specs.Writing.{Listing, listing, headText}
-use Rattle.list_head.specs.Tables.{headBytes}
+use Rattle.list_head_tables.specs.Tables.{headBytes}
 use Rattle.list_trip.proofs.WrittenPassing.{Passing, passing}
 use Rattle.list_writing.proofs.Sizes.{head-is, text-size, letters-few}
 use Rattle.list_writing.proofs.text_size.Statement.{statement}
