@@ -33,7 +33,7 @@ use Rattle.rules.proofs.Replies.{is-accepted, is-refused}
 use Rattle.order_structs.specs.declared.Settled.{Settled}
 use Rattle.order_structs.specs.Made.{knownKind, recordsOf, atFront, madeRecords}
 use Rattle.order_structs.specs.Settling.{mostRecords, lentRecords, madeCount, Settling}
-use Rattle.order_structs.specs.Stored.{withFirst}
+use Rattle.record_writer.specs.Stored.{withFirst}
 use Rattle.order_structs.proofs.Room.{lent-most, lent-bound, lent-fits, reply-room, book-room}
 
 -- The value of an accepted redemption is the count of its records.

@@ -1,6 +1,3 @@
-pub mod Held
-pub mod Called
-pub mod Filled
 pub mod Local
 pub mod OrderLocals
 pub mod RecordArray

@@ -33,7 +33,7 @@ use Rattle.order_structs.specs.Settling.{mostRecords}
 use Rattle.order_structs.proofs.Settled as Se
 use Rattle.order_structs.proofs.Settled.Laws as Se′
 use Rattle.order_structs.proofs.settle as settle
-use Rattle.order_structs.proofs.fill as fill
+use Rattle.record_writer.proofs.fill as fill
 
 -- the machine value of an ask
 abbrev pub askVal : Ask → Val

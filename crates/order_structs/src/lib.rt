@@ -1,5 +1,5 @@
 // Creation and redemption, by the kind of order, whose records go to a lent list of structs. The order is made into a flat run,
-// and a writer over the list takes the records of that run.
+// and a writer over the list (`record_writer`) takes the records of that run.
 ghost use mathlib.Core.Path.{_≡_};
 ghost use Prim.Native.Nat.{_*_, _≤_, _<_};
 ghost use mathlib.Core.List.{_++_};
@@ -9,7 +9,6 @@ ghost use Rattle.layout.specs.Day.{dayAt};
 ghost use Rattle.rules.specs.Replies.{orderAnswerReply};
 ghost use Rattle.rules.specs.Kinds.{askedReply, askedBook};
 ghost use Rattle.order_structs.specs.Made.{knownKind, madeRecords};
-ghost use Rattle.order_structs.specs.Stored.{pushed, withFirst};
 ghost use Rattle.order_structs.specs.Settling.{madeCount, mostRecords, lentRecords, Settling};
 use layout::Record;
 use rules::Ask;
@@ -80,54 +79,6 @@ fn settle(
     Settled { answer, count }
 }
 
-// A writer over a lent list: it holds the place of the next record.
-pub struct Writer<'a> {
-    pub list: &'a mut [Record],
-    pub at: usize,
-}
-
-// The borrow goes into the writer, and the place is the start.
-fn new<'a>(list: &'a mut [Record]) -> Writer<'a>
-    ensures { λ r. ⌜ (r .list ≡ list .entry) × (r .at ≡ 0) ⌝ }
-{
-    Writer { list: list, at: 0 }
-}
-
-// One record more: the writer is handed back with the borrow and the next place.
-fn push<'a>(w: Writer<'a>, r: Record) -> Writer<'a>
-    requires { ⌜ w .at < length (now (w .list)) ⌝ }
-    ensures { λ n. ⌜ n ≡ pushed (w .entry) r ⌝ }
-{
-    let at = w.at;
-    w.list[at] = r;
-    Writer {
-        list: w.list,
-        at: at + 1,
-    }
-}
-
-// How many records were written. The list is as it was.
-fn finish<'a>(w: Writer<'a>) -> usize
-    ensures { λ n. ⌜ (n ≡ w .entry .at) × (now (w .exit .0) ≡ now (w .entry .list)) ⌝ }
-{
-    w.at
-}
-
-// The first `count` records of a flat run go to the list, and it gives how many.
-fn fill(list: &mut [Record], flat: &[u64], count: usize) -> usize
-    requires { ⌜ (count ≤ length (now list)) × (recordWidth * count ≤ length (now flat)) ⌝ }
-    ensures { λ r. ⌜ (r ≡ count) × (now (list .exit) ≡ withFirst count (now (flat .entry)) (now (list .entry))) ⌝ }
-{
-    let mut w = new(list);
-    let mut i: usize = 0;
-    while i < count {
-        let r = layout::record_at(flat, i);
-        w = push(w, r);
-        i += 1;
-    }
-    finish(w)
-}
-
 // Creates or redeems units, by the kind of order; the records go to the lent list.
 pub fn order(
     day: &[u64],
@@ -140,7 +91,7 @@ pub fn order(
 {
     let mut flat = [0u64; FLAT_LENGTH];
     let s = settle(day, book, prices, ask, list.len(), &mut flat);
-    fill(list, &flat, s.count);
+    record_writer::fill(list, &flat, s.count);
     s.answer
 }
 

@@ -53,7 +53,7 @@ use Rattle.rules.proofs.OrderAnswer as OA
 use Rattle.rules.proofs.OrderAnswer.Laws as OA′
 use Rattle.order_structs.specs.declared.Settled.{Settled}
 use Rattle.order_structs.specs.Settling.{Settling}
-use Rattle.order_structs.specs.Stored.{withFirst}
+use Rattle.record_writer.specs.Stored.{withFirst}
 use Rattle.order_structs.proofs.Settled as Se
 use Rattle.order_structs.proofs.Settled.Laws as Se′
 use Rattle.order_structs.proofs.OrderLocals.{Settle, Fill, askVal, flatLength, word, dl, bl, pl, sl, ar, am, ai, br, bm, rf, flat-room, xf, flatVal, sv, fields}
@@ -68,10 +68,10 @@ use Rattle.order_structs.proofs.settle as settle
 use Rattle.order_structs.proofs.settle.Symbol as settle-def
 use Rattle.order_structs.proofs.settle.Symbol.{name as #order_structs·settle}
 use Rattle.order_structs.proofs.settle.Met as settle-thm
-use Rattle.order_structs.proofs.fill as fill
-use Rattle.order_structs.proofs.fill.Symbol as fill-def
-use Rattle.order_structs.proofs.fill.Symbol.{name as #order_structs·fill}
-use Rattle.order_structs.proofs.fill.Met as fill-thm
+use Rattle.record_writer.proofs.fill as fill
+use Rattle.record_writer.proofs.fill.Symbol as fill-def
+use Rattle.record_writer.proofs.fill.Symbol.{name as #record_writer·fill}
+use Rattle.record_writer.proofs.fill.Met as fill-thm
 
 abbrev stayed : Stays (order′.ended .signature .params) (order′.ended .kept)
 stayed = (
@@ -202,7 +202,7 @@ module _ {M : Type 1} (𝓤 : URA M) (H : Heap 𝓤) (A : Atoms 𝓤) (W : Given
       move ! (1 ∷ 0 ∷ []) $ fjoin ! $ move ! (1 ∷ 0 ∷ []) $ fjoin ! $ frame ! $
       owned ! OA.the-row (Is OA.the-row) (EL.makes OA.the-type OA′.the-plain 𝓤 H A) (s .answer) _ (fields s is .0) $ done !
 
-  module _ (𝓣 : Tables 𝓤 H) (known-settle : Triple 𝓤 (𝓣 .C #order_structs·settle) (Settle 𝓤 H A mem run)) (known-fill : Triple 𝓤 (𝓣 .C #order_structs·fill) (Fill 𝓤 H A mem run))
+  module _ (𝓣 : Tables 𝓤 H) (known-settle : Triple 𝓤 (𝓣 .C #order_structs·settle) (Settle 𝓤 H A mem run)) (known-fill : Triple 𝓤 (𝓣 .C #record_writer·fill) (Fill 𝓤 H A mem run))
       (l₀ l₁ l₂ l₃ l₄ l₅ l₆ l₇ l₈ l₉ m₀ m₁ m₂ m₃ m₄ m₅ m₆ : ℕ) where
     abbrev C : Calls 𝓤 H
     C = 𝓣 .C
@@ -330,7 +330,7 @@ module _ {M : Type 1} (𝓤 : URA M) (H : Heap 𝓤) (A : Atoms 𝓤) (W : Given
         ∷ 40 ∷ 41 ∷ 42 ∷ 43 ∷ []) $
         lists s (zs .1 .0) (zs .1 .1 .1 .1 .1 .0) (subst (Is Se.the-row s) (LL.tells Se.the-type Se′.the-laws s _ is) is) t n₁ (nf ∙ ex))))))))))
 
-  walk : (𝓣 : Tables 𝓤 H) → Triple 𝓤 (𝓣 .C #order_structs·settle) (Settle 𝓤 H A mem run) → Triple 𝓤 (𝓣 .C #order_structs·fill) (Fill 𝓤 H A mem run)
+  walk : (𝓣 : Tables 𝓤 H) → Triple 𝓤 (𝓣 .C #order_structs·settle) (Settle 𝓤 H A mem run) → Triple 𝓤 (𝓣 .C #record_writer·fill) (Fill 𝓤 H A mem run)
       → ent 𝓤 (onEntry 𝓤 H A order′.signature (κ₀, (κ₁, (κ₂, (κ₃, tt)))) (q₀, (q₁, (q₂, (q₃, tt)))) arg vals) (WpFn 𝓤 H (𝓣 .C) (𝓣 .Λ) code.function (s₀ ∷ s₁ ∷ s₂ ∷ askVal ask ∷ s₃ ∷ []) Post)
   walk 𝓣 known-settle known-fill =
       qed W ((‵ (flft κ₀ q₀) ⊛ ‵ (flft κ₁ q₁) ⊛ ‵ (flft κ₂ q₂) ⊛ ‵ (flft κ₃ q₃) ⊛ ‵ ftrue)
@@ -356,7 +356,7 @@ module _ {M : Type 1} (𝓤 : URA M) (H : Heap 𝓤) (A : Atoms 𝓤) (W : Given
       settles 𝓣 known-settle known-fill l₀ l₁ l₂ l₃ l₄ l₅ l₆ l₇ l₈ l₉ m₀ m₁ m₂ m₃ m₄ m₅ m₆ (replicate flatLength 0) (length-replicate {A = ℕ} flatLength 0)))))))))))))))))))
 
 module _ {M : Type 1} (𝓤 : URA M) (H : Heap 𝓤) (A : Atoms 𝓤) (W : Given 𝓤 H A) (mem : Memory → SProp 𝓤) (run : Routine → Fun 𝓤) where
-  order-walks : (𝓣 : Tables 𝓤 H) → Triple 𝓤 (𝓣 .C #order_structs·settle) (Settle 𝓤 H A mem run) → Triple 𝓤 (𝓣 .C #order_structs·fill) (Fill 𝓤 H A mem run)
+  order-walks : (𝓣 : Tables 𝓤 H) → Triple 𝓤 (𝓣 .C #order_structs·settle) (Settle 𝓤 H A mem run) → Triple 𝓤 (𝓣 .C #record_writer·fill) (Fill 𝓤 H A mem run)
       → Walks 𝓤 H A order′.ended stayed (WpFn 𝓤 H (𝓣 .C) (𝓣 .Λ) code.function) (order′.clauses 𝓤 H A mem run)
   order-walks 𝓣 k₀ k₁ = walked 𝓤 H A order′.ended stayed (order′.clauses 𝓤 H A mem run) (WpFn 𝓤 H (𝓣 .C) (𝓣 .Λ) code.function)
       (λ κs. (slice-vals, (slice-vals, (slice-vals, (LL.vals As.the-type As′.the-laws, (slice-vals, tt))))))
@@ -371,7 +371,7 @@ module _ {M : Type 1} (𝓤 : URA M) (H : Heap 𝓤) (A : Atoms 𝓤) (W : Given
       (are .1 .1 .1 .0) (are .0 .0 .1) (are .1 .0 .0 .1) (are .1 .1 .0 .0 .1) (are .1 .1 .1 .1 .0 .0 .1) 𝓣 k₀ k₁))
 
 order-meets : {M : Type 1} (𝓤 : URA M) (H : Heap 𝓤) (A : Atoms 𝓤) → Given 𝓤 H A → (mem : Memory → SProp 𝓤) (run : Routine → Fun 𝓤) (𝓣 : Tables 𝓤 H)
-    → Triple 𝓤 (𝓣 .C #order_structs·settle) (Settle 𝓤 H A mem run) → Triple 𝓤 (𝓣 .C #order_structs·fill) (Fill 𝓤 H A mem run)
+    → Triple 𝓤 (𝓣 .C #order_structs·settle) (Settle 𝓤 H A mem run) → Triple 𝓤 (𝓣 .C #record_writer·fill) (Fill 𝓤 H A mem run)
     → Meets 𝓤 H A order′.signature (WpFn 𝓤 H (𝓣 .C) (𝓣 .Λ) code.function) (order′.spec 𝓤 H A mem run)
 order-meets 𝓤 H A W mem run 𝓣 k₀ k₁ =
     walk-meets 𝓤 H A order′.ended stayed W (
@@ -393,4 +393,4 @@ order-spec 𝓤 H 𝓜 𝓖 𝓡 =
     (tables 𝓤 H 𝓜 𝓡 code.env .C) (tables 𝓤 H 𝓜 𝓡 code.env .Λ) #order_structs·order code.function (code.unfolded 𝓤 H 𝓜 𝓡)
     (order-meets 𝓤 H (𝓖 .A) (givenOf 𝓤 H 𝓜 𝓖) (𝓜 .mem) (𝓡 .run) (tablesOf 𝓤 H 𝓜 (tables 𝓤 H 𝓜 𝓡 code.env))
     (cited 𝓤 H (Settle 𝓤 H (𝓖 .A) (𝓜 .mem) (𝓡 .run)) 𝓜 𝓡 code.env #order_structs·settle settle-def.routine code.calls-order-structs·settle (settle-thm.met 𝓤 H 𝓜 𝓖 𝓡))
-    (cited 𝓤 H (Fill 𝓤 H (𝓖 .A) (𝓜 .mem) (𝓡 .run)) 𝓜 𝓡 code.env #order_structs·fill fill-def.routine code.calls-order-structs·fill (fill-thm.met 𝓤 H 𝓜 𝓖 𝓡)))
+    (cited 𝓤 H (Fill 𝓤 H (𝓖 .A) (𝓜 .mem) (𝓡 .run)) 𝓜 𝓡 code.env #record_writer·fill fill-def.routine code.calls-record-writer·fill (fill-thm.met 𝓤 H 𝓜 𝓖 𝓡)))

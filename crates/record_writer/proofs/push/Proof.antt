@@ -1,4 +1,4 @@
--- `order_structs::push` meets its contract: a walk of its MIR, by hand. The struct is taken apart, the record is stored at its place, and the borrow and the next place go into the result.
+-- `record_writer::push` meets its contract: a walk of its MIR, by hand. The struct is taken apart, the record is stored at its place, and the borrow and the next place go into the result.
 use mathlib.Core.Path.{_≡_, refl, sym, ap, subst}
 use Prim.Native.Nat.{ℕ, _<_, _^_, _+_, _*_}
 use native.Mathlib.Omega.{arith}
@@ -44,14 +44,14 @@ use denote.Signature.Struct.{inStruct, makes}
 use Rattle.layout.specs.declared.Record.{Record}
 use Rattle.layout.proofs.Record as T
 use Rattle.layout.proofs.Record.Laws as T′
-use Rattle.order_structs.proofs.push.Key.{name as #order_structs·push}
-use Rattle.order_structs.proofs.push as push′
-use Rattle.order_structs.proofs.push.Statement as stated
-use Rattle.order_structs.proofs.push.Code as code
-use Rattle.order_structs.specs.declared.Writer.{Writer}
-use Rattle.order_structs.proofs.Writer as Wr
-use Rattle.order_structs.proofs.Writer.Laws as Wr′
-use Rattle.order_structs.proofs.Held.{writer-spent, writer-spent-goes}
+use Rattle.record_writer.proofs.push.Key.{name as #record_writer·push}
+use Rattle.record_writer.proofs.push as push′
+use Rattle.record_writer.proofs.push.Statement as stated
+use Rattle.record_writer.proofs.push.Code as code
+use Rattle.record_writer.specs.declared.Writer.{Writer}
+use Rattle.record_writer.proofs.Writer as Wr
+use Rattle.record_writer.proofs.Writer.Laws as Wr′
+use Rattle.record_writer.proofs.Held.{writer-spent, writer-spent-goes}
 
 abbrev stayed : Stays (push′.ended .signature .params) (push′.ended .kept)
 stayed = (writer-spent, (stay-none (λ _. T.the-row) yes, tt))
@@ -179,5 +179,5 @@ pub push-spec : {M : Type 1} → stated.statement M
 unfolding code.routine tablesOf
 push-spec 𝓤 H 𝓜 𝓖 𝓡 =
     entered 𝓤 H (tripleOf 𝓤 H (𝓖 .A) push′.signature (push′.spec 𝓤 H (𝓖 .A) (𝓜 .mem) (𝓡 .run)))
-    (tables 𝓤 H 𝓜 𝓡 code.env .C) (tables 𝓤 H 𝓜 𝓡 code.env .Λ) #order_structs·push code.function (code.unfolded 𝓤 H 𝓜 𝓡)
+    (tables 𝓤 H 𝓜 𝓡 code.env .C) (tables 𝓤 H 𝓜 𝓡 code.env .Λ) #record_writer·push code.function (code.unfolded 𝓤 H 𝓜 𝓡)
     (push-meets 𝓤 H (𝓖 .A) (givenOf 𝓤 H 𝓜 𝓖) (𝓜 .mem) (𝓡 .run) (tablesOf 𝓤 H 𝓜 (tables 𝓤 H 𝓜 𝓡 code.env)))

@@ -1,4 +1,4 @@
--- `order_structs::finish` meets its contract: a walk of its MIR, by hand. The struct is passed into a local, and the number is read from there.
+-- `record_writer::finish` meets its contract: a walk of its MIR, by hand. The struct is passed into a local, and the number is read from there.
 -- The borrow inside it is not opened, so at exit it is at the list that it was passed at.
 use mathlib.Core.Path.{refl}
 use Prim.Native.Nat.{ℕ, _<_, _^_}
@@ -32,15 +32,15 @@ use denote.Triple.Spec.{Meets, tripleOf}
 use denote.Triple.Table.{entered}
 use denote.Triple.Walked.{says, Stays, walkOf, Walks, ends-at, walked, walk-meets}
 use denote.Signature.{namedLft}
-use Rattle.order_structs.specs.declared.Writer.{Writer}
+use Rattle.record_writer.specs.declared.Writer.{Writer}
 use Rattle.layout.specs.declared.Record.{Record}
-use Rattle.order_structs.proofs.Writer as T
-use Rattle.order_structs.proofs.Writer.Laws as T′
-use Rattle.order_structs.proofs.Held.{writer-stay, writer-goes}
-use Rattle.order_structs.proofs.finish.Key.{name as #order_structs·finish}
-use Rattle.order_structs.proofs.finish as finish
-use Rattle.order_structs.proofs.finish.Statement as stated
-use Rattle.order_structs.proofs.finish.Code as code
+use Rattle.record_writer.proofs.Writer as T
+use Rattle.record_writer.proofs.Writer.Laws as T′
+use Rattle.record_writer.proofs.Held.{writer-stay, writer-goes}
+use Rattle.record_writer.proofs.finish.Key.{name as #record_writer·finish}
+use Rattle.record_writer.proofs.finish as finish
+use Rattle.record_writer.proofs.finish.Statement as stated
+use Rattle.record_writer.proofs.finish.Code as code
 
 abbrev stayed : Stays (finish.ended .signature .params) (finish.ended .kept)
 stayed = (writer-stay, tt)
@@ -96,5 +96,5 @@ pub finish-spec : {M : Type 1} → stated.statement M
 unfolding code.routine tablesOf
 finish-spec 𝓤 H 𝓜 𝓖 𝓡 =
     entered 𝓤 H (tripleOf 𝓤 H (𝓖 .A) finish.signature (finish.spec 𝓤 H (𝓖 .A) (𝓜 .mem) (𝓡 .run)))
-    (tables 𝓤 H 𝓜 𝓡 code.env .C) (tables 𝓤 H 𝓜 𝓡 code.env .Λ) #order_structs·finish code.function (code.unfolded 𝓤 H 𝓜 𝓡)
+    (tables 𝓤 H 𝓜 𝓡 code.env .C) (tables 𝓤 H 𝓜 𝓡 code.env .Λ) #record_writer·finish code.function (code.unfolded 𝓤 H 𝓜 𝓡)
     (finish-meets 𝓤 H (𝓖 .A) (givenOf 𝓤 H 𝓜 𝓖) (𝓜 .mem) (𝓡 .run) (tablesOf 𝓤 H 𝓜 (tables 𝓤 H 𝓜 𝓡 code.env)))

@@ -1,4 +1,4 @@
--- `order_structs::new` meets its contract: a walk of its MIR, by hand. The borrow of the slice goes into the result as it is, beside the number 0.
+-- `record_writer::new` meets its contract: a walk of its MIR, by hand. The borrow of the slice goes into the result as it is, beside the number 0.
 -- The parameter is spent: the result names its lifetime, so nothing is had of it at exit, and `list .entry` is all that the contract can say.
 use mathlib.Core.Path.{refl}
 use mathlib.Core.List.{[], _∷_, List}
@@ -33,15 +33,15 @@ use denote.Triple.Spec.{Meets, tripleOf}
 use denote.Triple.Table.{entered}
 use denote.Triple.Walked.{says, Stays, stay-dropped, walkOf, goes-spent-slice, Walks, ends-at, walked, walk-meets}
 use denote.Exit.{no}
-use Rattle.order_structs.specs.declared.Writer.{Writer}
+use Rattle.record_writer.specs.declared.Writer.{Writer}
 use Rattle.layout.specs.declared.Record.{Record}
 use Rattle.layout.proofs.Record as R
-use Rattle.order_structs.proofs.Writer as T
-use Rattle.order_structs.proofs.Writer.Laws as T′
-use Rattle.order_structs.proofs.new.Key.{name as #order_structs·new}
-use Rattle.order_structs.proofs.new as new
-use Rattle.order_structs.proofs.new.Statement as stated
-use Rattle.order_structs.proofs.new.Code as code
+use Rattle.record_writer.proofs.Writer as T
+use Rattle.record_writer.proofs.Writer.Laws as T′
+use Rattle.record_writer.proofs.new.Key.{name as #record_writer·new}
+use Rattle.record_writer.proofs.new as new
+use Rattle.record_writer.proofs.new.Statement as stated
+use Rattle.record_writer.proofs.new.Code as code
 
 abbrev stayed : Stays (new.ended .signature .params) (new.ended .kept)
 stayed = (stay-dropped (mutSliceOf (0 ∷ []) tt (plain (λ _. R.the-row))) no, tt)
@@ -103,5 +103,5 @@ pub new-spec : {M : Type 1} → stated.statement M
 unfolding code.routine tablesOf
 new-spec 𝓤 H 𝓜 𝓖 𝓡 =
     entered 𝓤 H (tripleOf 𝓤 H (𝓖 .A) new.signature (new.spec 𝓤 H (𝓖 .A) (𝓜 .mem) (𝓡 .run)))
-    (tables 𝓤 H 𝓜 𝓡 code.env .C) (tables 𝓤 H 𝓜 𝓡 code.env .Λ) #order_structs·new code.function (code.unfolded 𝓤 H 𝓜 𝓡)
+    (tables 𝓤 H 𝓜 𝓡 code.env .C) (tables 𝓤 H 𝓜 𝓡 code.env .Λ) #record_writer·new code.function (code.unfolded 𝓤 H 𝓜 𝓡)
     (new-meets 𝓤 H (𝓖 .A) (givenOf 𝓤 H 𝓜 𝓖) (𝓜 .mem) (𝓡 .run) (tablesOf 𝓤 H 𝓜 (tables 𝓤 H 𝓜 𝓡 code.env)))

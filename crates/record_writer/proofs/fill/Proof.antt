@@ -1,4 +1,4 @@
--- `order_structs::fill` meets its contract: a walk of its MIR, by hand. A loop that pushes what `record_at` reads of the flat run: what the writer owns is in the invariant.
+-- `record_writer::fill` meets its contract: a walk of its MIR, by hand. A loop that pushes what `record_at` reads of the flat run: what the writer owns is in the invariant.
 use mathlib.Core.Path.{_≡_, refl, sym, ap, subst, _∙_}
 use Prim.Native.Nat.{ℕ, _<_, _≤_, _^_, _+_, _*_, suc, _-_}
 use native.Mathlib.Omega.{arith}
@@ -44,10 +44,10 @@ use denote.Signature.Struct.{makes}
 use Rattle.layout.specs.declared.Record.{Record}
 use Rattle.layout.proofs.Record as T
 use Rattle.layout.proofs.Record.Laws as T′
-use Rattle.order_structs.proofs.fill.Key.{name as #order_structs·fill}
-use Rattle.order_structs.proofs.fill as fill′
-use Rattle.order_structs.proofs.fill.Statement as stated
-use Rattle.order_structs.proofs.fill.Code as code
+use Rattle.record_writer.proofs.fill.Key.{name as #record_writer·fill}
+use Rattle.record_writer.proofs.fill as fill′
+use Rattle.record_writer.proofs.fill.Statement as stated
+use Rattle.record_writer.proofs.fill.Code as code
 use mathlib.Core.Bool.{Bool, true, false}
 use mathlib.Core.WellFounded.{WellFounded, InvImage·wf}
 use lib.WfN.{Nat·lt-wfRel}
@@ -56,25 +56,25 @@ use borrow.Author.Tests.{ltb-true, ltb-false}
 use denote.Memory.{pointee}
 use Rattle.layout.specs.Places.{recordWidth}
 use Rattle.layout.specs.Records.{recordAt}
-use Rattle.order_structs.specs.declared.Writer.{Writer}
-use Rattle.order_structs.specs.Stored.{pushed}
-use Rattle.order_structs.proofs.Filled.{filled, filled-length, filled-is, record-in}
-use Rattle.order_structs.proofs.Called.{New, Push, Finish, RecordAt, new-of, push-of, record-of}
-use Rattle.order_structs.proofs.Writer as Wr
-use Rattle.order_structs.proofs.Writer.Laws as Wr′
-use Rattle.order_structs.proofs.fill.Code.Mir as part
-use Rattle.order_structs.proofs.new as new
-use Rattle.order_structs.proofs.new.Symbol as new-def
-use Rattle.order_structs.proofs.new.Symbol.{name as #order_structs·new}
-use Rattle.order_structs.proofs.new.Met as new-thm
-use Rattle.order_structs.proofs.push as push
-use Rattle.order_structs.proofs.push.Symbol as push-def
-use Rattle.order_structs.proofs.push.Symbol.{name as #order_structs·push}
-use Rattle.order_structs.proofs.push.Met as push-thm
-use Rattle.order_structs.proofs.finish as finish
-use Rattle.order_structs.proofs.finish.Symbol as finish-def
-use Rattle.order_structs.proofs.finish.Symbol.{name as #order_structs·finish}
-use Rattle.order_structs.proofs.finish.Met as finish-thm
+use Rattle.record_writer.specs.declared.Writer.{Writer}
+use Rattle.record_writer.specs.Stored.{pushed}
+use Rattle.record_writer.proofs.Filled.{filled, filled-length, filled-is, record-in}
+use Rattle.record_writer.proofs.Called.{New, Push, Finish, RecordAt, new-of, push-of, record-of}
+use Rattle.record_writer.proofs.Writer as Wr
+use Rattle.record_writer.proofs.Writer.Laws as Wr′
+use Rattle.record_writer.proofs.fill.Code.Mir as part
+use Rattle.record_writer.proofs.new as new
+use Rattle.record_writer.proofs.new.Symbol as new-def
+use Rattle.record_writer.proofs.new.Symbol.{name as #record_writer·new}
+use Rattle.record_writer.proofs.new.Met as new-thm
+use Rattle.record_writer.proofs.push as push
+use Rattle.record_writer.proofs.push.Symbol as push-def
+use Rattle.record_writer.proofs.push.Symbol.{name as #record_writer·push}
+use Rattle.record_writer.proofs.push.Met as push-thm
+use Rattle.record_writer.proofs.finish as finish
+use Rattle.record_writer.proofs.finish.Symbol as finish-def
+use Rattle.record_writer.proofs.finish.Symbol.{name as #record_writer·finish}
+use Rattle.record_writer.proofs.finish.Met as finish-thm
 use Rattle.layout.proofs.record_at as record-at
 use Rattle.layout.proofs.record_at.Symbol as record-at-def
 use Rattle.layout.proofs.record_at.Symbol.{name as #layout·record-at}
@@ -209,7 +209,7 @@ module _ {M : Type 1} (𝓤 : URA M) (H : Heap 𝓤) (A : Atoms 𝓤) (W : Given
   abbrev word : Ty
   word = tyInt w64
 
-  module _ (𝓣 : Tables 𝓤 H) (known-push : Triple 𝓤 (𝓣 .C #order_structs·push) (Push 𝓤 H A mem run)) (known-finish : Triple 𝓤 (𝓣 .C #order_structs·finish) (Finish 𝓤 H A mem run))
+  module _ (𝓣 : Tables 𝓤 H) (known-push : Triple 𝓤 (𝓣 .C #record_writer·push) (Push 𝓤 H A mem run)) (known-finish : Triple 𝓤 (𝓣 .C #record_writer·finish) (Finish 𝓤 H A mem run))
       (known-record : Triple 𝓤 (𝓣 .C #layout·record-at) (RecordAt 𝓤 H A mem run)) (l₀ l₁ l₂ l₃ l₄ l₅ l₆ l₇ l₈ l₉ m₀ m₁ : ℕ) where
     abbrev C : Calls 𝓤 H
     C = 𝓣 .C
@@ -331,8 +331,8 @@ module _ {M : Type 1} (𝓤 : URA M) (H : Heap 𝓤) (A : Atoms 𝓤) (W : Given
         assigns ! (of-opd ! (lit ! tt)) (from ! (stop !)) (init ! 16 refl (tt, record { fits = lit< tt })) $ forget ! 10 refl $ forget ! 12 refl $
         move ! (4 ∷ 5 ∷ 6 ∷ 7 ∷ 8 ∷ 9 ∷ 10 ∷ 11 ∷ 12 ∷ 13 ∷ 14 ∷ 15 ∷ 16 ∷ 17 ∷ 18 ∷ 19 ∷ 20 ∷ 21 ∷ 22 ∷ 23 ∷ 24 ∷ 25 ∷ 26 ∷ 27 ∷ []) $ looped
 
-  walk : (𝓣 : Tables 𝓤 H) → Triple 𝓤 (𝓣 .C #order_structs·new) (New 𝓤 H A mem run) → Triple 𝓤 (𝓣 .C #order_structs·push) (Push 𝓤 H A mem run)
-      → Triple 𝓤 (𝓣 .C #order_structs·finish) (Finish 𝓤 H A mem run) → Triple 𝓤 (𝓣 .C #layout·record-at) (RecordAt 𝓤 H A mem run)
+  walk : (𝓣 : Tables 𝓤 H) → Triple 𝓤 (𝓣 .C #record_writer·new) (New 𝓤 H A mem run) → Triple 𝓤 (𝓣 .C #record_writer·push) (Push 𝓤 H A mem run)
+      → Triple 𝓤 (𝓣 .C #record_writer·finish) (Finish 𝓤 H A mem run) → Triple 𝓤 (𝓣 .C #layout·record-at) (RecordAt 𝓤 H A mem run)
       → ent 𝓤 (onEntry 𝓤 H A fill′.signature (κ, (κ′, tt)) (q, (q′, tt)) a vals) (WpFn 𝓤 H (𝓣 .C) (𝓣 .Λ) code.function (s ∷ sb ∷ vint w64 n ∷ []) Post)
   walk 𝓣 known-new known-push known-finish known-record =
       qed W ((‵ (flft κ q) ⊛ ‵ (flft κ′ q′) ⊛ ‵ ftrue) ∷ ‵ (owns (MutSlice (named 0) κ T.the-row ∷ ShrSlice (named 1) κ′ u64 ∷ usize ∷ []) a vals) ∷ []) ∵
@@ -357,8 +357,8 @@ module _ {M : Type 1} (𝓤 : URA M) (H : Heap 𝓤) (A : Atoms 𝓤) (W : Given
       fresh 𝓣 known-push known-finish known-record l₀ l₁ l₂ l₃ l₄ l₅ l₆ l₇ l₈ l₉ m₀ m₁ w₀ is₀))))))))))))))))
 
 module _ {M : Type 1} (𝓤 : URA M) (H : Heap 𝓤) (A : Atoms 𝓤) (W : Given 𝓤 H A) (mem : Memory → SProp 𝓤) (run : Routine → Fun 𝓤) where
-  fill-walks : (𝓣 : Tables 𝓤 H) → Triple 𝓤 (𝓣 .C #order_structs·new) (New 𝓤 H A mem run) → Triple 𝓤 (𝓣 .C #order_structs·push) (Push 𝓤 H A mem run)
-      → Triple 𝓤 (𝓣 .C #order_structs·finish) (Finish 𝓤 H A mem run) → Triple 𝓤 (𝓣 .C #layout·record-at) (RecordAt 𝓤 H A mem run)
+  fill-walks : (𝓣 : Tables 𝓤 H) → Triple 𝓤 (𝓣 .C #record_writer·new) (New 𝓤 H A mem run) → Triple 𝓤 (𝓣 .C #record_writer·push) (Push 𝓤 H A mem run)
+      → Triple 𝓤 (𝓣 .C #record_writer·finish) (Finish 𝓤 H A mem run) → Triple 𝓤 (𝓣 .C #layout·record-at) (RecordAt 𝓤 H A mem run)
       → Walks 𝓤 H A fill′.ended stayed (WpFn 𝓤 H (𝓣 .C) (𝓣 .Λ) code.function) (fill′.clauses 𝓤 H A mem run)
   fill-walks 𝓣 k₀ k₁ k₂ k₃ = walked 𝓤 H A fill′.ended stayed (fill′.clauses 𝓤 H A mem run) (WpFn 𝓤 H (𝓣 .C) (𝓣 .Λ) code.function)
       (λ κs. (slice-vals, (slice-vals, (uint-vals w64, tt))))
@@ -368,7 +368,7 @@ module _ {M : Type 1} (𝓤 : URA M) (H : Heap 𝓤) (A : Atoms 𝓤) (W : Given
       (fillable .0) (fillable .1) 𝓣 k₀ k₁ k₂ k₃))
 
 fill-meets : {M : Type 1} (𝓤 : URA M) (H : Heap 𝓤) (A : Atoms 𝓤) → Given 𝓤 H A → (mem : Memory → SProp 𝓤) (run : Routine → Fun 𝓤) (𝓣 : Tables 𝓤 H)
-    → Triple 𝓤 (𝓣 .C #order_structs·new) (New 𝓤 H A mem run) → Triple 𝓤 (𝓣 .C #order_structs·push) (Push 𝓤 H A mem run) → Triple 𝓤 (𝓣 .C #order_structs·finish) (Finish 𝓤 H A mem run)
+    → Triple 𝓤 (𝓣 .C #record_writer·new) (New 𝓤 H A mem run) → Triple 𝓤 (𝓣 .C #record_writer·push) (Push 𝓤 H A mem run) → Triple 𝓤 (𝓣 .C #record_writer·finish) (Finish 𝓤 H A mem run)
     → Triple 𝓤 (𝓣 .C #layout·record-at) (RecordAt 𝓤 H A mem run)
     → Meets 𝓤 H A fill′.signature (WpFn 𝓤 H (𝓣 .C) (𝓣 .Λ) code.function) (fill′.spec 𝓤 H A mem run)
 fill-meets 𝓤 H A W mem run 𝓣 k₀ k₁ k₂ k₃ =
@@ -381,9 +381,9 @@ pub fill-spec : {M : Type 1} → stated.statement M
 unfolding code.routine tablesOf
 fill-spec 𝓤 H 𝓜 𝓖 𝓡 =
     entered 𝓤 H (tripleOf 𝓤 H (𝓖 .A) fill′.signature (fill′.spec 𝓤 H (𝓖 .A) (𝓜 .mem) (𝓡 .run)))
-    (tables 𝓤 H 𝓜 𝓡 code.env .C) (tables 𝓤 H 𝓜 𝓡 code.env .Λ) #order_structs·fill code.function (code.unfolded 𝓤 H 𝓜 𝓡)
+    (tables 𝓤 H 𝓜 𝓡 code.env .C) (tables 𝓤 H 𝓜 𝓡 code.env .Λ) #record_writer·fill code.function (code.unfolded 𝓤 H 𝓜 𝓡)
     (fill-meets 𝓤 H (𝓖 .A) (givenOf 𝓤 H 𝓜 𝓖) (𝓜 .mem) (𝓡 .run) (tablesOf 𝓤 H 𝓜 (tables 𝓤 H 𝓜 𝓡 code.env))
-    (cited 𝓤 H (New 𝓤 H (𝓖 .A) (𝓜 .mem) (𝓡 .run)) 𝓜 𝓡 code.env #order_structs·new new-def.routine code.calls-order-structs·new (new-thm.met 𝓤 H 𝓜 𝓖 𝓡))
-    (cited 𝓤 H (Push 𝓤 H (𝓖 .A) (𝓜 .mem) (𝓡 .run)) 𝓜 𝓡 code.env #order_structs·push push-def.routine code.calls-order-structs·push (push-thm.met 𝓤 H 𝓜 𝓖 𝓡))
-    (cited 𝓤 H (Finish 𝓤 H (𝓖 .A) (𝓜 .mem) (𝓡 .run)) 𝓜 𝓡 code.env #order_structs·finish finish-def.routine code.calls-order-structs·finish (finish-thm.met 𝓤 H 𝓜 𝓖 𝓡))
+    (cited 𝓤 H (New 𝓤 H (𝓖 .A) (𝓜 .mem) (𝓡 .run)) 𝓜 𝓡 code.env #record_writer·new new-def.routine code.calls-record-writer·new (new-thm.met 𝓤 H 𝓜 𝓖 𝓡))
+    (cited 𝓤 H (Push 𝓤 H (𝓖 .A) (𝓜 .mem) (𝓡 .run)) 𝓜 𝓡 code.env #record_writer·push push-def.routine code.calls-record-writer·push (push-thm.met 𝓤 H 𝓜 𝓖 𝓡))
+    (cited 𝓤 H (Finish 𝓤 H (𝓖 .A) (𝓜 .mem) (𝓡 .run)) 𝓜 𝓡 code.env #record_writer·finish finish-def.routine code.calls-record-writer·finish (finish-thm.met 𝓤 H 𝓜 𝓖 𝓡))
     (cited 𝓤 H (RecordAt 𝓤 H (𝓖 .A) (𝓜 .mem) (𝓡 .run)) 𝓜 𝓡 code.env #layout·record-at record-at-def.routine code.calls-layout·record-at (record-at-thm.met 𝓤 H 𝓜 𝓖 𝓡)))

@@ -16,9 +16,9 @@ use denote.Exit.{Kept, yes, no}
 use denote.Signature.{Slot, plain, mutSlice, mutSliceOf, namedLft}
 use denote.Signature.Struct.{structAt}
 use denote.Triple.Walked.{Stay, Fields, stay-none, stay-slice, stay-dropped, stay-struct-at, stay-declared, Goes, FieldsGo, goes-none, goes-slice, goes-spent-slice, goes-struct-at, goes-declared}
-use Rattle.order_structs.specs.declared.Writer.{Writer}
+use Rattle.record_writer.specs.declared.Writer.{Writer}
 use Rattle.layout.proofs.Record as R
-use Rattle.order_structs.proofs.Writer as T
+use Rattle.record_writer.proofs.Writer as T
 
 abbrev pub slots : List (Slot 1)
 slots = mutSlice 0 tt (λ _. R.the-row) ∷ plain (λ _. usize) ∷ []

@@ -17,11 +17,11 @@ use denote.Triple.Clauses.{ensured, lasts}
 use Rattle.layout.specs.declared.Record.{Record}
 use Rattle.layout.specs.Records.{recordAt}
 use Rattle.layout.proofs.record_at as record-at
-use Rattle.order_structs.specs.declared.Writer.{Writer}
-use Rattle.order_structs.specs.Stored.{pushed}
-use Rattle.order_structs.proofs.new as new
-use Rattle.order_structs.proofs.push as push
-use Rattle.order_structs.proofs.finish as finish
+use Rattle.record_writer.specs.declared.Writer.{Writer}
+use Rattle.record_writer.specs.Stored.{pushed}
+use Rattle.record_writer.proofs.new as new
+use Rattle.record_writer.proofs.push as push
+use Rattle.record_writer.proofs.finish as finish
 
 module _ {M : Type 1} (𝓤 : URA M) (H : Heap 𝓤) (A : Atoms 𝓤) (mem : Memory → SProp 𝓤) (run : Routine → Fun 𝓤) where
   abbrev pub New : Contract 𝓤

@@ -6,7 +6,7 @@ use denote.Ref.{now, at-last}
 use Rattle.sequences.specs.Below.{tabulate}
 use Rattle.layout.specs.declared.Record.{Record}
 use Rattle.layout.specs.Records.{recordAt}
-use Rattle.order_structs.specs.declared.Writer.{Writer}
+use Rattle.record_writer.specs.declared.Writer.{Writer}
 
 -- the same borrow, with r at the writer's place, and the next place
 abbrev pub pushed : Writer → Record → Writer

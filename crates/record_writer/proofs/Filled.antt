@@ -10,7 +10,7 @@ use Rattle.sequences.proofs.Below.{table-length}
 use Rattle.layout.specs.declared.Record.{Record}
 use Rattle.layout.specs.Places.{recordWidth}
 use Rattle.layout.specs.Records.{recordAt}
-use Rattle.order_structs.specs.Stored.{withFirst}
+use Rattle.record_writer.specs.Stored.{withFirst}
 
 -- the list l after n stores, of the first n records of the flat run
 abbrev pub filled : List Record → List ℕ → ℕ → List Record
