@@ -1,26 +1,21 @@
 -- From the core's answer to the call's: on a day that is not sound the answer is 5 and everything stays, and else they are the same.
-use mathlib.Core.Path.{_≡_, refl, sym, ap}
+use mathlib.Core.Path.{_≡_, sym, ap}
 use mathlib.Core.Bool.{true, false}
 use mathlib.Core.List.{List}
 use Prim.Native.Nat.{ℕ}
 use lib.ListN.{set}
 use Rattle.sequences.specs.Checks.{Check, Reply, reply, answered}
 use Rattle.layout.specs.Day.{Day}
-use Rattle.rules.specs.declared.Ask.{Ask}
 use Rattle.rules.specs.declared.Refusal.the-variants.{UnsoundDay}
-use Rattle.layout.specs.Book.{account}
 use Rattle.rules.specs.Replies.{ifAccepted}
 use Rattle.rules.specs.Sound.{isSound, onSoundDay}
 use Rattle.rules.specs.Price.{priceChecks, priceReply, pricedPrices}
 use Rattle.rules.specs.Trade.{tradeChecks, tradeReply, tradeMoves, tradedBook}
 use Rattle.rules.specs.Value.{referenceValue, valueChecks, valueReply}
-use Rattle.layout.specs.Records.{roomIn, withRecords}
-use Rattle.rules.specs.Kinds.{askedRecords, askedChecks, askedReply, askedMoves, askedBook, askedList}
 use Rattle.rules.proofs.Replies.{on-sound, on-unsound, leaves-before}
-use Rattle.orders.specs.Orders.{askedAnswer}
 
 module _ (d : Day) (b ps : List ℕ) (unsound : isSound d b ps ≡ false) where
-  five : (cs : List Check) (v : ℕ) → reply 5 0 0 ≡ answered (onSoundDay d b ps cs) v
+  pub five : (cs : List Check) (v : ℕ) → reply 5 0 0 ≡ answered (onSoundDay d b ps cs) v
   five cs v = sym (on-unsound d b ps cs v unsound)
 
   pub price-five : (line p : ℕ) → (reply 5 0 0 ≡ priceReply d b ps line p) × (ps ≡ pricedPrices d b ps line p)
@@ -35,16 +30,8 @@ module _ (d : Day) (b ps : List ℕ) (unsound : isSound d b ps ≡ false) where
   unfolding valueReply
   value-five = five (valueChecks d ps) (referenceValue d ps)
 
-  pub order-five : (ask : Ask) (room : ℕ) → reply 5 0 0 ≡ askedReply d b ps ask room
-  unfolding askedReply
-  order-five ask room = five (askedChecks d b ps ask room) _
-
-  pub stays-five : (ask : Ask) (list : List ℕ) → (reply 5 0 0 ≡ askedReply d b ps ask (roomIn list)) × ((b ≡ askedBook d b ps ask (roomIn list)) × (list ≡ askedList d b ps ask list))
-  unfolding askedBook askedList
-  stays-five ask list = let e = order-five ask (roomIn list) in (e, (leaves-before _ _ UnsoundDay _ e, leaves-before _ _ UnsoundDay _ e))
-
 module _ (d : Day) (b ps : List ℕ) (sound : isSound d b ps ≡ true) where
-  own : (cs : List Check) (v : ℕ) → answered cs v ≡ answered (onSoundDay d b ps cs) v
+  pub own : (cs : List Check) (v : ℕ) → answered cs v ≡ answered (onSoundDay d b ps cs) v
   own cs v = sym (on-sound d b ps cs v sound)
 
   pub price-own : (line p : ℕ) → (answered (priceChecks (d .count) line p) 0 ≡ priceReply d b ps line p)
@@ -62,14 +49,3 @@ module _ (d : Day) (b ps : List ℕ) (sound : isSound d b ps ≡ true) where
   pub value-own : answered (valueChecks d ps) (referenceValue d ps) ≡ valueReply d b ps
   unfolding valueReply
   value-own = own (valueChecks d ps) (referenceValue d ps)
-
-  pub order-own : (ask : Ask) (room : ℕ) → askedAnswer d b ps ask room ≡ askedReply d b ps ask room
-  unfolding askedAnswer askedReply
-  order-own ask room = own (askedChecks d b ps ask room) _
-
-  -- what an order leaves, by the core's answer and by the call's
-  pub leaves-own : (ask : Ask) (list : List ℕ)
-      → (ifAccepted (askedAnswer d b ps ask (roomIn list)) (askedMoves d ps ask b) b ≡ askedBook d b ps ask (roomIn list))
-      × (ifAccepted (askedAnswer d b ps ask (roomIn list)) (withRecords (askedRecords d (account d b (ask .account)) ps ask) list) list ≡ askedList d b ps ask list)
-  unfolding askedBook askedList
-  leaves-own ask list = rw (order-own ask (roomIn list)) (refl, refl)

@@ -1,25 +1,19 @@
 // The calls on a day that is known to be sound or is to be tested: 5 where it is not sound, and else the core's answer.
 // `known` says that the day is sound, so that a list of calls tests it once.
 ghost use mathlib.Core.Path.{_≡_};
-ghost use Prim.Native.Nat.{_/_, _<_};
 ghost use mathlib.Core.Bool.{true};
-ghost use Rattle.layout.specs.Places.{recordWidth};
 ghost use Rattle.layout.specs.Day.{dayAt};
-ghost use Rattle.layout.specs.Records.{roomIn};
-ghost use Rattle.rules.specs.Replies.{answerReply, orderAnswerReply, valueAnswerReply};
+ghost use Rattle.rules.specs.Replies.{answerReply, valueAnswerReply};
 ghost use Rattle.rules.specs.Price.{priceReply, pricedPrices};
 ghost use Rattle.rules.specs.Trade.{tradeReply, tradedBook};
 ghost use Rattle.rules.specs.Value.{valueReply};
-ghost use Rattle.rules.specs.Kinds.{askedReply, askedBook, askedList};
 ghost use Rattle.rules.specs.Sound.{isSound, isKept};
 use rules::Answer;
-use rules::Ask;
-use rules::OrderAnswer;
 use rules::Refusal;
 use rules::ValueAnswer;
 
 // Refusal 5's test. A run of another length than a day's is the blank day, which is not sound.
-fn is_sound(day: &[u64], book: &[u64], prices: &[u64]) -> bool
+pub fn is_sound(day: &[u64], book: &[u64], prices: &[u64]) -> bool
     ensures { λ r. ⌜ r ≡ isSound (dayAt (now (day .entry))) (now (book .entry)) (now (prices .entry)) ⌝ }
 {
     if day.len() != layout::DAY_WIDTH {
@@ -39,7 +33,7 @@ pub fn is_kept(day: &[u64], book: &[u64], prices: &[u64]) -> bool
 }
 
 // Whether the day is sound: known, or tested.
-fn sound_day(known: bool, day: &[u64], book: &[u64], prices: &[u64]) -> bool
+pub fn sound_day(known: bool, day: &[u64], book: &[u64], prices: &[u64]) -> bool
     requires { ⌜ (known ≡ true → isSound (dayAt (now day)) (now book) (now prices) ≡ true) ⌝ }
     ensures { λ r. ⌜ r ≡ isSound (dayAt (now (day .entry))) (now (book .entry)) (now (prices .entry)) ⌝ }
 {
@@ -101,46 +95,4 @@ pub fn reference_value(known: bool, day: &[u64], book: &[u64], prices: &[u64]) -
         return ValueAnswer::Refused(Refusal::UnsoundDay);
     }
     value::reference_value(layout::head_of(day), layout::basket_of(day), prices)
-}
-
-// Creates or redeems units of an account; the records go to the lent list.
-pub fn order(
-    known: bool,
-    day: &[u64],
-    book: &mut [u64],
-    prices: &[u64],
-    ask: Ask,
-    list: &mut [u64],
-) -> OrderAnswer
-    requires { ⌜ (known ≡ true → isSound (dayAt (now day)) (now book) (now prices) ≡ true) ⌝ }
-    requires { ⌜ ask .kind < 2 ⌝ }
-    ensures { λ r. ⌜ orderAnswerReply r ≡ askedReply (dayAt (now (day .entry))) (now (book .entry)) (now (prices .entry)) ask (roomIn (now (list .entry))) ⌝ }
-    ensures book { λ r. ⌜ now (book .exit) ≡ askedBook (dayAt (now (day .entry))) (now (book .entry)) (now (prices .entry)) ask (roomIn (now (list .entry))) ⌝ }
-    ensures list { λ r. ⌜ now (list .exit) ≡ askedList (dayAt (now (day .entry))) (now (book .entry)) (now (prices .entry)) ask (now (list .entry)) ⌝ }
-{
-    if !sound_day(known, day, book, prices) {
-        return OrderAnswer::Refused(Refusal::UnsoundDay);
-    }
-    let head = layout::head_of(day);
-    orders::order(head, layout::basket_of(day), book, prices, ask, list)
-}
-
-// The tests of an order alone, with the length of the list: the answer that the order would give.
-pub fn order_test(
-    day: &[u64],
-    book: &[u64],
-    prices: &[u64],
-    ask: Ask,
-    list_length: usize,
-) -> OrderAnswer
-    requires { ⌜ ask .kind < 2 ⌝ }
-    ensures { λ r. ⌜ orderAnswerReply r ≡ askedReply (dayAt (now (day .entry))) (now (book .entry)) (now (prices .entry)) ask («list_length» / recordWidth) ⌝ }
-{
-    if !is_sound(day, book, prices) {
-        return OrderAnswer::Refused(Refusal::UnsoundDay);
-    }
-    let room = list_length / layout::RECORD_WIDTH;
-    let head = layout::head_of(day);
-    let t = orders::order_tested(head, layout::basket_of(day), book, prices, ask, room);
-    t.answer
 }

@@ -9,13 +9,11 @@ ghost use Rattle.rules.specs.Replies.{answerReply, orderAnswerReply, valueAnswe
 ghost use Rattle.rules.specs.Price.{priceReply, pricedPrices};
 ghost use Rattle.rules.specs.Trade.{tradeReply, tradedBook};
 ghost use Rattle.rules.specs.Value.{valueReply};
-ghost use Rattle.rules.specs.Kinds.{creationOf, redemptionOf};
 ghost use Rattle.rules.specs.Creation.{creationReply, createdBook, createdList};
 ghost use Rattle.rules.specs.Redemption.{redemptionReply, redeemedBook, redeemedList};
 ghost use Rattle.opening.specs.Given.{given, Outcome};
 use layout::Fund;
 use rules::Answer;
-use rules::Ask;
 use rules::OrderAnswer;
 use rules::ValueAnswer;
 
@@ -76,28 +74,6 @@ pub fn reference_value(day: &[u64], book: &[u64], prices: &[u64]) -> ValueAnswer
     calls::reference_value(false, day, book, prices)
 }
 
-// A creation of units for an account.
-fn creation(account: usize, units: u64) -> Ask
-    ensures { λ r. ⌜ r ≡ creationOf account units ⌝ }
-{
-    Ask {
-        kind: rules::CREATION,
-        account,
-        units,
-    }
-}
-
-// A redemption of units of an account.
-fn redemption(account: usize, units: u64) -> Ask
-    ensures { λ r. ⌜ r ≡ redemptionOf account units ⌝ }
-{
-    Ask {
-        kind: rules::REDEMPTION,
-        account,
-        units,
-    }
-}
-
 // Creates units for an account; the records go to the lent list.
 pub fn create(
     day: &[u64],
@@ -111,8 +87,8 @@ pub fn create(
     ensures book { λ r. ⌜ now (book .exit) ≡ createdBook (dayAt (now (day .entry))) (now (book .entry)) (now (prices .entry)) account units (roomIn (now (list .entry))) ⌝ }
     ensures list { λ r. ⌜ now (list .exit) ≡ createdList (dayAt (now (day .entry))) (now (book .entry)) (now (prices .entry)) account units (now (list .entry)) ⌝ }
 {
-    let ask = creation(account, units);
-    calls::order(false, day, book, prices, ask, list)
+    let ask = rules::creation(account, units);
+    order_calls::order(false, day, book, prices, ask, list)
 }
 
 // Redeems units of an account; the records go to the lent list.
@@ -128,8 +104,8 @@ pub fn redeem(
     ensures book { λ r. ⌜ now (book .exit) ≡ redeemedBook (dayAt (now (day .entry))) (now (book .entry)) (now (prices .entry)) account units (roomIn (now (list .entry))) ⌝ }
     ensures list { λ r. ⌜ now (list .exit) ≡ redeemedList (dayAt (now (day .entry))) (now (book .entry)) (now (prices .entry)) account units (now (list .entry)) ⌝ }
 {
-    let ask = redemption(account, units);
-    calls::order(false, day, book, prices, ask, list)
+    let ask = rules::redemption(account, units);
+    order_calls::order(false, day, book, prices, ask, list)
 }
 
 // The tests of a creation alone, with the length of the list: the answer that the creation would give.
@@ -143,8 +119,8 @@ pub fn creation_test(
 ) -> OrderAnswer
     ensures { λ r. ⌜ orderAnswerReply r ≡ creationReply (dayAt (now (day .entry))) (now (book .entry)) (now (prices .entry)) account units (length / recordWidth) ⌝ }
 {
-    let ask = creation(account, units);
-    calls::order_test(day, book, prices, ask, length)
+    let ask = rules::creation(account, units);
+    order_calls::order_test(day, book, prices, ask, length)
 }
 
 // The tests of a redemption alone.
@@ -158,6 +134,6 @@ pub fn redemption_test(
 ) -> OrderAnswer
     ensures { λ r. ⌜ orderAnswerReply r ≡ redemptionReply (dayAt (now (day .entry))) (now (book .entry)) (now (prices .entry)) account units (length / recordWidth) ⌝ }
 {
-    let ask = redemption(account, units);
-    calls::order_test(day, book, prices, ask, length)
+    let ask = rules::redemption(account, units);
+    order_calls::order_test(day, book, prices, ask, length)
 }

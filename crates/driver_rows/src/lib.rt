@@ -58,7 +58,7 @@ fn order_row(
     let from = part.start;
     let end = from + part.length;
     let list = &mut records[from..end];
-    answers::of_order(calls::order(known, day, book, prices, ask, list))
+    answers::of_order(order_calls::order(known, day, book, prices, ask, list))
 }
 
 // What an order's row asks.

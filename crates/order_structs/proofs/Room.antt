@@ -22,7 +22,7 @@ use Rattle.rules.specs.Creation.{creationRecords, creationMeans, creationChecks
 use Rattle.rules.specs.Redemption.{redemptionRecords, redemptionMeans, redemptionChecks}
 use Rattle.rules.specs.Kinds.{askedChecks, askedReply, askedBook}
 use Rattle.rules.proofs.SoundDay.{sound-facts}
-use Rattle.calls.proofs.Laws.{order-five}
+use Rattle.order_calls.proofs.Laws.{order-five}
 use Rattle.order_structs.specs.Settling.{mostRecords, lentRecords}
 
 -- The most records.

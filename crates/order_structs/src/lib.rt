@@ -74,7 +74,7 @@ fn settle(
 {
     let lent = layout::RECORD_WIDTH * records_lent(room);
     let known = known_kind(ask);
-    let answer = calls::order(false, day, book, prices, known, &mut flat[..lent]);
+    let answer = order_calls::order(false, day, book, prices, known, &mut flat[..lent]);
     let count = made_count(answer);
     Settled { answer, count }
 }

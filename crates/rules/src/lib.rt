@@ -1,7 +1,7 @@
 // What the day book promises: the types of the day and its answers. The definitions are in specs/, their laws in proofs/.
 ghost use mathlib.Core.Path.{_≡_};
 ghost use Prim.Native.Nat.{_<_, _^_};
-ghost use Rattle.rules.specs.Kinds.{allCash};
+ghost use Rattle.rules.specs.Kinds.{allCash, creationOf, redemptionOf};
 use units::Money;
 use units::ReferenceValue;
 
@@ -57,6 +57,28 @@ pub struct Ask {
     pub kind: usize,
     pub account: usize,
     pub units: u64,
+}
+
+// A creation of units for an account.
+pub fn creation(account: usize, units: u64) -> Ask
+    ensures { λ r. ⌜ r ≡ creationOf account units ⌝ }
+{
+    Ask {
+        kind: CREATION,
+        account,
+        units,
+    }
+}
+
+// A redemption of units of an account.
+pub fn redemption(account: usize, units: u64) -> Ask
+    ensures { λ r. ⌜ r ≡ redemptionOf account units ⌝ }
+{
+    Ask {
+        kind: REDEMPTION,
+        account,
+        units,
+    }
 }
 
 // The cash of an order, by market.

@@ -1,14 +1,14 @@
--- `calls::order_test` meets its contract: 5 where the day is not sound, and else what the core answers.
+-- `order_calls::order_test` meets its contract: 5 where the day is not sound, and else what the core answers.
 use mathlib.Core.Path.{_≡_, sym, _∙_}
 use mathlib.Core.Bool.{true}
 use borrow.Author.Needs.{needs}
 use borrow.Author.Tests.{not-true, not-false}
 use Rattle.layout.specs.Day.{dayAt}
 use Rattle.rules.specs.Sound.{isSound}
-use Rattle.calls.proofs.Laws.{order-five, order-own}
+use Rattle.order_calls.proofs.Laws.{order-five, order-own}
 use Rattle.calls.proofs.Run.{sound-width, run-parts, basket-wide}
-use Rattle.calls.proofs.order_test.Statement.{statement}
-use Rattle.calls.proofs.order_test.Tie as tie
+use Rattle.order_calls.proofs.order_test.Statement.{statement}
+use Rattle.order_calls.proofs.order_test.Tie as tie
 
 sound : (c : tie.Else1) → let a = c .before .before .before .before .before .args in isSound (dayAt (a .day .now)) (a .book .now) (a .prices .now) ≡ true
 sound c = sym (c .before .is-sound .ensures) ∙ not-false _ (c .if1 .left)

@@ -1,4 +1,4 @@
--- `calls::order` meets its contract: 5 where the day is not sound, and else what the core answers and leaves.
+-- `order_calls::order` meets its contract: 5 where the day is not sound, and else what the core answers and leaves.
 use mathlib.Core.Path.{_≡_, sym, ap, _∙_}
 use mathlib.Core.Bool.{true}
 use borrow.Author.Needs.{needs}
@@ -13,10 +13,10 @@ use Rattle.rules.specs.Replies.{ifAccepted}
 use Rattle.rules.specs.Kinds.{askedRecords}
 use Rattle.orders.specs.Orders.{askedAnswer}
 use Rattle.rules.specs.Sound.{isSound}
-use Rattle.calls.proofs.Laws.{stays-five, order-own, leaves-own}
+use Rattle.order_calls.proofs.Laws.{stays-five, order-own, leaves-own}
 use Rattle.calls.proofs.Run.{sound-width, run-parts, basket-wide}
-use Rattle.calls.proofs.order.Statement.{statement}
-use Rattle.calls.proofs.order.Tie as tie
+use Rattle.order_calls.proofs.order.Statement.{statement}
+use Rattle.order_calls.proofs.order.Tie as tie
 
 sound : (c : tie.Else1) → let a = c .before .before .before .before .before .before .before .args in isSound (dayAt (a .day .now)) (a .book .now) (a .prices .now) ≡ true
 sound c = sym (c .before .sound-day .ensures) ∙ not-false _ (c .if1 .left)
