@@ -7,9 +7,9 @@ use native.Mathlib.Omega.{arith}
 use lib.ListN.{length, length-set, take, drop, length-append, length-drop, take-append-drop}
 use lib.Seq.{length-take-le, take-at, drop-at, drop-append-le}
 use Rattle.sequences.specs.Stretch.{stretchOf, putStretch, onStretch}
-use Rattle.sequences.proofs.Stretch.{within, stretch-length, on-again, put-length, put-back, put-again, stretch-put-same, stretch-put-other}
+use Rattle.sequences.proofs.Stretch.{within, put-length, put-back, put-again, stretch-put-same, stretch-put-other}
 use Rattle.lots.specs.declared.Lots.{Lots}
-use Rattle.layout.specs.Book.{cash, headAt, putHead, lotsAt, putLots, onLine}
+use Rattle.layout.specs.Book.{putLots}
 use Rattle.book.specs.Moved.{withSides}
 
 -- g in the place of the first w of p, and s in the place of the first w of r, which stands behind p: in either order
@@ -72,21 +72,7 @@ module _ (w a : ℕ) (b : List ℕ) (low : 0 < a) (fits : a * w + w ≤ length b
   pub fund-kept : (s : List ℕ) → length s ≡ w → stretchOf w (putStretch w b a s) 0 ≡ stretchOf w b 0
   fund-kept s ls = stretch-put-other w b a 0 s (λ z. omega arith) fits ls
 
--- One account's stretch.
-
+-- lots stored leave a stretch as long as it was
 pub put-lots-length : (s : List ℕ) (l : ℕ) (x : Lots) → length (putLots s l x) ≡ length s
 unfolding putLots
 put-lots-length s l x = simp length-set
-
--- its lots of a line stored, and then its cash
-pub side-stored : (w a l held : ℕ) (x : Lots) (b t u : List ℕ) → a * w + w ≤ length b → t ≡ onStretch w a (λ s. putLots s l x) b → u ≡ onStretch w a (putHead cash held) t
-    → u ≡ onStretch w a (λ s. putHead cash held (putLots s l x)) b
-side-stored w a l held x b t u h et eu =
-    eu ∙ rw et (on-again w b a (λ s. putLots s l x) (putHead cash held) h (put-lots-length (stretchOf w b a) l x ∙ stretch-length w b a h))
-
--- stored as they are read and changed
-pub side-changed : (f : Lots → Lots) (g : ℕ → ℕ) (w a l : ℕ) (b : List ℕ) {x y : Lots} {h k : ℕ} {u : List ℕ}
-    → x ≡ lotsAt (stretchOf w b a) l → y ≡ f x → h ≡ headAt (stretchOf w b a) cash → k ≡ g h → u ≡ onStretch w a (λ s. putHead cash k (putLots s l y)) b
-    → u ≡ onStretch w a (λ s. putHead cash (g (headAt s cash)) (onLine f l s)) b
-unfolding onLine
-side-changed f g w a l b ex ey eh ek eu = eu ∙ rw (ek, eh, ey, ex)

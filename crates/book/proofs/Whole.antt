@@ -5,36 +5,35 @@ use Prim.Native.Nat.{ℕ, _+_, _*_, _^_, _≤_, _<_}
 use native.Mathlib.Omega.{arith}
 use lib.ListN.{length}
 use Rattle.sequences.specs.Stretch.{stretchOf, onStretch}
-use Rattle.sequences.proofs.Stretch.{stretch-length, put-length, on-again}
+use Rattle.sequences.proofs.Stretch.{stretch-length, put-length}
 use Rattle.lots.specs.declared.Lots.{Lots}
 use Rattle.lots.specs.Lots.{handable}
+use Rattle.layout.specs.Places.{linesFrom}
 use Rattle.layout.specs.Day.{Day}
-use Rattle.layout.specs.Book.{cash, widthOf, width, account, headAt, putHead, lotsAt, putLots, onLine, eachLine, counter, behindLine}
+use Rattle.layout.specs.Book.{cash, widthOf, width, account, headAt, putHead, lotsAt, onLine, eachLine, counter, behindLine}
 use Rattle.rules.specs.Orders.{creation, accountSide, fundSide}
 use Rattle.rules.specs.Kinds.{unitLots, accountCash, fundCash, orderMoves}
-use Rattle.layout.proofs.Account.{put-head-length, on-length, head-each, each-later}
+use Rattle.layout.proofs.Account.{put-head-length, on-length, head-on, head-each, each-later}
 use Rattle.rules.proofs.Sides.{fund-length}
 use Rattle.book.specs.Moved.{stockBy, fundBy, withSides, stockMoves, restOf, restMoves}
 use Rattle.book.specs.Ready.{RestReady, OrderReady}
-use Rattle.book.proofs.Sides.{account-kept, sides-by, sides-again, side-changed}
+use Rattle.book.proofs.Sides.{account-kept, sides-by, sides-again}
 use Rattle.book.proofs.Turns.{fund-long, own-long, lines-length, lines-own, lines-fund}
 
--- the account's units and cash stored, and then its counter
-pub rest-stored : (kind l units c w a : ℕ) (b t u : List ℕ) {x y : Lots} {h k n : ℕ} → a * w + w ≤ length b
-    → x ≡ lotsAt (stretchOf w b a) l → y ≡ unitLots kind x units → h ≡ headAt (stretchOf w b a) cash → k ≡ accountCash kind h c → n ≡ headAt (stretchOf w b a) (counter kind)
-    → t ≡ onStretch w a (λ s. putHead cash k (putLots s l y)) b → u ≡ onStretch w a (putHead (counter kind) (n + units)) t → u ≡ onStretch w a (restOf kind l units c) b
-unfolding restOf
-rest-stored kind l units c w a b t u fits ex ey eh ek en et eu =
-    let side : List ℕ → List ℕ = λ s. putHead cash (accountCash kind (headAt s cash) c) (onLine (λ z. unitLots kind z units) l s) in
-    let s = stretchOf w b a in
-    let paid = side-changed (λ z. unitLots kind z units) (λ z. accountCash kind z c) w a l b ex ey eh ek et in
-    let long = put-head-length cash _ (onLine (λ z. unitLots kind z units) l s) ∙ on-length (λ z. unitLots kind z units) l s ∙ stretch-length w b a fits in
-    eu ∙ rw (paid, en) (on-again w b a side (putHead (counter kind) (headAt s (counter kind) + units)) fits long)
+-- the account's stretch u when its units have moved
+module _ (kind n units c : ℕ) (s u : List ℕ) (eu : u ≡ onLine (λ x. unitLots kind x units) n s) where
+  head-same : (k : ℕ) → k < linesFrom → headAt u k ≡ headAt s k
+  head-same k h = rw eu (head-on (λ x. unitLots kind x units) n s k h)
 
--- the fund's cash stored
-pub fund-stored : (kind c w : ℕ) (b t : List ℕ) {h k : ℕ} → h ≡ headAt (stretchOf w b 0) cash → k ≡ fundCash kind h c → t ≡ onStretch w 0 (putHead cash k) b
-    → t ≡ onStretch w 0 (λ f. putHead cash (fundCash kind (headAt f cash) c) f) b
-fund-stored kind c w b t eh ek et = et ∙ rw (ek, eh)
+  pub head-ready : (kind < 2) × (behindLine n ≤ length s) → (kind ≡ creation → c ≤ headAt s cash) → headAt s cash + c < 2 ^ 64 → headAt s (counter kind) + units < 2 ^ 64
+      → ((kind < 2) × (2 < length u)) × ((kind ≡ creation → c ≤ headAt u cash) × ((headAt u cash + c < 2 ^ 64) × (headAt u (counter kind) + units < 2 ^ 64)))
+  head-ready h pays fits counts =
+      let long : length u ≡ length s = ap length eu ∙ on-length (λ x. unitLots kind x units) n s in
+      rw (head-same cash (omega arith), head-same (counter kind) (omega (arith, h .0))) ((h .0, omega (arith, h .1)), (pays, (fits, counts)))
+
+  pub rest-is : kind < 2 → putHead (counter kind) (headAt u (counter kind) + units) (putHead cash (accountCash kind (headAt u cash) c) u) ≡ restOf kind n units c s
+  unfolding restOf
+  rest-is h = rw (head-same cash (omega arith), head-same (counter kind) (omega arith), eu)
 
 -- the book t when the fund's cash has moved, in a fund of n components
 module _ (kind n : ℕ) (b : List ℕ) (a units c w : ℕ) (t : List ℕ) (p : RestReady kind n b a units c) (ew : w ≡ widthOf n)

@@ -3,7 +3,7 @@ ghost use mathlib.Core.Path.{_≡_};
 ghost use Prim.Native.Nat.{_+_, _*_, _≤_, _<_};
 ghost use lib.ListN.{length};
 ghost use Rattle.sequences.specs.Stretch.{stretchOf, onStretch};
-ghost use Rattle.layout.specs.Book.{behindLine, cash, headAt, putHead, lotsAt, putLots};
+ghost use Rattle.layout.specs.Book.{behindLine, headAt, lotsAt, putLots};
 use lots::Lots;
 
 // The fund's account.
@@ -29,7 +29,7 @@ pub fn lots_of(book: &[u64], w: usize, a: usize, line: usize) -> Lots
     layout::lots_at(&book[start..end], line)
 }
 
-// Stores the lots of a line of account `a`.
+// Stores them in the whole book.
 pub fn put_lots_of(book: &mut [u64], w: usize, a: usize, line: usize, x: Lots)
     requires { ⌜ a * w + w ≤ length (now book) ⌝ }
     requires { ⌜ behindLine line ≤ w ⌝ }
@@ -38,23 +38,4 @@ pub fn put_lots_of(book: &mut [u64], w: usize, a: usize, line: usize, x: Lots)
     let start = a * w;
     let end = start + w;
     layout::put_lots(&mut book[start..end], line, x);
-}
-
-// Stores a number of the head of account `a`.
-pub fn put_head_of(book: &mut [u64], w: usize, a: usize, place: usize, x: u64)
-    requires { ⌜ a * w + w ≤ length (now book) ⌝ }
-    requires { ⌜ place < w ⌝ }
-    ensures { λ _. ⌜ now (book .exit) ≡ onStretch w a (putHead place x) (now (book .entry)) ⌝ }
-{
-    book[a * w + place] = x;
-}
-
-// Stores the lots of a line of account `a`, and its cash.
-pub fn put_side_of(book: &mut [u64], w: usize, a: usize, line: usize, x: Lots, held: u64)
-    requires { ⌜ a * w + w ≤ length (now book) ⌝ }
-    requires { ⌜ behindLine line ≤ w ⌝ }
-    ensures { λ _. ⌜ now (book .exit) ≡ onStretch w a (λ s. putHead cash held (putLots s line x)) (now (book .entry)) ⌝ }
-{
-    put_lots_of(book, w, a, line, x);
-    put_head_of(book, w, a, layout::CASH, held);
 }

@@ -6,9 +6,9 @@ use Prim.Native.Nat.{ℕ, zero, suc, _+_, _-_, _*_, _≤_, _<_}
 use native.Mathlib.Nat.{zero-mul, suc-mul, le-step, lt-suc-self, add-sub-cancel-left, mul-le-mul-right, not-suc-le-zero, eq-or-lt-of-le, le-of-suc-le-suc}
 use native.Mathlib.Decide.{decLt}
 use native.Mathlib.Omega.{arith}
-use lib.ListN.{length, getD, set, take, drop, length-append, length-drop, take-append-drop}
+use lib.ListN.{length, getD, take, drop, length-append, length-drop, take-append-drop}
 use lib.Seq.{length-take-le, take-all, take-at, drop-at, take-append-le, drop-append-le, drop-drop, take-add, getD-take, getD-drop}
-use borrow.Rule.Slice.PartMut.{same-len-mid, put-same, set-mid-at}
+use borrow.Rule.Slice.PartMut.{same-len-mid, put-same}
 use Rattle.sequences.specs.Below.{joinBelow}
 use Rattle.sequences.specs.Stretch.{stretchOf, putStretch, onStretch, over}
 use Rattle.sequences.proofs.Below.{sum-two, join-length}
@@ -40,17 +40,6 @@ unfolding putStretch
 put-again w b a s t h e =
     let front : length (take (a * w) b) ≡ a * w = length-take-le (a * w) b (omega arith) in
     rw (take-at (take (a * w) b) _ (a * w) front, drop-at (take (a * w) b) _ (a * w) front, drop-at s _ w e)
-
--- one element set, and a stretch changed twice
-pub set-stretch : (w : ℕ) (b : List ℕ) (a i v : ℕ) → a * w + w ≤ length b → i < w → set b (a * w + i) v ≡ onStretch w a (λ s. set s i v) b
-unfolding putStretch stretchOf
-set-stretch w b a i v h l = sym (set-mid-at (a * w) w i b v (rw (stretch-length w b a h) l))
-
-pub on-again : (w : ℕ) (b : List ℕ) (a : ℕ) (f g : List ℕ → List ℕ) → a * w + w ≤ length b → length (f (stretchOf w b a)) ≡ w
-    → onStretch w a g (onStretch w a f b) ≡ onStretch w a (λ s. g (f s)) b
-on-again w b a f g h e =
-    ap (λ (s : List ℕ). putStretch w (putStretch w b a (f (stretchOf w b a))) a (g s)) (stretch-put-same w b a (f (stretchOf w b a)) h e)
-    ∙ put-again w b a (f (stretchOf w b a)) (g (f (stretchOf w b a))) h e
 
 -- the k elements from p on, where they lie before the part that changed
 before-mid : (p k a : ℕ) (b s : List ℕ) → p + k ≤ a → a ≤ length b → take k (drop p (take a b ++ s)) ≡ take k (drop p b)
