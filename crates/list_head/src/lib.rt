@@ -10,6 +10,10 @@ ghost use Rattle.list_rules.specs.Reading.{startOf, wrongLine, wrongField, fiel
 use digits::Figure;
 use digits::Reading;
 
+// The names of the fields, one behind the other.
+pub const NAMES: [u8; 295] =
+    *b"Fundid1CreationRedemptionUnitMaxCashRatioPublishCreationRedemptionRecordnumEstimateCashComponentTradingDayPreTradingDayCashComponentNAVperCUNAVCreationLimitRedemptionLimitCreationLimitPerUserRedemptionLimitPerUserNetCreationLimitNetRedemptionLimitNetCreationLimitPerUserNetRedemptionLimitPerUser";
+
 // How many fields and how many lines the head has.
 pub const FIELDS: usize = 20;
 
@@ -37,7 +41,7 @@ fn is_field_line(k: usize, line: &[u8]) -> bool
     requires { ⌜ k < 20 ⌝ }
     ensures { λ r. ⌜ r ≡ isNamed (fieldName k) (now (line .entry)) ⌝ }
 {
-    let names = list_head_tables::tables::NAMES;
+    let names = NAMES;
     lines::is_named(list_head_tables::name_part(&names, k), line)
 }
 

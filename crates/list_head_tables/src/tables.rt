@@ -24,10 +24,7 @@ pub const TABLE: [[u8; 4]; 20] = [
     [0, 0, 0, 0],
 ];
 
-// The names of the fields, one behind the other, and where each starts.
-pub const NAMES: [u8; 295] =
-    *b"Fundid1CreationRedemptionUnitMaxCashRatioPublishCreationRedemptionRecordnumEstimateCashComponentTradingDayPreTradingDayCashComponentNAVperCUNAVCreationLimitRedemptionLimitCreationLimitPerUserRedemptionLimitPerUserNetCreationLimitNetRedemptionLimitNetCreationLimitPerUserNetRedemptionLimitPerUser";
-
+// Where each field's name starts in the names, which stand one behind the other.
 pub const NAME_STARTS: [usize; 21] = [
     0,
     7,

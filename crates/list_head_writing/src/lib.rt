@@ -68,7 +68,7 @@ fn put_field(dst: &mut [u8], at: usize, k: usize, z: Figure) -> usize
     requires { ⌜ at + length (lineText (fieldName k ++ 61 ∷ numberText (fieldForm k) z)) ≤ length (now dst) ⌝ }
     ensures { λ r. ⌜ Written (now (dst .entry)) at (lineText (fieldName k ++ 61 ∷ numberText (fieldForm k) z)) (now (dst .exit)) r ⌝ }
 {
-    let names = list_head_tables::tables::NAMES;
+    let names = list_head::NAMES;
     let p = digits_writing::put_bytes(dst, at, list_head_tables::name_part(&names, k));
     let q = digits_writing::put_byte(dst, p, 61);
     let r = digits_writing::put_number(dst, q, list_head_tables::field_form(k), z);
