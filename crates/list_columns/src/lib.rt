@@ -3,7 +3,7 @@ ghost use mathlib.Core.Path.{_≡_};
 ghost use Prim.Native.Nat.{_+_, _≤_, _<_};
 ghost use lib.ListN.{length};
 ghost use Rattle.digits.specs.Digits.{allBlank, sizeReading};
-ghost use Rattle.list_rules.specs.Columns.{columnCount, columnEntry, columnStart, columnWidth, columnPart, isRow, isColumn, flagOf, columnFault, lineComponent};
+ghost use Rattle.list_rules.specs.Columns.{columnCount, columnEntry, columnStart, columnWidth, columnPart, isRow, isColumn, flagOf, columnFault, lineComponent, bytesInRow};
 ghost use Rattle.list_columns.specs.Read.{rightForm, numberSize, columnSize};
 use digits::Size;
 use layout::Component;
@@ -69,7 +69,7 @@ pub fn column_start(k: usize) -> usize
 
 fn column_width(k: usize) -> usize
     requires { ⌜ k < columnCount ⌝ }
-    ensures { λ r. ⌜ (r ≡ columnWidth k) × (columnStart k + r < 48) ⌝ }
+    ensures { λ r. ⌜ (r ≡ columnWidth k) × (columnStart k + r < bytesInRow) ⌝ }
 {
     table_entry(k, 1)
 }
@@ -93,7 +93,7 @@ pub fn is_row(line: &[u8]) -> bool
 
 // Column k of a component line.
 fn column_part(line: &[u8], k: usize) -> &[u8]
-    requires { ⌜ length (now line) ≡ 48 ⌝ }
+    requires { ⌜ length (now line) ≡ bytesInRow ⌝ }
     requires { ⌜ k < columnCount ⌝ }
     ensures { λ r. ⌜ now r ≡ columnPart k (now (line .entry)) ⌝ }
 {
@@ -104,7 +104,7 @@ fn column_part(line: &[u8], k: usize) -> &[u8]
 
 // The flag's digit; 0 where it is none.
 fn flag_of(line: &[u8]) -> u64
-    requires { ⌜ length (now line) ≡ 48 ⌝ }
+    requires { ⌜ length (now line) ≡ bytesInRow ⌝ }
     ensures { λ r. ⌜ r ≡ flagOf (now (line .entry)) ⌝ }
 {
     let b = line[column_start(3)];
@@ -150,35 +150,35 @@ fn read_blanks(s: &[u8]) -> Size
 
 // The columns, each by itself: their numbers are constants, so that nothing is left of the table.
 fn read_code(line: &[u8]) -> Size
-    requires { ⌜ length (now line) ≡ 48 ⌝ }
+    requires { ⌜ length (now line) ≡ bytesInRow ⌝ }
     ensures { λ r. ⌜ r ≡ columnSize (now (line .entry)) 0 ⌝ }
 {
     read_right(table_entry(0, 2), column_part(line, 0))
 }
 
 fn has_name(line: &[u8]) -> bool
-    requires { ⌜ length (now line) ≡ 48 ⌝ }
+    requires { ⌜ length (now line) ≡ bytesInRow ⌝ }
     ensures { λ r. ⌜ r ≡ isColumn (flagOf (now (line .entry))) 1 (columnPart 1 (now (line .entry))) ⌝ }
 {
     lines::is_name(column_part(line, 1))
 }
 
 fn read_quantity(line: &[u8]) -> Size
-    requires { ⌜ length (now line) ≡ 48 ⌝ }
+    requires { ⌜ length (now line) ≡ bytesInRow ⌝ }
     ensures { λ r. ⌜ r ≡ columnSize (now (line .entry)) 2 ⌝ }
 {
     read_right(table_entry(2, 2), column_part(line, 2))
 }
 
 fn read_flag(line: &[u8]) -> Size
-    requires { ⌜ length (now line) ≡ 48 ⌝ }
+    requires { ⌜ length (now line) ≡ bytesInRow ⌝ }
     ensures { λ r. ⌜ r ≡ columnSize (now (line .entry)) 3 ⌝ }
 {
     read_right(table_entry(3, 2), column_part(line, 3))
 }
 
 fn read_rate(line: &[u8], flag: u64) -> Size
-    requires { ⌜ (length (now line) ≡ 48) × (flag ≡ flagOf (now line)) ⌝ }
+    requires { ⌜ (length (now line) ≡ bytesInRow) × (flag ≡ flagOf (now line)) ⌝ }
     ensures { λ r. ⌜ r ≡ columnSize (now (line .entry)) 4 ⌝ }
 {
     if flags::entry_of(flag, table_entry(4, 4)) {
@@ -188,7 +188,7 @@ fn read_rate(line: &[u8], flag: u64) -> Size
 }
 
 fn read_amount(line: &[u8], flag: u64) -> Size
-    requires { ⌜ (length (now line) ≡ 48) × (flag ≡ flagOf (now line)) ⌝ }
+    requires { ⌜ (length (now line) ≡ bytesInRow) × (flag ≡ flagOf (now line)) ⌝ }
     ensures { λ r. ⌜ r ≡ columnSize (now (line .entry)) 5 ⌝ }
 {
     if flags::entry_of(flag, table_entry(5, 4)) {
@@ -210,7 +210,7 @@ fn faulty(k: usize) -> Row
 
 // What a component line says.
 pub fn read_row(line: &[u8]) -> Row
-    requires { ⌜ length (now line) ≡ 48 ⌝ }
+    requires { ⌜ length (now line) ≡ bytesInRow ⌝ }
     ensures { λ r. ⌜ r .fault ≡ columnFault (now (line .entry)) ⌝ }
     ensures { λ r. ⌜ (columnCount ≤ r .fault → r .component ≡ lineComponent (now (line .entry))) ⌝ }
 {

@@ -7,6 +7,7 @@ ghost use Rattle.sequences.specs.Below.{tabulate};
 ghost use Rattle.digits.specs.Digits.{cap, plain};
 ghost use Rattle.list_rules.specs.Dates.{isLeap, daysIn, isDate};
 ghost use Rattle.list_rules.specs.Fields.{fieldsFrom, figureAt, fieldsInRange, blankFields};
+ghost use Rattle.list_rules.specs.Head.{fieldCount};
 use digits::Figure;
 use layout::Fund;
 use list_rules::ListFields;
@@ -93,7 +94,7 @@ fn limits_of(figures: [Figure; 20]) -> [u64; 8]
 // The fields that the head's figures say.
 pub fn fields_of(figures: [Figure; 20]) -> ListFields
     requires { ⌜ 1 ≤ getD figures 0 (plain 0) .size ⌝ }
-    requires { ⌜ ((k : ℕ) → k < 20 → getD figures k (plain 0) .size ≤ cap) ⌝ }
+    requires { ⌜ ((k : ℕ) → k < fieldCount → getD figures k (plain 0) .size ≤ cap) ⌝ }
     ensures { λ r. ⌜ r ≡ fieldsFrom (λ k. getD figures k (plain 0)) ⌝ }
 {
     let fund = Fund {
@@ -144,7 +145,7 @@ pub fn fields_in_range(l: ListFields) -> bool
 // The head's figures that say the fields.
 pub fn figures_of(l: ListFields) -> [Figure; 20]
     requires { ⌜ fieldsInRange l ≡ true ⌝ }
-    ensures { λ r. ⌜ r ≡ tabulate (figureAt l) 20 ⌝ }
+    ensures { λ r. ⌜ r ≡ tabulate (figureAt l) fieldCount ⌝ }
 {
     let fund = l.fund;
     let limits = fund.limits;

@@ -5,7 +5,7 @@ ghost use lib.ListN.{length};
 ghost use Rattle.sequences.specs.Below.{tabulate};
 ghost use Rattle.digits.specs.Digits.{figureOf, reading, plain};
 ghost use Rattle.lines.specs.Lines.{isNamed};
-ghost use Rattle.list_rules.specs.Head.{fieldName, fieldForm, isKind, isField, isLetters, isOpening, isHeadLine};
+ghost use Rattle.list_rules.specs.Head.{fieldName, fieldForm, isKind, isField, isLetters, isOpening, isHeadLine, fieldCount, headLines};
 ghost use Rattle.list_rules.specs.Reading.{startOf, wrongLine, wrongField, fieldStart, figureRead, lettersRead};
 use digits::Figure;
 use digits::Reading;
@@ -38,7 +38,7 @@ pub struct HeadFields {
 
 // Whether the line is field k's name in any case, "=" and a value.
 fn is_field_line(k: usize, line: &[u8]) -> bool
-    requires { ⌜ k < 20 ⌝ }
+    requires { ⌜ k < fieldCount ⌝ }
     ensures { λ r. ⌜ r ≡ isNamed (fieldName k) (now (line .entry)) ⌝ }
 {
     let names = NAMES;
@@ -69,7 +69,7 @@ fn of_kind(kind: usize, z: Figure) -> Reading
 
 // What field k says.
 fn read_field(k: usize, s: &[u8]) -> Reading
-    requires { ⌜ k < 20 ⌝ }
+    requires { ⌜ k < fieldCount ⌝ }
     ensures { λ r. ⌜ r ≡ reading (isField k (now (s .entry))) (figureOf (fieldForm k) (now (s .entry))) ⌝ }
 {
     let r = digits_reading::read_number(list_head_tables::field_form(k), s);
@@ -163,10 +163,10 @@ pub fn blank_figure() -> Figure
 
 // Refusal 19 in the head, and the figures.
 pub fn head_fields(text: &[u8]) -> HeadFields
-    requires { ⌜ wrongLine (now text) ≡ 22 ⌝ }
+    requires { ⌜ wrongLine (now text) ≡ headLines ⌝ }
     ensures { λ r. ⌜ r .wrong ≡ wrongField (now (text .entry)) ⌝ }
-    ensures { λ r. ⌜ (r .wrong < 20 → r .place ≡ fieldStart (now (text .entry)) (r .wrong)) ⌝ }
-    ensures { λ r. ⌜ (20 ≤ r .wrong → r .figures ≡ tabulate (figureRead (now (text .entry))) 20) ⌝ }
+    ensures { λ r. ⌜ (r .wrong < fieldCount → r .place ≡ fieldStart (now (text .entry)) (r .wrong)) ⌝ }
+    ensures { λ r. ⌜ (fieldCount ≤ r .wrong → r .figures ≡ tabulate (figureRead (now (text .entry))) fieldCount) ⌝ }
 {
     let blank = blank_figure();
     let mut figures = [blank; 20];

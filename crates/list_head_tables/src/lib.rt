@@ -2,7 +2,7 @@
 ghost use mathlib.Core.Path.{_≡_};
 ghost use Prim.Native.Nat.{_≤_, _<_};
 ghost use lib.ListN.{length};
-ghost use Rattle.list_rules.specs.Head.{fieldName, fieldEntry, fieldForm};
+ghost use Rattle.list_rules.specs.Head.{fieldName, fieldEntry, fieldForm, fieldCount};
 ghost use Rattle.list_head_tables.specs.Tables.{allNames, nameStart};
 use digits::Form;
 
@@ -16,7 +16,7 @@ fn wide(x: u8) -> usize
 }
 
 pub fn table_entry(k: usize, column: usize) -> usize
-    requires { ⌜ (k < 20) × (column < 4) ⌝ }
+    requires { ⌜ (k < fieldCount) × (column < 4) ⌝ }
     ensures { λ r. ⌜ r ≡ fieldEntry k column ⌝ }
 {
     let table = tables::TABLE;
@@ -25,7 +25,7 @@ pub fn table_entry(k: usize, column: usize) -> usize
 
 // The form of a field's number.
 pub fn field_form(k: usize) -> Form
-    requires { ⌜ k < 20 ⌝ }
+    requires { ⌜ k < fieldCount ⌝ }
     ensures { λ r. ⌜ r ≡ fieldForm k ⌝ }
     ensures { λ r. ⌜ (r .decimals ≤ 9) × (r .digits ≤ 20) ⌝ }
 {
@@ -39,7 +39,7 @@ pub fn field_form(k: usize) -> Form
 
 // Where field k's name starts among the names.
 fn name_start(k: usize) -> usize
-    requires { ⌜ k ≤ 20 ⌝ }
+    requires { ⌜ k ≤ fieldCount ⌝ }
     ensures { λ r. ⌜ r ≡ nameStart k ⌝ }
 {
     let starts = tables::NAME_STARTS;
@@ -49,7 +49,7 @@ fn name_start(k: usize) -> usize
 // Field k's name, as a part of all the names.
 pub fn name_part(names: &[u8], k: usize) -> &[u8]
     requires { ⌜ now names ≡ allNames ⌝ }
-    requires { ⌜ k < 20 ⌝ }
+    requires { ⌜ k < fieldCount ⌝ }
     ensures { λ r. ⌜ now r ≡ fieldName k ⌝ }
 {
     let a = name_start(k);
@@ -58,7 +58,7 @@ pub fn name_part(names: &[u8], k: usize) -> &[u8]
 }
 
 pub fn name_len(k: usize) -> usize
-    requires { ⌜ k < 20 ⌝ }
+    requires { ⌜ k < fieldCount ⌝ }
     ensures { λ r. ⌜ (r ≡ length (fieldName k)) × (r ≤ 25) ⌝ }
 {
     name_start(k + 1) - name_start(k)

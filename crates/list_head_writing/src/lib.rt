@@ -6,7 +6,7 @@ ghost use lib.ListN.{length};
 ghost use Rattle.digits.specs.Written.{Written};
 ghost use Rattle.digits.specs.Digits.{numberText};
 ghost use Rattle.lines.specs.Lines.{lineText};
-ghost use Rattle.list_rules.specs.Head.{fieldName, fieldForm, headLine};
+ghost use Rattle.list_rules.specs.Head.{fieldName, fieldForm, headLine, fieldCount, headLines};
 ghost use Rattle.list_head_tables.specs.Tables.{figureFor, headBytes};
 use digits::Figure;
 
@@ -41,7 +41,7 @@ fn line_size(k: usize, letters: &[u8], z: Figure) -> usize
 // How many bytes the head takes.
 pub fn head_size(letters: &[u8], figures: [Figure; 20]) -> usize
     requires { ⌜ length (now letters) ≤ 8 ⌝ }
-    ensures { λ r. ⌜ (r ≡ length (headBytes (now (letters .entry)) figures 22)) × (r ≤ 2200) ⌝ }
+    ensures { λ r. ⌜ (r ≡ length (headBytes (now (letters .entry)) figures headLines)) × (r ≤ 2200) ⌝ }
 {
     let mut n = 0;
     let mut k = 0;
@@ -64,7 +64,7 @@ fn put_opening(dst: &mut [u8], at: usize, letters: &[u8]) -> usize
 
 // Writes the line of field k.
 fn put_field(dst: &mut [u8], at: usize, k: usize, z: Figure) -> usize
-    requires { ⌜ k < 20 ⌝ }
+    requires { ⌜ k < fieldCount ⌝ }
     requires { ⌜ at + length (lineText (fieldName k ++ 61 ∷ numberText (fieldForm k) z)) ≤ length (now dst) ⌝ }
     ensures { λ r. ⌜ Written (now (dst .entry)) at (lineText (fieldName k ++ 61 ∷ numberText (fieldForm k) z)) (now (dst .exit)) r ⌝ }
 {
@@ -91,8 +91,8 @@ fn put_line(dst: &mut [u8], at: usize, k: usize, letters: &[u8], z: Figure) -> u
 
 // Writes the head.
 pub fn put_head(dst: &mut [u8], at: usize, letters: &[u8], figures: [Figure; 20]) -> usize
-    requires { ⌜ at + length (headBytes (now letters) figures 22) ≤ length (now dst) ⌝ }
-    ensures { λ r. ⌜ Written (now (dst .entry)) at (headBytes (now (letters .entry)) figures 22) (now (dst .exit)) r ⌝ }
+    requires { ⌜ at + length (headBytes (now letters) figures headLines) ≤ length (now dst) ⌝ }
+    ensures { λ r. ⌜ Written (now (dst .entry)) at (headBytes (now (letters .entry)) figures headLines) (now (dst .exit)) r ⌝ }
 {
     let mut p = at;
     let mut k = 0;

@@ -31,6 +31,7 @@ use Rattle.list_rules.specs.Fields.{fieldsFrom, fieldsInRange}
 use Rattle.list_rules.proofs.Fields.{fields-same}
 use Rattle.list_rules.specs.Reading.{rowCount, shapeChecks, wrongField, fieldStart, figureRead, rowOf, componentRead, wrongRow, columnPlace}
 use Rattle.list_rules.specs.Reading.{fieldsRead, isCounted, readFault, readReply, componentsRun, nameRead, nameFrom, rowStart}
+use Rattle.list_rules.specs.Columns.{rowPitch}
 use Rattle.list_trip.proofs.WrittenRuns.{places-same}
 use Rattle.list_reading.specs.declared.Shape.{Shape}
 use Rattle.list_reading.specs.Outcome.{ReadOutcome, Rows, Shaped, Found, Spelled, Ranged, refusedRead}
@@ -59,8 +60,8 @@ module _ (text : List ℕ) (start count : ℕ) (r : Rows text start count) where
   pub name-is : (j : ℕ) → j < count → nameFrom text start j ≡ nameRead text j
   unfolding nameRead nameFrom rowOf rowStart
   name-is j h =
-      let room : start + 50 * j + 50 ≤ length text = omega (arith, r .room) in
-      rw (r .lines-stand, ← r .count-is, lt-ltb j count h, le-leb (start + 50 * j + 50) (length text) room, r .start-is)
+      let room : start + rowPitch * j + rowPitch ≤ length text = omega (arith, r .room) in
+      rw (r .lines-stand, ← r .count-is, lt-ltb j count h, le-leb (start + rowPitch * j + rowPitch) (length text) room, r .start-is)
 
   -- 19 in the head
   module _ (wrong : ℕ) (e : wrong ≡ wrongField text) where

@@ -17,8 +17,9 @@ use Rattle.lines.specs.Lines.{lineLen, firstLine, ended, nextAt, same}
 use Rattle.lines.proofs.Laws.{same-is, first-length}
 use Rattle.list_rules.specs.declared.ListRead.{ListRead}
 use Rattle.list_rules.specs.declared.ListAnswer.the-variants.{Done}
-use Rattle.list_rules.specs.Head.{endWord}
+use Rattle.list_rules.specs.Head.{endWord, headLines}
 use Rattle.list_rules.specs.Reading.{startOf, lineOf, lineStands, wrongLine, rowStart, rowCount, endStart, fieldsRead, readReply, componentsRun, fieldsHanded, firstHanded, runAfter}
+use Rattle.list_rules.specs.Columns.{rowPitch}
 use Rattle.list_reading.specs.declared.Shape.{Shape}
 use Rattle.list_reading.specs.Outcome.{ReadOutcome, Shaped, wrongAt, refusedRead}
 use Rattle.list_reading.proofs.Replies.{lineWrong, endMissing, shape-passes, line-stops, end-stops, more-stops}
@@ -114,7 +115,7 @@ module _ (text : List ℕ) (end : ℕ) (e : wrongLine text ≡ 22) (f : end ≡ 
       }
 
   -- every line stands
-  pub shaped-rows : (start count : ℕ) → start ≡ startOf text 22 → count ≡ rowCount text → start + 50 * count ≤ length text → length text ≤ end + 11
+  pub shaped-rows : (start count : ℕ) → start ≡ startOf text headLines → count ≡ rowCount text → start + rowPitch * count ≤ length text → length text ≤ end + 11
       → Shaped text (rowsAt start count)
   shaped-rows start count s c r l =
       let p = shape-passes text (head-passes text e) ends (rw next-is (le-ltb (end + 11) (length text) l)) in
@@ -124,6 +125,6 @@ module _ (text : List ℕ) (end : ℕ) (e : wrongLine text ≡ 22) (f : end ≡ 
         rows = λ _. record { head-stands = e; start-is = s; count-is = c; room = r; lines-stand = p };
       }
 
-pub end-is : (text : List ℕ) (start count : ℕ) → start ≡ startOf text 22 → count ≡ rowCount text → start + 50 * count ≡ endStart text
+pub end-is : (text : List ℕ) (start count : ℕ) → start ≡ startOf text headLines → count ≡ rowCount text → start + rowPitch * count ≡ endStart text
 unfolding endStart rowStart
 end-is text start count s c = rw (s, c)

@@ -3,7 +3,7 @@ ghost use mathlib.Core.Path.{_≡_};
 ghost use Prim.Native.Nat.{_≤_};
 ghost use lib.ListN.{length};
 ghost use Rattle.lines.specs.Lines.{same};
-ghost use Rattle.list_rules.specs.Head.{endWord};
+ghost use Rattle.list_rules.specs.Head.{endWord, headLines};
 ghost use Rattle.list_rules.specs.Reading.{startOf, lineStands, wrongLine, isCounted, nameRead, lettersRead, nameFrom};
 ghost use Rattle.list_reading.specs.Outcome.{ReadOutcome, Rows, Shaped, wrongAt, Found, Spelled, Ranged, refusedRead};
 use digits::Figure;
@@ -48,8 +48,8 @@ fn end_stands(text: &[u8], at: usize) -> bool
 
 // Refusal 18 behind the head.
 fn body_shape(text: &[u8], start: usize) -> Shape
-    requires { ⌜ wrongLine (now text) ≡ 22 ⌝ }
-    requires { ⌜ (start ≡ startOf (now text) 22) × (start ≤ length (now text)) ⌝ }
+    requires { ⌜ wrongLine (now text) ≡ headLines ⌝ }
+    requires { ⌜ (start ≡ startOf (now text) headLines) × (start ≤ length (now text)) ⌝ }
     ensures { λ r. ⌜ Shaped (now (text .entry)) r ⌝ }
 {
     let count = list_rows::row_count(text, start);

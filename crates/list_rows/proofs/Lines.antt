@@ -16,7 +16,7 @@ use Rattle.lines.specs.Lines.{nameByte, allBytes}
 use Rattle.list_rules.specs.Head.{headLines}
 use Rattle.list_rules.specs.Columns.{columnCount, bytesInRow, rowPitch, columnTable, columnEntry, columnStart, columnWidth, columnPart, nameOf, columnFault, lineComponent}
 use Rattle.list_rules.specs.Reading.{startOf, rowStart, rowCount, rowOf, wrongRow, columnPlace, componentRead, nameFrom}
-use Rattle.list_rules.specs.Writing.{nameAt, nameFault}
+use Rattle.list_rules.specs.Writing.{nameAt, nameFault, nameWidth}
 use Rattle.list_rows.specs.Rows.{rowFrom}
 
 -- The j-th component line.
@@ -91,11 +91,11 @@ unfolding nameFault badAt
 bad-first names n = refl
 
 module _ (names : List ℕ) (j : ℕ) where
-  pub part-name : take (8 * j + 8 - 8 * j) (drop (8 * j) names) ≡ nameAt names j
+  pub part-name : take (nameWidth * j + nameWidth - nameWidth * j) (drop (nameWidth * j) names) ≡ nameAt names j
   unfolding nameAt
-  part-name = rw (add-sub-cancel-left (8 * j) 8)
+  part-name = rw (add-sub-cancel-left (nameWidth * j) nameWidth)
 
-  pub bad-here : {b : Bool} → b ≡ allBytes nameByte (take (8 * j + 8 - 8 * j) (drop (8 * j) names)) → not b ≡ badAt names j
+  pub bad-here : {b : Bool} → b ≡ allBytes nameByte (take (nameWidth * j + nameWidth - nameWidth * j) (drop (nameWidth * j) names)) → not b ≡ badAt names j
   unfolding badAt
   bad-here e = ap not (e ∙ ap (allBytes nameByte) part-name)
 
@@ -115,11 +115,11 @@ all-take p (suc n) (b ∷ r) e =
     let both = and-eq-true-iff (p b) (allBytes p r) .0 e in
     rw (both .0) (all-take p n r (both .1))
 
-pub names-fine : (names : List ℕ) (count : ℕ) → allBytes nameByte (take (8 * count) names) ≡ true → count ≡ nameFault names count
+pub names-fine : (names : List ℕ) (count : ℕ) → allBytes nameByte (take (nameWidth * count) names) ≡ true → count ≡ nameFault names count
 unfolding nameFault nameAt
 names-fine names count e =
     sym
-    (first-end (λ j. not (allBytes nameByte (take 8 (drop (8 * j) names)))) count
+    (first-end (λ j. not (allBytes nameByte (take nameWidth (drop (nameWidth * j) names)))) count
     (λ j h.
-    ap (λ (l : List ℕ). not (allBytes nameByte l)) (sym (part-within (8 * j) 8 (8 * count) names (omega arith)))
-    ∙ ap not (all-take nameByte 8 (drop (8 * j) (take (8 * count) names)) (all-drop nameByte (8 * j) (take (8 * count) names) e))))
+    ap (λ (l : List ℕ). not (allBytes nameByte l)) (sym (part-within (nameWidth * j) nameWidth (nameWidth * count) names (omega arith)))
+    ∙ ap not (all-take nameByte nameWidth (drop (nameWidth * j) (take (nameWidth * count) names)) (all-drop nameByte (nameWidth * j) (take (nameWidth * count) names) e))))

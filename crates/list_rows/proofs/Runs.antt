@@ -16,7 +16,7 @@ use Rattle.layout.proofs.Runs.{numbersBelow, numbers-long, Filled, filled-start
 use Rattle.lines.specs.Lines.{lineText}
 use Rattle.list_rules.specs.Columns.{rowText}
 use Rattle.list_rules.specs.Reading.{rowCount, wrongRow, columnPlace, componentRead, componentsRun}
-use Rattle.list_rules.specs.Writing.{nameAt}
+use Rattle.list_rules.specs.Writing.{nameAt, nameWidth}
 use Rattle.list_columns_writing.specs.Fitting.{Fitting}
 use Rattle.list_columns.proofs.Turns.{Sought, sought-start, sought-again, sought-found, sought-end}
 use Rattle.list_rows.specs.declared.RowFault.{RowFault}
@@ -107,7 +107,7 @@ lines-joined run names n = refl
 
 -- with the component and the part that the code has
 pub line-is : (run names : List ℕ) (j : ℕ) {x : Component} → x ≡ componentAt run j
-    → lineAt run names j ≡ lineText (rowText x (take (8 * j + 8 - 8 * j) (drop (8 * j) names)))
+    → lineAt run names j ≡ lineText (rowText x (take (nameWidth * j + nameWidth - nameWidth * j) (drop (nameWidth * j) names)))
 unfolding lineAt
 line-is run names j e = ap₂ (λ (y : Component) (n : List ℕ). lineText (rowText y n)) (sym e) (sym (part-name names j))
 
@@ -116,7 +116,7 @@ pub part-fits : (run : List ℕ) (count j : ℕ) → ((i : ℕ) → i < count �
     → {x : Component} → x ≡ componentAt run j → Fitting x
 part-fits run count j fit h e = subst Fitting (sym e) (fit j h)
 
-pub part-eight : (names : List ℕ) (count j : ℕ) → 8 * count ≤ length names → j < count
-    → length (take (8 * j + 8 - 8 * j) (drop (8 * j) names)) ≡ 8
+pub part-eight : (names : List ℕ) (count j : ℕ) → nameWidth * count ≤ length names → j < count
+    → length (take (nameWidth * j + nameWidth - nameWidth * j) (drop (nameWidth * j) names)) ≡ nameWidth
 part-eight names count j room h =
-    rw (add-sub-cancel-left (8 * j) 8) (length-take-le 8 (drop (8 * j) names) (omega (arith, length-drop (8 * j) names)))
+    rw (add-sub-cancel-left (nameWidth * j) nameWidth) (length-take-le nameWidth (drop (nameWidth * j) names) (omega (arith, length-drop (nameWidth * j) names)))

@@ -7,9 +7,10 @@ ghost use Rattle.layout.specs.Places.{mostComponents, componentWidth, basketWid
 ghost use Rattle.layout.specs.Components.{componentAt, componentNumbers};
 ghost use lib.Seq.{sets};
 ghost use Rattle.digits.specs.Written.{Written};
-ghost use Rattle.list_rules.specs.Columns.{isRow};
+ghost use Rattle.list_rules.specs.Columns.{isRow, bytesInRow, rowPitch};
 ghost use Rattle.list_rules.specs.Reading.{startOf, lineStands, rowCount, wrongRow, columnPlace, componentsRun, nameFrom};
-ghost use Rattle.list_rules.specs.Writing.{nameFault};
+ghost use Rattle.list_rules.specs.Writing.{nameFault, nameWidth};
+ghost use Rattle.list_rules.specs.Head.{headLines};
 ghost use Rattle.list_columns_writing.specs.Fitting.{Fitting};
 ghost use Rattle.list_rows.specs.Rows.{rowFrom, rowBytes};
 use layout::Component;
@@ -37,8 +38,8 @@ fn row_stands(text: &[u8], at: usize) -> bool
 
 // How many component lines stand before the first line that is none.
 pub fn row_count(text: &[u8], start: usize) -> usize
-    requires { ⌜ (start ≡ startOf (now text) 22) × (start ≤ length (now text)) ⌝ }
-    ensures { λ r. ⌜ (r ≡ rowCount (now (text .entry))) × (start + 50 * r ≤ length (now (text .entry))) ⌝ }
+    requires { ⌜ (start ≡ startOf (now text) headLines) × (start ≤ length (now text)) ⌝ }
+    ensures { λ r. ⌜ (r ≡ rowCount (now (text .entry))) × (start + rowPitch * r ≤ length (now (text .entry))) ⌝ }
 {
     let mut at = start;
     let mut j = 0;
@@ -51,7 +52,7 @@ pub fn row_count(text: &[u8], start: usize) -> usize
 
 // The j-th component line behind a place.
 fn row_part(text: &[u8], start: usize, j: usize) -> &[u8]
-    requires { ⌜ start + (50 * j + 48) ≤ length (now text) ⌝ }
+    requires { ⌜ start + (rowPitch * j + bytesInRow) ≤ length (now text) ⌝ }
     ensures { λ r. ⌜ now r ≡ rowFrom (now (text .entry)) start j ⌝ }
 {
     let at = start + ROW_PITCH * j;
@@ -70,8 +71,8 @@ fn keep_component(run: &mut [u64], j: usize, c: Component)
 
 // Reads so many component lines, as far as the first with a column at fault. The numbers of the first 300 go to the run.
 pub fn read_rows(text: &[u8], start: usize, count: usize, run: &mut [u64]) -> RowFault
-    requires { ⌜ start + 50 * count ≤ length (now text) ⌝ }
-    requires { ⌜ (start ≡ startOf (now text) 22) × (count ≡ rowCount (now text)) ⌝ }
+    requires { ⌜ start + rowPitch * count ≤ length (now text) ⌝ }
+    requires { ⌜ (start ≡ startOf (now text) headLines) × (count ≡ rowCount (now text)) ⌝ }
     requires { ⌜ length (now run) ≡ basketWidth ⌝ }
     ensures { λ r. ⌜ r .row ≡ wrongRow (now (text .entry)) ⌝ }
     ensures { λ r. ⌜ (r .row < count → r .place ≡ columnPlace (now (text .entry)) (r .row)) ⌝ }
@@ -119,7 +120,7 @@ pub fn name_from(text: &[u8], first: usize, j: usize) -> &[u8]
 // The first of so many names with a byte that no name has, and their count where there is none. The names are gone through one by
 // one only where there is such a byte.
 pub fn name_fault(names: &[u8], count: usize) -> usize
-    requires { ⌜ 8 * count ≤ length (now names) ⌝ }
+    requires { ⌜ nameWidth * count ≤ length (now names) ⌝ }
     ensures { λ r. ⌜ r ≡ nameFault (now (names .entry)) count ⌝ }
 {
     let n = NAME_WIDTH * count;
@@ -139,7 +140,7 @@ pub fn name_fault(names: &[u8], count: usize) -> usize
 
 // Writes so many component lines.
 pub fn put_rows(dst: &mut [u8], at: usize, run: &[u64], names: &[u8], count: usize) -> usize
-    requires { ⌜ (componentWidth * count ≤ length (now run)) × (8 * count ≤ length (now names)) ⌝ }
+    requires { ⌜ (componentWidth * count ≤ length (now run)) × (nameWidth * count ≤ length (now names)) ⌝ }
     requires { ⌜ ((j : ℕ) → j < count → Fitting (componentAt (now run) j)) ⌝ }
     requires { ⌜ at + length (rowBytes (now run) (now names) count) ≤ length (now dst) ⌝ }
     ensures { λ r. ⌜ Written (now (dst .entry)) at (rowBytes (now (run .entry)) (now (names .entry)) count) (now (dst .exit)) r ⌝ }

@@ -21,7 +21,7 @@ use Rattle.layout.proofs.Components.{places-at}
 use Rattle.lines.specs.Lines.{nameByte, allBytes}
 use Rattle.list_rules.specs.Head.{isLetters}
 use Rattle.list_rules.specs.Fields.{fieldsInRange}
-use Rattle.list_rules.specs.Writing.{Listing, nameAt, sizesFit, nameFault, writeFault, listChecks}
+use Rattle.list_rules.specs.Writing.{Listing, nameAt, sizesFit, nameFault, writeFault, listChecks, nameWidth}
 
 -- the j-th name is a stretch of eight bytes
 pub name-stretch : (names : List ℕ) (j : ℕ) → stretchOf 8 names j ≡ nameAt names j
@@ -33,7 +33,7 @@ pub record Passing (l : Listing) : Type 0 where
   pub some : 1 ≤ l .fields .count
   pub few : l .fields .count ≤ mostComponents
   pub run-length : length (l .run) ≡ componentWidth * l .fields .count
-  pub names-length : length (l .names) ≡ 8 * l .fields .count
+  pub names-length : length (l .names) ≡ nameWidth * l .fields .count
   pub ranges : fieldsInRange (l .fields) ≡ true
   pub letters : isLetters (l .letters) ≡ true
   pub components :

@@ -12,8 +12,8 @@ use Rattle.sequences.proofs.Below.{first-here, first-end}
 use Rattle.layout.specs.Components.{componentAt}
 use Rattle.lines.specs.Lines.{nextAt, lineText, same}
 use Rattle.lines.proofs.Laws.{noCR, same-refl, length-lineText}
-use Rattle.list_rules.specs.Head.{endWord}
-use Rattle.list_rules.specs.Columns.{columnCount, isRow, columnFault, lineComponent, nameOf}
+use Rattle.list_rules.specs.Head.{endWord, headLines}
+use Rattle.list_rules.specs.Columns.{columnCount, isRow, columnFault, lineComponent, nameOf, rowPitch}
 use Rattle.list_rules.specs.Reading.{startOf, lineStands, rowStart, rowCount, endStart, rowOf, componentRead, wrongRow}
 use Rattle.list_rules.specs.Writing.{Listing, nameAt, rowsText, textOf}
 use Rattle.list_trip.proofs.WrittenLines.{part-drop, part-end, stands-there, next-there}
@@ -41,13 +41,13 @@ module _ (l : Listing) (p : Passing l) where
   unfolding rowStart rowsText
   row-drop j h =
       let d = part-drop (λ i. lineText (rowLine l i)) (l .fields .count) 50 line-wide (lineText endWord) j h in
-      (d .0, sym (drop-drop (50 * j) (startOf (textOf l) 22) (textOf l)) ∙ ap (drop (50 * j)) (behind-head l p) ∙ d .1)
+      (d .0, sym (drop-drop (rowPitch * j) (startOf (textOf l) headLines) (textOf l)) ∙ ap (drop (rowPitch * j)) (behind-head l p) ∙ d .1)
 
   end-drop : drop (rowStart (textOf l) (l .fields .count)) (textOf l) ≡ lineText endWord ++ []
   unfolding rowStart rowsText
   end-drop =
-      sym (drop-drop (50 * l .fields .count) (startOf (textOf l) 22) (textOf l))
-      ∙ ap (drop (50 * l .fields .count)) (behind-head l p)
+      sym (drop-drop (rowPitch * l .fields .count) (startOf (textOf l) headLines) (textOf l))
+      ∙ ap (drop (rowPitch * l .fields .count)) (behind-head l p)
       ∙ part-end (λ i. lineText (rowLine l i)) (l .fields .count) 50 line-wide (lineText endWord)
       ∙ sym (append-nil (lineText endWord))
 
@@ -76,7 +76,7 @@ module _ (l : Listing) (p : Passing l) where
       (first-end (λ j. not (lineStands isRow (textOf l) (rowStart (textOf l) j))) (l .fields .count) (λ j h. ap not (row-stands j h)))
       (ap not (end-line isRow))
     where
-      long : l .fields .count * 50 ≤ length (textOf l)
+      long : l .fields .count * rowPitch ≤ length (textOf l)
       long = omega (arith, end-next, next-past (textOf l) (rowStart (textOf l) (l .fields .count)))
 
       room : l .fields .count < length (textOf l) / 50 + 1

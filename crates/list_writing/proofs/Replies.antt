@@ -20,7 +20,7 @@ use Rattle.list_rules.specs.declared.ListAnswer.the-variants.{Done, Refused}
 use Rattle.list_rules.specs.Replies.{listReply}
 use Rattle.list_rules.specs.Head.{isLetters}
 use Rattle.list_rules.specs.Fields.{fieldsInRange}
-use Rattle.list_rules.specs.Writing.{Listing, sizesFit, nameFault, writeFault, listChecks, textOf, writeChecks, writeReply, outputAfter}
+use Rattle.list_rules.specs.Writing.{Listing, sizesFit, nameFault, writeFault, listChecks, textOf, writeChecks, writeReply, outputAfter, nameWidth}
 use Rattle.list_writing.specs.Outcome.{WriteOutcome, lengthsFit}
 
 module _ (l : Listing) where
@@ -32,7 +32,7 @@ module _ (l : Listing) where
   pub record Sized : Type 0 where
     pub few : l .fields .count ≤ mostComponents
     pub run-length : length (l .run) ≡ componentWidth * l .fields .count
-    pub names-length : length (l .names) ≡ 8 * l .fields .count
+    pub names-length : length (l .names) ≡ nameWidth * l .fields .count
 
   pub sizes-sound : sizesFit l ≡ true → Sized
   unfolding sizesFit

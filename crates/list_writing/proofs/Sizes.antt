@@ -20,9 +20,10 @@ use Rattle.digits.specs.Written.{Written, put}
 use Rattle.digits.proofs.Put.{written-then, written-length}
 use Rattle.lines.specs.Lines.{lineText}
 use Rattle.lines.proofs.Laws.{length-lineText}
-use Rattle.list_rules.specs.Head.{fieldName, fieldForm, openingWord, isLetters, headLine, tagWord, endWord}
+use Rattle.list_rules.specs.Head.{fieldName, fieldForm, openingWord, isLetters, headLine, tagWord, endWord, headLines}
 use Rattle.list_rules.specs.Fields.{figureAt}
 use Rattle.list_rules.specs.Writing.{Listing, headText, rowsText, textOf, listChecks}
+use Rattle.list_rules.specs.Columns.{rowPitch}
 use Rattle.list_head_tables.specs.Tables.{headBytes}
 use Rattle.list_columns_writing.specs.Fitting.{Fitting}
 use Rattle.list_rows.specs.Rows.{rowBytes}
@@ -70,14 +71,14 @@ module _ (l : Listing) where
     p : Passing l
     p = passing l e
 
-    rows-size : length (rowsText l (l .fields .count)) ≡ 50 * l .fields .count
+    rows-size : length (rowsText l (l .fields .count)) ≡ rowPitch * l .fields .count
     unfolding rowsText
     rows-size =
         length-below _ (l .fields .count) 50
         (λ j h. length-lineText _ ∙ ap (λ (n : ℕ). n + 2) (row-written _ _ (component-fine l p j h) _ (name-eight l p j h) (name-fine l p j h) .wide))
         ∙ mul-comm (l .fields .count) 50
 
-    pub text-size : length (textOf l) ≡ length (headText l 22) + (50 * l .fields .count + 11)
+    pub text-size : length (textOf l) ≡ length (headText l headLines) + (rowPitch * l .fields .count + 11)
     unfolding textOf
     text-size =
         length-append (headText l 22) (rowsText l (l .fields .count) ++ lineText endWord)

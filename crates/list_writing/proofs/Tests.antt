@@ -7,6 +7,7 @@ use native.Mathlib.Omega.{arith}
 use lib.Dec.{eqb}
 use borrow.Author.Tests.{le-leb, lt-leb, eq-eqb, ne-eqb}
 use Rattle.layout.specs.Places.{mostComponents, componentWidth}
+use Rattle.list_rules.specs.Writing.{nameWidth}
 use Rattle.sequences.specs.Every.{every, inside}
 use Rattle.list_writing.specs.Outcome.{lengthsFit}
 
@@ -30,9 +31,9 @@ module _ (count run names : ℕ) where
       unfolding lengthsFit every inside
       run-other h = rw (le-leb 1 count low, le-leb count mostComponents high, ne-eqb run (componentWidth * count) h)
 
-      pub names-decide : run ≡ componentWidth * count → eqb names (8 * count) ≡ lengthsFit count run names
+      pub names-decide : run ≡ componentWidth * count → eqb names (nameWidth * count) ≡ lengthsFit count run names
       unfolding lengthsFit every inside
-      names-decide h = rw (le-leb 1 count low, le-leb count mostComponents high, eq-eqb run (componentWidth * count) h) (and-last (eqb names (8 * count)))
+      names-decide h = rw (le-leb 1 count low, le-leb count mostComponents high, eq-eqb run (componentWidth * count) h) (and-last (eqb names (nameWidth * count)))
 
 -- the lower of two places
 module _ (a b x y : ℕ) (p : a ≡ x) (q : b ≡ y) where

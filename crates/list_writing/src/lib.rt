@@ -9,7 +9,7 @@ ghost use Rattle.layout.specs.Components.{componentAt, placesOf};
 ghost use Rattle.fund.specs.Components.{componentFault};
 ghost use Rattle.digits.specs.Written.{put};
 ghost use Rattle.list_rules.specs.Replies.{listReply};
-ghost use Rattle.list_rules.specs.Writing.{listing, listChecks, nameFault, textOf, writeReply};
+ghost use Rattle.list_rules.specs.Writing.{listing, listChecks, nameFault, textOf, writeReply, nameWidth};
 ghost use Rattle.list_writing.specs.Outcome.{WriteOutcome, lengthsFit};
 use list_rules::ListAnswer;
 use list_rules::ListFields;
@@ -36,7 +36,7 @@ fn lengths_fit(count: usize, run: usize, names: usize) -> bool
 
 // The first component at fault, by its numbers or by its name, and `count` where there is none.
 fn write_fault(first_code: u64, run: &[u64], names: &[u8], count: usize) -> usize
-    requires { ⌜ (count ≤ mostComponents) × (length (now run) ≡ componentWidth * count) × (length (now names) ≡ 8 * count) ⌝ }
+    requires { ⌜ (count ≤ mostComponents) × (length (now run) ≡ componentWidth * count) × (length (now names) ≡ nameWidth * count) ⌝ }
     ensures { λ r. ⌜ r ≡ min (componentFault «first_code» (placesOf (componentAt (now (run .entry))) count) count) (nameFault (now (names .entry)) count) ⌝ }
 {
     let fault = fund::run_fault(first_code, run, count);

@@ -7,15 +7,16 @@ use borrow.Author.Tests.{not-true, not-false}
 use Rattle.lines.specs.Lines.{same}
 use Rattle.list_rules.specs.Head.{endWord}
 use Rattle.list_rules.specs.Reading.{lineStands, endStart}
+use Rattle.list_rules.specs.Columns.{rowPitch}
 use Rattle.list_reading.proofs.Stages.{shaped-at, shaped-end, shaped-behind, shaped-rows, end-is}
 use Rattle.list_reading.proofs.body_shape.Statement.{statement}
 use Rattle.list_reading.proofs.body_shape.Tie as tie
 
 -- where ENDENDEND has to stand
-end : (c : tie.After-row-count) → let a = c .before .before .args in a .start + 50 * c .row-count .result ≡ endStart (a .text .now)
+end : (c : tie.After-row-count) → let a = c .before .before .args in a .start + rowPitch * c .row-count .result ≡ endStart (a .text .now)
 end c = end-is _ _ _ (c .before .before .pre .1 .0) (c .row-count .ensures .0)
 
-ends : (c : tie.Else1) → let a = c .before .before .before .before .args in lineStands (λ l. same l endWord) (a .text .now) (a .start + 50 * c .before .before .row-count .result) ≡ true
+ends : (c : tie.Else1) → let a = c .before .before .before .before .args in lineStands (λ l. same l endWord) (a .text .now) (a .start + rowPitch * c .before .before .row-count .result) ≡ true
 ends c = sym (c .before .end-stands .ensures) ∙ not-false _ (c .if1 .left)
 
 returns : tie.Need-returns

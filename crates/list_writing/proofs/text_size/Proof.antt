@@ -6,6 +6,7 @@ use native.Mathlib.Omega.{arith}
 use lib.ListN.{length}
 use Rattle.digits.specs.declared.Figure.{Figure}
 use Rattle.list_rules.specs.Writing.{Listing, listing, headText}
+use Rattle.list_rules.specs.Columns.{rowPitch}
 use Rattle.list_head_tables.specs.Tables.{headBytes}
 use Rattle.list_trip.proofs.WrittenPassing.{Passing, passing}
 use Rattle.list_writing.proofs.Sizes.{head-is, text-size, letters-few}
@@ -42,7 +43,7 @@ returns c =
     ∙ ap (λ (z : List Figure). length (headBytes (l .letters) z 22)) (c .before .before .figures-of .ensures)
     ∙ ap length (head-is l)
     in
-    ap (λ (n : ℕ). n + (50 * l .fields .count + 11)) h ∙ sym (text-size l (c .before .before .before .before .before .before .pre))
+    ap (λ (n : ℕ). n + (rowPitch * l .fields .count + 11)) h ∙ sym (text-size l (c .before .before .before .before .before .before .pre))
 
 pub text-size-spec : {M : Type 1} → statement M
 text-size-spec =
