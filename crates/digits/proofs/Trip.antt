@@ -21,14 +21,8 @@ use Rattle.digits.specs.Digits.{isWhole, pointAt, isPlain, plainSize, ha
 use Rattle.digits.proofs.Read.{compare, both-pass, capped-small, capped-within, capped-exact, from-grows, shaped, shaped-fixed, whole-true, whole-facts, whole-empty}
 use Rattle.digits.proofs.Count.{fixed-length, fixed-digits, from-fixed, from-shift, from-below, fixed-from, tens-wide, decimal-length, decimal-spare, decimal-digits, decimal-from, from-decimal}
 use Rattle.digits.proofs.Sign.{minus-first, minus-other}
+use Rattle.digits.specs.Fits.{Fits}
 use Rattle.digits.proofs.Write.{whole-free, whole-fixed, plain-free, plain-pointed, signed-below, signed-above, number-length}
-
--- the figure z can be written in the form f and read again
-pub record Fits (f : Form) (z : Figure) : Type 0 where
-  pub within : z .size ≤ cap
-  pub sign : z .negative ≡ true → (f .signed ≡ true) × (0 < z .size)
-  pub digits : (f .digits ≡ 0 → ⊥) → z .size / 10 ^ (f .decimals) < 10 ^ (f .digits)
-  pub width : (f .width ≡ 0 → ⊥) → length (signedText f z) ≤ f .width
 
 -- ---- before the point
 

@@ -1,6 +1,6 @@
 -- What callers need of the flag table, shown once by one test of its five rows.
 use mathlib.Core.Path.{_≡_, refl, sym, ap, _∙_}
-use mathlib.Core.Bool.{Bool, true, false, not, _||_, _&&_, false≢true}
+use mathlib.Core.Bool.{Bool, true, false, not, _||_, _&&_, and-false, false≢true}
 use mathlib.Core.List.{List, [], _∷_}
 use Prim.Native.Nat.{ℕ, zero, suc, _≤_, _<_}
 use native.Mathlib.Nat.{le-trans}
@@ -8,12 +8,12 @@ use native.Mathlib.Decide.{decLt}
 use native.Mathlib.Omega.{arith}
 use lib.Dec.{lit≤, eqb}
 use lib.ListN.{length, getD, List·getD-eq-default}
-use borrow.Author.Tests.{not-true, ne-eqb}
+use borrow.Author.Tests.{not-true, ne-eqb, lt-ltb, le-ltb}
 use Rattle.sequences.specs.Below.{allBelow}
 use Rattle.sequences.specs.Every.{every}
 use Rattle.sequences.proofs.Below.{all-at}
 use Rattle.sequences.proofs.Every.{every-at}
-use Rattle.flags.specs.Table.{flagTable, entry, stockMoves, shortageInCash, amountUsed, shanghai, priced}
+use Rattle.flags.specs.Table.{flagTable, entry, entryIn, flagCount, flagColumns, stockMoves, shortageInCash, amountUsed, shanghai, priced}
 
 -- past the table every entry is false
 pub past-flags : (flag column : ℕ) → 5 ≤ flag → entry flag column ≡ false
@@ -95,3 +95,13 @@ shortage-rule flag e = case (entry flag shortageInCash) refl
     case : (b : Bool) → entry flag shortageInCash ≡ b → b ≡ false
     case true f = absurd (false≢true (sym e ∙ follows _ _ (rule flag (inside flag shortageInCash f) 3) f))
     case false f = refl
+
+-- our table, lent
+in-cases : (flag column : ℕ) → Dec (flag < flagCount) → Dec (column < flagColumns) → entryIn flagTable flag column ≡ entry flag column
+unfolding entryIn entry
+in-cases flag column (yes h) (yes g) = rw (lt-ltb flag flagCount h, lt-ltb column flagColumns g)
+in-cases flag column (no h) g = rw (le-ltb flag flagCount (omega arith)) (sym (past-flags flag column (omega arith)))
+in-cases flag column (yes h) (no g) = rw (le-ltb column flagColumns (omega arith), and-false) (sym (past-columns flag column (omega arith)))
+
+pub entry-ours : (flag column : ℕ) → entryIn flagTable flag column ≡ entry flag column
+entry-ours flag column = in-cases flag column (decLt flag flagCount) (decLt column flagColumns)

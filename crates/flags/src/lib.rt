@@ -2,10 +2,15 @@
 ghost use mathlib.Core.Path.{_≡_};
 ghost use mathlib.Core.Bool.{_||_, _&&_};
 ghost use lib.Dec.{eqb};
-ghost use Rattle.flags.specs.Table.{entry};
+ghost use Rattle.flags.specs.Table.{entry, entryIn};
+
+// How many flags and how many columns the table has.
+pub const FLAGS: usize = 5;
+
+pub const COLUMNS: usize = 6;
 
 // Columns: stock moves, shortage in cash, rate used, amount used, Shanghai, priced.
-const FLAGS: [[bool; 6]; 5] = [
+pub const TABLE: [[bool; COLUMNS]; FLAGS] = [
     [true, false, false, false, true, true],
     [true, true, true, false, true, true],
     [false, false, false, true, true, false],
@@ -58,10 +63,10 @@ fn any_of(a: bool, b: bool, c: bool, d: bool, e: bool) -> bool
 pub fn entry_of(flag: u64, column: usize) -> bool
     ensures { λ r. ⌜ r ≡ entry flag column ⌝ }
 {
-    if 6 <= column {
+    if COLUMNS <= column {
         return false;
     }
-    let table = FLAGS;
+    let table = TABLE;
     any_of(
         of_row(flag, 0, table[0][column]),
         of_row(flag, 1, table[1][column]),
@@ -69,4 +74,18 @@ pub fn entry_of(flag: u64, column: usize) -> bool
         of_row(flag, 3, table[3][column]),
         of_row(flag, 4, table[4][column]),
     )
+}
+
+// The same of a table that is lent.
+pub fn entry_in(table: &[[bool; COLUMNS]; FLAGS], flag: u64, column: usize) -> bool
+    ensures { λ r. ⌜ r ≡ entryIn (now (table .entry)) flag column ⌝ }
+{
+    if FLAGS as u64 <= flag {
+        return false;
+    }
+    if COLUMNS <= column {
+        return false;
+    }
+    let row = flag as usize;
+    table[row][column]
 }

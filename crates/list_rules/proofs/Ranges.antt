@@ -6,7 +6,7 @@ use borrow.Author.Tests.{le-leb, leb-true}
 use Rattle.sequences.proofs.Every.{every-none, every-more, every-at, false-of, inside-true, inside-facts}
 use Rattle.fund.specs.Fund.{cashInRange, fundInRange}
 use Rattle.list_rules.specs.declared.ListFields.{ListFields}
-use Rattle.list_rules.specs.Dates.{daysIn, isDate}
+use Rattle.text_rules.specs.Dates.{daysIn, isDate}
 use Rattle.list_rules.specs.Fields.{fieldsInRange}
 
 -- A date.

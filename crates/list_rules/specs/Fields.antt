@@ -11,9 +11,12 @@ use Rattle.fund.specs.Fund.{cashInRange, fundInRange}
 use Rattle.digits.specs.declared.Figure.{Figure}
 use Rattle.digits.specs.Digits.{plain}
 use Rattle.digits.specs.Signed.{signedOf, figureSigned}
+use Rattle.layout.specs.Places.{limitCount}
 use Rattle.layout.specs.Fund.{blankFund}
 use Rattle.list_rules.specs.declared.ListFields.{ListFields}
-use Rattle.list_rules.specs.Dates.{isDate}
+use Rattle.text_rules.specs.Dates.{isDate}
+use Rattle.list_rules.specs.Shanghai.{creationCodeField, basketSizeField, cashRatioField, publishField, switchField, countField, estimatedCashField, tradingDayField}
+use Rattle.list_rules.specs.Shanghai.{preTradingDayField, cashComponentField, basketValueField, unitValueField, limitsField}
 
 -- the fields that the head's figures say, by the order of the names: Fundid1 is the code of creation, g + 1
 unfoldable pub fieldsFrom : (ℕ → Figure) → ListFields
@@ -21,20 +24,20 @@ fieldsFrom figure =
     record {
       fund =
           record {
-            «first_code» = figure 0 .size - 1;
-            «basket_size» = figure 1 .size;
-            «max_cash_ratio» = record { 0 = figure 2 .size };
-            switch = figure 4 .size;
-            «estimated_cash» = signedOf (figure 6);
-            limits = tabulate (λ k. figure (12 + k) .size) 8;
+            «first_code» = figure creationCodeField .size - 1;
+            «basket_size» = figure basketSizeField .size;
+            «max_cash_ratio» = record { 0 = figure cashRatioField .size };
+            switch = figure switchField .size;
+            «estimated_cash» = signedOf (figure estimatedCashField);
+            limits = tabulate (λ k. figure (limitsField + k) .size) limitCount;
           };
-      publish = figure 3 .size;
-      «trading_day» = figure 7 .size;
-      «pre_trading_day» = figure 8 .size;
-      «cash_component» = signedOf (figure 9);
-      «nav_per_cu» = figure 10 .size;
-      nav = figure 11 .size;
-      count = figure 5 .size;
+      publish = figure publishField .size;
+      «trading_day» = figure tradingDayField .size;
+      «pre_trading_day» = figure preTradingDayField .size;
+      «cash_component» = signedOf (figure cashComponentField);
+      «nav_per_cu» = figure basketValueField .size;
+      nav = figure unitValueField .size;
+      count = figure countField .size;
     }
 
 -- the head's figures that say the fields
@@ -55,7 +58,7 @@ figureAt l k =
     ∷ plain (l .nav)
     ∷ [])
     k
-    (plain (getD (l .fund .limits) (k - 12) 0))
+    (plain (getD (l .fund .limits) (k - limitsField) 0))
 
 -- refusal 2 looks at all of these
 unfoldable pub fieldsInRange : ListFields → Bool

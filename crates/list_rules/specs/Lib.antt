@@ -1,6 +1,4 @@
-pub mod Dates
-pub mod Head
-pub mod Columns
+pub mod Shanghai
 pub mod Fields
 pub mod Replies
 pub mod Reading

@@ -1,21 +1,23 @@
--- "Writing": a list, its text as one list of bytes, and the tests 1, 2, 3 and 16 in this order.
+-- "Writing" in the Shanghai form: a list, its text as one list of bytes, and the tests 1, 2, 3 and 16 in this order.
 use Prim.Native.Nat.{ℕ, _*_, min}
 use mathlib.Core.Bool.{Bool, not, _&&_}
 use mathlib.Core.List.{List, [], _∷_, _++_}
 use lib.Dec.{ltb, eqb}
-use lib.ListN.{length, take, drop}
-use Rattle.sequences.specs.Below.{firstBelow, joinBelow}
+use lib.ListN.{length}
+use Rattle.sequences.specs.Below.{firstBelow}
 use Rattle.sequences.specs.Every.{every, inside}
 use Rattle.sequences.specs.Checks.{Check, check, Reply, answered}
+use Rattle.sequences.specs.Stretch.{stretchOf}
 use Rattle.layout.specs.Components.{componentAt, placesOf}
 use Rattle.fund.specs.Components.{componentFault}
 use Rattle.layout.specs.Places.{componentWidth, mostComponents}
 use Rattle.rules.specs.Replies.{ifAccepted}
 use Rattle.digits.specs.Written.{put}
-use Rattle.lines.specs.Lines.{lineText, nameByte, allBytes}
+use Rattle.lines.specs.Lines.{nameByte, allBytes}
+use Rattle.text_rules.specs.Head.{isLetters}
+use Rattle.text_rules.specs.Writing.{Sheet, sheetText}
 use Rattle.list_rules.specs.declared.ListFields.{ListFields}
-use Rattle.list_rules.specs.Head.{headLines, isLetters, endWord, headLine}
-use Rattle.list_rules.specs.Columns.{rowText}
+use Rattle.list_rules.specs.Shanghai.{shanghai, nameWidth}
 use Rattle.list_rules.specs.Fields.{figureAt, fieldsInRange}
 
 -- a list: its fields, its run of components, its names, eight bytes each, and the letters of its first line
@@ -28,21 +30,22 @@ pub record Listing : Type 0 where
 abbrev pub listing : ListFields → List ℕ → List ℕ → List ℕ → Listing
 listing fields run names letters = record { fields = fields; run = run; names = names; letters = letters }
 
-abbrev pub nameWidth : ℕ
-nameWidth = 8
-
 unfoldable pub nameAt : List ℕ → ℕ → List ℕ
-nameAt names j = take nameWidth (drop (nameWidth * j) names)
+nameAt names j = stretchOf nameWidth names j
 
 -- ---- the text
-unfoldable pub headText : Listing → ℕ → List ℕ
-headText l n = joinBelow (λ k. lineText (headLine (l .letters) (figureAt (l .fields)) k)) n
-
-unfoldable pub rowsText : Listing → ℕ → List ℕ
-rowsText l n = joinBelow (λ j. lineText (rowText (componentAt (l .run) j) (nameAt (l .names) j))) n
+unfoldable pub sheetOf : Listing → Sheet
+sheetOf l =
+    record {
+      letters = l .letters;
+      figure = figureAt (l .fields);
+      count = l .fields .count;
+      run = l .run;
+      texts = l .names;
+    }
 
 unfoldable pub textOf : Listing → List ℕ
-textOf l = headText l headLines ++ (rowsText l (l .fields .count) ++ lineText endWord)
+textOf l = sheetText shanghai (sheetOf l)
 
 -- ---- the tests
 unfoldable pub sizesFit : Listing → Bool

@@ -1,6 +1,15 @@
 // What the list text promises: the types of a list and its answers. The definitions are in specs/.
 use layout::Fund;
 use rules::Refusal;
+use text_rules::ALWAYS;
+use text_rules::ANY;
+use text_rules::BY_FLAG;
+use text_rules::COLUMN_PARTS;
+use text_rules::DATE;
+use text_rules::FIELD_PARTS;
+use text_rules::TEXT;
+use text_rules::WIDTH;
+use text_rules::ZERO_OR_ONE;
 
 // The fields of a list but its components, its names and the letters of its first line.
 pub struct ListFields {
@@ -30,10 +39,107 @@ pub struct ListRead {
     pub first_row: usize,
 }
 
+// A part of a text: where it starts, and how many bytes it has.
+pub struct TextPart {
+    pub place: usize,
+    pub length: usize,
+}
+
+// The columns of a component line, and which of them have the name and the flag.
+pub const COLUMN_COUNT: usize = 6;
+
+pub const NAME: usize = 1;
+
+pub const FLAG: usize = 3;
+
+// Width, digits, decimals, use, and the flag table's column where a flag decides.
+pub const COLUMNS: [[usize; COLUMN_PARTS]; COLUMN_COUNT] = [
+    // Code.
+    [6, 6, 0, ALWAYS, 0],
+    // Name.
+    [8, 0, 0, TEXT, 0],
+    // Quantity.
+    [8, 0, 0, ALWAYS, 0],
+    // Flag.
+    [1, 1, 0, ALWAYS, 0],
+    // Rate.
+    [7, 0, 5, BY_FLAG, flags::RATE_USED],
+    // Amount.
+    [12, 0, 3, BY_FLAG, flags::AMOUNT_USED],
+];
+
 // How many bytes a component's name has.
-pub const NAME_WIDTH: usize = 8;
+pub const NAME_WIDTH: usize = COLUMNS[NAME][WIDTH];
 
-// A component line's bytes, and with its 0D 0A.
-pub const ROW_WIDTH: usize = 48;
+// The fields of the head, and which of them reading tests by itself.
+pub const FIELD_COUNT: usize = 20;
 
-pub const ROW_PITCH: usize = 50;
+pub const CREATION_CODE: usize = 0;
+
+pub const COUNT: usize = 5;
+
+// Length of the name, digits, decimals, sign and kind.
+pub const FIELDS: [[usize; FIELD_PARTS]; FIELD_COUNT] = [
+    // Fundid1.
+    [7, 6, 0, 0, ANY],
+    // CreationRedemptionUnit.
+    [22, 0, 0, 0, ANY],
+    // MaxCashRatio.
+    [12, 0, 5, 0, ANY],
+    // Publish.
+    [7, 0, 0, 0, ZERO_OR_ONE],
+    // CreationRedemption.
+    [18, 0, 0, 0, ANY],
+    // Recordnum.
+    [9, 0, 0, 0, ANY],
+    // EstimateCashComponent.
+    [21, 0, 2, 1, ANY],
+    // TradingDay.
+    [10, 8, 0, 0, DATE],
+    // PreTradingDay.
+    [13, 8, 0, 0, DATE],
+    // CashComponent.
+    [13, 0, 2, 1, ANY],
+    // NAVperCU.
+    [8, 0, 2, 0, ANY],
+    // NAV.
+    [3, 0, 4, 0, ANY],
+    // CreationLimit.
+    [13, 0, 0, 0, ANY],
+    // RedemptionLimit.
+    [15, 0, 0, 0, ANY],
+    // CreationLimitPerUser.
+    [20, 0, 0, 0, ANY],
+    // RedemptionLimitPerUser.
+    [22, 0, 0, 0, ANY],
+    // NetCreationLimit.
+    [16, 0, 0, 0, ANY],
+    // NetRedemptionLimit.
+    [18, 0, 0, 0, ANY],
+    // NetCreationLimitPerUser.
+    [23, 0, 0, 0, ANY],
+    // NetRedemptionLimitPerUser.
+    [25, 0, 0, 0, ANY],
+];
+
+// Their names, one behind the other.
+pub const NAMES: [u8; 295] = *b"Fundid1\
+    CreationRedemptionUnit\
+    MaxCashRatio\
+    Publish\
+    CreationRedemption\
+    Recordnum\
+    EstimateCashComponent\
+    TradingDay\
+    PreTradingDay\
+    CashComponent\
+    NAVperCU\
+    NAV\
+    CreationLimit\
+    RedemptionLimit\
+    CreationLimitPerUser\
+    RedemptionLimitPerUser\
+    NetCreationLimit\
+    NetRedemptionLimit\
+    NetCreationLimitPerUser\
+    NetRedemptionLimitPerUser";
