@@ -5,6 +5,7 @@ use mathlib.Core.Bool.{Bool, false, cond}
 use mathlib.Core.List.{List, [], _∷_}
 use lib.Dec.{eqb}
 use lib.ListN.{getD, take, drop}
+use Rattle.sequences.specs.Below.{sumBelow}
 use Rattle.digits.specs.declared.Form.{Form}
 
 -- when a column is used: always, by that column of the flag table, or for text
@@ -120,12 +121,16 @@ formOf r =
       width = 0;
     }
 
--- the names stand one behind the other
+unfoldable pub fieldOf : List ℕ → List ℕ → Field
+fieldOf r name = record { name = name; form = formOf r; kind = kindOf (getD r kindPart 0) }
+
+-- the names stand one behind the other, and where the k-th starts
 unfoldable pub fieldsOf : List (List ℕ) → List ℕ → List Field
 fieldsOf [] names = []
-fieldsOf (r ∷ rs) names =
-    record { name = take (getD r namePart 0) names; form = formOf r; kind = kindOf (getD r kindPart 0) }
-    ∷ fieldsOf rs (drop (getD r namePart 0) names)
+fieldsOf (r ∷ rs) names = fieldOf r (take (getD r namePart 0) names) ∷ fieldsOf rs (drop (getD r namePart 0) names)
+
+unfoldable pub nameBefore : List (List ℕ) → ℕ → ℕ
+nameBefore rows k = sumBelow (λ i. getD (getD rows i []) namePart 0) k
 
 -- ---- past the end of a table
 abbrev pub noColumn : Column

@@ -1,3 +1,0 @@
-pub mod Opening
-pub mod Shape
-pub mod Fields

@@ -1,0 +1,4 @@
+pub mod Names
+pub mod Opening
+pub mod Shape
+pub mod Fields
