@@ -1,18 +1,22 @@
 -- The names of the head's lines, one behind the other: where each starts, and the part that the code takes.
 use mathlib.Core.Path.{_≡_, refl, sym, ap, _∙_}
+use mathlib.Core.Bool.{true}
 use mathlib.Core.List.{List, []}
 use Prim.Native.Nat.{ℕ, zero, suc, _+_, _-_, _≤_, _<_}
 use native.Mathlib.Nat.{add-zero}
 use native.Mathlib.Numerals.{add-one}
-use native.Mathlib.Decide.{decLt}
+use native.Mathlib.Decide.{decLt, ℕ-discrete}
 use native.Mathlib.Omega.{arith}
-use lib.ListN.{length, getD, take, drop, List·getD-eq-default}
+use lib.ListN.{length, getD, take, drop, length-drop, List·getD-eq-default}
+use lib.Seq.{length-take-le}
 use Rattle.sequences.proofs.Below.{sum-more, sum-grows}
 use Rattle.sequences.proofs.Every.{inside-true}
 use Rattle.lines.proofs.Answers.{inside-low, inside-high}
 use Rattle.text_rules.specs.Tables.{namePart, Field, fieldOf, fieldsOf, nameBefore}
 use Rattle.text_rules.specs.Head.{fieldName}
-use Rattle.text_rules.proofs.Tables.{field-row}
+use Rattle.text_rules.specs.Well.{mostLine, fieldsWell}
+use Rattle.text_rules.proofs.Tables.{fields-length, field-row}
+use Rattle.text_rules.proofs.Well.{field-well}
 use Rattle.text_head.specs.Head.{nameLength}
 
 module _ (rows : List (List ℕ)) where
@@ -79,3 +83,48 @@ module _ (rows : List (List ℕ)) (names : List ℕ) (k : ℕ) (low : k < length
   name-part a b e f =
       let w : b - a ≡ getD (getD rows k []) namePart 0 = omega (arith, before-more rows k) in
       rw (w, e) (ap (λ (x : Field). x .name) (sym (field-row rows names k low)))
+
+-- the name of line k, between the places that the code carries
+module _ (rows : List (List ℕ)) (names : List ℕ) (all : length names ≡ nameBefore rows (length rows))
+    (from k to : ℕ) (named : from ≡ nameBefore rows (k - 1)) (next : to ≡ from + nameLength rows k) where
+  pub to-is : to ≡ nameBefore rows k
+  to-is = next ∙ ap (λ (n : ℕ). n + nameLength rows k) named ∙ before-next rows k
+
+  -- lies within the names
+  pub name-room : to ≤ length names
+  name-room =
+      elim (decLt k (length rows)) [
+        | yes l ↦ omega (arith, to-is, all, before-room rows k (length rows) (omega arith))
+        | no h ↦ omega (arith, to-is, all, before-past rows k (omega arith))
+      ]
+
+  -- and is the one of its field
+  pub name-of : (k ≡ 0 → ⊥) → k ≤ length rows → take (to - from) (drop from names) ≡ fieldName (fieldsOf rows names) (k - 1)
+  name-of z m =
+      let back : k - 1 + 1 ≡ k = omega (arith, z) in
+      name-part rows names (k - 1) (omega (arith, z)) from to named (to-is ∙ ap (nameBefore rows) (sym back))
+
+-- no name is long
+module _ (rows : List (List ℕ)) (names : List ℕ) (made : fieldsWell (fieldsOf rows names) ≡ true)
+    (all : length names ≡ nameBefore rows (length rows)) where
+  short-row : (k : ℕ) → k < length rows → getD (getD rows k []) namePart 0 ≤ mostLine
+  unfolding fieldName
+  short-row k h =
+      let n : ℕ = getD (getD rows k []) namePart 0 in
+      let a : ℕ = nameBefore rows k in
+      let w : a + n - a ≡ n = omega arith in
+      let part = name-part rows names k h a (a + n) refl (sym (before-more rows k)) in
+      let long : length (take n (drop a names)) ≡ n =
+          length-take-le n (drop a names) (omega (arith, length-drop a names, all, before-more rows k, before-room rows (k + 1) (length rows) (omega arith))) in
+      let well = field-well (fieldsOf rows names) made k (omega (arith, fields-length rows names)) .short in
+      omega (arith, long, ap length part, ap (λ (i : ℕ). length (take i (drop a names))) w)
+
+  pub short-line : (k : ℕ) → nameLength rows k ≤ mostLine
+  short-line k =
+      elim (ℕ-discrete k 0) [
+        | yes e ↦ omega (arith, length-first rows k e)
+        | no z ↦ elim (decLt (length rows) k) [
+            | yes p ↦ omega (arith, length-past rows k z p)
+            | no h ↦ omega (arith, length-named rows k z (omega arith), short-row (k - 1) (omega (arith, z)))
+          ]
+      ]

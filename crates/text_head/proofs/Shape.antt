@@ -3,7 +3,6 @@ use mathlib.Core.Bool.{Bool, true, false, cond, not, and-eq-true-iff}
 use mathlib.Core.List.{List}
 use mathlib.Core.Path.{_≡_, refl, sym, ap, ap₂, _∙_}
 use Prim.Native.Nat.{ℕ, _+_, _-_, _≤_, _<_, zero-le}
-use native.Mathlib.Decide.{decLt}
 use native.Mathlib.Numerals.{add-one}
 use native.Mathlib.Omega.{arith}
 use lib.Dec.{leb, eqb}
@@ -19,7 +18,7 @@ use Rattle.text_rules.specs.Reading.{startOf, lineOf, lineStands, wrongLine}
 use Rattle.text_rules.proofs.Tables.{fields-length}
 use Rattle.text_head.specs.declared.HeadShape.{HeadShape}
 use Rattle.text_head.specs.Head.{nameLength, lineIs, shapeFound}
-use Rattle.text_head.proofs.Names.{before-next, before-room, before-past, name-part}
+use Rattle.text_head.proofs.Names.{to-is, name-of}
 
 -- ---- line k of the head, as the code tells the lines apart
 module _ (count k : ℕ) (name l : List ℕ) where
@@ -96,18 +95,8 @@ module _ (rows : List (List ℕ)) (names text : List ℕ) (all : length names �
         let e : k ≡ headLines fs = omega (arith, v .turns, lines-are) in
         answered (sym (ap (firstBelow (wrongAt fs text)) (sym e) ∙ v .none))
 
-    -- the name of line k lies within the names
     module _ (low : k < length rows + 2) (to : ℕ) (next : to ≡ from + nameLength rows k) where
-      to-is : to ≡ nameBefore rows k
-      to-is = next ∙ ap (λ (n : ℕ). n + nameLength rows k) (v .named) ∙ before-next rows k
-
-      pub name-room : to ≤ length names
-      name-room = elim (decLt k (length rows)) [
-          | yes l ↦ omega (arith, to-is, all, before-room rows k (length rows) (omega arith))
-          | no h ↦ omega (arith, to-is, all, before-past rows k (omega arith))
-        ]
-
-      -- and it is the one that the line is to have
+      -- the line is to have the name that the code takes
       line-is : (l : List ℕ) → lineIs (length rows) k (take (to - from) (drop from names)) l ≡ isHeadLine fs k l
       unfolding lineIs isHeadLine
       line-is l = rw (fields-length rows names) (case (eqb k 0) (leb k (length rows)) refl refl)
@@ -118,11 +107,7 @@ module _ (rows : List (List ℕ)) (names text : List ℕ) (all : length names �
           case true b p q = refl
           case false false p q = refl
           case false true p q =
-              let z = eqb-false k 0 p in
-              let m = leb-true k (length rows) q in
-              let back : k - 1 + 1 ≡ k = omega (arith, z) in
-              ap (λ (n : List ℕ). isNamed n l)
-              (name-part rows names (k - 1) (omega (arith, z)) from to (v .named) (to-is ∙ ap (nameBefore rows) (sym back)))
+              ap (λ (n : List ℕ). isNamed n l) (name-of rows names all from k to (v .named) next (eqb-false k 0 p) (leb-true k (length rows) q))
 
       module _ (n : ℕ) (len : n ≡ lineLen (take (length text - at) (drop at text))) where
         pub shape-open : length text - at ≤ n → Answered k at
@@ -148,6 +133,6 @@ module _ (rows : List (List ℕ)) (names text : List ℕ) (all : length names �
                 turns = omega arith;
                 place = part-next text at n len ∙ rw (add-one, v .place);
                 within = part-room text at n (v .within) len h;
-                named = to-is ∙ ap (nameBefore rows) (sym back);
+                named = to-is rows names all from k to (v .named) next ∙ ap (nameBefore rows) (sym back);
                 none = first-more (wrongAt fs text) k (v .none) w;
               }

@@ -1,13 +1,14 @@
 -- `text_head::head_shape` meets its contract. The loop's invariant: no line before `k` is at fault, and line `k` starts at `at`.
 use mathlib.Core.Path.{_≡_, refl, sym, ap, _∙_}
-use Prim.Native.Nat.{_+_, _-_}
+use Prim.Native.Nat.{ℕ, _+_, _-_}
 use native.Mathlib.Omega.{arith}
 use lib.ListN.{length}
 use borrow.Author.Needs.{needs}
 use borrow.Author.Tests.{not-true, not-false}
 use Rattle.text_rules.proofs.Tables.{fields-length}
 use Rattle.text_rules.proofs.Well.{fields-few}
-use Rattle.text_head.proofs.Shape.{Shape, shape-start, shape-open, shape-other, shape-again, shape-end, name-room}
+use Rattle.text_head.proofs.Names.{name-room}
+use Rattle.text_head.proofs.Shape.{Shape, shape-start, shape-open, shape-other, shape-again, shape-end}
 use Rattle.text_head.proofs.head_shape.Statement.{statement}
 use Rattle.text_head.proofs.head_shape.Tie as tie
 
@@ -34,15 +35,17 @@ returns c =
 add-to : tie.Need-add-to Inv-loop μ-loop
 add-to c =
     let l = c .before .before .before .before .before in
-    let r = name-room _ _ _ (l .before .before .before .pre .1) _ _ _ (l .loop .inv .1) (omega (arith, l .loop .inv .0, c .before .before .before .before .loop-test .taken)) _
-        (ap (λ n. l .loop .from + n) (c .name-length .ensures)) in
+    let s = l .before .before .before in
+    let r = name-room (s .args .fields .now) (s .args .names .now) (s .pre .1) (l .loop .from) (l .loop .k) (l .loop .from + c .name-length .result) (l .loop .inv .1 .named)
+        (ap (λ (n : ℕ). l .loop .from + n) (c .name-length .ensures)) in
     search needs
 
 part-is-head-line-end : tie.Need-part-is-head-line-end Inv-loop μ-loop
 part-is-head-line-end c =
     let l = c .before .before .before .before .before in
-    let r = name-room _ _ _ (l .before .before .before .pre .1) _ _ _ (l .loop .inv .1) (omega (arith, l .loop .inv .0, c .before .before .before .before .loop-test .taken)) _
-        (ap (λ n. l .loop .from + n) (c .name-length .ensures)) in
+    let s = l .before .before .before in
+    let r = name-room (s .args .fields .now) (s .args .names .now) (s .pre .1) (l .loop .from) (l .loop .k) (l .loop .from + c .name-length .result) (l .loop .inv .1 .named)
+        (ap (λ (n : ℕ). l .loop .from + n) (c .name-length .ensures)) in
     search needs
 
 returns-2 : tie.Need-returns-2 Inv-loop μ-loop

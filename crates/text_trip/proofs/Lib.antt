@@ -1,0 +1,17 @@
+pub mod Below
+pub mod Cells
+pub mod Flag
+pub mod WrittenLines
+pub mod WrittenColumns
+pub mod WrittenHead
+pub mod WrittenCells
+pub mod WrittenRow
+pub mod WrittenText
+pub mod WrittenRows
+pub mod Written
+pub mod ReadTests
+pub mod ReadRows
+pub mod ReadCells
+pub mod ReadColumns
+pub mod ReadHead
+pub mod Read
