@@ -1,16 +1,17 @@
-// The fields of a list: dates, signed figures, the fields from the head's figures and back, and their ranges.
+// The fields of a list: from the head's figures and back, and their ranges.
 ghost use mathlib.Core.Path.{_≡_};
 ghost use Prim.Native.Nat.{ℕ, _+_, _≤_, _<_};
 ghost use mathlib.Core.Bool.{true};
 ghost use lib.ListN.{getD};
 ghost use Rattle.sequences.specs.Below.{tabulate};
 ghost use Rattle.digits.specs.Digits.{cap, plain};
-ghost use Rattle.list_rules.specs.Dates.{isLeap, daysIn, isDate};
-ghost use Rattle.list_rules.specs.Fields.{fieldsFrom, figureAt, fieldsInRange, blankFields};
-ghost use Rattle.list_rules.specs.Head.{fieldCount};
+ghost use Rattle.list_rules.specs.Fields.{fieldsFrom, figuresOf, fieldsInRange, blankFields};
+ghost use Rattle.layout.specs.Places.{limitCount};
+ghost use Rattle.list_rules.specs.Shanghai.{fieldCount, creationCodeField, limitsField};
 use digits::Figure;
 use layout::Fund;
 use list_rules::ListFields;
+use text_rules::MOST_FIELDS;
 use units::Rate;
 
 // A number that is not below zero as a figure.
@@ -24,44 +25,44 @@ fn plain_of(size: u64) -> Figure
 }
 
 // The eight limits among the head's figures.
-fn limits_of(figures: [Figure; 20]) -> [u64; 8]
-    ensures { λ r. ⌜ r ≡ tabulate (λ k. getD figures (12 + k) (plain 0) .size) 8 ⌝ }
+fn limits_of(figures: [Figure; MOST_FIELDS]) -> [u64; layout::LIMITS]
+    ensures { λ r. ⌜ r ≡ tabulate (λ k. getD figures (limitsField + k) (plain 0) .size) limitCount ⌝ }
 {
     [
-        figures[12].size,
-        figures[13].size,
-        figures[14].size,
-        figures[15].size,
-        figures[16].size,
-        figures[17].size,
-        figures[18].size,
-        figures[19].size,
+        figures[list_rules::LIMITS].size,
+        figures[list_rules::LIMITS + 1].size,
+        figures[list_rules::LIMITS + 2].size,
+        figures[list_rules::LIMITS + 3].size,
+        figures[list_rules::LIMITS + 4].size,
+        figures[list_rules::LIMITS + 5].size,
+        figures[list_rules::LIMITS + 6].size,
+        figures[list_rules::LIMITS + 7].size,
     ]
 }
 
 // The fields that the head's figures say.
-pub fn fields_of(figures: [Figure; 20]) -> ListFields
-    requires { ⌜ 1 ≤ getD figures 0 (plain 0) .size ⌝ }
+pub fn fields_of(figures: [Figure; MOST_FIELDS]) -> ListFields
+    requires { ⌜ 1 ≤ getD figures creationCodeField (plain 0) .size ⌝ }
     requires { ⌜ ((k : ℕ) → k < fieldCount → getD figures k (plain 0) .size ≤ cap) ⌝ }
     ensures { λ r. ⌜ r ≡ fieldsFrom (λ k. getD figures k (plain 0)) ⌝ }
 {
     let fund = Fund {
-        first_code: figures[0].size - 1,
-        basket_size: figures[1].size,
-        max_cash_ratio: Rate::new(figures[2].size),
-        switch: figures[4].size,
-        estimated_cash: digits::signed_of(figures[6]),
+        first_code: figures[list_rules::CREATION_CODE].size - 1,
+        basket_size: figures[list_rules::BASKET_SIZE].size,
+        max_cash_ratio: Rate::new(figures[list_rules::CASH_RATIO].size),
+        switch: figures[list_rules::SWITCH].size,
+        estimated_cash: digits::signed_of(figures[list_rules::ESTIMATED_CASH]),
         limits: limits_of(figures),
     };
     ListFields {
         fund,
-        publish: figures[3].size,
-        trading_day: figures[7].size,
-        pre_trading_day: figures[8].size,
-        cash_component: digits::signed_of(figures[9]),
-        nav_per_cu: figures[10].size,
-        nav: figures[11].size,
-        count: figures[5].size as usize,
+        publish: figures[list_rules::PUBLISH].size,
+        trading_day: figures[list_rules::TRADING_DAY].size,
+        pre_trading_day: figures[list_rules::PRE_TRADING_DAY].size,
+        cash_component: digits::signed_of(figures[list_rules::CASH_COMPONENT]),
+        nav_per_cu: figures[list_rules::BASKET_VALUE].size,
+        nav: figures[list_rules::UNIT_VALUE].size,
+        count: figures[list_rules::COUNT].size as usize,
     }
 }
 
@@ -75,10 +76,10 @@ pub fn fields_in_range(l: ListFields) -> bool
     if 1 < l.publish {
         return false;
     }
-    if !is_date(l.trading_day) {
+    if !text_dates::is_date(l.trading_day) {
         return false;
     }
-    if !is_date(l.pre_trading_day) {
+    if !text_dates::is_date(l.pre_trading_day) {
         return false;
     }
     if !fund::cash_in_range(l.cash_component) {
@@ -91,9 +92,9 @@ pub fn fields_in_range(l: ListFields) -> bool
 }
 
 // The head's figures that say the fields.
-pub fn figures_of(l: ListFields) -> [Figure; 20]
+pub fn figures_of(l: ListFields) -> [Figure; MOST_FIELDS]
     requires { ⌜ fieldsInRange l ≡ true ⌝ }
-    ensures { λ r. ⌜ r ≡ tabulate (figureAt l) fieldCount ⌝ }
+    ensures { λ r. ⌜ r ≡ figuresOf l ⌝ }
 {
     let fund = l.fund;
     let limits = fund.limits;
@@ -118,6 +119,10 @@ pub fn figures_of(l: ListFields) -> [Figure; 20]
         plain_of(limits[5]),
         plain_of(limits[6]),
         plain_of(limits[7]),
+        plain_of(0),
+        plain_of(0),
+        plain_of(0),
+        plain_of(0),
     ]
 }
 
@@ -131,7 +136,7 @@ pub fn blank_fields() -> ListFields
         max_cash_ratio: Rate(0),
         switch: 0,
         estimated_cash: 0,
-        limits: [0; 8],
+        limits: [0; layout::LIMITS],
     };
     ListFields {
         fund,

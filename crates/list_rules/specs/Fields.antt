@@ -1,8 +1,8 @@
 -- The fields of a list: from the figures of the head, as figures of the head, and their ranges.
 use Prim.Native.Nat.{ℕ, _+_, _-_}
-use mathlib.Core.Bool.{Bool}
-use mathlib.Core.List.{[], _∷_}
-use lib.Dec.{leb}
+use mathlib.Core.Bool.{Bool, cond}
+use mathlib.Core.List.{List, [], _∷_}
+use lib.Dec.{leb, ltb}
 use lib.IntN.{pos}
 use lib.ListN.{getD}
 use Rattle.sequences.specs.Below.{tabulate}
@@ -15,7 +15,8 @@ use Rattle.layout.specs.Places.{limitCount}
 use Rattle.layout.specs.Fund.{blankFund}
 use Rattle.list_rules.specs.declared.ListFields.{ListFields}
 use Rattle.text_rules.specs.Dates.{isDate}
-use Rattle.list_rules.specs.Shanghai.{creationCodeField, basketSizeField, cashRatioField, publishField, switchField, countField, estimatedCashField, tradingDayField}
+use Rattle.text_rules.specs.Well.{mostFields}
+use Rattle.list_rules.specs.Shanghai.{fieldCount, creationCodeField, basketSizeField, cashRatioField, publishField, switchField, countField, estimatedCashField, tradingDayField}
 use Rattle.list_rules.specs.Shanghai.{preTradingDayField, cashComponentField, basketValueField, unitValueField, limitsField}
 
 -- the fields that the head's figures say, by the order of the names: Fundid1 is the code of creation, g + 1
@@ -59,6 +60,10 @@ figureAt l k =
     ∷ [])
     k
     (plain (getD (l .fund .limits) (k - limitsField) 0))
+
+-- the same in an array with room for more fields
+unfoldable pub figuresOf : ListFields → List Figure
+figuresOf l = tabulate (λ k. cond (ltb k fieldCount) (figureAt l k) (plain 0)) mostFields
 
 -- refusal 2 looks at all of these
 unfoldable pub fieldsInRange : ListFields → Bool

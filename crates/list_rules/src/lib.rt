@@ -71,12 +71,34 @@ pub const COLUMNS: [[usize; COLUMN_PARTS]; COLUMN_COUNT] = [
 // How many bytes a component's name has.
 pub const NAME_WIDTH: usize = COLUMNS[NAME][WIDTH];
 
-// The fields of the head, and which of them reading tests by itself.
+// How many fields the head has, and which is which.
 pub const FIELD_COUNT: usize = 20;
 
 pub const CREATION_CODE: usize = 0;
 
+pub const BASKET_SIZE: usize = 1;
+
+pub const CASH_RATIO: usize = 2;
+
+pub const PUBLISH: usize = 3;
+
+pub const SWITCH: usize = 4;
+
 pub const COUNT: usize = 5;
+
+pub const ESTIMATED_CASH: usize = 6;
+
+pub const TRADING_DAY: usize = 7;
+
+pub const PRE_TRADING_DAY: usize = 8;
+
+pub const CASH_COMPONENT: usize = 9;
+
+pub const BASKET_VALUE: usize = 10;
+
+pub const UNIT_VALUE: usize = 11;
+
+pub const LIMITS: usize = 12;
 
 // Length of the name, digits, decimals, sign and kind.
 pub const FIELDS: [[usize; FIELD_PARTS]; FIELD_COUNT] = [

@@ -1,6 +1,6 @@
 -- The component lines of a text as a run of bytes of their own, and what reading them column by column finds and keeps.
 use Prim.Native.Nat.{ℕ, zero, suc, _+_, _*_}
-use mathlib.Core.Bool.{Bool, cond}
+use mathlib.Core.Bool.{cond}
 use mathlib.Core.List.{List}
 use lib.Dec.{ltb}
 use lib.ListN.{length, take, drop, set}

@@ -7,7 +7,7 @@ use borrow.Author.Needs.{needs}
 use Rattle.sequences.specs.Below.{tabulate}
 use Rattle.digits.specs.Signed.{figureSigned}
 use Rattle.fund.proofs.Laws.{FundRanges, fund-sound, cash-size}
-use Rattle.list_rules.specs.Fields.{figureAt}
+use Rattle.list_rules.specs.Fields.{figuresOf, figureAt}
 use Rattle.list_rules.proofs.Ranges.{FieldRanges, fields-sound}
 use Rattle.list_fields.proofs.Laws.{_▹_}
 use Rattle.list_fields.proofs.figures_of.Statement.{statement}
@@ -44,9 +44,10 @@ figure-of-requires-2 : tie.Need-figure-of-requires-2
 figure-of-requires-2 c κs = rw (cash-back c) (cash-size _ (ranges (start-2 c) .cash))
 
 returns : tie.Need-returns
-unfolding tabulate figureAt
+unfolding tabulate figuresOf figureAt
 returns c =
-    let nav = c .before .before .before .before .before .before .before .before in
+    let limits = c .before .before .before .before in
+    let nav = limits .before .before .before .before .before .before .before .before in
     let cash = nav .before .before in
     let estimated = cash .before .before .before .before in
     let count = estimated .before .before in
@@ -62,14 +63,18 @@ returns c =
     ▹ cash .figure-of2 .ensures ∙ ap figureSigned (cash-back (cash .before))
     ▹ nav .before .plain-of9 .ensures
     ▹ nav .plain-of10 .ensures
-    ▹ c .before .before .before .before .before .before .before .plain-of11 .ensures
-    ▹ c .before .before .before .before .before .before .plain-of12 .ensures
-    ▹ c .before .before .before .before .before .plain-of13 .ensures
-    ▹ c .before .before .before .before .plain-of14 .ensures
-    ▹ c .before .before .before .plain-of15 .ensures
-    ▹ c .before .before .plain-of16 .ensures
-    ▹ c .before .plain-of17 .ensures
-    ▹ c .plain-of18 .ensures
+    ▹ limits .before .before .before .before .before .before .before .plain-of11 .ensures
+    ▹ limits .before .before .before .before .before .before .plain-of12 .ensures
+    ▹ limits .before .before .before .before .before .plain-of13 .ensures
+    ▹ limits .before .before .before .before .plain-of14 .ensures
+    ▹ limits .before .before .before .plain-of15 .ensures
+    ▹ limits .before .before .plain-of16 .ensures
+    ▹ limits .before .plain-of17 .ensures
+    ▹ limits .plain-of18 .ensures
+    ▹ c .before .before .before .plain-of19 .ensures
+    ▹ c .before .before .plain-of20 .ensures
+    ▹ c .before .plain-of21 .ensures
+    ▹ c .plain-of22 .ensures
     ▹ refl
 
 pub figures-of-spec : {M : Type 1} → statement M
@@ -77,32 +82,12 @@ figures-of-spec =
     tie.close
     (tie.spec
     add-plain-of
-    (λ c κs. tt)
-    (λ c κs. tt)
-    (λ c κs. tt)
-    (λ c κs. tt)
-    (λ c κs. tt)
-    (λ c κs. tt)
+    (λ c κs. tt) (λ c κs. tt) (λ c κs. tt) (λ c κs. tt) (λ c κs. tt) (λ c κs. tt)
     figure-of-requires
-    (λ c κs. tt)
-    (λ c κs. tt)
+    (λ c κs. tt) (λ c κs. tt)
     figure-of-requires-2
-    (λ c κs. tt)
-    (λ c κs. tt)
-    (λ c. search needs)
-    (λ c κs. tt)
-    (λ c. search needs)
-    (λ c κs. tt)
-    (λ c. search needs)
-    (λ c κs. tt)
-    (λ c. search needs)
-    (λ c κs. tt)
-    (λ c. search needs)
-    (λ c κs. tt)
-    (λ c. search needs)
-    (λ c κs. tt)
-    (λ c. search needs)
-    (λ c κs. tt)
-    (λ c. search needs)
+    (λ c κs. tt) (λ c κs. tt) (λ c. search needs) (λ c κs. tt) (λ c. search needs) (λ c κs. tt) (λ c. search needs)
+    (λ c κs. tt) (λ c. search needs) (λ c κs. tt) (λ c. search needs) (λ c κs. tt) (λ c. search needs) (λ c κs. tt)
+    (λ c. search needs) (λ c κs. tt) (λ c. search needs) (λ c κs. tt) (λ c κs. tt) (λ c κs. tt) (λ c κs. tt)
     (λ c κs. tt)
     returns)
