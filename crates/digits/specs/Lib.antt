@@ -1,5 +1,4 @@
 pub mod Digits
 pub mod Written
-pub mod Right
 pub mod Signed
 pub mod Fits

@@ -8,7 +8,7 @@ ghost use Rattle.digits.specs.Written.{Written};
 use digits::Figure;
 use digits::Form;
 
-pub mod aligned;
+pub mod tail;
 
 // How many digits n has after its first.
 fn more_digits(n: u64) -> usize

@@ -3,14 +3,22 @@ ghost use mathlib.Core.Path.{_≡_};
 ghost use Prim.Native.Nat.{_≤_};
 ghost use lib.ListN.{length};
 ghost use Rattle.lines.specs.Lines.{same};
-ghost use Rattle.list_rules.specs.Head.{endWord, headLines};
-ghost use Rattle.list_rules.specs.Reading.{startOf, lineStands, wrongLine, isCounted, nameRead, lettersRead, nameFrom};
-ghost use Rattle.list_reading.specs.Outcome.{ReadOutcome, Rows, Shaped, wrongAt, Found, Spelled, Ranged, refusedRead};
+ghost use Rattle.text_rules.specs.Head.{headLines, endWord};
+ghost use Rattle.text_rules.specs.Reading.{lineStands, wrongLine, bodyStart, lettersRead};
+ghost use Rattle.list_rules.specs.Shanghai.{shanghai, shanghaiFields};
+ghost use Rattle.list_rules.specs.Reading.{isCounted, nameRead, nameFrom, namePlace, lettersPlace};
+ghost use Rattle.list_reading.specs.Outcome.{ReadOutcome};
+ghost use Rattle.list_reading.specs.Stages.{FieldsLent, ColumnsLent, Rows, Shaped, wrongAt, Found, Spelled, Ranged, refusedRead, faultPlace};
 use digits::Figure;
 use list_rules::ListAnswer;
 use list_rules::ListFields;
 use list_rules::ListRead;
+use list_rules::TextPart;
 use rules::Refusal;
+use text_rows::CellFault;
+use text_rules::COLUMN_PARTS;
+use text_rules::FIELD_PARTS;
+use text_rules::MOST_FIELDS;
 
 // What refusal 18's tests find: its place, or where the component lines start and how many there are.
 pub struct Shape {
@@ -47,13 +55,13 @@ fn end_stands(text: &[u8], at: usize) -> bool
 }
 
 // Refusal 18 behind the head.
-fn body_shape(text: &[u8], start: usize) -> Shape
-    requires { ⌜ wrongLine (now text) ≡ headLines ⌝ }
-    requires { ⌜ (start ≡ startOf (now text) headLines) × (start ≤ length (now text)) ⌝ }
+fn body_shape(columns: &[[usize; COLUMN_PARTS]], text: &[u8], start: usize) -> Shape
+    requires { ⌜ ColumnsLent (now columns) × (wrongLine shanghaiFields (now text) ≡ headLines shanghaiFields) ⌝ }
+    requires { ⌜ (start ≡ bodyStart shanghai (now text)) × (start ≤ length (now text)) ⌝ }
     ensures { λ r. ⌜ Shaped (now (text .entry)) r ⌝ }
 {
-    let count = list_rows::row_count(text, start);
-    let end = start + list_rules::ROW_PITCH * count;
+    let count = text_rows::row_count(columns, text, start);
+    let end = start + count * (text_columns::line_width(columns) + 2);
     if !end_stands(text, end) {
         return wrong_at(end);
     }
@@ -70,14 +78,20 @@ fn body_shape(text: &[u8], start: usize) -> Shape
 }
 
 // Refusal 18.
-fn shape_of(text: &[u8]) -> Shape
+fn shape_of(
+    fields: &[[usize; FIELD_PARTS]],
+    names: &[u8],
+    columns: &[[usize; COLUMN_PARTS]],
+    text: &[u8],
+) -> Shape
+    requires { ⌜ FieldsLent (now fields) (now names) × ColumnsLent (now columns) ⌝ }
     ensures { λ r. ⌜ Shaped (now (text .entry)) r ⌝ }
 {
-    let head = list_head::head_shape(text);
-    if head.wrong < list_head::LINES {
+    let head = text_head::head_shape(fields, names, text);
+    if head.wrong < fields.len() + 2 {
         return wrong_at(head.place);
     }
-    body_shape(text, head.place)
+    body_shape(columns, text, head.place)
 }
 
 // A refused reading.
@@ -141,7 +155,7 @@ fn read_values(
     text: &[u8],
     start: usize,
     count: usize,
-    figures: [Figure; 20],
+    figures: [Figure; MOST_FIELDS],
     numbers: &[u64],
     run: &mut [u64],
 ) -> ListRead
@@ -149,10 +163,10 @@ fn read_values(
     requires { ⌜ Found (now text) count (now numbers) ⌝ }
     ensures { λ r. ⌜ ReadOutcome (now (text .entry)) (now (run .entry)) r (now (run .exit)) ⌝ }
 {
-    if !is_counted(figures[5].size, count) {
+    if !is_counted(figures[list_rules::COUNT].size, count) {
         return refused(Refusal::RecordCount);
     }
-    if figures[0].size < 1 {
+    if figures[list_rules::CREATION_CODE].size < 1 {
         return refused(Refusal::FundField);
     }
     let fields = list_fields::fields_of(figures);
@@ -162,59 +176,12 @@ fn read_values(
     read_components(text, start, count, fields, numbers, run)
 }
 
-// Refusal 19, and what follows. The numbers of the components wait in an array until all is tested.
-fn read_fields(text: &[u8], start: usize, count: usize, run: &mut [u64]) -> ListRead
-    requires { ⌜ Rows (now text) start count ⌝ }
-    ensures { λ r. ⌜ ReadOutcome (now (text .entry)) (now (run .entry)) r (now (run .exit)) ⌝ }
+// The place of a column at fault, its first byte.
+fn fault_place(columns: &[[usize; COLUMN_PARTS]], text: &[u8], start: usize, count: usize, fault: CellFault) -> usize
+    requires { ⌜ ColumnsLent (now columns) × Rows (now text) start count ⌝ }
+    requires { ⌜ fault ≡ faultIn shanghai (rowsPart (now text) start count) count ⌝ }
+    ensures { λ r. ⌜ r ≡ faultPlace (now (text .entry)) ⌝ }
 {
-    let head = list_head::head_fields(text);
-    if head.wrong < list_head::FIELDS {
-        return refused(Refusal::TextField(head.place));
-    }
-    let mut numbers = [0u64; layout::BASKET_WIDTH];
-    let rows = list_rows::read_rows(text, start, count, &mut numbers);
-    if rows.row < count {
-        return refused(Refusal::TextField(rows.place));
-    }
-    let figures = head.figures;
-    read_values(text, start, count, figures, &numbers, run)
-}
-
-// Reads a list: its fields, and its components at the front of the lent run. A refusal changes nothing, and its fields are blank.
-pub fn read(text: &[u8], run: &mut [u64]) -> ListRead
-    ensures { λ r. ⌜ ReadOutcome (now (text .entry)) (now (run .entry)) r (now (run .exit)) ⌝ }
-{
-    let shape = shape_of(text);
-    if shape.wrong {
-        return refused(Refusal::TextLine(shape.place));
-    }
-    read_fields(text, shape.start, shape.count, run)
-}
-
-// The letters of a text's first line, as that part of it; an empty part where the line is another.
-pub fn letters(text: &[u8]) -> &[u8]
-    ensures { λ r. ⌜ now r ≡ lettersRead (now (text .entry)) ⌝ }
-{
-    list_head::letters(text)
-}
-
-// The name of component j, as that part of the text; an empty part where the text has no such component line.
-pub fn name(text: &[u8], j: usize) -> &[u8]
-    ensures { λ r. ⌜ now r ≡ nameRead (now (text .entry)) j ⌝ }
-{
-    let shape = shape_of(text);
-    if shape.wrong {
-        return &text[..0];
-    }
-    if shape.count <= j {
-        return &text[..0];
-    }
-    list_rows::name_from(text, shape.start, j)
-}
-
-// The same without looking at the text's lines again: `first` is where reading found the first component line.
-pub fn name_from(text: &[u8], first: usize, j: usize) -> &[u8]
-    ensures { λ r. ⌜ now r ≡ nameFrom (now (text .entry)) first j ⌝ }
-{
-    list_rows::name_from(text, first, j)
+    (start + fault.row * (text_columns::line_width(columns) + 2))
+        + text_columns::column_start(columns, fault.column)
 }

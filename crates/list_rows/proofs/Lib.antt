@@ -1,3 +1,4 @@
-pub mod Standing
-pub mod Lines
-pub mod Runs
+pub mod Sought
+pub mod Rows
+pub mod Names
+pub mod Copies

@@ -1,17 +1,38 @@
--- Component lines as the code goes through them, in a text whose component lines start at a given place.
-use Prim.Native.Nat.{ℕ, _+_, _*_}
+-- What is found and kept of the component lines of a text in the Shanghai form.
+use Prim.Native.Nat.{ℕ, _*_}
+use mathlib.Core.Path.{_≡_}
+use mathlib.Core.Bool.{cond}
 use mathlib.Core.List.{List}
-use lib.ListN.{take, drop}
-use Rattle.sequences.specs.Below.{joinBelow}
-use Rattle.layout.specs.Components.{componentAt}
-use Rattle.lines.specs.Lines.{lineText}
-use Rattle.list_rules.specs.Columns.{bytesInRow, rowPitch, rowText}
-use Rattle.list_rules.specs.Writing.{nameAt}
+use lib.Dec.{ltb}
+use lib.ListN.{length, take, drop}
+use Rattle.flags.specs.Table.{flagTable}
+use Rattle.text_rules.specs.Tables.{TextForm, lineForm, columnsOf}
+use Rattle.text_rules.specs.Columns.{linePitch}
+use Rattle.text_rules.specs.Reading.{bodyStart, rowCount, wrongRow, columnPlace}
+use Rattle.text_rows.specs.Rows.{numbersKept}
+use Rattle.list_rules.specs.Shanghai.{shanghai, shanghaiColumns, flagColumn}
+use Rattle.list_rows.specs.declared.RowFault.{RowFault}
 
--- the j-th component line behind a place
-unfoldable pub rowFrom : List ℕ → ℕ → ℕ → List ℕ
-rowFrom text start j = take bytesInRow (drop (start + rowPitch * j) text)
+-- the rows that are lent are the table of columns
+abbrev pub ColumnsLent : List (List ℕ) → Type 0
+ColumnsLent rows = columnsOf rows ≡ shanghaiColumns
 
--- the first n component lines as they are written
-unfoldable pub rowBytes : List ℕ → List ℕ → ℕ → List ℕ
-rowBytes run names n = joinBelow (λ j. lineText (rowText (componentAt run j) (nameAt names j))) n
+-- the form as far as its component lines go
+abbrev pub shanghaiLines : TextForm
+shanghaiLines = lineForm shanghaiColumns flagColumn flagTable
+
+-- the bytes of the component lines
+unfoldable pub rowsOf : List ℕ → List ℕ
+rowsOf text = take (rowCount shanghai text * linePitch shanghaiColumns) (drop (bodyStart shanghai text) text)
+
+-- the first line with a column at fault and the place of that column; the count of the lines and 0 where there is none
+unfoldable pub rowsFound : List ℕ → RowFault
+rowsFound text =
+    record {
+      row = wrongRow shanghai text;
+      place = cond (ltb (wrongRow shanghai text) (rowCount shanghai text)) (columnPlace shanghai text (wrongRow shanghai text)) 0;
+    }
+
+-- a run in which the numbers of the lines are kept, as far as it has room and the first fault lets them be read
+unfoldable pub runKept : List ℕ → List ℕ → List ℕ
+runKept text run = numbersKept shanghaiLines (rowsOf text) (rowCount shanghai text) (length shanghaiColumns) run

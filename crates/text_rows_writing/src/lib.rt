@@ -1,14 +1,269 @@
 // Writes the component lines of a text, by a table of columns that is lent, column by column.
 ghost use mathlib.Core.Path.{_≡_};
 ghost use mathlib.Core.Bool.{true};
-ghost use Prim.Native.Nat.{ℕ, _*_, _<_};
-ghost use lib.ListN.{length};
-ghost use Rattle.text_rules.specs.Tables.{columnsOf, lineForm};
-ghost use Rattle.text_rules.specs.Columns.{linePitch, lineNumbers, lineWords};
+ghost use mathlib.Core.List.{[], _∷_, _++_};
+ghost use Prim.Native.Nat.{ℕ, _+_, _*_, _≤_, _<_};
+ghost use lib.ListN.{length, take, drop, replicate};
+ghost use Rattle.digits.specs.Digits.{plain, numberText};
+ghost use Rattle.digits.specs.Fits.{Fits};
+ghost use Rattle.digits.specs.Written.{put};
+ghost use Rattle.text_rules.specs.Tables.{columnsOf, columnOf, useOf, lineForm};
+ghost use Rattle.text_rules.specs.Columns.{linePitch, lineNumbers, lineWords, numberForm};
 ghost use Rattle.text_rules.specs.Writing.{numbersAt, wordsAt, rowsText};
-ghost use Rattle.text_rules.specs.Well.{columnsWell, flagWell};
+ghost use Rattle.text_rules.specs.Well.{columnWell, columnsWell, flagWell};
 ghost use Rattle.text_trip.specs.Trips.{RowFits};
+ghost use Rattle.text_rows_writing.specs.Lines.{takenBefore, usedBy, usedText, numberAt, wordAt, linesPut, BlankAt, NumbersFit, TableReady, RowsReady, RowsSoFar};
 use text_rules::COLUMN_PARTS;
+
+// What the columns before one take of a line: bytes of the line with their bars, numbers, and bytes of text.
+pub struct Taken {
+    pub bytes: usize,
+    pub numbers: usize,
+    pub words: usize,
+}
+
+// Adds what column k takes.
+fn past(columns: &[[usize; COLUMN_PARTS]], k: usize, taken: Taken) -> Taken
+    requires { ⌜ (columnsWell (columnsOf (now columns)) ≡ true) × (k < length (now columns)) ⌝ }
+    requires { ⌜ taken ≡ takenBefore (columnsOf (now columns)) k ⌝ }
+    ensures { λ r. ⌜ r ≡ takenBefore (columnsOf (now (columns .entry))) (k + 1) ⌝ }
+{
+    let width = columns[k][text_rules::WIDTH];
+    let bytes = taken.bytes + (width + 1);
+    if columns[k][text_rules::USE] == text_rules::TEXT {
+        return Taken {
+            bytes: bytes,
+            numbers: taken.numbers,
+            words: taken.words + width,
+        };
+    }
+    Taken {
+        bytes: bytes,
+        numbers: taken.numbers + 1,
+        words: taken.words,
+    }
+}
+
+// What the columns before column k take.
+fn taken_before(columns: &[[usize; COLUMN_PARTS]], k: usize) -> Taken
+    requires { ⌜ (columnsWell (columnsOf (now columns)) ≡ true) × (k ≤ length (now columns)) ⌝ }
+    ensures { λ r. ⌜ r ≡ takenBefore (columnsOf (now (columns .entry))) k ⌝ }
+{
+    let mut taken = Taken {
+        bytes: 0,
+        numbers: 0,
+        words: 0,
+    };
+    let mut i = 0;
+    while i < k {
+        taken = past(columns, i, taken);
+        i += 1;
+    }
+    taken
+}
+
+// Whether a column that is not for text has a number in a line with that flag.
+fn is_used(
+    flags: &[[bool; flags::COLUMNS]; flags::FLAGS],
+    used: usize,
+    column: usize,
+    flag: u64,
+) -> bool
+    ensures { λ r. ⌜ r ≡ usedBy (now (flags .entry)) flag (useOf used column) ⌝ }
+{
+    if used == text_rules::BY_FLAG {
+        return flags::entry_in(flags, flag, column);
+    }
+    true
+}
+
+// Writes a number into its cell, which holds only blanks.
+fn put_number(cell: &mut [u8], column: [usize; COLUMN_PARTS], n: u64)
+    requires { ⌜ (columnWell (columnOf column) ≡ true) × (now cell ≡ replicate (columnOf column .width) 32) ⌝ }
+    requires { ⌜ Fits (numberForm (columnOf column)) (plain n) ⌝ }
+    ensures { λ _. ⌜ now (cell .exit) ≡ numberText (numberForm (columnOf column)) (plain n) ⌝ }
+{
+    let width = column[text_rules::WIDTH];
+    if column[text_rules::DIGITS] != 0 {
+        digits_writing::tail::put_last(cell, width, width, n);
+        return;
+    }
+    let decimals = column[text_rules::DECIMALS];
+    if decimals == 0 {
+        digits_writing::tail::put_whole(cell, width, n);
+        return;
+    }
+    let left = digits_writing::tail::put_last(cell, width, decimals, n);
+    let point = width - (decimals + 1);
+    cell[point] = 46;
+    digits_writing::tail::put_whole(cell, point, left);
+}
+
+// Writes a number into its place in a line, where the column is used, and the bar behind it.
+fn put_cell(line: &mut [u8], at: usize, column: [usize; COLUMN_PARTS], used: bool, n: u64)
+    requires { ⌜ (columnWell (columnOf column) ≡ true) × (at + columnOf column .width < length (now line)) ⌝ }
+    requires { ⌜ take (columnOf column .width) (drop at (now line)) ≡ replicate (columnOf column .width) 32 ⌝ }
+    requires { ⌜ (used ≡ true → Fits (numberForm (columnOf column)) (plain n)) ⌝ }
+    ensures { λ _. ⌜ now (line .exit) ≡ put (now (line .entry)) at (usedText used (columnOf column) n) ⌝ }
+{
+    let e = at + column[text_rules::WIDTH];
+    if !used {
+        line[e] = text_rules::BAR;
+        return;
+    }
+    put_number(&mut line[at..e], column, n);
+    line[e] = text_rules::BAR;
+}
+
+// Writes words into their place in a line, and the bar behind them.
+fn put_words(line: &mut [u8], at: usize, words: &[u8])
+    requires { ⌜ at + length (now words) < length (now line) ⌝ }
+    ensures { λ _. ⌜ now (line .exit) ≡ put (now (line .entry)) at (now (words .entry) ++ 124 ∷ []) ⌝ }
+{
+    let e = digits_writing::put_bytes(line, at, words);
+    digits_writing::put_byte(line, e, text_rules::BAR);
+}
+
+// Writes the end of a line.
+fn put_end(line: &mut [u8], at: usize)
+    requires { ⌜ at + 2 ≤ length (now line) ⌝ }
+    ensures { λ _. ⌜ now (line .exit) ≡ put (now (line .entry)) at (13 ∷ 10 ∷ []) ⌝ }
+{
+    let e = digits_writing::put_byte(line, at, 13);
+    digits_writing::put_byte(line, e, 10);
+}
+
+// Writes a column of numbers into so many lines of `pitch` bytes.
+fn put_numbers_column(
+    flags: &[[bool; flags::COLUMNS]; flags::FLAGS],
+    column: [usize; COLUMN_PARTS],
+    run: &[u64],
+    stride: usize,
+    flag_place: usize,
+    place: usize,
+    count: usize,
+    rows: &mut [u8],
+    pitch: usize,
+    at: usize,
+)
+    requires { ⌜ (columnWell (columnOf column) ≡ true) × (at + columnOf column .width < pitch) ⌝ }
+    requires { ⌜ (length (now run) ≡ count * stride) × («flag_place» < stride) × (place < stride) ⌝ }
+    requires { ⌜ (length (now rows) ≡ count * pitch) × BlankAt pitch at (columnOf column .width) count (now rows) ⌝ }
+    requires { ⌜ NumbersFit (now flags) (columnOf column) (now run) stride «flag_place» place count ⌝ }
+    ensures { λ _. ⌜ now (rows .exit) ≡ linesPut pitch at (numberAt (now (flags .entry)) (columnOf column) (now (run .entry)) stride «flag_place» place) count (now (rows .entry)) ⌝ }
+{
+    let mut j = 0;
+    while j < count {
+        let q = j * stride;
+        let used = is_used(
+            flags,
+            column[text_rules::USE],
+            column[text_rules::FLAG_COLUMN],
+            run[q + flag_place],
+        );
+        let n = run[q + place];
+        let p = j * pitch;
+        let e = p + pitch;
+        put_cell(&mut rows[p..e], at, column, used, n);
+        j += 1;
+    }
+}
+
+// Writes a column of words into so many lines of `pitch` bytes.
+fn put_words_column(
+    width: usize,
+    texts: &[u8],
+    stride: usize,
+    place: usize,
+    count: usize,
+    rows: &mut [u8],
+    pitch: usize,
+    at: usize,
+)
+    requires { ⌜ at + width < pitch ⌝ }
+    requires { ⌜ (length (now texts) ≡ count * stride) × (place + width ≤ stride) ⌝ }
+    requires { ⌜ length (now rows) ≡ count * pitch ⌝ }
+    ensures { λ _. ⌜ now (rows .exit) ≡ linesPut pitch at (wordAt width (now (texts .entry)) stride place) count (now (rows .entry)) ⌝ }
+{
+    let mut j = 0;
+    while j < count {
+        let m = j * stride + place;
+        let p = j * pitch;
+        let e = p + pitch;
+        put_words(&mut rows[p..e], at, &texts[m..m + width]);
+        j += 1;
+    }
+}
+
+// Writes the end of so many lines of `pitch` bytes.
+fn put_ends(count: usize, rows: &mut [u8], pitch: usize, at: usize)
+    requires { ⌜ (at + 2 ≤ pitch) × (length (now rows) ≡ count * pitch) ⌝ }
+    ensures { λ _. ⌜ now (rows .exit) ≡ linesPut pitch at (λ _. 13 ∷ 10 ∷ []) count (now (rows .entry)) ⌝ }
+{
+    let mut j = 0;
+    while j < count {
+        let p = j * pitch;
+        let e = p + pitch;
+        put_end(&mut rows[p..e], at);
+        j += 1;
+    }
+}
+
+// Writes every column into the lines, which hold only blanks.
+fn put_columns(
+    flags: &[[bool; flags::COLUMNS]; flags::FLAGS],
+    columns: &[[usize; COLUMN_PARTS]],
+    flag_at: usize,
+    line: Taken,
+    run: &[u64],
+    texts: &[u8],
+    count: usize,
+    rows: &mut [u8],
+)
+    requires { ⌜ TableReady (columnsOf (now columns)) «flag_at» line ⌝ }
+    requires { ⌜ RowsReady (lineForm (columnsOf (now columns)) «flag_at» (now flags)) (now run) (now texts) count ⌝ }
+    requires { ⌜ now rows ≡ replicate (count * linePitch (columnsOf (now columns))) 32 ⌝ }
+    ensures { λ _. ⌜ RowsSoFar (lineForm (columnsOf (now (columns .entry))) «flag_at» (now (flags .entry))) (now (run .entry)) (now (texts .entry)) count (length (now (columns .entry))) (now (rows .exit)) ⌝ }
+{
+    let flag_place = taken_before(columns, flag_at).numbers;
+    let pitch = line.bytes + 2;
+    let mut at = Taken {
+        bytes: 0,
+        numbers: 0,
+        words: 0,
+    };
+    let mut k = 0;
+    while k < columns.len() {
+        let column = columns[k];
+        if column[text_rules::USE] == text_rules::TEXT {
+            put_words_column(
+                column[text_rules::WIDTH],
+                texts,
+                line.words,
+                at.words,
+                count,
+                rows,
+                pitch,
+                at.bytes,
+            );
+        } else {
+            put_numbers_column(
+                flags,
+                column,
+                run,
+                line.numbers,
+                flag_place,
+                at.numbers,
+                count,
+                rows,
+                pitch,
+                at.bytes,
+            );
+        }
+        at = past(columns, k, at);
+        k += 1;
+    }
+}
 
 // Writes so many component lines, each with its end, from their numbers and their words.
 pub fn put_rows(
@@ -26,4 +281,8 @@ pub fn put_rows(
     requires { ⌜ ((j : ℕ) → j < count → RowFits (lineForm (columnsOf (now columns)) «flag_at» (now flags)) (numbersAt (lineForm (columnsOf (now columns)) «flag_at» (now flags)) (now run) j) (wordsAt (lineForm (columnsOf (now columns)) «flag_at» (now flags)) (now texts) j)) ⌝ }
     ensures { λ _. ⌜ now (rows .exit) ≡ rowsText (lineForm (columnsOf (now (columns .entry))) «flag_at» (now (flags .entry))) (now (run .entry)) (now (texts .entry)) count ⌝ }
 {
+    let line = taken_before(columns, columns.len());
+    digits_writing::put_blanks(rows, 0, rows.len());
+    put_columns(flags, columns, flag_at, line, run, texts, count, rows);
+    put_ends(count, rows, line.bytes + 2, line.bytes);
 }

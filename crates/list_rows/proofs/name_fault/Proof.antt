@@ -4,8 +4,8 @@ use Prim.Native.Nat.{_-_}
 use mathlib.Core.Path.{sym, _∙_}
 use lib.Seq.{length-take-le}
 use borrow.Author.Needs.{needs}
-use Rattle.list_columns.proofs.Turns.{Sought, sought-start, sought-again, sought-found, sought-end}
-use Rattle.list_rows.proofs.Lines.{badAt, bad-here, bad-first, names-fine}
+use Rattle.list_rows.proofs.Sought.{Sought, sought-start, sought-again, sought-found, sought-end}
+use Rattle.list_rows.proofs.Names.{badAt, bad-here, bad-first, names-fine}
 use Rattle.list_rows.proofs.name_fault.Statement.{statement}
 use Rattle.list_rows.proofs.name_fault.Tie as tie
 

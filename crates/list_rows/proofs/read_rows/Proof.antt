@@ -1,65 +1,132 @@
--- `list_rows::read_rows` meets its contract. The loop's invariant: no line below `j` has a column at fault, and the components of
--- the first 300 of them stand at the front of the run.
-use Prim.Native.Nat.{_-_}
-use mathlib.Core.Path.{sym, ap, _∙_}
+-- `list_rows::read_rows` meets its contract: the lines are a part of the text, and the fault found in them has its place.
+use mathlib.Core.Path.{_≡_, refl, sym, ap, _∙_}
+use mathlib.Core.List.{List}
+use Rattle.text_rules.specs.Tables.{Column}
+use Rattle.text_rules.specs.Columns.{linePitch, columnStart}
+use Prim.Native.Nat.{ℕ, _*_}
 use native.Mathlib.Omega.{arith}
-use borrow.Author.Tests.{lt-ltb, le-ltb}
 use borrow.Author.Needs.{needs}
-use Rattle.list_rules.specs.Columns.{columnFault}
-use Rattle.list_rows.proofs.Lines.{row-long, row-is, place-is, wrong-here, component-read}
-use Rattle.list_rows.proofs.Runs.{RowsRead, rows-start, rows-again, rows-wrong, rows-end}
+use Rattle.list_rows.proofs.Rows.{lent-well, columns-many, pitch-is, end-room, row-room, part-long, rows-part, flag-low, fault-lent, kept-lent, column-low, place-short, row-place, row-none}
 use Rattle.list_rows.proofs.read_rows.Statement.{statement}
 use Rattle.list_rows.proofs.read_rows.Tie as tie
 
-abbrev Inv-loop : tie.InvT-loop
-Inv-loop text start count run₀ j₀ run j = RowsRead text count run₀ run j
+line-width-requires : tie.Need-line-width-requires
+line-width-requires c κs = lent-well _ (c .before .before .pre .0 .0)
 
-abbrev μ-loop : tie.MeasureT-loop
-μ-loop text start count run₀ j₀ run j = count - j
+mul-end : tie.Need-mul-end
+mul-end c =
+    let s = c .before .before .before in
+    let r = end-room (s .args .text .now) (s .args .start) (s .args .count) _ (pitch-is _ (s .pre .0 .0) _ (c .line-width .ensures .0)) (s .pre .1 .1) in
+    search needs
 
-loop-holds : tie.Need-loop-holds Inv-loop μ-loop
-loop-holds c = rows-start _ _ _
+add-end : tie.Need-add-end
+add-end c =
+    let s = c .before .before .before in
+    let r = end-room (s .args .text .now) (s .args .start) (s .args .count) _ (pitch-is _ (s .pre .0 .0) _ (c .line-width .ensures .0)) (s .pre .1 .1) in
+    search needs
 
-read-row-requires : tie.Need-read-row-requires Inv-loop μ-loop
-read-row-requires c κs = row-long _ _ _ (omega arith) (c .row-part .ensures)
+part-read-columns-end : tie.Need-part-read-columns-end
+part-read-columns-end c =
+    let s = c .before .before .before in
+    let r = end-room (s .args .text .now) (s .args .start) (s .args .count) _ (pitch-is _ (s .pre .0 .0) _ (c .line-width .ensures .0)) (s .pre .1 .1) in
+    search needs
 
-returns : tie.Need-returns Inv-loop μ-loop
+read-columns-requires : tie.Need-read-columns-requires
+read-columns-requires c κs =
+    let w = c .before .before in
+    let s = w .before .before .before in (
+      (lent-well _ (s .pre .0 .0), flag-low _ (s .pre .0 .0)),
+      part-long (s .args .text .now) (s .args .start) (s .args .count) _ (pitch-is _ (s .pre .0 .0) _ (w .line-width .ensures .0)) (s .pre .1 .1) ∙ ap (λ (cs : List Column). s .args .count * linePitch cs) (sym (s .pre .0 .0)),
+    )
+
+mul-place : tie.Need-mul-place
+mul-place c =
+    let x = c .before .before .before in
+    let w = x .before .before .before in
+    let s = w .before .before .before in
+    let p = pitch-is _ (s .pre .0 .0) _ (w .line-width .ensures .0) in
+    let part = rows-part (s .args .text .now) _ _ (s .pre .1 .0 .0) (s .pre .1 .0 .1) _ p in
+    let g = fault-lent _ _ (s .pre .0 .0) (s .pre .0 .1) _ _ part _ _ (x .read-columns .ensures .0) in
+    let kept = kept-lent _ _ (s .pre .0 .0) (s .pre .0 .1) _ _ part _ (s .pre .1 .0 .1) _ _ (x .read-columns .ensures .1) in
+    let r = row-room (s .args .text .now) (s .args .start) (s .args .count) _ p (s .pre .1 .1) _ (c .if1 .taken) in
+    search needs
+
+add-place : tie.Need-add-place
+add-place c =
+    let x = c .before .before .before in
+    let w = x .before .before .before in
+    let s = w .before .before .before in
+    let p = pitch-is _ (s .pre .0 .0) _ (w .line-width .ensures .0) in
+    let part = rows-part (s .args .text .now) _ _ (s .pre .1 .0 .0) (s .pre .1 .0 .1) _ p in
+    let g = fault-lent _ _ (s .pre .0 .0) (s .pre .0 .1) _ _ part _ _ (x .read-columns .ensures .0) in
+    let kept = kept-lent _ _ (s .pre .0 .0) (s .pre .0 .1) _ _ part _ (s .pre .1 .0 .1) _ _ (x .read-columns .ensures .1) in
+    let r = row-room (s .args .text .now) (s .args .start) (s .args .count) _ p (s .pre .1 .1) _ (c .if1 .taken) in
+    search needs
+
+column-start-requires : tie.Need-column-start-requires
+column-start-requires c κs =
+    let x = c .before .before .before in
+    let w = x .before .before .before in
+    let s = w .before .before .before in
+    let p = pitch-is _ (s .pre .0 .0) _ (w .line-width .ensures .0) in
+    let part = rows-part (s .args .text .now) _ _ (s .pre .1 .0 .0) (s .pre .1 .0 .1) _ p in
+    let g = fault-lent _ _ (s .pre .0 .0) (s .pre .0 .1) _ _ part _ _ (x .read-columns .ensures .0) in
+    let kept = kept-lent _ _ (s .pre .0 .0) (s .pre .0 .1) _ _ part _ (s .pre .1 .0 .1) _ _ (x .read-columns .ensures .1) in
+    let low = column-low (s .args .text .now) _ _ (s .pre .1 .0 .0) (s .pre .1 .0 .1) (x .read-columns .result) g (c .if1 .taken) in
+    (lent-well _ (s .pre .0 .0), omega (arith, low, columns-many _ (s .pre .0 .0)))
+
+add-place-2 : tie.Need-add-place-2
+add-place-2 c =
+    let x = c .before .before .before .before in
+    let w = x .before .before .before in
+    let s = w .before .before .before in
+    let p = pitch-is _ (s .pre .0 .0) _ (w .line-width .ensures .0) in
+    let part = rows-part (s .args .text .now) _ _ (s .pre .1 .0 .0) (s .pre .1 .0 .1) _ p in
+    let g = fault-lent _ _ (s .pre .0 .0) (s .pre .0 .1) _ _ part _ _ (x .read-columns .ensures .0) in
+    let kept = kept-lent _ _ (s .pre .0 .0) (s .pre .0 .1) _ _ part _ (s .pre .1 .0 .1) _ _ (x .read-columns .ensures .1) in
+    let r = row-room (s .args .text .now) (s .args .start) (s .args .count) _ p (s .pre .1 .1) _ (c .before .if1 .taken) in
+    let z = place-short _ (s .pre .0 .0) _ (c .column-start .ensures .1) in
+    search needs
+
+returns : tie.Need-returns
 returns c =
-    let r = c .before .before .before in
-    let t = r .before .before in
-    let s = t .before .before .before .before in
-    let f = r .read-row .ensures .0 ∙ ap columnFault (row-is _ _ _ (s .pre .1 .0 .0) (r .before .row-part .ensures)) in
-    rows-wrong _ _ _ _ _ (t .before .loop .inv) (s .pre .1 .0 .1) (t .loop-test .taken) (sym (wrong-here _ _ f) ∙ lt-ltb _ _ (c .before .if1 .taken)) _
-    (place-is _ _ _ (s .pre .1 .0 .0) f (c .column-start .ensures .0))
+    let x = c .before .before .before .before in
+    let w = x .before .before .before in
+    let s = w .before .before .before in
+    let p = pitch-is _ (s .pre .0 .0) _ (w .line-width .ensures .0) in
+    let part = rows-part (s .args .text .now) _ _ (s .pre .1 .0 .0) (s .pre .1 .0 .1) _ p in
+    let g = fault-lent _ _ (s .pre .0 .0) (s .pre .0 .1) _ _ part _ _ (x .read-columns .ensures .0) in
+    let kept = kept-lent _ _ (s .pre .0 .0) (s .pre .0 .1) _ _ part _ (s .pre .1 .0 .1) _ _ (x .read-columns .ensures .1) in
+    (row-place (s .args .text .now) _ _ (s .pre .1 .0 .0) (s .pre .1 .0 .1) (x .read-columns .result) g (c .before .if1 .taken) _ _ p
+    (c .column-start .ensures .0 ∙ ap (λ (cs : List Column). columnStart cs (x .read-columns .result .column)) (s .pre .0 .0)), kept)
 
-loop-again : tie.Need-loop-again Inv-loop μ-loop
-loop-again c =
-    let k = c .before .before in
-    let i = k .before .before in
-    let r = i .before .before in
-    let t = r .before .before in
-    let row = row-is _ _ _ (t .before .before .before .before .pre .1 .0 .0) (r .before .row-part .ensures) in
-    let e = wrong-here _ _ (r .read-row .ensures .0 ∙ ap columnFault row) in
-    rows-again _ _ _ _ _ (t .before .loop .inv) (t .loop-test .taken) (sym e ∙ le-ltb _ _ (i .if1 .left))
-    (component-read _ _ row (r .read-row .ensures .1 (i .if1 .left))) _ (k .keep-component .kept .0) (k .keep-component .ensures)
-
-returns-2 : tie.Need-returns-2 Inv-loop μ-loop
+returns-2 : tie.Need-returns-2
 returns-2 c =
-    let s = c .before .before .before .before in
-    rows-end _ _ _ _ _ (c .before .loop .inv) (s .pre .1 .0 .1) (c .loop-test .left) (s .pre .1 .1)
+    let x = c .before .before .before in
+    let w = x .before .before .before in
+    let s = w .before .before .before in
+    let p = pitch-is _ (s .pre .0 .0) _ (w .line-width .ensures .0) in
+    let part = rows-part (s .args .text .now) _ _ (s .pre .1 .0 .0) (s .pre .1 .0 .1) _ p in
+    let g = fault-lent _ _ (s .pre .0 .0) (s .pre .0 .1) _ _ part _ _ (x .read-columns .ensures .0) in
+    let kept = kept-lent _ _ (s .pre .0 .0) (s .pre .0 .1) _ _ part _ (s .pre .1 .0 .1) _ _ (x .read-columns .ensures .1) in
+    (row-none (s .args .text .now) _ _ (s .pre .1 .0 .0) (s .pre .1 .0 .1) (x .read-columns .result) g (c .if1 .left), kept)
 
 pub read-rows-spec : {M : Type 1} → statement M
 read-rows-spec =
     tie.close
     (tie.spec
-    Inv-loop
-    μ-loop
-    loop-holds
-    (λ c κs. search needs)
-    read-row-requires
-    (λ c. search needs) (λ c. search needs) (λ c κs. search needs) (λ c. search needs) (λ c. search needs)
+    line-width-requires
+    (λ c. search needs)
+    mul-end
+    add-end
+    (λ c. search needs) (λ c. search needs)
+    part-read-columns-end
+    read-columns-requires
+    mul-place
+    add-place
+    column-start-requires
+    add-place-2
+    (λ c. search needs)
     returns
-    (λ c κs. search needs) (λ c. search needs) (λ c. search needs)
-    loop-again
     (λ c. search needs)
     returns-2)

@@ -2,7 +2,7 @@
 use Prim.Native.Nat.{_-_}
 use lib.ListN.{length}
 use borrow.Author.Needs.{needs}
-use Rattle.list_rows.proofs.Runs.{Copied, copied-start, copied-again, copied-end}
+use Rattle.list_rows.proofs.Copies.{Copied, copied-start, copied-again, copied-end}
 use Rattle.list_rows.proofs.store_numbers.Statement.{statement}
 use Rattle.list_rows.proofs.store_numbers.Tie as tie
 

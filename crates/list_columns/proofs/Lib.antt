@@ -1,4 +1,0 @@
-pub mod Entries
-pub mod Turns
-pub mod Numbers
-pub mod Cells

@@ -1,0 +1,6 @@
+pub mod Cells
+pub mod Places
+pub mod Stretches
+pub mod Columns
+pub mod Rows
+pub mod Turns
