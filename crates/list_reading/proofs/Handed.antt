@@ -29,12 +29,23 @@ use Rattle.list_rules.specs.declared.ListRead.{ListRead}
 use Rattle.list_rules.specs.declared.ListAnswer.the-variants.{Done}
 use Rattle.list_rules.specs.Fields.{fieldsFrom, fieldsInRange}
 use Rattle.list_rules.proofs.Fields.{fields-same}
-use Rattle.list_rules.specs.Reading.{rowCount, shapeChecks, wrongField, fieldStart, figureRead, rowOf, componentRead, wrongRow, columnPlace}
-use Rattle.list_rules.specs.Reading.{fieldsRead, isCounted, readFault, readReply, componentsRun, nameRead, nameFrom, rowStart}
-use Rattle.list_rules.specs.Columns.{rowPitch}
-use Rattle.list_trip.proofs.WrittenRuns.{places-same}
+use Rattle.text_rules.specs.Columns.{linePitch, columnStart, columnWidth, lineWidth, partOf, lineNumbers, numbersRead}
+use Rattle.text_rules.specs.Head.{isOpening}
+use Rattle.text_rules.specs.Reading.{lineStands, lettersRead, bodyStart, rowStart, rowCount, rowOf, shapeChecks, wrongField, fieldStart, figureRead, wrongRow, columnPlace, runRead}
+use Rattle.text_head.specs.declared.HeadFields.{HeadFields}
+use Rattle.text_head.specs.Head.{figuresFound, fieldsFound}
+use Rattle.text_rows.specs.Rows.{rowIn, faultRow}
+use Rattle.text_rows.proofs.Kept.{kept-all, numbers-long}
+use Rattle.list_rules.specs.declared.TextPart.{TextPart}
+use Rattle.list_rules.specs.Shanghai.{shanghai, shanghaiFields, shanghaiColumns, fieldCount, countField, creationCodeField, nameColumn, nameWidth}
+use Rattle.list_rules.specs.Reading.{fieldsRead, isCounted, readFault, readReply, componentsRun, nameRead, nameFrom, namePlace, lettersPlace}
+use Rattle.list_rows.specs.declared.RowFault.{RowFault}
+use Rattle.list_rows.specs.Rows.{shanghaiLines, rowsOf, rowsFound, runKept}
+use Rattle.list_rows.proofs.Rows.{row-ours, numbers-ours}
+use Rattle.list_trip.proofs.Form.{line-numbers, fields-length}
 use Rattle.list_reading.specs.declared.Shape.{Shape}
-use Rattle.list_reading.specs.Outcome.{ReadOutcome, Rows, Shaped, Found, Spelled, Ranged, refusedRead}
+use Rattle.list_reading.specs.Outcome.{ReadOutcome}
+use Rattle.list_reading.specs.Stages.{Rows, Shaped, Found, Spelled, Ranged, refusedRead}
 use Rattle.list_reading.proofs.Replies.{fieldWrong, countWrong, fields-pass, reply-18, reply-19-field, reply-19-row, reply-20, reply-2, reply-3, reply-16, reply-0}
 use Rattle.list_reading.proofs.Stages.{outcome-refused, outcome-read}
 
@@ -47,49 +58,121 @@ refused-with text run r why e q = rw e (outcome-refused text run why q)
 pub shape-reply : (text : List ℕ) (room : ℕ) (s : Shape) → Shaped text s → s .wrong ≡ true → reply 18 (s .place) 0 ≡ readReply text room
 shape-reply text room s p e = reply-18 text room (s .place) (not-true _ (sym (p .wrong-is) ∙ e)) (p .place-is e)
 
+-- the code's search of a line is that of its definition
+fault-in : (text : List ℕ) (j : ℕ) → j < rowCount shanghai text → columnFault shanghaiLines (rowIn shanghaiColumns (rowsOf text) j) ≡ columnFault shanghai (rowOf shanghai text j)
+fault-in text j l = ap (columnFault shanghaiLines) (row-ours text j l) ∙ fault-ours _
+
+-- the name stands within its line
+name-inside : columnStart shanghaiColumns nameColumn + nameWidth ≤ lineWidth shanghaiColumns
+unfolding columnStart lineWidth columnWidth columnAt shanghaiColumns sumBelow
+name-inside = omega arith
+
 -- names
 pub name-wrong : (text : List ℕ) (j : ℕ) (s : Shape) → Shaped text s → s .wrong ≡ true → [] ≡ nameRead text j
 unfolding nameRead
-name-wrong text j s p e = rw (not-true (passes (shapeChecks text)) (sym (p .wrong-is) ∙ e))
+name-wrong text j s p e = rw (not-true (passes (shapeChecks shanghai text)) (sym (p .wrong-is) ∙ e))
 
 module _ (text : List ℕ) (start count : ℕ) (r : Rows text start count) where
   pub name-past : (j : ℕ) → count ≤ j → [] ≡ nameRead text j
   unfolding nameRead
   name-past j h = rw (r .lines-stand, ← r .count-is, le-ltb j count h)
 
+  -- the name's part of the text is that of the line
   pub name-is : (j : ℕ) → j < count → nameFrom text start j ≡ nameRead text j
-  unfolding nameRead nameFrom rowOf rowStart
+  unfolding nameRead nameFrom namePlace rowOf rowStart shanghai partOf
   name-is j h =
-      let room : start + rowPitch * j + rowPitch ≤ length text = omega (arith, r .room) in
-      rw (r .lines-stand, ← r .count-is, lt-ltb j count h, le-leb (start + rowPitch * j + rowPitch) (length text) room, r .start-is)
+      let w = name-width in
+      let at : ℕ = start + j * linePitch shanghaiColumns in
+      let room : at + linePitch shanghaiColumns ≤ length text = omega (arith, r .room, within (linePitch shanghaiColumns) j count h) in
+      rw (r .lines-stand, ← r .count-is, lt-ltb j count h, le-leb (at + linePitch shanghaiColumns) (length text) room, ← r .start-is, name-width)
+      (sym (part-within (columnStart shanghaiColumns nameColumn) nameWidth (lineWidth shanghaiColumns) (drop at text) (omega (arith, name-inside))
+      ∙ ap (take nameWidth) (drop-drop (columnStart shanghaiColumns nameColumn) at text)))
 
   -- 19 in the head
-  module _ (wrong : ℕ) (e : wrong ≡ wrongField text) where
-    pub field-reply : (room place : ℕ) → wrong < 20 → place ≡ fieldStart text wrong → reply 19 place 0 ≡ readReply text room
-    field-reply room place h f =
-        ap (λ (p : ℕ). reply 19 p 0) (f ∙ ap (fieldStart text) e) ∙ reply-19-field text room (r .lines-stand) (rw e at (lt-ltb wrong 20 h))
+  module _ (h : HeadFields) (e : h ≡ fieldsFound shanghaiFields text) where
+    wrong-is : h .wrong ≡ wrongField shanghaiFields text
+    unfolding fieldsFound
+    wrong-is = ap (λ (x : HeadFields). x .wrong) e
 
-    module _ (high : 20 ≤ wrong) where
+    pub field-reply : (room : ℕ) → h .wrong < length shanghaiFields → reply 19 (h .place) 0 ≡ readReply text room
+    unfolding fieldsFound
+    field-reply room low =
+        let below : ltb (wrongField shanghaiFields text) (length shanghaiFields) ≡ true = rw wrong-is at (lt-ltb (h .wrong) (length shanghaiFields) low) in
+        ap (λ (p : ℕ). reply 19 p 0)
+        (ap (λ (x : HeadFields). x .place) e
+        ∙ ap (λ (b : Bool). cond b (fieldStart shanghaiFields text (wrongField shanghaiFields text)) (startOf text (suc (length shanghaiFields)))) below)
+        ∙ reply-19-field text room (r .lines-stand) below
+
+    module _ (high : length shanghaiFields ≤ h .wrong) where
       fields-right : fieldWrong text ≡ false
-      fields-right = rw e at (le-ltb wrong 20 high)
+      fields-right = rw wrong-is at (le-ltb (h .wrong) (length shanghaiFields) high)
 
       -- 19 in a component line
-      module _ (row : ℕ) (f : row ≡ wrongRow text) where
-        pub row-reply : (room place : ℕ) → row < count → place ≡ columnPlace text row → reply 19 place 0 ≡ readReply text room
-        row-reply room place h g =
-            ap (λ (p : ℕ). reply 19 p 0) (g ∙ ap (columnPlace text) f)
-            ∙ reply-19-row text room (r .lines-stand) fields-right (rw (f, r .count-is) at (lt-ltb row count h))
+      module _ (x : RowFault) (f : x ≡ rowsFound text) where
+        row-is : x .row ≡ wrongRow shanghai text
+        unfolding rowsFound
+        row-is = ap (λ (y : RowFault). y .row) f
 
-        pub spelled : (figures : List Figure) → count ≤ row → figures ≡ tabulate (figureRead text) 20 → Spelled text start count figures
-        spelled figures h g =
-            record { rows = r; fields-well = fields-pass text fields-right (rw (f, r .count-is) at (le-ltb row count h)); figures-are = g }
+        pub row-reply : (room : ℕ) → x .row < count → reply 19 (x .place) 0 ≡ readReply text room
+        unfolding rowsFound
+        row-reply room low =
+            let below : ltb (wrongRow shanghai text) (rowCount shanghai text) ≡ true = rw (row-is, r .count-is) at (lt-ltb (x .row) count low) in
+            ap (λ (p : ℕ). reply 19 p 0)
+            (ap (λ (y : RowFault). y .place) f ∙ ap (λ (b : Bool). cond b (columnPlace shanghai text (wrongRow shanghai text)) 0) below)
+            ∙ reply-19-row text room (r .lines-stand) fields-right below
+
+        module _ (past : count ≤ x .row) where
+          pub spelled : (figures : List Figure) → figures ≡ h .figures → Spelled text start count figures
+          unfolding fieldsFound
+          spelled figures g =
+              record {
+                rows = r;
+                fields-well = fields-pass text fields-right (rw (row-is, r .count-is) at (le-ltb (x .row) count past));
+                figures-are = g ∙ ap (λ (y : HeadFields). y .figures) e;
+              }
+
+          -- the numbers that wait in the array
+          rows-right : faultRow shanghaiLines (rowsOf text) (rowCount shanghai text) ≡ rowCount shanghai text
+          unfolding faultRow wrongRow shanghai
+          rows-right =
+              first-same _ _ (rowCount shanghai text) (λ j l. ap (λ (n : ℕ). ltb n (length shanghaiColumns)) (fault-in text j l))
+              ∙ sym row-is
+              ∙ le-antisymm (rw row-is (first-le _ _)) (rw (r .count-is) at past)
+
+          numbers-found : (run : List ℕ) → count * componentWidth ≤ length run → take (count * componentWidth) (runKept text run) ≡ componentsRun text
+          unfolding runKept componentsRun runRead shanghai
+          numbers-found run room =
+              let many : lineNumbers shanghaiColumns ≡ componentWidth = line-numbers in
+              ap (λ (n : ℕ). take n (runKept text run)) (ap₂ (λ (a b : ℕ). a * b) (r .count-is) (sym many))
+              ∙ kept-all shanghaiLines (rowsOf text) (rowCount shanghai text) run rows-right
+              (omega (arith, room, ap₂ (λ (a b : ℕ). a * b) (r .count-is) (sym many)))
+              ∙ join-same _ _ (rowCount shanghai text) (λ j l. ap (numbersRead shanghaiLines) (row-ours text j l) ∙ numbers-ours _)
+
+          pub found : (run run′ : List ℕ) → run′ ≡ runKept text run → length run ≡ basketWidth → Found text count run′
+          unfolding runKept
+          found run run′ g l =
+              record {
+                long = ap length g ∙ numbers-long shanghaiLines (rowsOf text) (rowCount shanghai text) (length shanghaiColumns) run ∙ l;
+                numbers-are = λ few.
+                    ap₂ (λ (n : ℕ) (m : List ℕ). take n m) (mul-comm componentWidth count) g ∙ numbers-found run (omega (arith, l, few));
+              }
+
+-- no field is wrong
+wrong-none : (text : List ℕ) → passes (fieldChecks shanghai text) ≡ true → wrongField shanghaiFields text ≡ fieldCount
+unfolding wrongField shanghai
+wrong-none text e = first-stops _ (length shanghaiFields) (field-facts text e .0) ∙ fields-length
 
 -- the figures and the fields
 module _ (text : List ℕ) (start count : ℕ) (figures : List Figure) (s : Spelled text start count figures) where
-  pub figure-at : (k : ℕ) (d : Figure) → k < 20 → getD figures k d ≡ figureRead text k
-  figure-at k d h = ap (λ (l : List Figure). getD l k d) (s .figures-are) ∙ table-at (figureRead text) 20 k d h
+  pub figure-at : (k : ℕ) (d : Figure) → k < fieldCount → getD figures k d ≡ figureRead shanghaiFields text k
+  unfolding figuresFound shanghai
+  figure-at k d h =
+      let all : wrongField shanghaiFields text ≡ fieldCount = wrong-none text (s .fields-well) in
+      ap (λ (l : List Figure). getD l k d) (s .figures-are)
+      ∙ table-at (λ i. cond (ltb i (wrongField shanghaiFields text)) (figureRead shanghaiFields text i) (plain 0)) mostFields k d (omega arith)
+      ∙ rw (all, lt-ltb k fieldCount h)
 
-  pub figures-capped : (k : ℕ) → k < 20 → getD figures k (plain 0) .size ≤ cap
+  pub figures-capped : (k : ℕ) → k < fieldCount → getD figures k (plain 0) .size ≤ cap
   unfolding figureRead
   figures-capped k h = rw (figure-at k (plain 0) h) (figure-capped _ _)
 
@@ -98,8 +181,8 @@ module _ (text : List ℕ) (start count : ℕ) (figures : List Figure) (s : Spel
   fields-are fields e = e ∙ fields-same _ _ (λ k h. figure-at k (plain 0) h)
 
   -- 20
-  module _ (n : ℕ) (e : n ≡ figureRead text 5 .size) where
-    count-is : isCounted n count ≡ isCounted (fieldsRead text .count) (rowCount text)
+  module _ (n : ℕ) (e : n ≡ figureRead shanghaiFields text countField .size) where
+    count-is : isCounted n count ≡ isCounted (fieldsRead text .count) (rowCount shanghai text)
     unfolding fieldsRead fieldsFrom
     count-is = ap₂ isCounted e (s .rows .count-is)
 
@@ -111,13 +194,13 @@ module _ (text : List ℕ) (start count : ℕ) (figures : List Figure) (s : Spel
       count-right = ap not (sym count-is ∙ counted)
 
       -- 2
-      pub first-reply : (room first : ℕ) → first ≡ figureRead text 0 .size → first < 1 → reply 2 0 0 ≡ readReply text room
+      pub first-reply : (room first : ℕ) → first ≡ figureRead shanghaiFields text creationCodeField .size → first < 1 → reply 2 0 0 ≡ readReply text room
       first-reply room first f h =
-          reply-2 text room (s .rows .lines-stand) (s .fields-well) count-right (rw (lt-leb 1 (figureRead text 0 .size) (rw f at h)))
+          reply-2 text room (s .rows .lines-stand) (s .fields-well) count-right (rw (lt-leb 1 (figureRead shanghaiFields text creationCodeField .size) (rw f at h)))
 
-      module _ (first : ℕ) (f : first ≡ figureRead text 0 .size) (low : 1 ≤ first) (fields : ListFields) (g : fields ≡ fieldsRead text) where
-        both-are : {b : Bool} → fieldsInRange fields ≡ b → (leb 1 (figureRead text 0 .size) && fieldsInRange (fieldsRead text)) ≡ b
-        both-are h = rw (le-leb 1 (figureRead text 0 .size) (rw f at low)) (rw g at h)
+      module _ (first : ℕ) (f : first ≡ figureRead shanghaiFields text creationCodeField .size) (low : 1 ≤ first) (fields : ListFields) (g : fields ≡ fieldsRead text) where
+        both-are : {b : Bool} → fieldsInRange fields ≡ b → (leb 1 (figureRead shanghaiFields text creationCodeField .size) && fieldsInRange (fieldsRead text)) ≡ b
+        both-are h = rw (le-leb 1 (figureRead shanghaiFields text creationCodeField .size) (rw f at low)) (rw g at h)
 
         pub range-reply : (room : ℕ) → fieldsInRange fields ≡ false → reply 2 0 0 ≡ readReply text room
         range-reply room h = reply-2 text room (s .rows .lines-stand) (s .fields-well) count-right (ap not (both-are h))
@@ -137,11 +220,11 @@ module _ (text : List ℕ) (start count : ℕ) (fields : ListFields) (s : Ranged
   pub few : count ≤ mostComponents
   unfolding isCounted
   few =
-      let both = and-eq-true-iff (inside 1 mostComponents (fieldsRead text .count)) (eqb (fieldsRead text .count) (rowCount text)) .0 (s .counted) in
+      let both = and-eq-true-iff (inside 1 mostComponents (fieldsRead text .count)) (eqb (fieldsRead text .count) (rowCount shanghai text)) .0 (s .counted) in
       omega (
         arith,
         inside-facts 1 mostComponents (fieldsRead text .count) (both .0) .1,
-        eqb-true (fieldsRead text .count) (rowCount text) (both .1),
+        eqb-true (fieldsRead text .count) (rowCount shanghai text) (both .1),
         s .rows .count-is,
       )
 
@@ -158,7 +241,7 @@ module _ (text : List ℕ) (start count : ℕ) (fields : ListFields) (s : Ranged
     component-found j l =
         ap (λ (r : List ℕ). componentAt r j) found-are
         ∙ component-is _ j (componentRead text j)
-        (stretch-join (λ i. componentNumbers (componentRead text i)) (rowCount text) componentWidth j
+        (stretch-join (λ i. componentNumbers (componentRead text i)) (rowCount shanghai text) componentWidth j
         (λ k. numbers-length (componentRead text k)) (omega (arith, s .rows .count-is)))
 
     pub fault-is : (fault : ℕ)
@@ -171,7 +254,7 @@ module _ (text : List ℕ) (start count : ℕ) (fields : ListFields) (s : Ranged
         ∙ rw (s .fields-are, s .rows .count-is)
 
     module _ (fault : ℕ) (h : fault ≡ readFault text) where
-      below : {b : Bool} → ltb fault count ≡ b → ltb (readFault text) (rowCount text) ≡ b
+      below : {b : Bool} → ltb fault count ≡ b → ltb (readFault text) (rowCount shanghai text) ≡ b
       below q = rw (h, s .rows .count-is) at q
 
       pub fault-reply : (room : ℕ) → fault < count → reply 3 fault 0 ≡ readReply text room
@@ -180,7 +263,7 @@ module _ (text : List ℕ) (start count : ℕ) (fields : ListFields) (s : Ranged
           ∙ reply-3 text room (s .rows .lines-stand) (s .fields-well) (ap not (s .counted)) (ap not (s .ranged)) (below (lt-ltb fault count l))
 
       module _ (room : ℕ) (high : count ≤ fault) where
-        rest : {b : Bool} → ltb room (componentWidth * count) ≡ b → ltb room (componentWidth * rowCount text) ≡ b
+        rest : {b : Bool} → ltb room (componentWidth * count) ≡ b → ltb room (componentWidth * rowCount shanghai text) ≡ b
         rest q = rw (s .rows .count-is) at q
 
         pub room-reply : room < componentWidth * count → reply 16 0 0 ≡ readReply text room
@@ -188,12 +271,12 @@ module _ (text : List ℕ) (start count : ℕ) (fields : ListFields) (s : Ranged
             reply-16 text room (s .rows .lines-stand) (s .fields-well) (ap not (s .counted)) (ap not (s .ranged))
             (below (le-ltb fault count high)) (rest (lt-ltb room (componentWidth * count) l))
 
-        pub read-reply : componentWidth * count ≤ room → reply 0 0 (rowCount text) ≡ readReply text room
+        pub read-reply : componentWidth * count ≤ room → reply 0 0 (rowCount shanghai text) ≡ readReply text room
         read-reply l =
             reply-0 text room (s .rows .lines-stand) (s .fields-well) (ap not (s .counted)) (ap not (s .ranged))
             (below (le-ltb fault count high)) (rest (le-ltb room (componentWidth * count) l))
 
-    pub read-outcome : (run run′ : List ℕ) → reply 0 0 (rowCount text) ≡ readReply text (length run)
+    pub read-outcome : (run run′ : List ℕ) → reply 0 0 (rowCount shanghai text) ≡ readReply text (length run)
         → run′ ≡ take (componentWidth * count) numbers ++ drop (length (take (componentWidth * count) numbers)) run
         → ReadOutcome text run (record { answer = Done count; fields = fields; «first_row» = start }) run′
     read-outcome run run′ q w =

@@ -17,11 +17,21 @@ use Rattle.lines.specs.Lines.{lineLen, firstLine, ended, nextAt, same}
 use Rattle.lines.proofs.Laws.{same-is, first-length}
 use Rattle.list_rules.specs.declared.ListRead.{ListRead}
 use Rattle.list_rules.specs.declared.ListAnswer.the-variants.{Done}
-use Rattle.list_rules.specs.Head.{endWord, headLines}
-use Rattle.list_rules.specs.Reading.{startOf, lineOf, lineStands, wrongLine, rowStart, rowCount, endStart, fieldsRead, readReply, componentsRun, fieldsHanded, firstHanded, runAfter}
-use Rattle.list_rules.specs.Columns.{rowPitch}
+use Rattle.text_rules.specs.Tables.{fieldsOf}
+use Rattle.text_rules.specs.Columns.{linePitch}
+use Rattle.text_rules.specs.Head.{endWord, headLines}
+use Rattle.text_rules.specs.Reading.{startOf, lineOf, lineStands, wrongLine, bodyStart, rowStart, rowCount, endStart}
+use Rattle.text_rules.specs.Well.{fieldsWell}
+use Rattle.text_rules.proofs.Tables.{fields-length}
+use Rattle.text_rules.proofs.Well.{form-facts}
+use Rattle.text_head.specs.declared.HeadShape.{HeadShape}
+use Rattle.text_head.specs.Head.{shapeFound}
+use Rattle.list_rules.specs.Shanghai.{shanghai, shanghaiFields, shanghaiColumns}
+use Rattle.list_rules.specs.Reading.{fieldsRead, readReply, componentsRun, fieldsHanded, firstHanded, runAfter}
 use Rattle.list_reading.specs.declared.Shape.{Shape}
-use Rattle.list_reading.specs.Outcome.{ReadOutcome, Shaped, wrongAt, refusedRead}
+use Rattle.list_reading.specs.Outcome.{ReadOutcome}
+use Rattle.list_reading.specs.Stages.{FieldsLent, Shaped, wrongAt, refusedRead}
+use Rattle.list_trip.proofs.Form.{shanghai-well}
 use Rattle.list_reading.proofs.Replies.{lineWrong, endMissing, shape-passes, line-stops, end-stops, more-stops}
 
 -- what is found of a text whose component lines stand
@@ -36,8 +46,8 @@ outcome-refused text run why e =
     record { answer-is = e; fields-is = rw no; first-is = rw no; run-is = rw no }
 
 -- an accepted reading
-pub outcome-read : (text run run′ : List ℕ) (r : ListRead) → reply 0 0 (rowCount text) ≡ readReply text (length run) → r .answer ≡ Done (rowCount text)
-    → r .fields ≡ fieldsRead text → r .«first_row» ≡ startOf text 22 → run′ ≡ componentsRun text ++ drop (componentWidth * rowCount text) run
+pub outcome-read : (text run run′ : List ℕ) (r : ListRead) → reply 0 0 (rowCount shanghai text) ≡ readReply text (length run) → r .answer ≡ Done (rowCount shanghai text)
+    → r .fields ≡ fieldsRead text → r .«first_row» ≡ bodyStart shanghai text → run′ ≡ componentsRun text ++ drop (componentWidth * rowCount shanghai text) run
     → ReadOutcome text run r run′
 unfolding fieldsHanded firstHanded runAfter isAccepted
 outcome-read text run run′ r e a f s d =
@@ -53,29 +63,41 @@ pub shaped-at : (text : List ℕ) (s t : Shape) → s ≡ t → Shaped text t �
 shaped-at text s t e p = rw e p
 
 -- every line of the head stands
-pub head-whole : (text : List ℕ) (wrong place : ℕ) → wrong ≡ wrongLine text → place ≡ startOf text wrong → place ≤ length text → 22 ≤ wrong
-    → (wrongLine text ≡ 22) × ((place ≡ startOf text 22) × (place ≤ length text))
-unfolding wrongLine
-head-whole text wrong place e f room h =
-    let w : wrong ≡ 22 = le-antisymm (rw e (first-le _ 22)) h in
-    (sym e ∙ w, (f ∙ ap (startOf text) w, room))
+pub head-whole : (text : List ℕ) (h : HeadShape) → h ≡ shapeFound shanghaiFields text → h .place ≤ length text → headLines shanghaiFields ≤ h .wrong
+    → (wrongLine shanghaiFields text ≡ headLines shanghaiFields) × ((h .place ≡ bodyStart shanghai text) × (h .place ≤ length text))
+unfolding shapeFound wrongLine bodyStart shanghai
+head-whole text h e room high =
+    let w : wrongLine shanghaiFields text ≡ headLines shanghaiFields =
+        le-antisymm (first-le _ (headLines shanghaiFields)) (omega (arith, ap (λ (x : HeadShape). x .wrong) e)) in
+    (w, (ap (λ (x : HeadShape). x .place) e ∙ ap (startOf text) w, room))
+
+-- what the head's code asks and says of the tables that are lent
+module _ (rows : List (List ℕ)) (names : List ℕ) (lent : FieldsLent rows names) where
+  pub fields-made : fieldsWell (fieldsOf rows names) ≡ true
+  unfolding shanghai
+  fields-made = ap fieldsWell (lent .fields-are) ∙ form-facts shanghai shanghai-well .fields
+
+  pub lines-many : length rows + 2 ≡ headLines shanghaiFields
+  unfolding headLines
+  lines-many = ap (λ (n : ℕ). n + 2) (sym (fields-length rows names) ∙ ap length (lent .fields-are))
 
 module _ (text : List ℕ) where
   -- a wrong line of the head
-  pub shaped-head : (wrong place : ℕ) → wrong ≡ wrongLine text → place ≡ startOf text wrong → wrong < 22 → Shaped text (wrongAt place)
-  shaped-head wrong place e f h =
-      let p = line-stops text (rw (← e) (lt-ltb wrong 22 h)) in
+  pub shaped-head : (h : HeadShape) → h ≡ shapeFound shanghaiFields text → h .wrong < headLines shanghaiFields → Shaped text (wrongAt (h .place))
+  unfolding shapeFound
+  shaped-head h e low =
+      let p = line-stops text (lt-ltb (wrongLine shanghaiFields text) (headLines shanghaiFields) (omega (arith, ap (λ (x : HeadShape). x .wrong) e))) in
       record {
         wrong-is = rw (p .0);
-        place-is = λ _. p .1 ∙ rw (f, e);
+        place-is = λ _. p .1 ∙ ap (λ (n : ℕ). reply 18 n 0) (sym (ap (λ (x : HeadShape). x .place) e));
         rows = λ q. absurd (false≢true (sym q));
       }
 
-  head-passes : wrongLine text ≡ 22 → lineWrong text ≡ false
-  head-passes e = rw e (le-ltb 22 22 (omega arith))
+  head-passes : wrongLine shanghaiFields text ≡ headLines shanghaiFields → lineWrong text ≡ false
+  head-passes e = rw e (le-ltb (headLines shanghaiFields) (headLines shanghaiFields) (omega arith))
 
   -- another line than ENDENDEND
-  pub shaped-end : (end : ℕ) → wrongLine text ≡ 22 → end ≡ endStart text → lineStands (λ l. same l endWord) text end ≡ false → Shaped text (wrongAt end)
+  pub shaped-end : (end : ℕ) → wrongLine shanghaiFields text ≡ headLines shanghaiFields → end ≡ endStart shanghai text → lineStands (λ l. same l endWord) text end ≡ false → Shaped text (wrongAt end)
   shaped-end end e f h =
       let m : endMissing text ≡ true = rw (f) at (ap not h) in
       let p = end-stops text (head-passes e) m in
@@ -97,11 +119,11 @@ end-next text at h =
     and-right true b e = e
     and-right false b e = absurd (false≢true e)
 
-module _ (text : List ℕ) (end : ℕ) (e : wrongLine text ≡ 22) (f : end ≡ endStart text) (h : lineStands (λ l. same l endWord) text end ≡ true) where
+module _ (text : List ℕ) (end : ℕ) (e : wrongLine shanghaiFields text ≡ headLines shanghaiFields) (f : end ≡ endStart shanghai text) (h : lineStands (λ l. same l endWord) text end ≡ true) where
   ends : endMissing text ≡ false
   ends = rw f at (ap not h)
 
-  next-is : nextAt text (endStart text) ≡ end + 11
+  next-is : nextAt text (endStart shanghai text) ≡ end + 11
   next-is = rw (← f) (end-next text end h)
 
   -- bytes behind it
@@ -115,7 +137,7 @@ module _ (text : List ℕ) (end : ℕ) (e : wrongLine text ≡ 22) (f : end ≡ 
       }
 
   -- every line stands
-  pub shaped-rows : (start count : ℕ) → start ≡ startOf text headLines → count ≡ rowCount text → start + rowPitch * count ≤ length text → length text ≤ end + 11
+  pub shaped-rows : (start count : ℕ) → start ≡ bodyStart shanghai text → count ≡ rowCount shanghai text → start + count * linePitch shanghaiColumns ≤ length text → length text ≤ end + 11
       → Shaped text (rowsAt start count)
   shaped-rows start count s c r l =
       let p = shape-passes text (head-passes text e) ends (rw next-is (le-ltb (end + 11) (length text) l)) in
@@ -125,6 +147,6 @@ module _ (text : List ℕ) (end : ℕ) (e : wrongLine text ≡ 22) (f : end ≡ 
         rows = λ _. record { head-stands = e; start-is = s; count-is = c; room = r; lines-stand = p };
       }
 
-pub end-is : (text : List ℕ) (start count : ℕ) → start ≡ startOf text headLines → count ≡ rowCount text → start + rowPitch * count ≡ endStart text
-unfolding endStart rowStart
+pub end-is : (text : List ℕ) (start count : ℕ) → start ≡ bodyStart shanghai text → count ≡ rowCount shanghai text → start + count * linePitch shanghaiColumns ≡ endStart shanghai text
+unfolding endStart rowStart shanghai
 end-is text start count s c = rw (s, c)

@@ -7,15 +7,15 @@ ghost use Rattle.text_rules.specs.Head.{headLines, endWord};
 ghost use Rattle.text_rules.specs.Reading.{lineStands, wrongLine, bodyStart, lettersRead};
 ghost use Rattle.list_rules.specs.Shanghai.{shanghai, shanghaiFields};
 ghost use Rattle.list_rules.specs.Reading.{isCounted, nameRead, nameFrom, namePlace, lettersPlace};
+ghost use Rattle.list_rows.specs.Rows.{ColumnsLent};
 ghost use Rattle.list_reading.specs.Outcome.{ReadOutcome};
-ghost use Rattle.list_reading.specs.Stages.{FieldsLent, ColumnsLent, Rows, Shaped, wrongAt, Found, Spelled, Ranged, refusedRead, faultPlace};
+ghost use Rattle.list_reading.specs.Stages.{FieldsLent, Rows, Shaped, wrongAt, Found, Spelled, Ranged, refusedRead};
 use digits::Figure;
 use list_rules::ListAnswer;
 use list_rules::ListFields;
 use list_rules::ListRead;
 use list_rules::TextPart;
 use rules::Refusal;
-use text_rows::CellFault;
 use text_rules::COLUMN_PARTS;
 use text_rules::FIELD_PARTS;
 use text_rules::MOST_FIELDS;
@@ -176,12 +176,107 @@ fn read_values(
     read_components(text, start, count, fields, numbers, run)
 }
 
-// The place of a column at fault, its first byte.
-fn fault_place(columns: &[[usize; COLUMN_PARTS]], text: &[u8], start: usize, count: usize, fault: CellFault) -> usize
-    requires { ⌜ ColumnsLent (now columns) × Rows (now text) start count ⌝ }
-    requires { ⌜ fault ≡ faultIn shanghai (rowsPart (now text) start count) count ⌝ }
-    ensures { λ r. ⌜ r ≡ faultPlace (now (text .entry)) ⌝ }
+// Refusal 19, and what follows. The numbers of the components wait in an array until all is tested.
+fn read_fields(
+    fields: &[[usize; FIELD_PARTS]],
+    names: &[u8],
+    columns: &[[usize; COLUMN_PARTS]],
+    text: &[u8],
+    start: usize,
+    count: usize,
+    run: &mut [u64],
+) -> ListRead
+    requires { ⌜ FieldsLent (now fields) (now names) × ColumnsLent (now columns) × Rows (now text) start count ⌝ }
+    ensures { λ r. ⌜ ReadOutcome (now (text .entry)) (now (run .entry)) r (now (run .exit)) ⌝ }
 {
-    (start + fault.row * (text_columns::line_width(columns) + 2))
-        + text_columns::column_start(columns, fault.column)
+    let head = text_head::head_fields(fields, names, text);
+    if head.wrong < fields.len() {
+        return refused(Refusal::TextField(head.place));
+    }
+    let flags = flags::TABLE;
+    let mut numbers = [0u64; layout::BASKET_WIDTH];
+    let rows = list_rows::read_rows(&flags, columns, text, start, count, &mut numbers);
+    if rows.row < count {
+        return refused(Refusal::TextField(rows.place));
+    }
+    let figures = head.figures;
+    read_values(text, start, count, figures, &numbers, run)
+}
+
+// Reads a list: its fields, and its components at the front of the lent run. A refusal changes nothing, and its fields are blank.
+pub fn read(text: &[u8], run: &mut [u64]) -> ListRead
+    ensures { λ r. ⌜ ReadOutcome (now (text .entry)) (now (run .entry)) r (now (run .exit)) ⌝ }
+{
+    let fields = list_rules::FIELDS;
+    let names = list_rules::NAMES;
+    let columns = list_rules::COLUMNS;
+    let shape = shape_of(&fields, &names, &columns, text);
+    if shape.wrong {
+        return refused(Refusal::TextLine(shape.place));
+    }
+    read_fields(
+        &fields,
+        &names,
+        &columns,
+        text,
+        shape.start,
+        shape.count,
+        run,
+    )
+}
+
+// The letters of a text's first line, as that part of it; an empty part where the line is another.
+pub fn letters(text: &[u8]) -> &[u8]
+    ensures { λ r. ⌜ now r ≡ lettersRead (now (text .entry)) ⌝ }
+{
+    text_head::letters(text)
+}
+
+// Where they stand.
+pub fn letters_place(text: &[u8]) -> TextPart
+    ensures { λ r. ⌜ r ≡ lettersPlace (now (text .entry)) ⌝ }
+{
+    let n = letters(text).len();
+    if n == 0 {
+        return TextPart {
+            place: 0,
+            length: 0,
+        };
+    }
+    TextPart {
+        place: 4,
+        length: n,
+    }
+}
+
+// The name of component j, as that part of the text; an empty part where the text has no such component line.
+pub fn name(text: &[u8], j: usize) -> &[u8]
+    ensures { λ r. ⌜ now r ≡ nameRead (now (text .entry)) j ⌝ }
+{
+    let fields = list_rules::FIELDS;
+    let names = list_rules::NAMES;
+    let columns = list_rules::COLUMNS;
+    let shape = shape_of(&fields, &names, &columns, text);
+    if shape.wrong {
+        return &text[..0];
+    }
+    if shape.count <= j {
+        return &text[..0];
+    }
+    list_rows::name_from(text, shape.start, j)
+}
+
+// The same without looking at the text's lines again: `first` is where reading found the first component line. With another place
+// it is the name that a component line from there on would have.
+pub fn name_from(text: &[u8], first: usize, j: usize) -> &[u8]
+    ensures { λ r. ⌜ now r ≡ nameFrom (now (text .entry)) first j ⌝ }
+{
+    list_rows::name_from(text, first, j)
+}
+
+// Where that name stands.
+pub fn name_place(text: &[u8], first: usize, j: usize) -> TextPart
+    ensures { λ r. ⌜ r ≡ namePlace (now (text .entry)) first j ⌝ }
+{
+    list_rows::name_place(text, first, j)
 }

@@ -1,12 +1,12 @@
 -- What the test of the fields of a list says.
 use mathlib.Core.Path.{_≡_}
 use mathlib.Core.Bool.{true, false}
-use Prim.Native.Nat.{ℕ, _/_, _%_, _≤_}
+use Prim.Native.Nat.{_≤_}
 use borrow.Author.Tests.{le-leb, leb-true}
-use Rattle.sequences.proofs.Every.{every-none, every-more, every-at, false-of, inside-true, inside-facts}
+use Rattle.sequences.proofs.Every.{every-none, every-more, every-at, false-of}
 use Rattle.fund.specs.Fund.{cashInRange, fundInRange}
 use Rattle.list_rules.specs.declared.ListFields.{ListFields}
-use Rattle.text_rules.specs.Dates.{daysIn, isDate}
+use Rattle.text_rules.specs.Dates.{isDate}
 use Rattle.list_rules.specs.Fields.{fieldsInRange}
 
 pub record FieldRanges (l : ListFields) : Type 0 where

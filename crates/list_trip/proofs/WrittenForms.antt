@@ -1,22 +1,42 @@
--- A component in its ranges: the number of each column fits the column's form.
-use mathlib.Core.Path.{_≡_, refl}
-use mathlib.Core.Bool.{true, false, cond, true≢false, false≢true}
-use mathlib.Core.List.{List, [], _∷_}
-use Prim.Native.Nat.{ℕ, suc, _+_, _/_, _^_, _≤_, _<_}
-use native.Mathlib.Nat.{div-one, div-lt-iff-lt-mul, le-of-eq}
+-- A component in its ranges: its numbers, with a name, fit the columns of a line.
+use mathlib.Core.Path.{_≡_, refl, sym, _∙_}
+use mathlib.Core.Bool.{Bool, true, false, cond, false≢true}
+use mathlib.Core.List.{List}
+use Prim.Native.Nat.{ℕ, zero, suc, _+_, _*_, _/_, _^_, _≤_, _<_}
+use native.Mathlib.Nat.{add-zero, mul-comm, div-one, div-lt-iff-lt-mul, le-of-eq}
 use native.Mathlib.Omega.{arith}
-use lib.Dec.{ltb}
 use lib.ListN.{length, getD, length-append}
 use borrow.Author.Tests.{ne-eqb}
-use Rattle.flags.specs.Table.{entry}
+use Rattle.sequences.specs.Below.{sumBelow, tabulate}
+use Rattle.sequences.specs.Stretch.{stretchOf}
+use Rattle.sequences.proofs.Below.{table-ext}
+use Rattle.sequences.proofs.Stretch.{within, stretch-length, stretch-at}
+use Rattle.flags.specs.Table.{entry, entryIn, flagTable, rateUsed, amountUsed}
+use Rattle.flags.proofs.Laws.{entry-ours}
+use Rattle.layout.specs.Places.{componentWidth}
 use Rattle.layout.specs.declared.Component.{Component}
+use Rattle.layout.specs.Components.{componentAt, componentNumbers}
+use Rattle.fund.specs.Components.{zeroUnless}
 use Rattle.fund.proofs.Laws.{ComponentRanges, unused-zero}
 use Rattle.digits.specs.declared.Form.{Form}
 use Rattle.digits.specs.Digits.{plain, cap, wholeText, plainText, signedText}
-use Rattle.list_rules.specs.Columns.{columnCount, columnTable, columnEntry, columnWidth, columnForm, isUsed, valueAt}
+use Rattle.digits.specs.Fits.{Fits}
 use Rattle.digits.proofs.Count.{fixed-length}
-use Rattle.digits.proofs.Trip.{Fits, decimal-short}
-use Rattle.list_trip.proofs.WrittenTables.{none, both, paired-at}
+use Rattle.digits.proofs.Trip.{decimal-short}
+use Rattle.lines.specs.Lines.{nameByte, allBytes}
+use Rattle.text_rules.specs.Tables.{Column, columnAt}
+use Rattle.text_rules.specs.Columns.{isText, holdsText, numbersBefore, numberCell, blankCell, contentBy, numberForm, cellAt, partAt, contentAt}
+use Rattle.text_trip.specs.Trips.{CellFits, RowFits}
+use Rattle.list_rules.specs.Shanghai.{shanghai, shanghaiColumns, nameColumn}
+
+-- the a-th stretch of a run is the numbers of its a-th component
+pub run-stretch : (run : List ℕ) (n a : ℕ) → length run ≡ componentWidth * n → a < n → stretchOf componentWidth run a ≡ componentNumbers (componentAt run a)
+unfolding tabulate componentNumbers componentAt
+run-stretch run n a e h =
+    table-ext (λ k. getD run (componentWidth * a + k) 0) componentWidth 0 (stretchOf componentWidth run a)
+    (stretch-length componentWidth run a (omega (arith, within componentWidth a n h)))
+    (λ k l. stretch-at componentWidth run a k l ∙ rw (mul-comm a componentWidth))
+    ∙ rw (add-zero (componentWidth * a))
 
 -- a column's form
 abbrev form : ℕ → ℕ → ℕ → Form
@@ -48,50 +68,32 @@ point-fits d decimals n some h l most =
     rw (ne-eqb decimals 0 some, length-append)
     (omega (arith, decimal-short d (n / 10 ^ decimals) l most, fixed-length decimals n)))
 
--- a number is as a row of the columns' table wants it, in a line with that flag
-record Holds (flag : ℕ) (row : List ℕ) (n : ℕ) : Type 0 where
-  fits : Fits (form (getD row 2 0) (getD row 3 0) (getD row 1 0)) (plain n)
-  unused : cond (ltb (getD row 4 0) 6) (entry flag (getD row 4 0)) true ≡ false → n ≡ 0
+-- a column that the flag's row of the table says to be used or not
+use-fits : (b : Bool) (c : Column) (n : ℕ) (s : List ℕ) → Fits (numberForm c) (plain n) → (b ≡ false → n ≡ 0)
+    → CellFits (cond b numberCell blankCell) c n s
+use-fits true c n s f z = f
+use-fits false c n s f z = z refl
 
--- a column that is always used
-always : {flag n : ℕ} {start width digits decimals : ℕ} → Fits (form digits decimals width) (plain n)
-    → Holds flag (start ∷ width ∷ digits ∷ decimals ∷ 6 ∷ []) n
-always f = record { fits = f; unused = λ e. absurd (true≢false e) }
+flag-fits : (flag column : ℕ) (c : Column) (n : ℕ) (s : List ℕ) → Fits (numberForm c) (plain n) → zeroUnless (entry flag column) n ≡ true
+    → CellFits (cond (entryIn flagTable flag column) numberCell blankCell) c n s
+flag-fits flag column c n s f z = use-fits (entryIn flagTable flag column) c n s f (λ e. unused-zero _ n z (sym (entry-ours flag column) ∙ e))
 
 module _ (g : ℕ) (c : Component) (r : ComponentRanges g c) where
-  -- every column of the table
-  columns-hold : (k : ℕ) → k < columnCount → Holds (c .flag) (getD columnTable k []) (valueAt c k)
-  unfolding columnTable valueAt
-  columns-hold =
-      paired-at (Holds (c .flag)) 0 {rs = columnTable}
-      (both (always (fixed-fits 6 (c .code) (omega (arith, r .code)) (omega (arith, r .code))))
-      (both (record { fits = whole-fits 7 0 (omega arith) (omega arith) (omega arith); unused = λ e. refl })
-      (both (always (whole-fits 7 (c .quantity) (omega (arith, r .quantity)) (omega (arith, r .quantity)) (omega arith)))
-      (both (always (fixed-fits 1 (c .flag) (omega (arith, r .flag)) (omega (arith, r .flag))))
-      (both
-      (record {
-        fits = point-fits 0 5 (c .rate .0) (λ e. omega arith) (omega (arith, r .rate)) rate-low (omega arith);
-        unused = unused-zero _ _ (r .rate-use);
-      })
-      (both
-      (record {
-        fits = point-fits 7 3 (c .amount .0) (λ e. omega arith) (omega (arith, r .amount)) amount-low (omega arith);
-        unused = unused-zero _ _ (r .amount-use);
-      })
-      none))))))
-      []
-    where
-      rate-low : c .rate .0 / 100_000 < 10
-      rate-low = div-lt-iff-lt-mul {k = 100_000} {x = c .rate .0} {y = 10} (omega arith) .1 (omega (arith, r .rate))
+  rate-low : c .rate .0 / 100_000 < 10
+  rate-low = div-lt-iff-lt-mul {k = 100_000} {x = c .rate .0} {y = 10} (omega arith) .1 (omega (arith, r .rate))
 
-      amount-low : c .amount .0 / 1_000 < 100_000_000
-      amount-low = div-lt-iff-lt-mul {k = 1_000} {x = c .amount .0} {y = 100_000_000} (omega arith) .1 (omega (arith, r .amount))
+  amount-low : c .amount .0 / 1_000 < 100_000_000
+  amount-low = div-lt-iff-lt-mul {k = 1_000} {x = c .amount .0} {y = 100_000_000} (omega arith) .1 (omega (arith, r .amount))
 
-  -- the number of each column fits its form, and is 0 where it is not used
-  pub column-fits : (k : ℕ) → k < columnCount → Fits (columnForm k) (plain (valueAt c k))
-  unfolding columnForm columnWidth columnEntry
-  column-fits k h = columns-hold k h .fits
-
-  pub column-unused : (k : ℕ) → k < columnCount → isUsed (c .flag) k ≡ false → valueAt c k ≡ 0
-  unfolding isUsed columnEntry
-  column-unused k h = columns-hold k h .unused
+  -- code, name, quantity, flag, rate and amount
+  pub component-fits : (words : List ℕ) → allBytes nameByte (partAt (shanghai .columns) words nameColumn) ≡ true → RowFits shanghai (componentNumbers c) words
+  unfolding shanghai shanghaiColumns componentNumbers contentAt contentBy cellAt numbersBefore holdsText isText columnAt sumBelow numberForm
+  component-fits words name zero h = fixed-fits 6 (c .code) (omega (arith, r .code)) (omega (arith, r .code))
+  component-fits words name (suc zero) h = name
+  component-fits words name (suc (suc zero)) h = whole-fits 7 (c .quantity) (omega (arith, r .quantity)) (omega (arith, r .quantity)) (omega arith)
+  component-fits words name (suc (suc (suc zero))) h = fixed-fits 1 (c .flag) (omega (arith, r .flag)) (omega (arith, r .flag))
+  component-fits words name (suc (suc (suc (suc zero)))) h =
+      flag-fits (c .flag) rateUsed _ (c .rate .0) _ (point-fits 0 5 (c .rate .0) (λ e. omega arith) (omega (arith, r .rate)) rate-low (omega arith)) (r .rate-use)
+  component-fits words name (suc (suc (suc (suc (suc zero))))) h =
+      flag-fits (c .flag) amountUsed _ (c .amount .0) _ (point-fits 7 3 (c .amount .0) (λ e. omega arith) (omega (arith, r .amount)) amount-low (omega arith)) (r .amount-use)
+  component-fits words name (suc (suc (suc (suc (suc (suc k)))))) h = absurd (omega arith)

@@ -1,14 +1,12 @@
 -- What the tests of writing say of a list that passes them.
-use mathlib.Core.Path.{_≡_, sym, ap, _∙_, subst}
+use mathlib.Core.Path.{_≡_, subst}
 use mathlib.Core.Bool.{true, not, and-eq-true-iff}
-use mathlib.Core.List.{List}
 use Prim.Native.Nat.{ℕ, _*_, _≤_, _<_}
-use native.Mathlib.Nat.{le-antisymm, mul-comm}
+use native.Mathlib.Nat.{le-antisymm}
 use native.Mathlib.Omega.{arith}
 use lib.ListN.{length}
 use borrow.Author.Tests.{ltb-false, eqb-true, not-false}
 use Rattle.sequences.specs.Checks.{passes}
-use Rattle.sequences.specs.Stretch.{stretchOf}
 use Rattle.sequences.proofs.Below.{first-le, first-all}
 use Rattle.sequences.proofs.Every.{every-at, inside-facts}
 use Rattle.sequences.proofs.Checks.{passed-all}
@@ -19,14 +17,10 @@ use Rattle.layout.specs.Components.{componentAt, placesOf}
 use Rattle.fund.proofs.Laws.{ComponentRanges, components-fine}
 use Rattle.layout.proofs.Components.{places-at}
 use Rattle.lines.specs.Lines.{nameByte, allBytes}
-use Rattle.list_rules.specs.Head.{isLetters}
+use Rattle.text_rules.specs.Head.{isLetters}
+use Rattle.list_rules.specs.Shanghai.{nameWidth}
 use Rattle.list_rules.specs.Fields.{fieldsInRange}
-use Rattle.list_rules.specs.Writing.{Listing, nameAt, sizesFit, nameFault, writeFault, listChecks, nameWidth}
-
--- the j-th name is a stretch of eight bytes
-pub name-stretch : (names : List ℕ) (j : ℕ) → stretchOf 8 names j ≡ nameAt names j
-unfolding stretchOf nameAt
-name-stretch names j = rw (mul-comm j 8)
+use Rattle.list_rules.specs.Writing.{Listing, nameAt, sizesFit, nameFault, writeFault, listChecks}
 
 -- sizes, ranges, components and names
 pub record Passing (l : Listing) : Type 0 where
@@ -67,12 +61,11 @@ module _ (l : Listing) (p : Passing l) where
       subst (ComponentRanges (l .fields .fund .«first_code»)) (places-at (componentAt (l .run)) (l .fields .count) j h (p .few))
       (components-fine _ _ _ (p .components) j h)
 
-  -- each name has eight bytes that a name may have
+  -- each name has as many bytes as it is to have, all of which a name may have
   pub name-fine : (j : ℕ) → j < l .fields .count → allBytes nameByte (nameAt (l .names) j) ≡ true
   unfolding nameFault
   name-fine j h = not-false _ (first-all (λ i. not (allBytes nameByte (nameAt (l .names) i))) (l .fields .count) (p .names) j h)
 
-  pub name-eight : (j : ℕ) → j < l .fields .count → length (nameAt (l .names) j) ≡ 8
-  name-eight j h =
-      ap length (sym (name-stretch (l .names) j))
-      ∙ stretch-length 8 (l .names) j (omega (arith, p .names-length, within 8 j (l .fields .count) h))
+  pub name-length : (j : ℕ) → j < l .fields .count → length (nameAt (l .names) j) ≡ nameWidth
+  unfolding nameAt
+  name-length j h = stretch-length nameWidth (l .names) j (omega (arith, p .names-length, within nameWidth j (l .fields .count) h))
