@@ -30,7 +30,8 @@ use Rattle.list_rules.specs.Shanghai.{shanghai, shanghaiFields, shanghaiColumns
 use Rattle.list_rules.specs.Reading.{fieldsRead, readReply, componentsRun, fieldsHanded, firstHanded, runAfter}
 use Rattle.list_reading.specs.declared.Shape.{Shape}
 use Rattle.list_reading.specs.Outcome.{ReadOutcome}
-use Rattle.list_reading.specs.Stages.{FieldsLent, Shaped, wrongAt, refusedRead}
+use Rattle.list_rules.specs.Lent.{FieldsLent}
+use Rattle.list_reading.specs.Stages.{Shaped, wrongAt, refusedRead}
 use Rattle.list_trip.proofs.Form.{shanghai-well}
 use Rattle.list_reading.proofs.Replies.{lineWrong, endMissing, shape-passes, line-stops, end-stops, more-stops}
 

@@ -1,4 +1,4 @@
--- What the stages of reading say to each other: the tables that are lent, and what is known of the text after each stage.
+-- What the stages of reading say to each other: what is known of the text after each of them.
 use Prim.Native.Nat.{ℕ, _+_, _*_, _≤_}
 use mathlib.Core.Path.{_≡_}
 use mathlib.Core.Bool.{true, false, not, _&&_}
@@ -9,7 +9,6 @@ use Rattle.sequences.specs.Checks.{reply, answered, passes}
 use Rattle.layout.specs.Places.{mostComponents, componentWidth, basketWidth}
 use Rattle.rules.specs.declared.Refusal.{Refusal}
 use Rattle.digits.specs.declared.Figure.{Figure}
-use Rattle.text_rules.specs.Tables.{fieldsOf, nameBefore}
 use Rattle.text_rules.specs.Columns.{linePitch}
 use Rattle.text_rules.specs.Head.{headLines}
 use Rattle.text_rules.specs.Reading.{wrongLine, bodyStart, rowCount, shapeChecks, fieldChecks, figureRead}
@@ -21,11 +20,6 @@ use Rattle.list_rules.specs.Shanghai.{shanghai, shanghaiFields, shanghaiColumns
 use Rattle.list_rules.specs.Fields.{fieldsInRange, blankFields}
 use Rattle.list_rules.specs.Reading.{fieldsRead, isCounted, componentsRun}
 use Rattle.list_reading.specs.declared.Shape.{Shape}
-
--- the rows and the names that are lent are the table of fields
-pub record FieldsLent (rows : List (List ℕ)) (names : List ℕ) : Type 0 where
-  pub fields-are : fieldsOf rows names ≡ shanghaiFields
-  pub all-named : length names ≡ nameBefore rows (length rows)
 
 -- the component lines of a text whose lines all stand
 pub record Rows (text : List ℕ) (start count : ℕ) : Type 0 where

@@ -50,7 +50,7 @@ module _ (text first j pitch : ℕ) (some : 0 < pitch) where
   line-some h q = omega (arith, le-div-iff-mul-le {k = pitch} {x = j + 1} {y = text - first} some .0 (omega arith), add-mul-one j pitch)
 
 -- a part of a part
-part-within : (a w n : ℕ) (l : List ℕ) → a + w ≤ n → take w (drop a (take n l)) ≡ take w (drop a l)
+pub part-within : (a w n : ℕ) (l : List ℕ) → a + w ≤ n → take w (drop a (take n l)) ≡ take w (drop a l)
 part-within zero w n l h = take-take w n l (omega arith)
 part-within (suc a) w zero l h = absurd (omega arith)
 part-within (suc a) w (suc n) [] h = refl

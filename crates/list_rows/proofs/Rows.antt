@@ -24,7 +24,8 @@ use Rattle.text_rows.specs.Rows.{rowIn, faultRow, faultIn, numbersKept}
 use Rattle.text_rows.proofs.Kept.{row-in}
 use Rattle.list_rules.specs.Shanghai.{shanghai, shanghaiColumns, flagColumn}
 use Rattle.list_rows.specs.declared.RowFault.{RowFault}
-use Rattle.list_rows.specs.Rows.{ColumnsLent, shanghaiLines, rowsOf, rowsFound, runKept}
+use Rattle.list_rules.specs.Lent.{ColumnsLent}
+use Rattle.list_rows.specs.Rows.{shanghaiLines, rowsOf, rowsFound, runKept}
 
 -- the table is well made
 ours-well : columnsWell shanghaiColumns ≡ true
@@ -54,7 +55,7 @@ unfolding linePitch
 place-short columns e a h = omega (arith, ap lineWidth e)
 
 -- a line says the same whatever the fields of the head are
-fault-ours : (l : List ℕ) → columnFault shanghaiLines l ≡ columnFault shanghai l
+pub fault-ours : (l : List ℕ) → columnFault shanghaiLines l ≡ columnFault shanghai l
 unfolding shanghai columnFault wrongCell contentOf flagOf
 fault-ours l = refl
 

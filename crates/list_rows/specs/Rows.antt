@@ -1,21 +1,16 @@
 -- What is found and kept of the component lines of a text in the Shanghai form.
 use Prim.Native.Nat.{ℕ, _*_}
-use mathlib.Core.Path.{_≡_}
 use mathlib.Core.Bool.{cond}
 use mathlib.Core.List.{List}
 use lib.Dec.{ltb}
 use lib.ListN.{length, take, drop}
 use Rattle.flags.specs.Table.{flagTable}
-use Rattle.text_rules.specs.Tables.{TextForm, lineForm, columnsOf}
+use Rattle.text_rules.specs.Tables.{TextForm, lineForm}
 use Rattle.text_rules.specs.Columns.{linePitch}
 use Rattle.text_rules.specs.Reading.{bodyStart, rowCount, wrongRow, columnPlace}
 use Rattle.text_rows.specs.Rows.{numbersKept}
 use Rattle.list_rules.specs.Shanghai.{shanghai, shanghaiColumns, flagColumn}
 use Rattle.list_rows.specs.declared.RowFault.{RowFault}
-
--- the rows that are lent are the table of columns
-abbrev pub ColumnsLent : List (List ℕ) → Type 0
-ColumnsLent rows = columnsOf rows ≡ shanghaiColumns
 
 -- the form as far as its component lines go
 abbrev pub shanghaiLines : TextForm

@@ -1,4 +1,5 @@
 pub mod Shanghai
+pub mod Lent
 pub mod Fields
 pub mod Replies
 pub mod Reading
