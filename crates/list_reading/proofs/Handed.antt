@@ -1,24 +1,22 @@
 -- What the code has found at each stage of reading, and the reply or the facts that follow.
 use mathlib.Core.Path.{_≡_, sym, ap, ap₂, _∙_}
-use mathlib.Core.Bool.{Bool, true, false, not, _&&_, and-eq-true-iff}
+use mathlib.Core.Bool.{Bool, true, false, not, _&&_, cond, and-eq-true-iff}
 use mathlib.Core.List.{List, [], _++_}
-use Prim.Native.Nat.{ℕ, _+_, _*_, _≤_, _<_}
+use Prim.Native.Nat.{ℕ, suc, _+_, _*_, _≤_, _<_}
+use native.Mathlib.Nat.{mul-comm, le-antisymm}
 use native.Mathlib.Omega.{arith}
 use lib.Dec.{leb, ltb, eqb}
 use lib.ListN.{length, getD, take, drop}
 use lib.Seq.{length-take-le}
 use borrow.Author.Tests.{lt-ltb, le-ltb, lt-leb, le-leb, eqb-true, not-true}
-use Rattle.sequences.specs.Below.{tabulate}
 use Rattle.sequences.specs.Every.{inside}
 use Rattle.sequences.specs.Checks.{reply, passes}
-use Rattle.sequences.proofs.Below.{table-at}
-use Rattle.sequences.proofs.Stretch.{stretch-join}
+use Rattle.sequences.proofs.Below.{table-at, first-le, first-same, first-stops}
+use Rattle.sequences.proofs.Stretch.{within}
 use Rattle.sequences.proofs.Every.{inside-facts}
-use Rattle.layout.specs.declared.Component.{Component}
-use Rattle.layout.specs.Components.{componentAt, componentNumbers, placesOf}
+use Rattle.layout.specs.Components.{componentAt, placesOf}
 use Rattle.fund.specs.Components.{componentFault}
-use Rattle.layout.specs.Places.{componentWidth, mostComponents}
-use Rattle.layout.proofs.Components.{numbers-length, component-is}
+use Rattle.layout.specs.Places.{componentWidth, mostComponents, basketWidth}
 use Rattle.rules.specs.declared.Refusal.{Refusal}
 use Rattle.rules.specs.Replies.{refusalReply}
 use Rattle.digits.specs.declared.Figure.{Figure}
@@ -29,24 +27,26 @@ use Rattle.list_rules.specs.declared.ListRead.{ListRead}
 use Rattle.list_rules.specs.declared.ListAnswer.the-variants.{Done}
 use Rattle.list_rules.specs.Fields.{fieldsFrom, fieldsInRange}
 use Rattle.list_rules.proofs.Fields.{fields-same}
-use Rattle.text_rules.specs.Columns.{linePitch, columnStart, columnWidth, lineWidth, partOf, lineNumbers, numbersRead}
-use Rattle.text_rules.specs.Head.{isOpening}
-use Rattle.text_rules.specs.Reading.{lineStands, lettersRead, bodyStart, rowStart, rowCount, rowOf, shapeChecks, wrongField, fieldStart, figureRead, wrongRow, columnPlace, runRead}
+use Rattle.text_rules.specs.Columns.{linePitch, columnFault, lineNumbers, numbersRead}
+use Rattle.text_rules.specs.Reading.{startOf, rowCount, rowOf, shapeChecks, fieldChecks, wrongField, fieldStart, figureRead, wrongRow, columnPlace, runRead}
+use Rattle.text_rules.specs.Well.{mostFields}
+use Rattle.text_trip.proofs.Below.{join-same}
 use Rattle.text_head.specs.declared.HeadFields.{HeadFields}
 use Rattle.text_head.specs.Head.{figuresFound, fieldsFound}
 use Rattle.text_rows.specs.Rows.{rowIn, faultRow}
 use Rattle.text_rows.proofs.Kept.{kept-all, numbers-long}
-use Rattle.list_rules.specs.declared.TextPart.{TextPart}
-use Rattle.list_rules.specs.Shanghai.{shanghai, shanghaiFields, shanghaiColumns, fieldCount, countField, creationCodeField, nameColumn, nameWidth}
-use Rattle.list_rules.specs.Reading.{fieldsRead, isCounted, readFault, readReply, componentsRun, nameRead, nameFrom, namePlace, lettersPlace}
+use Rattle.list_rules.specs.Shanghai.{shanghai, shanghaiFields, shanghaiColumns, fieldCount, countField, creationCodeField}
+use Rattle.list_rules.specs.Reading.{fieldsRead, isCounted, readFault, readReply, componentsRun, nameRead, nameFrom}
 use Rattle.list_rows.specs.declared.RowFault.{RowFault}
 use Rattle.list_rows.specs.Rows.{shanghaiLines, rowsOf, rowsFound, runKept}
-use Rattle.list_rows.proofs.Rows.{row-ours, numbers-ours}
+use Rattle.list_rows.proofs.Rows.{row-ours, fault-ours, numbers-ours}
 use Rattle.list_trip.proofs.Form.{line-numbers, fields-length}
+use Rattle.list_trip.proofs.Names.{name-read}
+use Rattle.list_trip.proofs.NamePlaces.{name-part, name-at}
 use Rattle.list_reading.specs.declared.Shape.{Shape}
 use Rattle.list_reading.specs.Outcome.{ReadOutcome}
 use Rattle.list_reading.specs.Stages.{Rows, Shaped, Found, Spelled, Ranged, refusedRead}
-use Rattle.list_reading.proofs.Replies.{fieldWrong, countWrong, fields-pass, reply-18, reply-19-field, reply-19-row, reply-20, reply-2, reply-3, reply-16, reply-0}
+use Rattle.list_reading.proofs.Replies.{fieldWrong, countWrong, field-facts, fields-pass, reply-18, reply-19-field, reply-19-row, reply-20, reply-2, reply-3, reply-16, reply-0}
 use Rattle.list_reading.proofs.Stages.{outcome-refused, outcome-read}
 
 -- a refusal that the code hands back
@@ -62,11 +62,6 @@ shape-reply text room s p e = reply-18 text room (s .place) (not-true _ (sym (p 
 fault-in : (text : List ℕ) (j : ℕ) → j < rowCount shanghai text → columnFault shanghaiLines (rowIn shanghaiColumns (rowsOf text) j) ≡ columnFault shanghai (rowOf shanghai text j)
 fault-in text j l = ap (columnFault shanghaiLines) (row-ours text j l) ∙ fault-ours _
 
--- the name stands within its line
-name-inside : columnStart shanghaiColumns nameColumn + nameWidth ≤ lineWidth shanghaiColumns
-unfolding columnStart lineWidth columnWidth columnAt shanghaiColumns sumBelow
-name-inside = omega arith
-
 -- names
 pub name-wrong : (text : List ℕ) (j : ℕ) (s : Shape) → Shaped text s → s .wrong ≡ true → [] ≡ nameRead text j
 unfolding nameRead
@@ -79,14 +74,11 @@ module _ (text : List ℕ) (start count : ℕ) (r : Rows text start count) where
 
   -- the name's part of the text is that of the line
   pub name-is : (j : ℕ) → j < count → nameFrom text start j ≡ nameRead text j
-  unfolding nameRead nameFrom namePlace rowOf rowStart shanghai partOf
   name-is j h =
-      let w = name-width in
-      let at : ℕ = start + j * linePitch shanghaiColumns in
-      let room : at + linePitch shanghaiColumns ≤ length text = omega (arith, r .room, within (linePitch shanghaiColumns) j count h) in
-      rw (r .lines-stand, ← r .count-is, lt-ltb j count h, le-leb (at + linePitch shanghaiColumns) (length text) room, ← r .start-is, name-width)
-      (sym (part-within (columnStart shanghaiColumns nameColumn) nameWidth (lineWidth shanghaiColumns) (drop at text) (omega (arith, name-inside))
-      ∙ ap (take nameWidth) (drop-drop (columnStart shanghaiColumns nameColumn) at text)))
+      rw (r .start-is)
+      (name-part text _ j (omega (arith, r .start-is, r .room, within (linePitch shanghaiColumns) j count h))
+      ∙ sym (name-at text j)
+      ∙ sym (name-read text (r .lines-stand) j (omega (arith, r .count-is))))
 
   -- 19 in the head
   module _ (h : HeadFields) (e : h ≡ fieldsFound shanghaiFields text) where
@@ -236,22 +228,11 @@ module _ (text : List ℕ) (start count : ℕ) (fields : ListFields) (s : Ranged
     pub found-long : length (take (componentWidth * count) numbers) ≡ componentWidth * count
     found-long = length-take-le (componentWidth * count) numbers (omega (arith, f .long, few))
 
-    component-found : (j : ℕ) → j < count → componentAt (take (componentWidth * count) numbers) j ≡ componentRead text j
-    unfolding componentsRun
-    component-found j l =
-        ap (λ (r : List ℕ). componentAt r j) found-are
-        ∙ component-is _ j (componentRead text j)
-        (stretch-join (λ i. componentNumbers (componentRead text i)) (rowCount shanghai text) componentWidth j
-        (λ k. numbers-length (componentRead text k)) (omega (arith, s .rows .count-is)))
-
     pub fault-is : (fault : ℕ)
         → fault ≡ componentFault (fields .fund .«first_code») (placesOf (componentAt (take (componentWidth * count) numbers)) count) count
         → fault ≡ readFault text
     unfolding readFault
-    fault-is fault h =
-        h
-        ∙ ap (λ (cs : List Component). componentFault (fields .fund .«first_code») cs count) (places-same _ _ count component-found)
-        ∙ rw (s .fields-are, s .rows .count-is)
+    fault-is fault h = h ∙ rw (found-are, s .fields-are, s .rows .count-is)
 
     module _ (fault : ℕ) (h : fault ≡ readFault text) where
       below : {b : Bool} → ltb fault count ≡ b → ltb (readFault text) (rowCount shanghai text) ≡ b

@@ -52,7 +52,7 @@ end-short = omega arith
 
 -- A place by whether the text has as many bytes as a component line there.
 module _ (text : List ℕ) (first j : ℕ) where
-  name-part : first + j * linePitch shanghaiColumns + linePitch shanghaiColumns ≤ length text
+  pub name-part : first + j * linePitch shanghaiColumns + linePitch shanghaiColumns ≤ length text
       → nameFrom text first j ≡ take nameWidth (drop (first + j * linePitch shanghaiColumns + columnStart shanghaiColumns nameColumn) text)
   unfolding nameFrom namePlace
   name-part h = rw (le-leb (first + j * linePitch shanghaiColumns + linePitch shanghaiColumns) (length text) h)
@@ -65,6 +65,17 @@ module _ (text : List ℕ) (first j : ℕ) where
 name-past : (text : List ℕ) (j : ℕ) → rowCount shanghai text ≤ j → nameRead text j ≡ []
 unfolding nameRead
 name-past text j h = rw (le-ltb j (rowCount shanghai text) h, and-false)
+
+-- the name's column of the j-th, in the text
+pub name-at : (text : List ℕ) (j : ℕ) → partOf shanghaiColumns nameColumn (rowOf shanghai text j)
+    ≡ take nameWidth (drop (bodyStart shanghai text + j * linePitch shanghaiColumns + columnStart shanghaiColumns nameColumn) text)
+unfolding partOf rowOf rowStart shanghai
+name-at text j =
+    let start = bodyStart shanghai text + j * linePitch shanghaiColumns in
+    part-within (columnStart shanghaiColumns nameColumn) (columnWidth shanghaiColumns nameColumn) (lineWidth shanghaiColumns) (drop start text)
+    (le-of-lt (end-line shanghaiColumns nameColumn name-there))
+    ∙ ap (λ (w : ℕ). take w (drop (columnStart shanghaiColumns nameColumn) (drop start text))) name-width
+    ∙ ap (take nameWidth) (drop-drop (columnStart shanghaiColumns nameColumn) start text)
 
 module _ (text : List ℕ) (r : Reads shanghai text) where
   -- the component lines and the last line, to the end of the text
@@ -98,24 +109,13 @@ module _ (text : List ℕ) (r : Reads shanghai text) where
         within (linePitch (shanghai .columns)) (rowCount shanghai text) (suc j) (omega arith),
       )
 
-  -- the name's column of the j-th, in the text
-  name-at : (j : ℕ) → partOf shanghaiColumns nameColumn (rowOf shanghai text j)
-      ≡ take nameWidth (drop (bodyStart shanghai text + j * linePitch shanghaiColumns + columnStart shanghaiColumns nameColumn) text)
-  unfolding partOf rowOf rowStart shanghai
-  name-at j =
-      let start = bodyStart shanghai text + j * linePitch shanghaiColumns in
-      part-within (columnStart shanghaiColumns nameColumn) (columnWidth shanghaiColumns nameColumn) (lineWidth shanghaiColumns) (drop start text)
-      (le-of-lt (end-line shanghaiColumns nameColumn name-there))
-      ∙ ap (λ (w : ℕ). take w (drop (columnStart shanghaiColumns nameColumn) (drop start text))) name-width
-      ∙ ap (take nameWidth) (drop-drop (columnStart shanghaiColumns nameColumn) start text)
-
   -- by whether the text has such a line
   name-cases : passes (shapeChecks shanghai text) ≡ true → (j : ℕ) → Dec (j < rowCount shanghai text)
       → nameFrom text (bodyStart shanghai text) j ≡ nameRead text j
   unfolding shanghai
   name-cases shape j (yes h) =
       name-part text (bodyStart shanghai text) j (row-there j h)
-      ∙ sym (name-at j)
+      ∙ sym (name-at text j)
       ∙ sym (name-read text shape j h)
   name-cases shape j (no h) =
       name-none text (bodyStart shanghai text) j (row-past j (omega arith))
