@@ -34,7 +34,7 @@ unfolding shanghai shanghaiColumns wordsRead holdsText isText columnAt joinBelow
 words-name l = simp append-nil
 
 pub part-name : (s : List ℕ) → length s ≡ nameWidth → partAt (shanghai .columns) s nameColumn ≡ s
-unfolding shanghai shanghaiColumns partAt wordsBefore holdsText isText columnAt columnWidth
+unfolding shanghai shanghaiColumns partAt wordsBefore holdsText isText columnAt columnWidth sumBelow
 part-name s e = take-all nameWidth s (le-of-eq e)
 
 pub name-width : columnWidth shanghaiColumns nameColumn ≡ nameWidth
