@@ -1,5 +1,5 @@
 -- What the code has found at each stage of reading, and the reply or the facts that follow.
-use mathlib.Core.Path.{_≡_, sym, ap, ap₂, _∙_}
+use mathlib.Core.Path.{_≡_, refl, sym, ap, ap₂, _∙_}
 use mathlib.Core.Bool.{Bool, true, false, not, _&&_, cond, and-eq-true-iff}
 use mathlib.Core.List.{List, [], _++_}
 use Prim.Native.Nat.{ℕ, suc, _+_, _*_, _≤_, _<_}
@@ -13,7 +13,7 @@ use Rattle.sequences.specs.Every.{inside}
 use Rattle.sequences.specs.Checks.{reply, passes}
 use Rattle.sequences.proofs.Below.{table-at, first-le, first-same, first-stops}
 use Rattle.sequences.proofs.Stretch.{within}
-use Rattle.sequences.proofs.Every.{inside-facts}
+use Rattle.sequences.proofs.Every.{every-at, inside-facts}
 use Rattle.layout.specs.Components.{componentAt, placesOf}
 use Rattle.fund.specs.Components.{componentFault}
 use Rattle.layout.specs.Places.{componentWidth, mostComponents, basketWidth}
@@ -28,7 +28,10 @@ use Rattle.list_rules.specs.declared.ListAnswer.the-variants.{Done}
 use Rattle.list_rules.specs.Fields.{fieldsFrom, fieldsInRange}
 use Rattle.list_rules.proofs.Fields.{fields-same}
 use Rattle.text_rules.specs.Columns.{linePitch, columnFault, lineNumbers, numbersRead}
-use Rattle.text_rules.specs.Reading.{startOf, rowCount, rowOf, shapeChecks, fieldChecks, wrongField, fieldStart, figureRead, wrongRow, columnPlace, runRead}
+use Rattle.lines.specs.Lines.{ended}
+use Rattle.text_rules.specs.Head.{isOpening}
+use Rattle.text_head.proofs.Opening.{letters-count}
+use Rattle.text_rules.specs.Reading.{startOf, lineOf, lineStands, lettersRead, rowCount, rowOf, shapeChecks, fieldChecks, wrongField, fieldStart, figureRead, wrongRow, columnPlace, runRead}
 use Rattle.text_rules.specs.Well.{mostFields}
 use Rattle.text_trip.proofs.Below.{join-same}
 use Rattle.text_head.specs.declared.HeadFields.{HeadFields}
@@ -36,7 +39,7 @@ use Rattle.text_head.specs.Head.{figuresFound, fieldsFound}
 use Rattle.text_rows.specs.Rows.{rowIn, faultRow}
 use Rattle.text_rows.proofs.Kept.{kept-all, numbers-long}
 use Rattle.list_rules.specs.Shanghai.{shanghai, shanghaiFields, shanghaiColumns, fieldCount, countField, creationCodeField}
-use Rattle.list_rules.specs.Reading.{fieldsRead, isCounted, readFault, readReply, componentsRun, nameRead, nameFrom}
+use Rattle.list_rules.specs.Reading.{fieldsRead, isCounted, readFault, readReply, componentsRun, nameRead, nameFrom, lettersPlace}
 use Rattle.list_rows.specs.declared.RowFault.{RowFault}
 use Rattle.list_rows.specs.Rows.{shanghaiLines, rowsOf, rowsFound, runKept}
 use Rattle.list_rows.proofs.Rows.{row-ours, fault-ours, numbers-ours}
@@ -206,6 +209,29 @@ module _ (text : List ℕ) (start count : ℕ) (figures : List Figure) (s : Spel
               counted = sym count-is ∙ counted;
               ranged = both-are h;
             }
+
+-- the letters' place: there are some just where the first line is an opening one
+module _ (text letters : List ℕ) (e : letters ≡ lettersRead text) where
+  opening-some : lineStands isOpening text 0 ≡ true → 1 ≤ length (lettersRead text)
+  unfolding lettersRead lineStands isOpening
+  opening-some h =
+      rw h (letters-count _ (every-at _ (and-eq-true-iff (ended (drop 0 text)) (isOpening (lineOf text 0)) .0 h .1) 1) .0)
+
+  opening-none : lineStands isOpening text 0 ≡ false → length (lettersRead text) ≡ 0
+  unfolding lettersRead
+  opening-none h = rw h
+
+  place-cases : (b : Bool) → lineStands isOpening text 0 ≡ b → (length letters ≡ 0 → record { place = 0; length = 0 } ≡ lettersPlace text)
+      × (1 ≤ length letters → record { place = 4; length = length letters } ≡ lettersPlace text)
+  unfolding lettersPlace
+  place-cases true h = ((λ n. absurd (omega (arith, opening-some h, ap length e))), λ n. rw (h, e))
+  place-cases false h = ((λ n. rw h), λ n. absurd (omega (arith, opening-none h, ap length e)))
+
+  pub letters-none : length letters ≡ 0 → record { place = 0; length = 0 } ≡ lettersPlace text
+  letters-none = place-cases _ refl .0
+
+  pub letters-some : 1 ≤ length letters → record { place = 4; length = length letters } ≡ lettersPlace text
+  letters-some = place-cases _ refl .1
 
 -- the components
 module _ (text : List ℕ) (start count : ℕ) (fields : ListFields) (s : Ranged text start count fields) where

@@ -1,6 +1,6 @@
 -- What each stage of reading hands on or hands back.
 use Prim.Native.Nat.{ℕ, _+_, _*_, _≤_, _<_}
-use mathlib.Core.Path.{_≡_, sym, ap, _∙_}
+use mathlib.Core.Path.{_≡_, sym, ap, ap₂, _∙_}
 use mathlib.Core.Bool.{Bool, true, false, not, _&&_, false≢true}
 use mathlib.Core.List.{List, _++_}
 use native.Mathlib.Omega.{arith}
@@ -17,20 +17,21 @@ use Rattle.lines.specs.Lines.{lineLen, firstLine, ended, nextAt, same}
 use Rattle.lines.proofs.Laws.{same-is, first-length}
 use Rattle.list_rules.specs.declared.ListRead.{ListRead}
 use Rattle.list_rules.specs.declared.ListAnswer.the-variants.{Done}
-use Rattle.text_rules.specs.Tables.{fieldsOf}
+use Rattle.text_rules.specs.Tables.{Column, Field, columnsOf, fieldsOf}
 use Rattle.text_rules.specs.Columns.{linePitch}
 use Rattle.text_rules.specs.Head.{endWord, headLines}
-use Rattle.text_rules.specs.Reading.{startOf, lineOf, lineStands, wrongLine, bodyStart, rowStart, rowCount, endStart}
+use Rattle.text_rules.specs.Reading.{startOf, lineOf, lineStands, wrongLine, bodyStart, rowsFrom, rowStart, rowCount, endStart}
 use Rattle.text_rules.specs.Well.{fieldsWell}
 use Rattle.text_rules.proofs.Tables.{fields-length}
 use Rattle.text_rules.proofs.Well.{form-facts}
 use Rattle.text_head.specs.declared.HeadShape.{HeadShape}
-use Rattle.text_head.specs.Head.{shapeFound}
+use Rattle.text_head.specs.declared.HeadFields.{HeadFields}
+use Rattle.text_head.specs.Head.{shapeFound, fieldsFound}
 use Rattle.list_rules.specs.Shanghai.{shanghai, shanghaiFields, shanghaiColumns}
 use Rattle.list_rules.specs.Reading.{fieldsRead, readReply, componentsRun, fieldsHanded, firstHanded, runAfter}
 use Rattle.list_reading.specs.declared.Shape.{Shape}
 use Rattle.list_reading.specs.Outcome.{ReadOutcome}
-use Rattle.list_rules.specs.Lent.{FieldsLent}
+use Rattle.list_rules.specs.Lent.{ColumnsLent, FieldsLent}
 use Rattle.list_reading.specs.Stages.{Shaped, wrongAt, refusedRead}
 use Rattle.list_trip.proofs.Form.{shanghai-well}
 use Rattle.list_reading.proofs.Replies.{lineWrong, endMissing, shape-passes, line-stops, end-stops, more-stops}
@@ -78,9 +79,31 @@ module _ (rows : List (List ℕ)) (names : List ℕ) (lent : FieldsLent rows nam
   unfolding shanghai
   fields-made = ap fieldsWell (lent .fields-are) ∙ form-facts shanghai shanghai-well .fields
 
+  pub fields-many : length rows ≡ length shanghaiFields
+  fields-many = sym (fields-length rows names) ∙ ap length (lent .fields-are)
+
   pub lines-many : length rows + 2 ≡ headLines shanghaiFields
   unfolding headLines
-  lines-many = ap (λ (n : ℕ). n + 2) (sym (fields-length rows names) ∙ ap length (lent .fields-are))
+  lines-many = ap (λ (n : ℕ). n + 2) fields-many
+
+  pub head-found : (text : List ℕ) (h : HeadShape) → h ≡ shapeFound (fieldsOf rows names) text → h ≡ shapeFound shanghaiFields text
+  head-found text h e = e ∙ ap (λ (fs : List Field). shapeFound fs text) (lent .fields-are)
+
+  pub fields-found : (text : List ℕ) (h : HeadFields) → h ≡ fieldsFound (fieldsOf rows names) text → h ≡ fieldsFound shanghaiFields text
+  fields-found text h e = e ∙ ap (λ (fs : List Field). fieldsFound fs text) (lent .fields-are)
+
+  pub head-right : (text : List ℕ) → wrongLine shanghaiFields text ≡ headLines shanghaiFields
+      → wrongLine (fieldsOf rows names) text ≡ headLines (fieldsOf rows names)
+  head-right text e = rw (lent .fields-are) e
+
+-- what the code of the component lines says of the table that is lent
+module _ (rows : List (List ℕ)) (lent : ColumnsLent rows) (text : List ℕ) (start : ℕ) where
+  pub count-found : start ≡ bodyStart shanghai text → (count : ℕ) → count ≡ rowsFrom (columnsOf rows) text start → count ≡ rowCount shanghai text
+  unfolding rowCount shanghai
+  count-found s count e = e ∙ ap₂ (λ (cs : List Column) (n : ℕ). rowsFrom cs text n) lent s
+
+  pub rows-room : (count : ℕ) → start + count * linePitch (columnsOf rows) ≤ length text → start + count * linePitch shanghaiColumns ≤ length text
+  rows-room count h = rw lent at h
 
 module _ (text : List ℕ) where
   -- a wrong line of the head

@@ -1,8 +1,8 @@
 -- `list_reading::end_stands` meets its contract: the line has its end, and it is ENDENDEND.
 use borrow.Author.Needs.{needs}
 use Rattle.lines.specs.Lines.{same}
-use Rattle.list_rules.specs.Head.{endWord}
-use Rattle.list_rows.proofs.Standing.{stands-open, stands-ended}
+use Rattle.text_rules.specs.Head.{endWord}
+use Rattle.text_rows.proofs.Standing.{stands-open, stands-ended}
 use Rattle.list_reading.proofs.end_stands.Statement.{statement}
 use Rattle.list_reading.proofs.end_stands.Tie as tie
 

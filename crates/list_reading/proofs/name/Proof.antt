@@ -1,9 +1,16 @@
 -- `list_reading::name` meets its contract: an empty part where a line is wrong or the component is none of the text's, else its name.
-use mathlib.Core.Path.{_∙_}
+use mathlib.Core.Path.{refl, _∙_}
 use borrow.Author.Needs.{needs}
+use Rattle.sequences.specs.Below.{sumBelow}
+use Rattle.text_rules.specs.Tables.{fieldsOf, fieldOf, formOf, kindOf, nameBefore, columnsOf, columnOf, useOf}
+use Rattle.list_rules.specs.Shanghai.{shanghaiFields, shanghaiColumns}
 use Rattle.list_reading.proofs.Handed.{name-wrong, name-past, name-is}
 use Rattle.list_reading.proofs.name.Statement.{statement}
 use Rattle.list_reading.proofs.name.Tie as tie
+
+shape-of-requires : tie.Need-shape-of-requires
+unfolding fieldsOf fieldOf formOf kindOf nameBefore sumBelow columnsOf columnOf useOf shanghaiFields shanghaiColumns
+shape-of-requires c κs = (record { fields-are = refl; all-named = refl }, refl)
 
 returns : tie.Need-returns
 returns c = name-wrong _ _ _ (c .before .before .shape-of .ensures) (c .before .if1 .taken)
@@ -12,13 +19,17 @@ returns-2 : tie.Need-returns-2
 returns-2 c = name-past _ _ _ (c .before .before .before .before .shape-of .ensures .rows (c .before .before .before .if1 .left)) _ (c .before .if2 .taken)
 
 returns-3 : tie.Need-returns-3
-returns-3 c = c .name-from .ensures ∙ name-is _ _ _ (c .before .before .before .before .shape-of .ensures .rows (c .before .before .before .if1 .left)) _ (c .before .if2 .left)
+returns-3 c =
+    c .name-from .ensures
+    ∙ name-is _ _ _ (c .before .before .before .before .shape-of .ensures .rows (c .before .before .before .if1 .left)) _ (c .before .if2 .left)
 
 pub name-spec : {M : Type 1} → statement M
 name-spec =
     tie.close
     (tie.spec
-    (λ c κs. search needs) (λ c. search needs)
+    (λ c. search needs) (λ c. search needs) (λ c. search needs)
+    shape-of-requires
+    (λ c. search needs)
     returns
     (λ c. search needs)
     returns-2

@@ -11,6 +11,9 @@ use Rattle.list_reading.proofs.read_components.Tie as tie
 fault : (c : tie.After-run-fault) → c .run-fault .result ≡ readFault (c .before .before .before .before .before .args .text .now)
 fault c = let s = c .before .before .before .before .before .pre in fault-is _ _ _ _ (s .0) _ (s .1) _ (c .run-fault .ensures)
 
+mul-n : tie.Need-mul-n
+mul-n c = let h = few _ _ _ _ (c .before .before .before .pre .0) in search needs
+
 slice-aggregate-found : tie.Need-slice-aggregate-found
 slice-aggregate-found c = let s = c .before .before .before .before .pre in sym (found-long _ _ _ _ (s .0) _ (s .1))
 
@@ -42,7 +45,7 @@ pub read-components-spec : {M : Type 1} → statement M
 read-components-spec =
     tie.close
     (tie.spec
-    (λ c. search needs)
+    mul-n
     slice-aggregate-found
     run-fault-requires
     (λ c κs. search needs)

@@ -1,45 +1,67 @@
 -- `list_reading::read_fields` meets its contract: each return is the reply of a law for what was tested before it.
+use mathlib.Core.Path.{refl}
+use Prim.Native.Nat.{_≤_}
+use native.Mathlib.Omega.{arith}
+use lib.ListN.{length}
 use borrow.Author.Needs.{needs}
-use Rattle.list_reading.proofs.Handed.{refused-with, field-reply, row-reply, spelled}
+use Rattle.flags.specs.Table.{flagTable}
+use Rattle.list_rules.specs.Shanghai.{shanghaiFields}
+use Rattle.list_reading.proofs.Stages.{fields-made, fields-many, fields-found, head-right}
+use Rattle.list_reading.proofs.Handed.{refused-with, field-reply, row-reply, spelled, found}
 use Rattle.list_reading.proofs.read_fields.Statement.{statement}
 use Rattle.list_reading.proofs.read_fields.Tie as tie
+
+head-fields-requires : tie.Need-head-fields-requires
+head-fields-requires c κs = let p = c .before .before .before .pre in (fields-made _ _ (p .0), (p .0 .all-named, head-right _ _ (p .0) _ (p .2 .head-stands)))
 
 returns : tie.Need-returns
 returns c =
     let h = c .before .before .before in
-    let e = h .head-fields .ensures in
+    let p = h .before .before .before .before .pre in
     refused-with _ _ _ _ (c .refused .ensures)
-    (field-reply _ _ _ (h .before .before .before .pre) _ (e .0) _ _ (c .before .if1 .taken) (e .1 .0 (c .before .if1 .taken)))
+    (field-reply _ _ _ (p .2) _ (fields-found _ _ (p .0) _ _ (h .head-fields .ensures)) _ (omega (arith, fields-many _ _ (p .0), c .before .if1 .taken)))
+
+read-rows-requires : tie.Need-read-rows-requires
+unfolding flagTable
+read-rows-requires c κs =
+    let p = c .before .before .before .before .before .before .before .before .pre in
+    let r = p .2 in
+    ((p .1, refl), ((r .start-is, r .count-is), r .room))
 
 returns-2 : tie.Need-returns-2
 returns-2 c =
     let r = c .before .before .before .before in
-    let t = r .before .before in
+    let t = r .before .before .before in
     let h = t .before .before in
-    let e = r .read-rows .ensures in
+    let p = h .before .before .before .before .pre in
     refused-with _ _ _ _ (c .refused2 .ensures)
-    (row-reply _ _ _ (h .before .before .before .pre) _ (h .head-fields .ensures .0) (t .if1 .left) _ (e .0) _ _ (c .before .if2 .taken) (e .1 .0 (c .before .if2 .taken)))
+    (row-reply _ _ _ (p .2) _ (fields-found _ _ (p .0) _ _ (h .head-fields .ensures)) (omega (arith, fields-many _ _ (p .0), t .if1 .left)) _
+    (r .read-rows .ensures .0) _ (c .before .if2 .taken))
 
 read-values-requires : tie.Need-read-values-requires
 read-values-requires c κs =
     let i = c .before .before .before in
     let r = i .before .before .before in
-    let t = r .before .before in
+    let t = r .before .before .before in
     let h = t .before .before in
-    let s = h .before .before .before .pre in
-    let e = h .head-fields .ensures in
+    let p = h .before .before .before .before .pre in
+    let e = fields-found _ _ (p .0) _ _ (h .head-fields .ensures) in
+    let high : length shanghaiFields ≤ h .head-fields .result .wrong = omega (arith, fields-many _ _ (p .0), t .if1 .left) in
     let f = r .read-rows .ensures in (
-      spelled _ _ _ s _ (e .0) (t .if1 .left) _ (f .0) _ (i .if2 .left) (e .1 .1 (t .if1 .left)),
-      record { long = r .read-rows .kept .1 .1 .1 .0; numbers-are = f .1 .1 (i .if2 .left) },
+      spelled _ _ _ (p .2) _ e high _ (f .0) (i .if2 .left) _ refl,
+      found _ _ _ (p .2) _ e high _ (f .0) (i .if2 .left) _ _ (f .1) refl,
     )
 
 pub read-fields-spec : {M : Type 1} → statement M
 read-fields-spec =
     tie.close
     (tie.spec
-    (λ c κs. search needs) (λ c κs. search needs)
+    head-fields-requires
+    (λ c κs. search needs)
     returns
-    (λ c. search needs) (λ c κs. search needs) (λ c κs. search needs)
+    (λ c. search needs)
+    read-rows-requires
+    (λ c κs. search needs)
     returns-2
     (λ c. search needs)
     read-values-requires

@@ -8,16 +8,18 @@ use borrow.Author.Needs.{needs}
 use borrow.Author.Tests.{not-true, not-false}
 use Rattle.digits.specs.declared.Figure.{Figure}
 use Rattle.digits.specs.Digits.{plain}
-use Rattle.list_rules.specs.Reading.{figureRead, fieldsRead, isCounted}
+use Rattle.text_rules.specs.Reading.{figureRead}
+use Rattle.list_rules.specs.Shanghai.{shanghaiFields, fieldCount, countField, creationCodeField}
+use Rattle.list_rules.specs.Reading.{fieldsRead, isCounted}
 use Rattle.list_reading.proofs.Handed.{refused-with, figure-at, figures-capped, fields-are, count-reply, first-reply, range-reply, ranged}
 use Rattle.list_reading.proofs.read_values.Statement.{statement}
 use Rattle.list_reading.proofs.read_values.Tie as tie
 
 -- the count is well, and the fields are the text's
-counted : (c : tie.Else1) → let a = c .before .before .before .before .before .args in isCounted (getD (a .t4) 5 (plain 0) .size) (a .count) ≡ true
+counted : (c : tie.Else1) → let a = c .before .before .before .before .before .args in isCounted (getD (a .t4) countField (plain 0) .size) (a .count) ≡ true
 counted c = sym (c .before .is-counted .ensures) ∙ not-false _ (c .if1 .left)
 
-figure : (c : tie.Start) (k : ℕ) → k < 20 → getD (c .args .t4) k (plain 0) .size ≡ figureRead (c .args .text .now) k .size
+figure : (c : tie.Start) (k : ℕ) → k < fieldCount → getD (c .args .t4) k (plain 0) .size ≡ figureRead shanghaiFields (c .args .text .now) k .size
 figure c k h = ap (λ (z : Figure). z .size) (figure-at _ _ _ _ (c .pre .0) k (plain 0) h)
 
 fields : (c : tie.After-fields-of) → c .fields-of .result ≡ fieldsRead (c .before .before .before .before .before .before .before .args .text .now)
@@ -25,34 +27,32 @@ fields c = fields-are _ _ _ _ (c .before .before .before .before .before .before
 
 returns : tie.Need-returns
 returns c =
+    let s = c .before .before .before .before .before .before in
     refused-with _ _ _ _ (c .refused .ensures)
-    (count-reply _ _ _ _ (c .before .before .before .before .before .before .pre .0) _ (figure (c .before .before .before .before .before .before) 5 (omega arith)) _
-    (sym (c .before .before .is-counted .ensures) ∙ not-true _ (c .before .if1 .taken)))
+    (count-reply _ _ _ _ (s .pre .0) _ (figure s countField (omega arith)) _ (sym (c .before .before .is-counted .ensures) ∙ not-true _ (c .before .if1 .taken)))
 
 returns-2 : tie.Need-returns-2
 returns-2 c =
+    let s = c .before .before .before .before .before .before .before in
     refused-with _ _ _ _ (c .refused2 .ensures)
-    (first-reply _ _ _ _ (c .before .before .before .before .before .before .before .pre .0) _
-    (figure (c .before .before .before .before .before .before .before) 5 (omega arith)) (counted (c .before .before)) _ _
-    (figure (c .before .before .before .before .before .before .before) 0 (omega arith)) (c .before .if2 .taken))
+    (first-reply _ _ _ _ (s .pre .0) _ (figure s countField (omega arith)) (counted (c .before .before)) _ _ (figure s creationCodeField (omega arith)) (c .before .if2 .taken))
 
 fields-of-requires : tie.Need-fields-of-requires
 fields-of-requires c κs = (c .if2 .left, figures-capped _ _ _ _ (c .before .before .before .before .before .before .pre .0))
 
 returns-3 : tie.Need-returns-3
 returns-3 c =
+    let s = c .before .before .before .before .before .before .before .before .before .before in
     refused-with _ _ _ _ (c .refused3 .ensures)
-    (range-reply _ _ _ _ (c .before .before .before .before .before .before .before .before .before .before .pre .0) _
-    (figure (c .before .before .before .before .before .before .before .before .before .before) 5 (omega arith)) (counted (c .before .before .before .before .before)) _
-    (figure (c .before .before .before .before .before .before .before .before .before .before) 0 (omega arith)) (c .before .before .before .before .if2 .left) _
-    (fields (c .before .before .before)) _
+    (range-reply _ _ _ _ (s .pre .0) _ (figure s countField (omega arith)) (counted (c .before .before .before .before .before)) _
+    (figure s creationCodeField (omega arith)) (c .before .before .before .before .if2 .left) _ (fields (c .before .before .before)) _
     (sym (c .before .before .fields-in-range .ensures) ∙ not-true _ (c .before .if3 .taken)))
 
 read-components-requires : tie.Need-read-components-requires
 read-components-requires c κs =
     let s = c .before .before .before .before .before .before .before .before .before .before in (
-      ranged _ _ _ _ (s .pre .0) _ (figure s 5 (omega arith)) (counted (c .before .before .before .before .before)) _ (figure s 0 (omega arith))
-          (c .before .before .before .before .if2 .left) _ (fields (c .before .before .before))
+      ranged _ _ _ _ (s .pre .0) _ (figure s countField (omega arith)) (counted (c .before .before .before .before .before)) _
+          (figure s creationCodeField (omega arith)) (c .before .before .before .before .if2 .left) _ (fields (c .before .before .before))
           (sym (c .before .before .fields-in-range .ensures) ∙ not-false _ (c .before .if3 .left)),
       s .pre .1,
     )
