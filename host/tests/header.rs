@@ -87,13 +87,23 @@ const WIDTHS: [(&str, &str, usize); 10] = [
     ("NAME_WIDTH", "list_rules", NAME_BYTES),
 ];
 
+/// The most accounts that a day has; the Rattle crates have it in their
+/// definitions alone.
+const MOST_ACCOUNTS: usize = 64;
+
 #[test]
 fn widths_are_those_of_the_header() {
     let header = header();
-    for (name, _, width) in WIDTHS {
-        let line = format!("#define ROFFELAINE_{name} {width}");
-        assert!(header.lines().any(|each| each == line), "no {line}");
-    }
+    let defined = header
+        .lines()
+        .filter_map(|line| line.strip_prefix("#define ROFFELAINE_")?.split_once(' '));
+    let defined: BTreeMap<&str, usize> = defined
+        .filter_map(|(name, number)| Some((name, number.parse().ok()?)))
+        .collect();
+    let widths = WIDTHS.iter().map(|&(name, _, width)| (name, width));
+    let expected: BTreeMap<&str, usize> =
+        widths.chain([("MOST_ACCOUNTS", MOST_ACCOUNTS)]).collect();
+    assert_eq!(defined, expected);
 }
 
 /// The constants of a crate, which may use those of `layout` and `text_rules`.
