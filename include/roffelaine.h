@@ -1,11 +1,11 @@
 /*
  * Roffelaine, an ETF day book: the calls of the library libc_interface.a (`rt staticlib c_interface`), for C and C++.
  *
- * Every call takes numbers and lent runs of numbers, returns on every input, and answers three numbers: it returns the refusal's
- * number, ROFFELAINE_ACCEPTED where there is none, puts the refusal's place at `place` (0 where it has none) and the value of
- * an accepted call at `value` (0 where it has none). A refused call changes nothing lent but these two. What each call answers
- * and leaves is proved, for the same call of the Rattle crates `day`, `driver`, `list_reading` and `list_writing` on the day and the
- * fields that the runs say.
+ * Every call takes numbers and lent runs of numbers and returns on every input. All but `roffelaine_name` and `roffelaine_letters`,
+ * which refuse nothing, answer three numbers: such a call returns the refusal's number, ROFFELAINE_ACCEPTED where there is none,
+ * puts the refusal's place at `place` (0 where it has none) and the value of an accepted call at `value` (0 where it has none). A
+ * refused call changes nothing lent but these two. What each call answers and leaves is proved, for the same call of the Rattle
+ * crates `day`, `driver`, `list_reading` and `list_writing` on the day and the fields that the runs say.
  *
  * A run is a pointer and a count of its numbers (of its bytes for text). The caller sees to it that the pointer is not null, also
  * for a count of 0, that it points to so many numbers, and that a run lent for writing, `place`, `value` and `first_row` overlap
@@ -38,6 +38,7 @@
  *    17, 18 CashComponent, signed   19 NAVperCU, in hundredths   20 NAV, in ten-thousandths   21 N
  * A list text is bytes. Its names are 8 bytes each, as they stand in the component lines, and its letters the 1 to 8 letters or
  * digits behind "[ETF" in its first line.
+ * A part of a text, 2 numbers: the place of its first byte, and its length; both are 0 where the text has no such part.
  */
 #ifndef ROFFELAINE_H
 #define ROFFELAINE_H
@@ -57,6 +58,7 @@ extern "C" {
 #define ROFFELAINE_RECORD_WIDTH 5
 #define ROFFELAINE_ROW_WIDTH 6
 #define ROFFELAINE_ANSWER_WIDTH 3
+#define ROFFELAINE_PART_WIDTH 2
 
 #define ROFFELAINE_MOST_ACCOUNTS 64
 #define ROFFELAINE_MOST_COMPONENTS 300
@@ -68,10 +70,8 @@ extern "C" {
 /* An order makes at most 1 + N + 4 + 1 records. */
 #define ROFFELAINE_MOST_RECORDS(components) ((size_t)(components) + 6)
 
-/* Bytes of a name, of a component line with its end, and where the name stands in that line. */
+/* Bytes of a name. */
 #define ROFFELAINE_NAME_WIDTH 8
-#define ROFFELAINE_LINE_PITCH 50
-#define ROFFELAINE_NAME_START 7
 
 /* The refusals. Where a place is said, it is the component, line, field or byte that the call names. */
 enum roffelaine_refusal {
@@ -211,8 +211,7 @@ uint64_t roffelaine_run_public(
 
 /*
  * Reads a list text: its components to the front of the run, its fields, at `first_row` the byte at which its first component line
- * starts, and at `value` their count. The name of component j is the 8 bytes of the text from first_row + 50 j + 7 on.
- * Refusals: 1 for fields of another width than 22, 18, 19, 20, 2, 3, 16.
+ * starts, and at `value` their count. Refusals: 1 for fields of another width than 22, 18, 19, 20, 2, 3, 16.
  */
 uint64_t roffelaine_read(
     const uint8_t *text, size_t text_length,
@@ -220,6 +219,26 @@ uint64_t roffelaine_read(
     uint64_t *fields, size_t fields_length,
     uint64_t *first_row,
     uint64_t *place, uint64_t *value);
+
+/*
+ * The name of component j of a text that was read: its place and length go to the front of `part` where that has room for two
+ * numbers (a shorter run is left as it is), and the length, 8, is the answer. `first_row` is what `roffelaine_read` gave for this
+ * text. Where the text has not all bytes of a j-th component line and its end behind that place, as for every j from the count of an
+ * accepted text on, the place and the answer are 0. Nothing else of the text is tested: where it was refused, or `first_row` is
+ * another place, the part is the 8 bytes at which the name would stand.
+ */
+uint64_t roffelaine_name(
+    const uint8_t *text, size_t text_length,
+    size_t first_row, size_t j,
+    uint64_t *part, size_t part_length);
+
+/*
+ * The letters of a text's first line: their place and length go to the front of `part` as above, and the length is the answer. The
+ * place and the answer are 0 where the first line is not that of a list. No other line is tested, so a refused text may have letters.
+ */
+uint64_t roffelaine_letters(
+    const uint8_t *text, size_t text_length,
+    uint64_t *part, size_t part_length);
 
 /*
  * Writes a list at the front of the output, and at `value` how many bytes it takes; what is past them stays. The run has 5 numbers

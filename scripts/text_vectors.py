@@ -5,7 +5,7 @@
 
 Each folder VECTORS has texts.jsonl, parts.jsonl and writings.jsonl, or some of them, one JSON object to a line
 (vectors/README.md says what is in them). The script writes stdin and stdout to the folders TEXTS and LISTS. What is expected
-comes from the vectors alone.
+comes from the vectors, and the text of a list that was read from list_model.py.
 
 The input is items, as in vector_text.py; the library crate `program_texts` reads them. Bytes are numbers.
 
@@ -31,6 +31,7 @@ Printed is, for each row, its number and then for a text
     names ..                       is given past the last)
     written NUMBER PLACE VALUE     the reply of writing the list into an output of the text's own length
     text .. or alike N             what was written; of a text of more than 2000 bytes where it first differs
+    sum N                          the sum of all bytes that were written
 
 and where parts are asked for
 
@@ -51,13 +52,16 @@ import json
 from pathlib import Path
 
 import vector_text
-from list_model import HEAD
+from list_model import HEAD, lines, text_of
 from vector_text import cut, item, line, save
 
 vector_text.TAGS.update({"text": 1, "changed": 2, "grown": 3, "parts": 4, "list": 5})
 
 # The bytes of a written text are printed up to this length.
 SHOWN = 2000
+
+# The sum of a text's bytes goes by this factor and is a remainder of this prime.
+SUM_FACTOR, SUM_PRIME = 257, 1_000_000_007
 
 
 def split(text):
@@ -92,11 +96,20 @@ def alike(a, b):
     return next((i for i, (x, y) in enumerate(zip(a, b)) if x != y), min(len(a), len(b)))
 
 
-def written(text):
-    new = canonical(text)
-    assert len(new) == len(text)
+def byte_sum(text):
+    """A sum of all bytes, in which each counts by its place."""
+    total = 0
+    for byte in text:
+        total = (total * SUM_FACTOR + byte + 1) % SUM_PRIME
+    return total
+
+
+def written(v, text, names):
+    """What is printed of the list written again: the model's text of it, which must be the text that was read."""
+    new = text_of(lines({**v, "letters": v["letters"].encode().hex(), "names": bytes(names).hex()}))
+    assert new == canonical(text)
     shown = line("text", *new) if len(new) <= SHOWN else line("alike", alike(text, new))
-    return [line("written", 0, 0, len(new)), shown]
+    return [line("written", 0, 0, len(new)), shown, line("sum", byte_sum(new))]
 
 
 def handed_back(v, text):
@@ -105,7 +118,7 @@ def handed_back(v, text):
     assert places == [places[0] + 50 * i for i in range(v["count"])]
     names = [x for at in places for x in text[at:at + 8]]
     return ["rest same", line("fields", *fields(v)), line("first", places[0] - 7), line("components", *numbers(v)),
-            line("letters", *v["letters"].encode()), line("names", *names), *written(text)]
+            line("letters", *v["letters"].encode()), line("names", *names), *written(v, text, names)]
 
 
 def change(base, text):

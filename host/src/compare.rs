@@ -1,6 +1,8 @@
 //! The same call on two engines: replies and all that was lent must agree.
 
 use crate::engine::{Engine, Lent, LentList};
+use crate::flat::PART_NUMBERS;
+use crate::model::list::COMPONENT_LINE;
 use crate::model::{Call, Reply, ANSWER_NUMBERS, ROW_NUMBERS};
 use crate::random::{OpeningCase, TextCase, WritingCase};
 use std::collections::BTreeMap;
@@ -249,7 +251,8 @@ impl<'e> Comparison<'e> {
         }
     }
 
-    /// Reads a text on both; `start` is what reading is lent.
+    /// Reads a text on both, and asks for its letters and names; `start` is
+    /// what reading is lent.
     pub fn text(&mut self, case: &TextCase, start: &LentList) -> Result<Reply, Difference> {
         let (mut lent, mut other) = (start.clone(), start.clone());
         let reply = self.first.read(&case.text, &mut lent);
@@ -261,11 +264,58 @@ impl<'e> Comparison<'e> {
         report.run("components", &lent.components, &other.components);
         report.run("fields", &lent.fields, &other.fields);
         report.value("first row", &lent.first_row, &other.first_row);
+        self.parts(&mut report, &case.text, lent.first_row, reply.value);
         report.finish(|| {
             let (room, shown) = (case.room, case.text.escape_ascii());
             format!("reading with {room} numbers lent of text \"{shown}\"")
         })?;
         Ok(reply)
+    }
+
+    /// Asks both for the letters of a text and for names: of every component
+    /// and one past the last, from where the first component line starts; as
+    /// if that line were the text's first, up to the text's end; and far past
+    /// it.
+    fn parts(&self, report: &mut Report, text: &[u8], first_row: u64, count: u64) {
+        self.part(
+            report,
+            |engine, part| engine.letters(text, part),
+            || "letters".to_string(),
+        );
+        let (end, lines) = (text.len() as u64, (text.len() / COMPONENT_LINE) as u64);
+        let of_components = (0..=count).map(|at| (first_row, at));
+        let from_start = (0..=lines).map(|at| (0, at));
+        let far = [first_row, 0, end, u64::MAX].map(|from| (from, u64::MAX));
+        let behind = [end, end + 1, u64::MAX].map(|from| (from, 0));
+        for (from, at) in of_components.chain(from_start).chain(far).chain(behind) {
+            self.part(
+                report,
+                |engine, part| engine.name(text, from, at, part),
+                || format!("name {at} from place {from}"),
+            );
+        }
+    }
+
+    /// Asks both for a part of a text, with a run of each length up to one
+    /// more than a part takes.
+    fn part(
+        &self,
+        report: &mut Report,
+        ask: impl Fn(&dyn Engine, &mut [u64]) -> u64,
+        what: impl Fn() -> String,
+    ) {
+        for room in 0..=PART_NUMBERS + 1 {
+            let outcome = |engine: &dyn Engine| {
+                let mut part = [u64::MAX; PART_NUMBERS + 1];
+                let length = ask(engine, &mut part[..room]);
+                (length, part)
+            };
+            let (first, second) = (outcome(self.first), outcome(self.second));
+            if first != second {
+                let what = format!("{} with {room} numbers lent", what());
+                report.value(&what, &first, &second);
+            }
+        }
     }
 
     /// Writes a list on both.

@@ -1,8 +1,9 @@
 //! What an engine offers to be compared, and the model as one.
 
-use crate::flat::{field_numbers, FIELD_NUMBERS};
+use crate::flat::{field_numbers, part_numbers, FIELD_NUMBERS, PART_NUMBERS};
 use crate::model::list::{self, Writing};
 use crate::model::{self, Call, Day, Opening, Reply, Work};
+use std::ops::Range;
 
 /// The day and all that calls on it are lent.
 #[derive(Clone, Debug, PartialEq, Eq)]
@@ -43,6 +44,14 @@ pub trait Engine {
     /// Reads a list; the value of the reply is its count of components.
     fn read(&self, text: &[u8], lent: &mut LentList) -> Reply;
 
+    /// Where the name of a component stands in a text whose first component
+    /// line starts at `first_row`: its place and length go to the front of the
+    /// lent part if there is room for both. Gives the length.
+    fn name(&self, text: &[u8], first_row: u64, component: u64, part: &mut [u64]) -> u64;
+
+    /// Where the letters of a text's first line stand, in the same way.
+    fn letters(&self, text: &[u8], part: &mut [u64]) -> u64;
+
     /// Writes a list to the lent output; the value of the reply is the count
     /// of bytes.
     fn write(&self, list: &Writing<'_>, output: &mut [u8]) -> Reply;
@@ -61,6 +70,16 @@ impl Lent {
             records: &mut self.records,
         }
     }
+}
+
+/// Stores a part's place and length if there is room for both, and gives the
+/// length.
+fn store_part(found: Option<Range<usize>>, part: &mut [u64]) -> u64 {
+    let numbers = part_numbers(found);
+    if let Some(front) = part.first_chunk_mut::<PART_NUMBERS>() {
+        *front = numbers;
+    }
+    numbers[1]
 }
 
 impl Engine for Model {
@@ -101,6 +120,14 @@ impl Engine for Model {
             }
             Err(refusal) => refusal.into(),
         }
+    }
+
+    fn name(&self, text: &[u8], first_row: u64, component: u64, part: &mut [u64]) -> u64 {
+        store_part(list::name_behind(text, first_row, component), part)
+    }
+
+    fn letters(&self, text: &[u8], part: &mut [u64]) -> u64 {
+        store_part(list::letters_of(text), part)
     }
 
     fn write(&self, list: &Writing<'_>, output: &mut [u8]) -> Reply {

@@ -1,11 +1,12 @@
-//! The flat layouts in which a fund, a day, a list's fields and the rows of
-//! the driver cross to the archive.
+//! The flat layouts in which a fund, a day, a list's fields, a part of a text
+//! and the rows of the driver cross to the archive.
 
 use crate::model::list::Head;
 use crate::model::{
     Call, Component, Day, Fund, Trade, ANSWER_NUMBERS, COMPONENT_NUMBERS, MAX_COMPONENTS,
     ROW_NUMBERS,
 };
+use std::ops::Range;
 
 /// Numbers of a fund: first code, basket size, maximum cash ratio, switch,
 /// estimated cash (two numbers), the eight limits.
@@ -15,6 +16,8 @@ pub const DAY_NUMBERS: usize = COMPONENTS_FROM + COMPONENT_NUMBERS * MAX_COMPONE
 /// Numbers of a list's fields: the fund, Publish, TradingDay, PreTradingDay,
 /// CashComponent (two numbers), NAVperCU, NAV, N.
 pub const FIELD_NUMBERS: usize = FUND_NUMBERS + 8;
+/// Numbers of a part of a text: its place and its length.
+pub const PART_NUMBERS: usize = 2;
 
 const FUND_FROM: usize = 2;
 const COMPONENTS_FROM: usize = FUND_FROM + FUND_NUMBERS;
@@ -115,6 +118,18 @@ pub fn fields_of(numbers: &[u64; FIELD_NUMBERS]) -> (Head, u64) {
     (head, rest[7])
 }
 
+/// The numbers of a part of a text, which are both 0 where there is none.
+pub fn part_numbers(part: Option<Range<usize>>) -> [u64; PART_NUMBERS] {
+    let part = part.unwrap_or_default();
+    [part.start as u64, part.len() as u64]
+}
+
+/// The part of a text that its numbers say.
+pub fn part_of(text: &[u8], numbers: [u64; PART_NUMBERS]) -> &[u8] {
+    let [place, length] = numbers.map(|number| number as usize);
+    &text[place..][..length]
+}
+
 /// The row of a call whose records go to the part of the record run that
 /// starts at `start`; none for the tests called alone, which have no row.
 pub fn row_of(call: &Call, start: usize) -> Option<[u64; ROW_NUMBERS]> {
@@ -182,6 +197,13 @@ mod tests {
         let (head, count) = fields_of(&numbers);
         assert_eq!((head.cash_component, head.nav, count), (-18, 20, 21));
         assert_eq!(field_numbers(&head, count), numbers);
+    }
+
+    #[test]
+    fn a_part_survives_its_numbers() {
+        assert_eq!(part_of(b"[ETF50]", part_numbers(Some(4..6))), b"50");
+        assert_eq!(part_numbers(None), [0, 0]);
+        assert!(part_of(b"", part_numbers(None)).is_empty());
     }
 
     #[test]

@@ -5,7 +5,7 @@ use host::archive::Archive;
 use host::compare::Comparison;
 use host::differential::Plan;
 use host::engine::{Engine, Lent, LentList, Model};
-use host::model::list::Writing;
+use host::model::list::{self, Writing};
 use host::model::{Call, Opening, Reply};
 use std::cell::Cell;
 
@@ -77,6 +77,11 @@ enum Fault {
     FirstRowOff,
     RefusedReadingClears,
     TouchesUnusedComponents,
+    NameOff,
+    NamePastTheLast,
+    NameInAShortPart,
+    LettersOfRefusedText,
+    LettersTouchPastThePart,
     TouchesUnusedOutput,
 }
 
@@ -191,6 +196,27 @@ impl Engine for Faulty {
         reply
     }
 
+    fn name(&self, text: &[u8], first_row: u64, component: u64, part: &mut [u64]) -> u64 {
+        let length = Model.name(text, first_row, component, part);
+        match self.fault {
+            Fault::NameOff if length > 0 && part.len() >= 2 => part[0] += 1,
+            Fault::NamePastTheLast if length == 0 => return 8,
+            Fault::NameInAShortPart if part.len() == 1 => part[0] = 0,
+            _ => {}
+        }
+        length
+    }
+
+    fn letters(&self, text: &[u8], part: &mut [u64]) -> u64 {
+        let length = Model.letters(text, part);
+        match self.fault {
+            Fault::LettersOfRefusedText if list::name(text, 0).is_empty() => return 0,
+            Fault::LettersTouchPastThePart if part.len() > 2 => part[2] = 0,
+            _ => {}
+        }
+        length
+    }
+
     fn write(&self, list: &Writing<'_>, output: &mut [u8]) -> Reply {
         let reply = Model.write(list, output);
         if self.fault == Fault::TouchesUnusedOutput {
@@ -226,6 +252,11 @@ fn faulty_engines_are_found() {
         Fault::FirstRowOff,
         Fault::RefusedReadingClears,
         Fault::TouchesUnusedComponents,
+        Fault::NameOff,
+        Fault::NamePastTheLast,
+        Fault::NameInAShortPart,
+        Fault::LettersOfRefusedText,
+        Fault::LettersTouchPastThePart,
         Fault::TouchesUnusedOutput,
     ];
     for fault in faults {

@@ -4,7 +4,7 @@
 #[path = "support/rattle.rs"]
 mod rattle;
 
-use host::flat::{DAY_NUMBERS, FIELD_NUMBERS, FUND_NUMBERS};
+use host::flat::{DAY_NUMBERS, FIELD_NUMBERS, FUND_NUMBERS, PART_NUMBERS};
 use host::model::list::NAME_BYTES;
 use host::model::{
     stretch_width, ANSWER_NUMBERS, COMPONENT_NUMBERS, MAX_COMPONENTS, RECORD_NUMBERS, ROW_NUMBERS,
@@ -63,7 +63,7 @@ fn functions_are_declared_as_in_the_header() {
     let (header, module) = (header(), file("src/archive/lent.rs"));
     let in_c = functions(&header, "\nuint64_t ");
     let in_rust = functions(&module, "pub fn roffelaine_");
-    assert_eq!(in_c.len(), 12);
+    assert_eq!(in_c.len(), 14);
     assert_eq!(in_c.len(), in_rust.len());
     for (name, parameters) in in_c {
         let expected: Vec<&str> = parameters.into_iter().map(type_in_c).collect();
@@ -74,7 +74,7 @@ fn functions_are_declared_as_in_the_header() {
 }
 
 /// The widths that the header has too, with the crate that has each.
-const WIDTHS: [(&str, &str, usize); 9] = [
+const WIDTHS: [(&str, &str, usize); 10] = [
     ("FUND_WIDTH", "layout", FUND_NUMBERS),
     ("DAY_WIDTH", "layout", DAY_NUMBERS),
     ("FIELDS_WIDTH", "list_layout", FIELD_NUMBERS),
@@ -82,27 +82,41 @@ const WIDTHS: [(&str, &str, usize); 9] = [
     ("RECORD_WIDTH", "layout", RECORD_NUMBERS),
     ("ROW_WIDTH", "layout", ROW_NUMBERS),
     ("ANSWER_WIDTH", "layout", ANSWER_NUMBERS),
+    ("PART_WIDTH", "c_interface", PART_NUMBERS),
     ("MOST_COMPONENTS", "layout", MAX_COMPONENTS),
     ("NAME_WIDTH", "list_rules", NAME_BYTES),
 ];
 
+/// The most accounts that a day has; the Rattle crates have it in their
+/// definitions alone.
+const MOST_ACCOUNTS: usize = 64;
+
 #[test]
 fn widths_are_those_of_the_header() {
     let header = header();
-    for (name, _, width) in WIDTHS {
-        let line = format!("#define ROFFELAINE_{name} {width}");
-        assert!(header.lines().any(|each| each == line), "no {line}");
-    }
+    let defined = header
+        .lines()
+        .filter_map(|line| line.strip_prefix("#define ROFFELAINE_")?.split_once(' '));
+    let defined: BTreeMap<&str, usize> = defined
+        .filter_map(|(name, number)| Some((name, number.parse().ok()?)))
+        .collect();
+    let widths = WIDTHS.iter().map(|&(name, _, width)| (name, width));
+    let expected: BTreeMap<&str, usize> =
+        widths.chain([("MOST_ACCOUNTS", MOST_ACCOUNTS)]).collect();
+    assert_eq!(defined, expected);
 }
 
-/// The constants of a crate that uses those of `layout`.
+/// The constants of a crate, which may use those of `layout` and `text_rules`.
 fn constants_of(name: &str) -> BTreeMap<String, usize> {
-    let none = BTreeMap::new();
-    let layout = constants(&file("../crates/layout/src/lib.rt"), &none);
-    match name {
-        "layout" => layout,
-        _ => constants(&file(&format!("../crates/{name}/src/lib.rt")), &layout),
+    let read = |name: &str, below: &BTreeMap<String, usize>| {
+        constants(&file(&format!("../crates/{name}/src/lib.rt")), below)
+    };
+    let mut below = read("layout", &BTreeMap::new());
+    if name == "layout" {
+        return below;
     }
+    below.extend(read("text_rules", &BTreeMap::new()));
+    read(name, &below)
 }
 
 #[test]

@@ -1,12 +1,14 @@
 //! What the archive does with runs that no safe type would lend it.
 
 use host::archive::{call, lent, Archive};
-use host::engine::{Engine, Lent, Model};
+use host::engine::{Engine, Lent, LentList, Model};
 use host::flat::{
     answers_length, day_numbers, field_numbers, fund_numbers, rows_of, DAY_NUMBERS, FIELD_NUMBERS,
-    FUND_NUMBERS,
+    FUND_NUMBERS, PART_NUMBERS,
 };
-use host::model::{book_length, Call, Day, Fund, Opening, Order, Refusal, Reply, Trade};
+use host::model::{
+    book_length, Call, Day, Fund, Opening, Order, Refusal, Reply, Trade, MAX_COMPONENTS,
+};
 use host::random::{OpeningCase, Rng, Scale, Size, TextCase, WritingCase};
 
 fn refused(number: u64) -> Reply {
@@ -170,6 +172,8 @@ fn empty_runs_are_refused() {
     let mut first_row = 7;
     let reply = lent::read(&[], &mut [], &mut [0; FIELD_NUMBERS], &mut first_row);
     assert_eq!((reply, first_row), (refused(18), 7));
+    assert_eq!(lent::name(&[], 0, 0, &mut []), 0);
+    assert_eq!(lent::letters(&[], &mut []), 0);
     assert_eq!(lent::write(&[], &[], &[], &[], &mut []), refused(1));
 }
 
@@ -191,6 +195,62 @@ fn fields_of_another_length_are_refused() {
         let (names, letters) = (&list.names, &list.letters);
         let reply = lent::write(&fields, &list.components, names, letters, &mut output);
         assert_eq!((reply, output), (refused(1), list.output));
+    }
+}
+
+#[test]
+fn a_part_is_stored_where_there_is_room() {
+    let mut rng = Rng::new(36);
+    let text = TextCase::sound(&mut rng).text;
+    let mut lent = LentList {
+        components: vec![0; 5 * MAX_COMPONENTS],
+        fields: [0; FIELD_NUMBERS],
+        first_row: 0,
+    };
+    assert!(Archive.read(&text, &mut lent).is_accepted());
+    for length in 0..5 {
+        let before = rng.numbers(length);
+        let (mut name, mut letters) = (before.clone(), before.clone());
+        assert_eq!(lent::name(&text, lent.first_row, 0, &mut name), 8);
+        let count = lent::letters(&text, &mut letters);
+        assert!((1..=8).contains(&count));
+        let expected = |place, count| match length {
+            0 | 1 => before.clone(),
+            _ => [&[place, count], &before[PART_NUMBERS..]].concat(),
+        };
+        assert_eq!(name, expected(lent.first_row + 7, 8));
+        assert_eq!(letters, expected(4, count));
+    }
+}
+
+#[test]
+fn a_part_that_is_not_there_is_empty() {
+    let text = vec![b'x'; 149];
+    let parts = [(0, 0), (0, 1), (49, 1), (50, 1), (0, 2), (149, 0), (150, 0)];
+    let places = [7, 57, 106, 0, 0, 0, 0];
+    for ((first_row, component), place) in parts.into_iter().zip(places) {
+        let mut part = [5; PART_NUMBERS];
+        let length = lent::name(&text, first_row, component, &mut part);
+        let expected = if place == 0 { 0 } else { 8 };
+        assert_eq!((length, part), (expected, [place, expected]));
+    }
+    for far in [(u64::MAX, 0), (0, u64::MAX), (u64::MAX, u64::MAX)] {
+        let mut part = [5; PART_NUMBERS];
+        assert_eq!(lent::name(&text, far.0, far.1, &mut part), 0);
+        assert_eq!(part, [0, 0]);
+    }
+    let first_lines: [(&[u8], u64); 6] = [
+        (b"[ETF50]\r\n", 2),
+        (b"[ETF50]\r\nno list", 2),
+        (b"[ETF50]", 0),
+        (b"[ETF]\r\n", 0),
+        (b"[ETF123456789]\r\n", 0),
+        (b"[etf50]\r\n", 0),
+    ];
+    for (text, length) in first_lines {
+        let mut part = [5; PART_NUMBERS];
+        assert_eq!(lent::letters(text, &mut part), length);
+        assert_eq!(part, if length == 0 { [0, 0] } else { [4, length] });
     }
 }
 

@@ -4,7 +4,7 @@ mod support;
 
 use host::archive::{Archive, List};
 use host::engine::{Engine, Lent, LentList, Model};
-use host::flat::{answers_length, field_numbers, rows_of, FIELD_NUMBERS};
+use host::flat::{answers_length, field_numbers, part_of, rows_of, FIELD_NUMBERS, PART_NUMBERS};
 use host::model::list::{self, Head, Writing};
 use host::model::{
     book_length, Call, Component, Day, Fund, Opening, Order, Reply, Trade, COMPONENT_NUMBERS,
@@ -237,6 +237,7 @@ fn texts() {
         };
         let mut lent = before.clone();
         let found = engine.read(&text, &mut lent);
+        check_any_parts(engine, &text);
         let mut expected = reply(row.get("reply"));
         if !expected.is_accepted() {
             assert_eq!((found, lent), (expected, before), "{cause}");
@@ -250,8 +251,43 @@ fn texts() {
         assert_eq!(components, written);
         assert!(rest.iter().all(|&number| number == FILL));
         assert_eq!(lent.fields, field_numbers(&head(row), count));
+        check_places(engine, row, &text, lent.first_row);
         check_parts(row, &text);
     });
+}
+
+/// What an engine puts in a run for a part of a text; its answer is the length.
+fn part(ask: impl Fn(&mut [u64]) -> u64) -> [u64; PART_NUMBERS] {
+    let mut part = [FILL; PART_NUMBERS];
+    assert_eq!(ask(&mut part), part[1]);
+    part
+}
+
+/// The letters of any text, and names as if its first line were a component
+/// line, past the last too, are the model's.
+fn check_any_parts(engine: &dyn Engine, text: &[u8]) {
+    let letters = |engine: &dyn Engine| part(|run| engine.letters(text, run));
+    assert_eq!(letters(engine), letters(&Model));
+    let lines = (text.len() / list::COMPONENT_LINE) as u64;
+    for component in (0..=lines).chain([u64::MAX]) {
+        let name = |engine: &dyn Engine| part(|run| engine.name(text, 0, component, run));
+        assert_eq!(name(engine), name(&Model), "component {component}");
+    }
+}
+
+/// The letters and names of an accepted text stand where its row says, and
+/// past the last component there is no name.
+fn check_places(engine: &dyn Engine, row: &Json, text: &[u8], first_row: u64) {
+    let letters = part(|run| engine.letters(text, run));
+    assert_eq!(part_of(text, letters), row.get("letters").text().as_bytes());
+    let name = |component| part(|run| engine.name(text, first_row, component, run));
+    let places = row.get("name_places").run();
+    for (component, &place) in (0..).zip(&places) {
+        assert_eq!(name(component), [place, list::NAME_BYTES as u64]);
+    }
+    for past in [places.len() as u64, u64::MAX] {
+        assert_eq!(name(past), [0, 0]);
+    }
 }
 
 /// The letters and names of an accepted text are parts of it.

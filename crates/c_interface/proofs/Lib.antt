@@ -1,3 +1,4 @@
 mod Laws
 pub mod Openings
 pub mod Texts
+mod Parts

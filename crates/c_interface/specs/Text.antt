@@ -1,13 +1,14 @@
 -- Reading and writing the list text through the flat layout: refusal 1 where the fields have not their width, else as reading and
--- writing.
+-- writing. A part of a text goes through it as two numbers.
 use Prim.Native.Nat.{ℕ}
 use mathlib.Core.Path.{_≡_}
 use mathlib.Core.Bool.{cond}
-use mathlib.Core.List.{List}
-use lib.Dec.{eqb}
-use lib.ListN.{length}
+use mathlib.Core.List.{List, _∷_}
+use lib.Dec.{leb, eqb}
+use lib.ListN.{length, drop}
 use Rattle.sequences.specs.Checks.{Reply, reply}
 use Rattle.rules.specs.Replies.{ifAccepted}
+use Rattle.list_rules.specs.declared.TextPart.{TextPart}
 use Rattle.list_rules.specs.Reading.{readReply, fieldsHanded, firstHanded, runAfter}
 use Rattle.list_rules.specs.Writing.{Listing, writeReply, outputAfter}
 use Rattle.list_layout.specs.Run.{fieldsWidth, fieldsNumbers}
@@ -36,6 +37,14 @@ pub record TextRead (text : List ℕ) (t : Taking) (number place value : ℕ) (a
   pub run-is : after .run ≡ ifAccepted (takingReply text t) (runAfter text (t .run)) (t .run)
   pub fields-is : after .fields ≡ ifAccepted (takingReply text t) (fieldsNumbers (fieldsHanded text (length (t .run)))) (t .fields)
   pub first-is : after .first ≡ ifAccepted (takingReply text t) (firstHanded text (length (t .run))) (t .first)
+
+-- a part of a text as two numbers, its place and its length: they are stored at the front of a run that has room for both, and a
+-- shorter run is left as it was lent
+abbrev pub partWidth : ℕ
+partWidth = 2
+
+unfoldable pub partKept : TextPart → List ℕ → List ℕ
+partKept p run = cond (leb partWidth (length run)) (p .place ∷ p .length ∷ drop partWidth run) run
 
 -- an accepted writing leaves the text at the front of the output; a refused one leaves the output as it was lent
 pub record TextWritten (fields : List ℕ) (l : Listing) (output : List ℕ) (number place value : ℕ) (output′ : List ℕ) : Type 0 where

@@ -18,15 +18,20 @@ ghost use Rattle.answers.specs.Numbers.{replyOf, Told};
 ghost use Rattle.driver_rows.specs.Rows.{stateOf};
 ghost use Rattle.driver.specs.Batch.{batchOf, runReply, ran, eventsOf, Demand3};
 ghost use Rattle.list_rules.specs.Replies.{listReply};
+ghost use Rattle.list_rules.specs.Reading.{namePlace, lettersPlace};
 ghost use Rattle.list_rules.specs.Writing.{listing};
 ghost use Rattle.layout.specs.Day.{dayAt};
 ghost use Rattle.list_layout.specs.Run.{fieldsWidth, fieldsAt, fieldsNumbers};
 ghost use Rattle.c_interface.specs.Opening.{flatGiven, FlatOutcome};
-ghost use Rattle.c_interface.specs.Text.{taking, TextRead, TextWritten};
+ghost use Rattle.c_interface.specs.Text.{taking, TextRead, partKept, TextWritten};
 use answers::Numbers;
 use list_rules::ListAnswer;
 use list_rules::ListFields;
+use list_rules::TextPart;
 use rules::Refusal;
+
+// How many numbers a part of a text takes: its place and its length.
+const PART_WIDTH: usize = 2;
 
 // Opens a day: the book, the prices and the day are filled.
 #[no_mangle]
@@ -278,6 +283,38 @@ pub extern "C" fn roffelaine_read(
     keep_fields(fields, told.number, l);
     keep_first(first_row, told.number, read.first_row);
     answers::tell(told, place, value)
+}
+
+// Stores a part's place and length at the front of a run that has room for both, and hands back the length.
+fn keep_part(part: &mut [u64], found: TextPart) -> u64
+    ensures { λ r. ⌜ r ≡ found .length ⌝ }
+    ensures part { λ _. ⌜ now (part .exit) ≡ partKept found (now (part .entry)) ⌝ }
+{
+    if PART_WIDTH <= part.len() {
+        part[0] = found.place as u64;
+        part[1] = found.length as u64;
+    }
+    found.length as u64
+}
+
+// Where the name of a component stands in a text, from where reading found the first component line.
+#[no_mangle]
+pub extern "C" fn roffelaine_name(text: &[u8], first_row: usize, j: usize, part: &mut [u64]) -> u64
+    ensures { λ r. ⌜ r ≡ namePlace (now (text .entry)) «first_row» j .length ⌝ }
+    ensures part { λ _. ⌜ now (part .exit) ≡ partKept (namePlace (now (text .entry)) «first_row» j) (now (part .entry)) ⌝ }
+{
+    let found = list_reading::name_place(text, first_row, j);
+    keep_part(part, found)
+}
+
+// Where the letters of a text's first line stand.
+#[no_mangle]
+pub extern "C" fn roffelaine_letters(text: &[u8], part: &mut [u64]) -> u64
+    ensures { λ r. ⌜ r ≡ lettersPlace (now (text .entry)) .length ⌝ }
+    ensures part { λ _. ⌜ now (part .exit) ≡ partKept (lettersPlace (now (text .entry))) (now (part .entry)) ⌝ }
+{
+    let found = list_reading::letters_place(text);
+    keep_part(part, found)
 }
 
 // Writes a list at the front of the lent output.

@@ -72,13 +72,21 @@ fn print_names(text: &[u8], first: usize, count: usize, joined: &mut [u8]) {
     bytes::print(b"names", joined);
 }
 
-// What was written: its bytes, and of a long text how many there are before the first that differs from the text.
-fn print_written(text: &[u8], written: &[u8]) {
+// What was written: its bytes, or of a long text how many there are before the first that differs from the text.
+fn print_shown(text: &[u8], written: &[u8]) {
     if SHOWN < written.len() {
         output::place(b"alike", bytes::first_difference(text, written));
         return;
     }
     bytes::print(b"text", written);
+}
+
+// The same, and the sum of all its bytes, so that a long text is compared whole.
+fn print_written(text: &[u8], written: &[u8]) {
+    print_shown(text, written);
+    output::text(b"sum");
+    output::number(bytes::sum(written));
+    output::end_line();
 }
 
 // Writes the list that was read, into an output that holds other bytes.

@@ -1,4 +1,4 @@
-// Runs of bytes: taken from numbers, filled, copied, compared and printed.
+// Runs of bytes: taken from numbers, filled, copied, compared, summed and printed.
 ghost use Rattle.io.specs.Counts.{Counts};
 use program_io::output;
 
@@ -94,6 +94,26 @@ pub fn first_difference(a: &[u8], b: &[u8]) -> usize {
 
 pub fn is_same(a: &[u8], b: &[u8]) -> bool {
     a.len() == b.len() && first_difference(a, b) == a.len()
+}
+
+// The sum goes by this factor and is a remainder of this prime, so that no step is out of range.
+const SUM_FACTOR: u64 = 257;
+
+const SUM_PRIME: u64 = 1_000_000_007;
+
+fn with_byte(sum: u64, b: u8) -> u64 {
+    (sum % SUM_PRIME) * SUM_FACTOR + b as u64 + 1
+}
+
+// A sum of all bytes, in which each counts by its place.
+pub fn sum(run: &[u8]) -> u64 {
+    let mut s = 0u64;
+    let mut i = 0;
+    while i < run.len() {
+        s = with_byte(s, run[i]);
+        i += 1;
+    }
+    s % SUM_PRIME
 }
 
 // A word and a run of bytes as numbers, on a line.

@@ -66,6 +66,14 @@ impl Engine for Archive {
         lent::read(text, components, fields, first_row)
     }
 
+    fn name(&self, text: &[u8], first_row: u64, component: u64, part: &mut [u64]) -> u64 {
+        lent::name(text, first_row, component, part)
+    }
+
+    fn letters(&self, text: &[u8], part: &mut [u64]) -> u64 {
+        lent::letters(text, part)
+    }
+
     fn write(&self, list: &Writing<'_>, output: &mut [u8]) -> Reply {
         let fields = field_numbers(&list.head, list.count);
         lent::write(&fields, list.components, list.names, list.letters, output)

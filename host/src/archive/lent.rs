@@ -179,6 +179,22 @@ mod exported {
             value: &mut u64,
         ) -> u64;
 
+        pub fn roffelaine_name(
+            text: *const u8,
+            text_length: usize,
+            first_row: usize,
+            j: usize,
+            part: *mut u64,
+            part_length: usize,
+        ) -> u64;
+
+        pub fn roffelaine_letters(
+            text: *const u8,
+            text_length: usize,
+            part: *mut u64,
+            part_length: usize,
+        ) -> u64;
+
         pub fn roffelaine_write(
             fields: *const u64,
             fields_length: usize,
@@ -490,6 +506,31 @@ pub fn read(text: &[u8], components: &mut [u64], fields: &mut [u64], first_row: 
             value,
         )
     })
+}
+
+/// Where the name of a component stands in a text whose first component line
+/// starts at `first_row`: its place and length go to the front of the part if
+/// there is room for both. Gives the length.
+pub fn name(text: &[u8], first_row: u64, component: u64, part: &mut [u64]) -> u64 {
+    // SAFETY: each pointer stands beside the length of its own slice.
+    unsafe {
+        exported::roffelaine_name(
+            text.as_ptr(),
+            text.len(),
+            first_row as usize,
+            component as usize,
+            part.as_mut_ptr(),
+            part.len(),
+        )
+    }
+}
+
+/// Where the letters of a text's first line stand, in the same way.
+pub fn letters(text: &[u8], part: &mut [u64]) -> u64 {
+    // SAFETY: each pointer stands beside the length of its own slice.
+    unsafe {
+        exported::roffelaine_letters(text.as_ptr(), text.len(), part.as_mut_ptr(), part.len())
+    }
 }
 
 /// Writes a list at the front of the output.

@@ -1,18 +1,12 @@
 //! A list text, read and written.
 
 use super::{lent, Component, Head, Refusal};
-use crate::flat::{field_numbers, fields_of, FIELD_NUMBERS};
+use crate::flat::{field_numbers, fields_of, part_of, FIELD_NUMBERS, PART_NUMBERS};
 use crate::model::list::NAME_BYTES;
 use crate::model::{COMPONENT_NUMBERS, MAX_COMPONENTS};
 
 /// More bytes than any list has.
 const LONGEST_TEXT: usize = 20_000;
-/// Bytes of a component line with its end, and where its name starts.
-const ROW_BYTES: usize = 50;
-const NAME_FROM: usize = 7;
-/// What stands before and after the letters of the first line.
-const LETTERS_BEFORE: &[u8] = b"[ETF";
-const LETTERS_AFTER: u8 = b']';
 
 /// A list; the letters and names are parts of its text.
 #[derive(Clone, Debug, PartialEq, Eq)]
@@ -32,16 +26,12 @@ impl<'t> List<'t> {
         let mut first_row = 0;
         let count = lent::read(text, &mut run, &mut fields, &mut first_row).outcome()? as usize;
         let components = run.chunks_exact(COMPONENT_NUMBERS).take(count);
-        let rows = text[first_row as usize..]
-            .chunks_exact(ROW_BYTES)
-            .take(count);
+        let names = (0..count as u64).filter_map(|at| name(text, first_row, at).first_chunk());
         Ok(List {
             letters: letters(text),
             head: fields_of(&fields).0,
             components: components.map(Component::from_numbers).collect(),
-            names: rows
-                .filter_map(|row| row[NAME_FROM..].first_chunk())
-                .collect(),
+            names: names.collect(),
         })
     }
 
@@ -61,10 +51,17 @@ impl<'t> List<'t> {
     }
 }
 
-/// The letters of an accepted text's first line.
+/// The name of a component of a text whose first component line starts at
+/// `first_row`; empty where there is none.
+fn name(text: &[u8], first_row: u64, component: u64) -> &[u8] {
+    let mut part = [0; PART_NUMBERS];
+    lent::name(text, first_row, component, &mut part);
+    part_of(text, part)
+}
+
+/// The letters of a text's first line; empty where that is not a list's.
 fn letters(text: &[u8]) -> &[u8] {
-    let rest = &text[LETTERS_BEFORE.len()..];
-    rest.split(|&byte| byte == LETTERS_AFTER)
-        .next()
-        .unwrap_or_default()
+    let mut part = [0; PART_NUMBERS];
+    lent::letters(text, &mut part);
+    part_of(text, part)
 }

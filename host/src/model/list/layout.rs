@@ -113,7 +113,7 @@ pub(super) fn letters_fit(letters: &[u8]) -> bool {
 }
 
 /// The letters of the first line, if all of that line is right.
-fn first_line(text: &[u8]) -> Option<&[u8]> {
+pub(super) fn first_line(text: &[u8]) -> Option<&[u8]> {
     let rest = text.strip_prefix(LETTERS_BEFORE)?;
     let length = rest
         .iter()

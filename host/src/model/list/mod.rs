@@ -10,5 +10,5 @@ mod writing;
 
 pub use head::Head;
 pub use layout::{COMPONENT_LINE, HEAD_NAMES, NAME_BYTES};
-pub use reading::{letters, name, read, List};
+pub use reading::{letters_of, name, name_behind, read, List};
 pub use writing::{write, Writing};

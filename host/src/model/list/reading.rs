@@ -7,7 +7,10 @@ use super::super::refusal::{
 use super::super::types::{first_faulty_component, Component, COMPONENT_NUMBERS, MAX_COMPONENTS};
 use super::component_line::read_component;
 use super::head::{read_head, Head};
-use super::layout::{Layout, COMPONENT_LINE, COMPONENT_STRIDE, HEAD_NAMES, NAME};
+use super::layout::{
+    first_line, Layout, COMPONENT_LINE, COMPONENT_STRIDE, HEAD_NAMES, LETTERS_BEFORE, NAME,
+};
+use std::ops::Range;
 
 /// What a list that was read hands back, besides the lent components.
 #[derive(Clone, Copy, Debug, PartialEq, Eq)]
@@ -61,9 +64,19 @@ pub fn read<'t>(text: &'t [u8], components: &mut [u64]) -> Result<List<'t>, Refu
     })
 }
 
-/// The bracket's letters; empty where the text's lines do not stand right.
-pub fn letters(text: &[u8]) -> &[u8] {
-    Layout::of(text).map_or(&[], |layout| layout.letters)
+/// Where the bracket's letters stand, if the first line stands right.
+pub fn letters_of(text: &[u8]) -> Option<Range<usize>> {
+    let start = LETTERS_BEFORE.len();
+    first_line(text).map(|letters| start..start + letters.len())
+}
+
+/// Where the name stands in the line of so many component lines' bytes behind
+/// a place, if the text goes so far. The lines themselves are not tested.
+pub fn name_behind(text: &[u8], first_row: u64, component: u64) -> Option<Range<usize>> {
+    let behind = component.checked_mul(COMPONENT_STRIDE as u64)?;
+    let start = usize::try_from(first_row.checked_add(behind)?).ok()?;
+    let line = text.get(start..)?;
+    (line.len() >= COMPONENT_STRIDE).then_some(start + NAME.start..start + NAME.end)
 }
 
 /// The name of a component of the text; empty where the text's lines do not
