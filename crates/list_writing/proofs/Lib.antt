@@ -1,3 +1,2 @@
 pub mod Replies
-pub mod Sizes
 pub mod Tests

@@ -18,9 +18,10 @@ use Rattle.digits.specs.Written.{put}
 use Rattle.list_rules.specs.declared.ListAnswer.{ListAnswer}
 use Rattle.list_rules.specs.declared.ListAnswer.the-variants.{Done, Refused}
 use Rattle.list_rules.specs.Replies.{listReply}
-use Rattle.list_rules.specs.Head.{isLetters}
+use Rattle.text_rules.specs.Head.{isLetters}
+use Rattle.list_rules.specs.Shanghai.{nameWidth}
 use Rattle.list_rules.specs.Fields.{fieldsInRange}
-use Rattle.list_rules.specs.Writing.{Listing, sizesFit, nameFault, writeFault, listChecks, textOf, writeChecks, writeReply, outputAfter, nameWidth}
+use Rattle.list_rules.specs.Writing.{Listing, sizesFit, nameFault, writeFault, listChecks, textOf, writeChecks, writeReply, outputAfter}
 use Rattle.list_writing.specs.Outcome.{WriteOutcome, lengthsFit}
 
 module _ (l : Listing) where
