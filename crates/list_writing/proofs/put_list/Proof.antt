@@ -1,56 +1,97 @@
+-- `list_writing::put_list` meets its contract: head, component lines and ENDENDEND stand one behind the other, and are the text.
+use mathlib.Core.Path.{_≡_, refl, sym, ap, _∙_}
+use mathlib.Core.List.{List}
+use Prim.Native.Nat.{ℕ, _+_, _*_}
 use borrow.Author.Needs.{needs}
-use native.Mathlib.Omega.{arith}
+use Rattle.digits.specs.Written.{Written}
+use Rattle.lines.specs.Lines.{lineText}
+use Rattle.text_rules.specs.Tables.{Column}
+use Rattle.text_rules.specs.Columns.{linePitch}
+use Rattle.list_rules.specs.Shanghai.{shanghaiColumns}
+use Rattle.list_rules.specs.Writing.{Listing, listing}
+use Rattle.list_rows.proofs.Rows.{lent-well, pitch-is}
+use Rattle.list_trip.proofs.WrittenPassing.{passing}
+use Rattle.list_writing.proofs.Lent.{headOf, fields-well, head-lent, flag-well, run-long, names-long, lines-lent, fit-lent}
+use Rattle.list_writing.proofs.Sizes.{head-room, lines-room, part-long, end-room, text-put}
 use Rattle.list_writing.proofs.put_list.Statement.{statement}
 use Rattle.list_writing.proofs.put_list.Tie as tie
-use Rattle.list_writing.proofs.put_list.Reads as reads
-use Rattle.list_writing.proofs.put_list.Lts as lts
-use Rattle.digits_writing.proofs.put_bytes.Reads as put-bytes-reads
-use Rattle.list_fields.proofs.figures_of.Reads as figures-of-reads
-use Rattle.text_columns.proofs.line_width.Reads as line-width-reads
-use Rattle.text_head_writing.proofs.put_head.Reads as put-head-reads
-use Rattle.text_rows_writing.proofs.put_rows.Reads as put-rows-reads
+
+-- the list
+abbrev list : tie.Start → Listing
+list c = let a = c .args in listing (a .fields) (a .run .now) (a .names .now) (a .letters .now)
+
+-- the head is written
+headed : (c : tie.After-put-head) → let s = c .before .before .before .before .before .before .before .before in Written (s .args .output .now) 0 (headOf (list s)) (c .put-head .last .1 .1 .1 .1 .0) (c .put-head .result)
+headed c =
+    let s = c .before .before .before .before .before .before .before .before in
+    rw (head-lent _ _ (s .pre .0 .0) (list s) _ (c .before .before .figures-of .ensures)) at (c .put-head .ensures)
+
+-- the length of a component line with its end
+pitched : (c : tie.After-line-width) → c .line-width .result + 2 ≡ linePitch shanghaiColumns
+pitched c = pitch-is _ (c .before .before .before .before .before .before .before .before .before .before .before .pre .0 .1) _ (c .line-width .ensures .0)
 
 figures-of-requires : tie.Need-figures-of-requires
-figures-of-requires c κs = ?
+figures-of-requires c κs =
+    let s = c .before .before .before .before .before in
+    passing (list s) (s .pre .1 .0) .ranges
 
 put-head-requires : tie.Need-put-head-requires
-put-head-requires c κs = ?
+put-head-requires c κs =
+    let s = c .before .before .before .before .before .before .before in
+    let h = head-lent _ _ (s .pre .0 .0) (list s) _ (c .before .figures-of .ensures) in
+    ((fields-well _ _ (s .pre .0 .0), s .pre .0 .0 .all-named), rw h (head-room (list s) (s .pre .1 .0) _ refl (s .args .output .now) (s .pre .1 .1)))
 
 line-width-requires : tie.Need-line-width-requires
-line-width-requires c κs = ?
-
-add-pitch : tie.Need-add-pitch
-add-pitch c = search needs
+line-width-requires c κs = lent-well _ (c .before .before .before .before .before .before .before .before .before .before .pre .0 .1)
 
 mul-q : tie.Need-mul-q
-mul-q c = ?
+mul-q c =
+    let s = c .before .before .before .before .before .before .before .before .before .before .before in
+    let r = lines-room (list s) (s .pre .1 .0) _ (pitched c) (s .args .output .now) (s .pre .1 .1) (headed (c .before .before .before)) in
+    search needs
 
 add-q : tie.Need-add-q
-add-q c = ?
-
-sub-put-rows : tie.Need-sub-put-rows
-sub-put-rows c = search needs
-
-part-put-rows-start : tie.Need-part-put-rows-start
-part-put-rows-start c = search needs
+add-q c =
+    let s = c .before .before .before .before .before .before .before .before .before .before .before in
+    let r = lines-room (list s) (s .pre .1 .0) _ (pitched c) (s .args .output .now) (s .pre .1 .1) (headed (c .before .before .before)) in
+    search needs
 
 part-put-rows-end : tie.Need-part-put-rows-end
-part-put-rows-end c = ?
+part-put-rows-end c =
+    let s = c .before .before .before .before .before .before .before .before .before .before .before in
+    let r = lines-room (list s) (s .pre .1 .0) _ (pitched c) (s .args .output .now) (s .pre .1 .1) (headed (c .before .before .before)) in
+    search needs
 
 put-rows-requires : tie.Need-put-rows-requires
-put-rows-requires c κs = ?
-
-slice-aggregate-put-bytes : tie.Need-slice-aggregate-put-bytes
-slice-aggregate-put-bytes c = search needs
+put-rows-requires c κs =
+    let w = c .before in
+    let s = c .before .before .before .before .before .before .before .before .before .before .before .before in
+    let p = s .pre .1 .0 in
+    let e = s .pre .0 .1 in (
+      (lent-well _ e, flag-well _ e),
+      ((run-long _ e (list s) p, names-long _ e (list s) p), (
+        part-long (list s) p _ (pitched w) (s .args .output .now) (s .pre .1 .1) (headed (w .before .before .before))
+            ∙ ap (λ (n : ℕ). s .args .fields .count * n) (pitched w ∙ sym (ap linePitch e)),
+        fit-lent _ e _ (s .pre .0 .2) (list s) p,
+      )),
+    )
 
 put-bytes-requires : tie.Need-put-bytes-requires
-put-bytes-requires c κs = ?
-
-same-length : tie.Need-same-length
-same-length c = search needs
+put-bytes-requires c κs =
+    let r = c .before .before .before .before in
+    let w = r .before .before in
+    let s = c .before .before .before .before .before .before .before .before .before .before .before .before .before .before .before .before .before in
+    end-room (list s) (s .pre .1 .0) _ (pitched w) (s .args .output .now) (s .pre .1 .1) (headed (w .before .before .before))
+    (r .put-rows .ensures ∙ lines-lent _ (s .pre .0 .1) _ (s .pre .0 .2) (list s))
 
 returns : tie.Need-returns
-returns c = ?
+unfolding lineText
+returns c =
+    let r = c .before .before .before .before .before .before .before in
+    let w = r .before .before in
+    let s = c .before .before .before .before .before .before .before .before .before .before .before .before .before .before .before .before .before .before .before .before in
+    text-put (list s) (s .pre .1 .0) _ (pitched w) (s .args .output .now) (s .pre .1 .1) (headed (w .before .before .before))
+    (r .put-rows .ensures ∙ lines-lent _ (s .pre .0 .1) _ (s .pre .0 .2) (list s)) (c .before .before .put-bytes .ensures)
 
 pub put-list-spec : {M : Type 1} → statement M
 put-list-spec =
@@ -59,14 +100,13 @@ put-list-spec =
     figures-of-requires
     put-head-requires
     line-width-requires
-    add-pitch
+    (λ c. search needs)
     mul-q
     add-q
-    sub-put-rows
-    part-put-rows-start
+    (λ c. search needs) (λ c. search needs)
     part-put-rows-end
     put-rows-requires
-    slice-aggregate-put-bytes
+    (λ c. search needs)
     put-bytes-requires
-    same-length
+    (λ c. search needs)
     returns)

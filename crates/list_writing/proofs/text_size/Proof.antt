@@ -1,36 +1,55 @@
-use borrow.Author.Needs.{needs}
+-- `list_writing::text_size` meets its contract: the head's bytes, a pitch for each component line, and the last line.
+use mathlib.Core.Path.{ap, _∙_}
 use native.Mathlib.Omega.{arith}
+use borrow.Author.Needs.{needs}
+use lib.ListN.{length}
+use Rattle.list_rules.specs.Writing.{Listing, listing}
+use Rattle.list_rows.proofs.Rows.{lent-well, pitch-is}
+use Rattle.list_trip.proofs.WrittenPassing.{Passing, passing}
+use Rattle.list_writing.proofs.Lent.{fields-well, head-lent}
+use Rattle.list_writing.proofs.Sizes.{letters-few, lines-low, text-size}
 use Rattle.list_writing.proofs.text_size.Statement.{statement}
 use Rattle.list_writing.proofs.text_size.Tie as tie
-use Rattle.list_writing.proofs.text_size.Reads as reads
-use Rattle.list_writing.proofs.text_size.Lts as lts
-use Rattle.list_fields.proofs.figures_of.Reads as figures-of-reads
-use Rattle.text_columns.proofs.line_width.Reads as line-width-reads
-use Rattle.text_head_writing.proofs.head_size.Reads as head-size-reads
+
+-- the list
+abbrev list : tie.Start → Listing
+list c = let a = c .args in listing (a .fields) (a .run .now) (a .names .now) (a .letters .now)
+
+fine : (c : tie.Start) → Passing (list c)
+fine c = passing (list c) (c .pre .1)
 
 figures-of-requires : tie.Need-figures-of-requires
-figures-of-requires c κs = ?
+figures-of-requires c κs = fine (c .before .before .before .before) .ranges
 
 head-size-requires : tie.Need-head-size-requires
-head-size-requires c κs = ?
+head-size-requires c κs =
+    let s = c .before .before .before .before .before in
+    ((fields-well _ _ (s .pre .0 .0), s .pre .0 .0 .all-named), letters-few (list s) (fine s))
 
 line-width-requires : tie.Need-line-width-requires
-line-width-requires c κs = ?
-
-add-pitch : tie.Need-add-pitch
-add-pitch c = search needs
+line-width-requires c κs = lent-well _ (c .before .before .before .before .before .before .pre .0 .1)
 
 mul-result : tie.Need-mul-result
-mul-result c = ?
+mul-result c =
+    let low = lines-low _ _ (fine (c .before .before .before .before .before .before .before .before) .few) (c .before .line-width .ensures .1) in
+    omega arith
 
 add-result : tie.Need-add-result
-add-result c = ?
+add-result c =
+    let low = lines-low _ _ (fine (c .before .before .before .before .before .before .before .before) .few) (c .before .line-width .ensures .1) in
+    omega arith
 
 add-result-2 : tie.Need-add-result-2
-add-result-2 c = ?
+add-result-2 c =
+    let low = lines-low _ _ (fine (c .before .before .before .before .before .before .before .before) .few) (c .before .line-width .ensures .1) in
+    let head = c .before .before .head-size .ensures .1 in
+    omega arith
 
 returns : tie.Need-returns
-returns c = ?
+returns c =
+    let s = c .before .before .before .before .before .before .before .before in
+    text-size (list s) (s .pre .1) _ (pitch-is _ (s .pre .0 .1) _ (c .before .line-width .ensures .0)) _
+    (c .before .before .head-size .ensures .0 ∙ ap length (head-lent _ _ (s .pre .0 .0) (list s) _ (c .before .before .before .figures-of .ensures)))
 
 pub text-size-spec : {M : Type 1} → statement M
 text-size-spec =
@@ -39,7 +58,7 @@ text-size-spec =
     figures-of-requires
     head-size-requires
     line-width-requires
-    add-pitch
+    (λ c. search needs)
     mul-result
     add-result
     add-result-2

@@ -1,65 +1,47 @@
+-- `list_writing::write` meets its contract: an accepted answer writes the text, a refused one changes nothing.
+use mathlib.Core.Path.{refl}
 use borrow.Author.Needs.{needs}
-use native.Mathlib.Omega.{arith}
+use Rattle.sequences.specs.Below.{sumBelow}
+use Rattle.flags.specs.Table.{flagTable}
+use Rattle.text_rules.specs.Tables.{useOf, columnOf, columnsOf, kindOf, formOf, fieldOf, fieldsOf, nameBefore}
+use Rattle.list_rules.specs.Shanghai.{shanghaiColumns, shanghaiFields}
+use Rattle.list_rules.specs.Writing.{Listing, listing}
+use Rattle.list_writing.proofs.Replies.{outcome-written, outcome-refused, accepted-list}
 use Rattle.list_writing.proofs.write.Statement.{statement}
 use Rattle.list_writing.proofs.write.Tie as tie
-use Rattle.list_writing.proofs.write.Reads as reads
-use Rattle.list_writing.proofs.write.Lts as lts
-use Rattle.list_writing.proofs.put_list.Reads as put-list-reads
-use Rattle.list_writing.proofs.write_answer.Reads as write-answer-reads
 
-slice-aggregate-write-answer : tie.Need-slice-aggregate-write-answer
-slice-aggregate-write-answer c = search needs
-
-slice-aggregate-write-answer-2 : tie.Need-slice-aggregate-write-answer-2
-slice-aggregate-write-answer-2 c = search needs
-
-slice-aggregate-write-answer-3 : tie.Need-slice-aggregate-write-answer-3
-slice-aggregate-write-answer-3 c = search needs
+-- the list
+abbrev list : tie.Start → Listing
+list c = let a = c .args in listing (a .fields) (a .run .now) (a .names .now) (a .letters .now)
 
 write-answer-requires : tie.Need-write-answer-requires
-write-answer-requires c κs = ?
-
-enum-told : tie.Need-enum-told
-enum-told c = search needs
-
-slice-aggregate-put-list : tie.Need-slice-aggregate-put-list
-slice-aggregate-put-list c = search needs
-
-slice-aggregate-put-list-2 : tie.Need-slice-aggregate-put-list-2
-slice-aggregate-put-list-2 c = search needs
-
-slice-aggregate-put-list-3 : tie.Need-slice-aggregate-put-list-3
-slice-aggregate-put-list-3 c = search needs
+unfolding columnsOf columnOf useOf shanghaiColumns fieldsOf fieldOf formOf kindOf nameBefore sumBelow shanghaiFields
+write-answer-requires c κs = (record { fields-are = refl; all-named = refl }, refl)
 
 put-list-requires : tie.Need-put-list-requires
-put-list-requires c κs = ?
-
-enum-told-2 : tie.Need-enum-told-2
-enum-told-2 c = search needs
-
-same-length : tie.Need-same-length
-same-length c = search needs
+unfolding columnsOf columnOf useOf shanghaiColumns fieldsOf fieldOf formOf kindOf nameBefore sumBelow shanghaiFields flagTable
+put-list-requires c κs =
+    let s = c .before .before .before .before .before .before .before .before .before .before .before .before .before .before .before in (
+      (record { fields-are = refl; all-named = refl }, refl, refl),
+      accepted-list (list s) (s .args .output .now) _ (c .before .before .before .before .before .before .before .write-answer .ensures) _ (c .before .before .before .before .before .enum-told .given .1),
+    )
 
 returns : tie.Need-returns
-returns c = ?
+returns c =
+    outcome-written (list (c .before .before .before .before .before .before .before .before .before .before .before .before .before .before .before .before .before .before)) _ _
+    (c .before .before .before .before .before .before .before .before .before .before .write-answer .ensures) _ _ (c .before .before .before .before .before .before .before .before .enum-told .given .1) (c .before .before .put-list .ensures)
 
 returns-2 : tie.Need-returns-2
-returns-2 c = ?
+returns-2 c = outcome-refused (list (c .before .before .before .before .before .before .before .before .before .before)) _ _ (c .before .before .write-answer .ensures) _ (c .enum-told2 .given .1)
 
 pub write-spec : {M : Type 1} → statement M
 write-spec =
     tie.close
     (tie.spec
-    slice-aggregate-write-answer
-    slice-aggregate-write-answer-2
-    slice-aggregate-write-answer-3
+    (λ c. search needs) (λ c. search needs) (λ c. search needs)
     write-answer-requires
-    enum-told
-    slice-aggregate-put-list
-    slice-aggregate-put-list-2
-    slice-aggregate-put-list-3
+    (λ c. search needs) (λ c. search needs) (λ c. search needs) (λ c. search needs)
     put-list-requires
-    enum-told-2
-    same-length
+    (λ c. search needs) (λ c. search needs)
     returns
     returns-2)
