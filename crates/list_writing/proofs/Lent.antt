@@ -3,7 +3,6 @@ use mathlib.Core.Path.{_≡_, refl, ap, ap₂, _∙_, subst⁻¹}
 use mathlib.Core.Bool.{Bool, true}
 use mathlib.Core.List.{List}
 use Prim.Native.Nat.{ℕ, _*_, _<_}
-use native.Mathlib.Nat.{mul-comm}
 use native.Mathlib.Omega.{arith}
 use lib.ListN.{length}
 use borrow.Author.Tests.{lt-ltb}
@@ -21,7 +20,7 @@ use Rattle.text_rules.proofs.Well.{form-facts}
 use Rattle.text_trip.specs.Trips.{RowFits}
 use Rattle.text_head_writing.specs.Lines.{arrayFigure}
 use Rattle.list_rules.specs.declared.ListFields.{ListFields}
-use Rattle.list_rules.specs.Shanghai.{shanghai, shanghaiFields, shanghaiColumns, fieldCount, flagColumn, nameWidth}
+use Rattle.list_rules.specs.Shanghai.{shanghai, shanghaiFields, shanghaiColumns, fieldCount, flagColumn}
 use Rattle.list_rules.specs.Fields.{figureAt, figuresOf}
 use Rattle.list_rules.specs.Lent.{ColumnsLent, FieldsLent}
 use Rattle.list_rules.specs.Writing.{Listing, sheetOf, listChecks}

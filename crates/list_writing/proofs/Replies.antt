@@ -65,10 +65,6 @@ module _ (l : Listing) where
   unfolding listChecks
   list-passes a b c = passes-all (listChecks l) (ap not a, (b, (c, tt)))
 
-  pub list-facts : passes (listChecks l) ≡ true → (not (sizesFit l) ≡ false) × (rangeWrong ≡ false) × (ltb (writeFault l) (l .fields .count) ≡ false)
-  unfolding listChecks
-  list-facts e = let p = passed-all (listChecks l) e in (p .0, p .1 .0, p .1 .1 .0)
-
   module _ (room : ℕ) where
     pub reply-1 : sizesFit l ≡ false → reply 1 0 0 ≡ writeReply l room
     unfolding writeReply writeChecks listChecks answered

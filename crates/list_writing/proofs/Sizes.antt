@@ -1,5 +1,5 @@
 -- How long the text of a list is, and its head, component lines and last line written one behind the other.
-use mathlib.Core.Path.{_≡_, ap, _∙_, sym, subst}
+use mathlib.Core.Path.{_≡_, sym, ap, _∙_}
 use mathlib.Core.Bool.{true, and-eq-true-iff}
 use mathlib.Core.List.{List, _++_, append-assoc}
 use Prim.Native.Nat.{ℕ, _+_, _-_, _*_, _≤_}
@@ -37,7 +37,18 @@ lines-low count width h w =
     let wide : width + 2 ≤ mostLine + 2 = omega arith in
     mul-le-mul h wide
 
--- a list that passes, with the length of a component line as the code computes it
+-- the lengths of a text's parts
+parts : (l : Listing) → length (textOf l) ≡ length (headOf l) + (length (linesOf l) + 11)
+unfolding textOf sheetOf sheetText shanghai
+parts l =
+    let a = length-append (headOf l) (linesOf l ++ lineText endWord) in
+    let b = length-append (linesOf l) (lineText endWord) in
+    omega (arith, a, b, length-lineText endWord)
+
+pub head-room : (l : Listing) (d : List ℕ) → length (textOf l) ≤ length d → 0 + length (headOf l) ≤ length d
+head-room l d room = omega (arith, parts l, room)
+
+-- A list that passes, with the length of a component line as the code computes it.
 module _ (l : Listing) (e : passes (listChecks l) ≡ true) (pitch : ℕ) (f : pitch ≡ linePitch shanghaiColumns) where
   pitched : l .fields .count * pitch ≡ l .fields .count * linePitch shanghaiColumns
   pitched = ap (λ (n : ℕ). l .fields .count * n) f
@@ -45,25 +56,14 @@ module _ (l : Listing) (e : passes (listChecks l) ≡ true) (pitch : ℕ) (f : p
   pub text-size : (head : ℕ) → head ≡ length (headOf l) → head + (l .fields .count * pitch + 11) ≡ length (textOf l)
   text-size head h = omega (arith, h, pitched, text-length l e, length-lineText endWord)
 
-  -- the lengths of its parts
-  parts : length (textOf l) ≡ length (headOf l) + (length (linesOf l) + 11)
-  unfolding textOf sheetOf sheetText shanghai
-  parts =
-      let a = length-append (headOf l) (linesOf l ++ lineText endWord) in
-      let b = length-append (linesOf l) (lineText endWord) in
-      omega (arith, a, b, length-lineText endWord)
-
   lines-long : length (linesOf l) ≡ l .fields .count * pitch
-  lines-long = omega (arith, pitched, parts, text-length l e, length-lineText endWord)
+  lines-long = omega (arith, pitched, parts l, text-length l e, length-lineText endWord)
 
   -- written into a lent output
   module _ (d : List ℕ) (room : length (textOf l) ≤ length d) where
-    pub head-room : 0 + length (headOf l) ≤ length d
-    head-room = omega (arith, parts, room)
-
     module _ {d₁ : List ℕ} {a : ℕ} (u : Written d 0 (headOf l) d₁ a) where
       pub lines-room : a + l .fields .count * pitch + 11 ≤ length d₁
-      lines-room = omega (arith, room, parts, lines-long, u .next, written-length u head-room)
+      lines-room = omega (arith, room, parts l, lines-long, u .next, written-length u (head-room l d room))
 
       pub part-long : length (take (a + l .fields .count * pitch - a) (drop a d₁)) ≡ l .fields .count * pitch
       part-long =
@@ -90,4 +90,4 @@ module _ (l : Listing) (e : passes (listChecks l) ≡ true) (pitch : ℕ) (f : p
         text-put w =
             let g = length-append (headOf l) (linesOf l) in
             let z = length-lineText endWord in
-            written-then (written-then u lines-put (omega (arith, parts, room))) w (omega (arith, parts, room)) .bytes ∙ rw append-assoc
+            written-then (written-then u lines-put (omega (arith, parts l, room))) w (omega (arith, parts l, room)) .bytes ∙ rw append-assoc

@@ -100,7 +100,15 @@ fn write_answer(
     if fault < count {
         return ListAnswer::Refused(Refusal::Component(fault));
     }
-    let size = text_size(field_rows, field_names, columns, fields, run, names, letters);
+    let size = text_size(
+        field_rows,
+        field_names,
+        columns,
+        fields,
+        run,
+        names,
+        letters,
+    );
     if room < size {
         return ListAnswer::Refused(Refusal::ListTooShort);
     }
@@ -154,6 +162,7 @@ pub fn write(
     let field_rows = list_rules::FIELDS;
     let field_names = list_rules::NAMES;
     let columns = list_rules::COLUMNS;
+    let flags = flags::TABLE;
     let answer = write_answer(
         &field_rows,
         &field_names,
@@ -165,20 +174,17 @@ pub fn write(
         output.len(),
     );
     match answer {
-        ListAnswer::Done(_) => {
-            let flags = flags::TABLE;
-            put_list(
-                &field_rows,
-                &field_names,
-                &columns,
-                &flags,
-                fields,
-                run,
-                names,
-                letters,
-                output,
-            )
-        }
+        ListAnswer::Done(_) => put_list(
+            &field_rows,
+            &field_names,
+            &columns,
+            &flags,
+            fields,
+            run,
+            names,
+            letters,
+            output,
+        ),
         ListAnswer::Refused(_) => {}
     }
     answer

@@ -1,12 +1,12 @@
 -- `list_writing::text_size` meets its contract: the head's bytes, a pitch for each component line, and the last line.
-use mathlib.Core.Path.{ap, _∙_}
+use mathlib.Core.Path.{_≡_}
 use native.Mathlib.Omega.{arith}
 use borrow.Author.Needs.{needs}
 use lib.ListN.{length}
 use Rattle.list_rules.specs.Writing.{Listing, listing}
 use Rattle.list_rows.proofs.Rows.{lent-well, pitch-is}
 use Rattle.list_trip.proofs.WrittenPassing.{Passing, passing}
-use Rattle.list_writing.proofs.Lent.{fields-well, head-lent}
+use Rattle.list_writing.proofs.Lent.{headOf, fields-well, head-lent}
 use Rattle.list_writing.proofs.Sizes.{letters-few, lines-low, text-size}
 use Rattle.list_writing.proofs.text_size.Statement.{statement}
 use Rattle.list_writing.proofs.text_size.Tie as tie
@@ -17,6 +17,12 @@ list c = let a = c .args in listing (a .fields) (a .run .now) (a .names .now) (a
 
 fine : (c : tie.Start) → Passing (list c)
 fine c = passing (list c) (c .pre .1)
+
+-- the bytes of the head
+headed : (c : tie.After-head-size) → c .head-size .result ≡ length (headOf (list (c .before .before .before .before .before .before)))
+headed c =
+    let s = c .before .before .before .before .before .before in
+    rw (head-lent _ _ (s .pre .0 .0) (list s) _ (c .before .figures-of .ensures)) at (c .head-size .ensures .0)
 
 figures-of-requires : tie.Need-figures-of-requires
 figures-of-requires c κs = fine (c .before .before .before .before) .ranges
@@ -48,8 +54,7 @@ add-result-2 c =
 returns : tie.Need-returns
 returns c =
     let s = c .before .before .before .before .before .before .before .before in
-    text-size (list s) (s .pre .1) _ (pitch-is _ (s .pre .0 .1) _ (c .before .line-width .ensures .0)) _
-    (c .before .before .head-size .ensures .0 ∙ ap length (head-lent _ _ (s .pre .0 .0) (list s) _ (c .before .before .before .figures-of .ensures)))
+    text-size (list s) (s .pre .1) _ (pitch-is _ (s .pre .0 .1) _ (c .before .line-width .ensures .0)) _ (headed (c .before .before))
 
 pub text-size-spec : {M : Type 1} → statement M
 text-size-spec =

@@ -21,18 +21,21 @@ write-answer-requires c κs = (record { fields-are = refl; all-named = refl }, r
 put-list-requires : tie.Need-put-list-requires
 unfolding columnsOf columnOf useOf shanghaiColumns fieldsOf fieldOf formOf kindOf nameBefore sumBelow shanghaiFields flagTable
 put-list-requires c κs =
-    let s = c .before .before .before .before .before .before .before .before .before .before .before .before .before .before .before in (
+    let e = c .before .before .before .before .before in
+    let s = e .before .before .before .before .before .before .before .before .before .before in (
       (record { fields-are = refl; all-named = refl }, refl, refl),
-      accepted-list (list s) (s .args .output .now) _ (c .before .before .before .before .before .before .before .write-answer .ensures) _ (c .before .before .before .before .before .enum-told .given .1),
+      accepted-list (list s) (s .args .output .now) _ (e .before .before .write-answer .ensures) _ (e .enum-told .given .1),
     )
 
 returns : tie.Need-returns
 returns c =
-    outcome-written (list (c .before .before .before .before .before .before .before .before .before .before .before .before .before .before .before .before .before .before)) _ _
-    (c .before .before .before .before .before .before .before .before .before .before .write-answer .ensures) _ _ (c .before .before .before .before .before .before .before .before .enum-told .given .1) (c .before .before .put-list .ensures)
+    let e = c .before .before .before .before .before .before .before .before in
+    let s = e .before .before .before .before .before .before .before .before .before .before in
+    outcome-written (list s) _ _ (e .before .before .write-answer .ensures) _ _ (e .enum-told .given .1) (c .before .before .put-list .ensures)
 
 returns-2 : tie.Need-returns-2
-returns-2 c = outcome-refused (list (c .before .before .before .before .before .before .before .before .before .before)) _ _ (c .before .before .write-answer .ensures) _ (c .enum-told2 .given .1)
+returns-2 c =
+    outcome-refused (list (c .before .before .before .before .before .before .before .before .before .before)) _ _ (c .before .before .write-answer .ensures) _ (c .enum-told2 .given .1)
 
 pub write-spec : {M : Type 1} → statement M
 write-spec =

@@ -46,8 +46,9 @@ returns-2 c =
 
 returns-3 : tie.Need-returns-3
 returns-3 c =
-    reply-2 (list (c .before .before .before .before .before .before .before .before .before .before)) _ (sized (c .before .before .before .before))
-    (range-letters (list (c .before .before .before .before .before .before .before .before .before .before)) (ranged (c .before .before)) (sym (c .before .is-letters .ensures) ∙ not-true _ (c .if3 .taken)))
+    let l = list (c .before .before .before .before .before .before .before .before .before .before) in
+    reply-2 l _ (sized (c .before .before .before .before))
+    (range-letters l (ranged (c .before .before)) (sym (c .before .is-letters .ensures) ∙ not-true _ (c .if3 .taken)))
 
 write-fault-requires : tie.Need-write-fault-requires
 write-fault-requires c κs =
