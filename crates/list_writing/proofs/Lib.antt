@@ -1,3 +1,4 @@
 pub mod Replies
+pub mod Lent
 pub mod Sizes
 pub mod Tests

@@ -18,9 +18,10 @@ use Rattle.digits.specs.Written.{put}
 use Rattle.list_rules.specs.declared.ListAnswer.{ListAnswer}
 use Rattle.list_rules.specs.declared.ListAnswer.the-variants.{Done, Refused}
 use Rattle.list_rules.specs.Replies.{listReply}
-use Rattle.list_rules.specs.Head.{isLetters}
+use Rattle.text_rules.specs.Head.{isLetters}
+use Rattle.list_rules.specs.Shanghai.{nameWidth}
 use Rattle.list_rules.specs.Fields.{fieldsInRange}
-use Rattle.list_rules.specs.Writing.{Listing, sizesFit, nameFault, writeFault, listChecks, textOf, writeChecks, writeReply, outputAfter, nameWidth}
+use Rattle.list_rules.specs.Writing.{Listing, sizesFit, nameFault, writeFault, listChecks, textOf, writeChecks, writeReply, outputAfter}
 use Rattle.list_writing.specs.Outcome.{WriteOutcome, lengthsFit}
 
 module _ (l : Listing) where
@@ -63,10 +64,6 @@ module _ (l : Listing) where
   pub list-passes : sizesFit l ≡ true → rangeWrong ≡ false → ltb (writeFault l) (l .fields .count) ≡ false → passes (listChecks l) ≡ true
   unfolding listChecks
   list-passes a b c = passes-all (listChecks l) (ap not a, (b, (c, tt)))
-
-  pub list-facts : passes (listChecks l) ≡ true → (not (sizesFit l) ≡ false) × (rangeWrong ≡ false) × (ltb (writeFault l) (l .fields .count) ≡ false)
-  unfolding listChecks
-  list-facts e = let p = passed-all (listChecks l) e in (p .0, p .1 .0, p .1 .1 .0)
 
   module _ (room : ℕ) where
     pub reply-1 : sizesFit l ≡ false → reply 1 0 0 ≡ writeReply l room

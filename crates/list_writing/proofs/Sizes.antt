@@ -1,113 +1,93 @@
--- How long the text of a list is, and its head and component lines as the code writes them.
-use mathlib.Core.Path.{_≡_, refl, ap, ap₂, _∙_}
-use mathlib.Core.Bool.{true, cond, and-eq-true-iff}
-use mathlib.Core.List.{List, [], _∷_, _++_, append-assoc}
-use Prim.Native.Nat.{ℕ, _+_, _-_, _*_, _≤_, _<_}
-use native.Mathlib.Decide.{decLt}
-use native.Mathlib.Nat.{mul-comm}
+-- How long the text of a list is, and its head, component lines and last line written one behind the other.
+use mathlib.Core.Path.{_≡_, sym, ap, _∙_}
+use mathlib.Core.Bool.{true, and-eq-true-iff}
+use mathlib.Core.List.{List, _++_, append-assoc}
+use Prim.Native.Nat.{ℕ, _+_, _-_, _*_, _≤_}
+use native.Mathlib.Nat.{mul-le-mul, add-sub-cancel-left}
 use native.Mathlib.Omega.{arith}
-use lib.Dec.{ltb, eqb}
-use lib.ListN.{length, length-append}
-use borrow.Author.Tests.{le-ltb, ne-eqb}
-use Rattle.sequences.specs.Below.{tabulate}
+use lib.ListN.{length, take, drop, length-append, length-drop}
+use lib.Seq.{length-take-le}
+use borrow.Rule.Slice.PartMut.{putMid}
 use Rattle.sequences.specs.Checks.{passes}
-use Rattle.sequences.proofs.Below.{table-at}
 use Rattle.sequences.proofs.Every.{inside-facts}
-use Rattle.layout.specs.Components.{componentAt}
-use Rattle.digits.specs.declared.Figure.{Figure}
-use Rattle.digits.specs.Digits.{plain, numberText}
+use Rattle.layout.specs.Places.{mostComponents}
 use Rattle.digits.specs.Written.{Written, put}
 use Rattle.digits.proofs.Put.{written-then, written-length}
 use Rattle.lines.specs.Lines.{lineText}
 use Rattle.lines.proofs.Laws.{length-lineText}
-use Rattle.list_rules.specs.Head.{fieldName, fieldForm, openingWord, isLetters, headLine, tagWord, endWord, headLines}
-use Rattle.list_rules.specs.Fields.{figureAt}
-use Rattle.list_rules.specs.Writing.{Listing, headText, rowsText, textOf, listChecks}
-use Rattle.list_rules.specs.Columns.{rowPitch}
-use Rattle.list_head_tables.specs.Tables.{headBytes}
-use Rattle.list_columns_writing.specs.Fitting.{Fitting}
-use Rattle.list_rows.specs.Rows.{rowBytes}
-use Rattle.list_trip.proofs.Below.{join-same, length-below}
-use Rattle.list_trip.proofs.WrittenPassing.{Passing, passing, component-fine, name-fine, name-eight}
-use Rattle.list_trip.proofs.WrittenRow.{row-written}
-
--- a line of the head reads only the figure before it
-line-same : (letters : List ℕ) (f g : ℕ → Figure) (k : ℕ) → ((i : ℕ) → i < 20 → f i ≡ g i) → headLine letters f k ≡ headLine letters g k
-unfolding headLine
-line-same letters f g k e = pick (decLt (k - 1) 20)
-  where
-    line : Figure → List ℕ
-    line z =
-        cond (eqb k 0) (openingWord ++ (letters ++ 93 ∷ []))
-        (cond (ltb k 21) (fieldName (k - 1) ++ 61 ∷ numberText (fieldForm (k - 1)) z) tagWord)
-
-    pick : Dec (k - 1 < 20) → line (f (k - 1)) ≡ line (g (k - 1))
-    pick (yes h) = ap line (e (k - 1) h)
-    pick (no h) = rw (ne-eqb k 0 (λ z. h (omega arith)), le-ltb k 21 (omega arith))
+use Rattle.text_rules.specs.Head.{isLetters, endWord}
+use Rattle.text_rules.specs.Columns.{linePitch}
+use Rattle.text_rules.specs.Writing.{sheetText}
+use Rattle.text_rules.specs.Well.{mostLine}
+use Rattle.text_rows_writing.proofs.Cells.{part-put}
+use Rattle.list_rules.specs.Shanghai.{shanghai, shanghaiColumns}
+use Rattle.list_rules.specs.Writing.{Listing, sheetOf, textOf, listChecks}
+use Rattle.list_trip.proofs.WrittenPassing.{Passing}
+use Rattle.list_trip.proofs.WrittenSheet.{text-length}
+use Rattle.list_writing.proofs.Lent.{headOf, linesOf}
 
 -- the letters are at most eight
 pub letters-few : (l : Listing) → Passing l → length (l .letters) ≤ 8
 unfolding isLetters
 letters-few l p = inside-facts 1 8 (length (l .letters)) (and-eq-true-iff _ _ .0 (p .letters) .0) .1
 
--- the numbers of each component are no wider than their columns
-pub numbers-fit : (l : Listing) → Passing l → (j : ℕ) → j < l .fields .count → Fitting (componentAt (l .run) j)
-numbers-fit l p j h =
-    let r = component-fine l p j h in
-    record { quantity = omega (arith, r .quantity); rate = omega (arith, r .rate); amount = omega (arith, r .amount) }
+-- the component lines of any well-made table are not too long
+pub lines-low : (count width : ℕ) → count ≤ mostComponents → width ≤ mostLine → count * (width + 2) ≤ mostComponents * (mostLine + 2)
+lines-low count width h w =
+    let wide : width + 2 ≤ mostLine + 2 = omega arith in
+    mul-le-mul h wide
 
-module _ (l : Listing) where
-  pub head-is : headBytes (l .letters) (tabulate (figureAt (l .fields)) 20) 22 ≡ headText l 22
-  unfolding headBytes headText
-  head-is =
-      join-same _ _ 22
-      (λ k _. ap lineText (line-same (l .letters) _ (figureAt (l .fields)) k (λ i h. table-at (figureAt (l .fields)) 20 i (plain 0) h)))
+-- the lengths of a text's parts
+parts : (l : Listing) → length (textOf l) ≡ length (headOf l) + (length (linesOf l) + 11)
+unfolding textOf sheetOf sheetText shanghai
+parts l =
+    let a = length-append (headOf l) (linesOf l ++ lineText endWord) in
+    let b = length-append (linesOf l) (lineText endWord) in
+    omega (arith, a, b, length-lineText endWord)
 
-  pub rows-are : rowBytes (l .run) (l .names) (l .fields .count) ≡ rowsText l (l .fields .count)
-  unfolding rowBytes rowsText
-  rows-are = refl
+pub head-room : (l : Listing) (d : List ℕ) → length (textOf l) ≤ length d → 0 + length (headOf l) ≤ length d
+head-room l d room = omega (arith, parts l, room)
 
-  module _ (e : passes (listChecks l) ≡ true) where
-    p : Passing l
-    p = passing l e
+-- A list that passes, with the length of a component line as the code computes it.
+module _ (l : Listing) (e : passes (listChecks l) ≡ true) (pitch : ℕ) (f : pitch ≡ linePitch shanghaiColumns) where
+  pitched : l .fields .count * pitch ≡ l .fields .count * linePitch shanghaiColumns
+  pitched = ap (λ (n : ℕ). l .fields .count * n) f
 
-    rows-size : length (rowsText l (l .fields .count)) ≡ rowPitch * l .fields .count
-    unfolding rowsText
-    rows-size =
-        length-below _ (l .fields .count) 50
-        (λ j h. length-lineText _ ∙ ap (λ (n : ℕ). n + 2) (row-written _ _ (component-fine l p j h) _ (name-eight l p j h) (name-fine l p j h) .wide))
-        ∙ mul-comm (l .fields .count) 50
+  pub text-size : (head : ℕ) → head ≡ length (headOf l) → head + (l .fields .count * pitch + 11) ≡ length (textOf l)
+  text-size head h = omega (arith, h, pitched, text-length l e, length-lineText endWord)
 
-    pub text-size : length (textOf l) ≡ length (headText l headLines) + (rowPitch * l .fields .count + 11)
-    unfolding textOf
-    text-size =
-        length-append (headText l 22) (rowsText l (l .fields .count) ++ lineText endWord)
-        ∙ ap (λ (n : ℕ). length (headText l 22) + n)
-        (length-append (rowsText l (l .fields .count)) (lineText endWord) ∙ ap₂ (λ (a b : ℕ). a + b) rows-size (length-lineText endWord))
+  lines-long : length (linesOf l) ≡ l .fields .count * pitch
+  lines-long = omega (arith, pitched, parts l, text-length l e, length-lineText endWord)
 
-  -- the head, the component lines and ENDENDEND, written one behind the other
+  -- written into a lent output
   module _ (d : List ℕ) (room : length (textOf l) ≤ length d) where
-    parts : length (headText l 22) + (length (rowsText l (l .fields .count)) + 11) ≤ length d
-    unfolding textOf
-    parts =
-        let e = length-append (headText l 22) (rowsText l (l .fields .count) ++ lineText endWord) in
-        let f = length-append (rowsText l (l .fields .count)) (lineText endWord) in
-        omega (arith, e, f, length-lineText endWord)
+    module _ {d₁ : List ℕ} {a : ℕ} (u : Written d 0 (headOf l) d₁ a) where
+      pub lines-room : a + l .fields .count * pitch + 11 ≤ length d₁
+      lines-room = omega (arith, room, parts l, lines-long, u .next, written-length u (head-room l d room))
 
-    pub head-room : 0 + length (headText l 22) ≤ length d
-    head-room = omega (arith, parts)
+      pub part-long : length (take (a + l .fields .count * pitch - a) (drop a d₁)) ≡ l .fields .count * pitch
+      part-long =
+          rw (add-sub-cancel-left a (l .fields .count * pitch))
+          (length-take-le (l .fields .count * pitch) (drop a d₁) (omega (arith, lines-room, length-drop a d₁)))
 
-    module _ {d₁ : List ℕ} {a : ℕ} (u : Written d 0 (headText l 22) d₁ a) where
-      pub rows-room : a + length (rowsText l (l .fields .count)) ≤ length d₁
-      rows-room = omega (arith, parts, u .next, written-length u head-room)
+      module _ {xs : List ℕ} (g : xs ≡ linesOf l) where
+        -- the component lines come back in their part of the output
+        pub lines-put : Written d₁ a (linesOf l) (putMid a (a + l .fields .count * pitch - a) d₁ xs) (a + l .fields .count * pitch)
+        lines-put =
+            record {
+              bytes =
+                  ap (putMid a (a + l .fields .count * pitch - a) d₁) g
+                  ∙ part-put d₁ a (linesOf l) (omega (arith, lines-room, lines-long)) (add-sub-cancel-left a (l .fields .count * pitch) ∙ sym lines-long);
+              next = ap (λ (n : ℕ). a + n) (sym lines-long);
+            }
 
-      module _ {d₂ : List ℕ} {b : ℕ} (v : Written d₁ a (rowsText l (l .fields .count)) d₂ b) where
-        pub end-room : b + 11 ≤ length d₂
-        end-room = omega (arith, parts, u .next, v .next, written-length u head-room, written-length v rows-room)
+        pub end-room : a + l .fields .count * pitch + 11 ≤ length (putMid a (a + l .fields .count * pitch - a) d₁ xs)
+        end-room = omega (arith, lines-room, lines-long, written-length lines-put (omega (arith, lines-room, lines-long)))
 
-        pub text-put : {d₃ : List ℕ} {c : ℕ} → Written d₂ b (lineText endWord) d₃ c → d₃ ≡ put d 0 (textOf l)
-        unfolding textOf
+        pub text-put : {d₃ : List ℕ} {c : ℕ}
+            → Written (putMid a (a + l .fields .count * pitch - a) d₁ xs) (a + l .fields .count * pitch) (lineText endWord) d₃ c → d₃ ≡ put d 0 (textOf l)
+        unfolding textOf sheetOf sheetText shanghai
         text-put w =
-            let g = length-append (headText l 22) (rowsText l (l .fields .count)) in
+            let g = length-append (headOf l) (linesOf l) in
             let z = length-lineText endWord in
-            written-then (written-then u v (omega (arith, parts))) w (omega (arith, parts)) .bytes ∙ rw append-assoc
+            written-then (written-then u lines-put (omega (arith, parts l, room))) w (omega (arith, parts l, room)) .bytes ∙ rw append-assoc

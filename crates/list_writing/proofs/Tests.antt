@@ -7,7 +7,7 @@ use native.Mathlib.Omega.{arith}
 use lib.Dec.{eqb}
 use borrow.Author.Tests.{le-leb, lt-leb, eq-eqb, ne-eqb}
 use Rattle.layout.specs.Places.{mostComponents, componentWidth}
-use Rattle.list_rules.specs.Writing.{nameWidth}
+use Rattle.list_rules.specs.Shanghai.{nameWidth}
 use Rattle.sequences.specs.Every.{every, inside}
 use Rattle.list_writing.specs.Outcome.{lengthsFit}
 

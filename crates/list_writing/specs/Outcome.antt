@@ -9,7 +9,8 @@ use Rattle.sequences.specs.Every.{every, inside}
 use Rattle.layout.specs.Places.{componentWidth, mostComponents}
 use Rattle.list_rules.specs.declared.ListAnswer.{ListAnswer}
 use Rattle.list_rules.specs.Replies.{listReply}
-use Rattle.list_rules.specs.Writing.{Listing, nameWidth, writeReply, outputAfter}
+use Rattle.list_rules.specs.Shanghai.{nameWidth}
+use Rattle.list_rules.specs.Writing.{Listing, writeReply, outputAfter}
 
 -- what writing a list into a lent output answers, and what it leaves of the output
 pub record WriteOutcome (l : Listing) (output : List ℕ) (r : ListAnswer) (output′ : List ℕ) : Type 0 where

@@ -9,11 +9,16 @@ ghost use Rattle.layout.specs.Components.{componentAt, placesOf};
 ghost use Rattle.fund.specs.Components.{componentFault};
 ghost use Rattle.digits.specs.Written.{put};
 ghost use Rattle.list_rules.specs.Replies.{listReply};
-ghost use Rattle.list_rules.specs.Writing.{listing, listChecks, nameFault, textOf, writeReply, nameWidth};
+ghost use Rattle.flags.specs.Table.{flagTable};
+ghost use Rattle.list_rules.specs.Shanghai.{nameWidth};
+ghost use Rattle.list_rules.specs.Lent.{ColumnsLent, FieldsLent};
+ghost use Rattle.list_rules.specs.Writing.{listing, listChecks, nameFault, textOf, writeReply};
 ghost use Rattle.list_writing.specs.Outcome.{WriteOutcome, lengthsFit};
 use list_rules::ListAnswer;
 use list_rules::ListFields;
 use rules::Refusal;
+use text_rules::COLUMN_PARTS;
+use text_rules::FIELD_PARTS;
 
 // How many bytes the last line takes with its end.
 const END_SIZE: usize = 11;
@@ -47,24 +52,38 @@ fn write_fault(first_code: u64, run: &[u64], names: &[u8], count: usize) -> usiz
     name
 }
 
-// How many bytes the text takes.
-fn text_size(fields: ListFields, run: &[u64], names: &[u8], letters: &[u8]) -> usize
+// How many bytes the text takes. The tables of fields and columns are lent, here and below.
+fn text_size(
+    field_rows: &[[usize; FIELD_PARTS]],
+    field_names: &[u8],
+    columns: &[[usize; COLUMN_PARTS]],
+    fields: ListFields,
+    run: &[u64],
+    names: &[u8],
+    letters: &[u8],
+) -> usize
+    requires { ⌜ FieldsLent (now «field_rows») (now «field_names») × ColumnsLent (now columns) ⌝ }
     requires { ⌜ passes (listChecks (listing fields (now run) (now names) (now letters))) ≡ true ⌝ }
     ensures { λ r. ⌜ r ≡ length (textOf (listing fields (now (run .entry)) (now (names .entry)) (now (letters .entry)))) ⌝ }
 {
     let figures = list_fields::figures_of(fields);
-    list_head_writing::head_size(letters, figures)
-        + (list_rules::ROW_PITCH * fields.count + END_SIZE)
+    let head = text_head_writing::head_size(field_rows, field_names, letters, figures);
+    let pitch = text_columns::line_width(columns) + 2;
+    head + (fields.count * pitch + END_SIZE)
 }
 
 // The answer, which changes nothing.
 fn write_answer(
+    field_rows: &[[usize; FIELD_PARTS]],
+    field_names: &[u8],
+    columns: &[[usize; COLUMN_PARTS]],
     fields: ListFields,
     run: &[u64],
     names: &[u8],
     letters: &[u8],
     room: usize,
 ) -> ListAnswer
+    requires { ⌜ FieldsLent (now «field_rows») (now «field_names») × ColumnsLent (now columns) ⌝ }
     ensures { λ r. ⌜ listReply r ≡ writeReply (listing fields (now (run .entry)) (now (names .entry)) (now (letters .entry))) room ⌝ }
 {
     let count = fields.count;
@@ -74,14 +93,22 @@ fn write_answer(
     if !list_fields::fields_in_range(fields) {
         return ListAnswer::Refused(Refusal::FundField);
     }
-    if !list_head::is_letters(letters) {
+    if !text_head::is_letters(letters) {
         return ListAnswer::Refused(Refusal::FundField);
     }
     let fault = write_fault(fields.fund.first_code, run, names, count);
     if fault < count {
         return ListAnswer::Refused(Refusal::Component(fault));
     }
-    let size = text_size(fields, run, names, letters);
+    let size = text_size(
+        field_rows,
+        field_names,
+        columns,
+        fields,
+        run,
+        names,
+        letters,
+    );
     if room < size {
         return ListAnswer::Refused(Refusal::ListTooShort);
     }
@@ -89,14 +116,36 @@ fn write_answer(
 }
 
 // Writes the text of a list that no test refuses.
-fn put_list(output: &mut [u8], fields: ListFields, run: &[u64], names: &[u8], letters: &[u8])
+fn put_list(
+    field_rows: &[[usize; FIELD_PARTS]],
+    field_names: &[u8],
+    columns: &[[usize; COLUMN_PARTS]],
+    flags: &[[bool; flags::COLUMNS]; flags::FLAGS],
+    fields: ListFields,
+    run: &[u64],
+    names: &[u8],
+    letters: &[u8],
+    output: &mut [u8],
+)
+    requires { ⌜ FieldsLent (now «field_rows») (now «field_names») × ColumnsLent (now columns) × (now flags ≡ flagTable) ⌝ }
     requires { ⌜ passes (listChecks (listing fields (now run) (now names) (now letters))) ≡ true ⌝ }
     requires { ⌜ length (textOf (listing fields (now run) (now names) (now letters))) ≤ length (now output) ⌝ }
     ensures { λ _. ⌜ now (output .exit) ≡ put (now (output .entry)) 0 (textOf (listing fields (now (run .entry)) (now (names .entry)) (now (letters .entry)))) ⌝ }
 {
+    let count = fields.count;
     let figures = list_fields::figures_of(fields);
-    let p = list_head_writing::put_head(output, 0, letters, figures);
-    let q = list_rows::put_rows(output, p, run, names, fields.count);
+    let p = text_head_writing::put_head(field_rows, field_names, letters, figures, output, 0);
+    let pitch = text_columns::line_width(columns) + 2;
+    let q = p + count * pitch;
+    text_rows_writing::put_rows(
+        flags,
+        columns,
+        list_rules::FLAG,
+        run,
+        names,
+        count,
+        &mut output[p..q],
+    );
     digits_writing::put_bytes(output, q, b"ENDENDEND\r\n");
 }
 
@@ -110,9 +159,32 @@ pub fn write(
 ) -> ListAnswer
     ensures { λ r. ⌜ WriteOutcome (listing fields (now (run .entry)) (now (names .entry)) (now (letters .entry))) (now (output .entry)) r (now (output .exit)) ⌝ }
 {
-    let answer = write_answer(fields, run, names, letters, output.len());
+    let field_rows = list_rules::FIELDS;
+    let field_names = list_rules::NAMES;
+    let columns = list_rules::COLUMNS;
+    let flags = flags::TABLE;
+    let answer = write_answer(
+        &field_rows,
+        &field_names,
+        &columns,
+        fields,
+        run,
+        names,
+        letters,
+        output.len(),
+    );
     match answer {
-        ListAnswer::Done(_) => put_list(output, fields, run, names, letters),
+        ListAnswer::Done(_) => put_list(
+            &field_rows,
+            &field_names,
+            &columns,
+            &flags,
+            fields,
+            run,
+            names,
+            letters,
+            output,
+        ),
         ListAnswer::Refused(_) => {}
     }
     answer

@@ -4,8 +4,6 @@ use Rattle.list_writing.proofs.Tests.{count-low, count-high, run-other,
 use Rattle.list_writing.proofs.lengths_fit.Statement.{statement}
 use Rattle.list_writing.proofs.lengths_fit.Tie as tie
 
--- `list_writing::lengths_fit` meets its contract: each return is a law of the test for what was compared before it.
-
 returns : tie.Need-returns
 returns c = count-low _ _ _ (c .if1 .taken)
 
