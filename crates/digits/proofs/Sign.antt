@@ -12,7 +12,7 @@ use borrow.Author.Tests.{eq-eqb, ne-eqb}
 use Rattle.sequences.specs.Every.{every}
 use Rattle.digits.specs.declared.Form.{Form}
 use Rattle.digits.specs.declared.Reading.the-variants.{Good, Ill}
-use Rattle.digits.specs.Digits.{plain, blanks, allBlank, minusFigure, isPlain, plainSize, hasMinus, isSigned}
+use Rattle.digits.specs.Digits.{plain, blanks, minusFigure, isPlain, plainSize, hasMinus, isSigned}
 use Rattle.digits.specs.Digits.{signedFigure, trimmed, isNumber, figureOf, sizeReading, reading, belowZero, aboveZero}
 use Rattle.digits.proofs.Put.{rest-all}
 
@@ -52,10 +52,6 @@ module _ (s : List ℕ) (i : ℕ) (t : Blank s i) where
   blank-end h =
       let none : blanks (drop i s) ≡ 0 = rw (drop-of-length-le s h) in
       (omega (arith, t .rest, none), t .inside)
-
-pub blank-test : (s : List ℕ) (b : ℕ) → b ≡ blanks s → eqb b (length s) ≡ allBlank s
-unfolding allBlank
-blank-test s b e = rw e
 
 -- ---- with its sign
 

@@ -158,11 +158,17 @@ pub fn leading_blanks(s: &[u8]) -> usize
     i
 }
 
-// Whether the field is nothing but blanks.
+// Whether the field is nothing but blanks. Every byte is looked at, so that there is one branch for a field.
 pub fn is_blank(s: &[u8]) -> bool
     ensures { λ r. ⌜ r ≡ allBlank (now (s .entry)) ⌝ }
 {
-    leading_blanks(s) == s.len()
+    let mut good = true;
+    let mut i = 0;
+    while i < s.len() {
+        good = good & (s[i] == 32);
+        i += 1;
+    }
+    good
 }
 
 // What the field says in the form.
