@@ -1,13 +1,21 @@
 -- Digits that end before a place: the loop that writes as many as the number has.
 use mathlib.Core.Path.{_≡_, ap, _∙_, sym, subst}
 use mathlib.Core.List.{List}
-use Prim.Native.Nat.{ℕ, suc, _+_, _-_, _/_, _%_, _^_, _≤_, _<_}
-use native.Mathlib.Nat.{mod-eq-of-lt}
+use Prim.Native.Nat.{ℕ, suc, _+_, _-_, _*_, _/_, _%_, _^_, _≤_, _<_}
+use native.Mathlib.Nat.{mod-eq-of-lt, div-le-self, div-add-mod'}
 use native.Mathlib.Omega.{arith}
 use lib.ListN.{length, set}
 use Rattle.digits.specs.Digits.{fixed, tens, decimal}
 use Rattle.digits.specs.Written.{put}
 use Rattle.digits.proofs.Count.{Passed, passed-start, passed-again, passed-end, FixedFrom, fixed-start, fixed-again, fixed-end}
+
+-- the last digit
+pub last-digit : (m : ℕ) → m - m / 10 * 10 ≡ m % 10
+last-digit m = omega (arith, div-add-mod' m 10)
+
+-- what is left is no more than the number
+pub left-small : (d : List ℕ) (at k n : ℕ) (d′ : List ℕ) (m i : ℕ) → FixedFrom d at k n d′ m i → m ≤ n
+left-small d at k n d′ m i v = rw (v .left) (div-le-self n (10 ^ (k - i)))
 
 -- what is left when all digits are written
 pub fixed-left : (d : List ℕ) (at k n : ℕ) (d′ : List ℕ) (m i : ℕ) → FixedFrom d at k n d′ m i → i ≤ 0

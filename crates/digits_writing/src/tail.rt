@@ -15,8 +15,9 @@ pub fn put_last(dst: &mut [u8], end: usize, k: usize, n: u64) -> u64
     let mut i = k;
     while 0 < i {
         i -= 1;
-        dst[at + i] = 48 + ((m % 10) as u8);
-        m = m / 10;
+        let q = m / 10;
+        dst[at + i] = 48 + ((m - q * 10) as u8);
+        m = q;
     }
     m
 }
@@ -29,8 +30,9 @@ pub fn put_whole(dst: &mut [u8], end: usize, n: u64)
     let mut i = end - 1;
     let mut m = n;
     while 10 <= m {
-        dst[i] = 48 + ((m % 10) as u8);
-        m = m / 10;
+        let q = m / 10;
+        dst[i] = 48 + ((m - q * 10) as u8);
+        m = q;
         i -= 1;
     }
     dst[i] = 48 + (m as u8);

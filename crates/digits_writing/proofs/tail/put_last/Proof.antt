@@ -2,7 +2,7 @@
 use native.Mathlib.Omega.{arith}
 use borrow.Author.Needs.{needs}
 use Rattle.digits.proofs.Count.{FixedFrom, fixed-start, fixed-again}
-use Rattle.digits_writing.proofs.Ending.{fixed-left}
+use Rattle.digits_writing.proofs.Ending.{last-digit, left-small, fixed-left}
 use Rattle.digits_writing.proofs.tail.put_last.Statement.{statement}
 use Rattle.digits_writing.proofs.tail.put_last.Tie as tie
 
@@ -15,8 +15,11 @@ abbrev μ-loop : tie.MeasureT-loop
 loop-holds : tie.Need-loop-holds Inv-loop μ-loop
 loop-holds c = fixed-start _ _ _ _
 
+mul-dst : tie.Need-mul-dst Inv-loop μ-loop
+mul-dst c = let h = left-small _ _ _ _ _ _ _ (c .before .loop .inv) in search needs
+
 loop-again : tie.Need-loop-again Inv-loop μ-loop
-loop-again c = let l = c .before in fixed-again _ _ _ _ _ _ _ (l .loop .inv) (omega arith) (c .loop-test .taken)
+loop-again c = let l = c .before in rw last-digit (fixed-again _ _ _ _ _ _ _ (l .loop .inv) (omega arith) (c .loop-test .taken))
 
 returns : tie.Need-returns Inv-loop μ-loop
 returns c = fixed-left _ _ _ _ _ _ _ (c .before .loop .inv) (c .loop-test .left)
@@ -30,11 +33,8 @@ put-last-spec =
     (λ c. search needs)
     loop-holds
     (λ c. search needs)
-    (λ c. search needs)
-    (λ c. search needs)
-    (λ c. search needs)
-    (λ c. search needs)
-    (λ c. search needs)
+    mul-dst
+    (λ c. search needs) (λ c. search needs) (λ c. search needs) (λ c. search needs) (λ c. search needs) (λ c. search needs)
     loop-again
     (λ c. search needs)
     returns)
