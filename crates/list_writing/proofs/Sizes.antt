@@ -60,34 +60,33 @@ module _ (l : Listing) (e : passes (listChecks l) ≡ true) (pitch : ℕ) (f : p
   lines-long = omega (arith, pitched, parts l, text-length l e, length-lineText endWord)
 
   -- written into a lent output
-  module _ (d : List ℕ) (room : length (textOf l) ≤ length d) where
-    module _ {d₁ : List ℕ} {a : ℕ} (u : Written d 0 (headOf l) d₁ a) where
-      pub lines-room : a + l .fields .count * pitch + 11 ≤ length d₁
-      lines-room = omega (arith, room, parts l, lines-long, u .next, written-length u (head-room l d room))
+  module _ (d : List ℕ) (room : length (textOf l) ≤ length d) {d₁ : List ℕ} {a : ℕ} (u : Written d 0 (headOf l) d₁ a) where
+    pub lines-room : a + l .fields .count * pitch + 11 ≤ length d₁
+    lines-room = omega (arith, room, parts l, lines-long, u .next, written-length u (head-room l d room))
 
-      pub part-long : length (take (a + l .fields .count * pitch - a) (drop a d₁)) ≡ l .fields .count * pitch
-      part-long =
-          rw (add-sub-cancel-left a (l .fields .count * pitch))
-          (length-take-le (l .fields .count * pitch) (drop a d₁) (omega (arith, lines-room, length-drop a d₁)))
+    pub part-long : length (take (a + l .fields .count * pitch - a) (drop a d₁)) ≡ l .fields .count * pitch
+    part-long =
+        rw (add-sub-cancel-left a (l .fields .count * pitch))
+        (length-take-le (l .fields .count * pitch) (drop a d₁) (omega (arith, lines-room, length-drop a d₁)))
 
-      module _ {xs : List ℕ} (g : xs ≡ linesOf l) where
-        -- the component lines come back in their part of the output
-        pub lines-put : Written d₁ a (linesOf l) (putMid a (a + l .fields .count * pitch - a) d₁ xs) (a + l .fields .count * pitch)
-        lines-put =
-            record {
-              bytes =
-                  ap (putMid a (a + l .fields .count * pitch - a) d₁) g
-                  ∙ part-put d₁ a (linesOf l) (omega (arith, lines-room, lines-long)) (add-sub-cancel-left a (l .fields .count * pitch) ∙ sym lines-long);
-              next = ap (λ (n : ℕ). a + n) (sym lines-long);
-            }
+    module _ {xs : List ℕ} (g : xs ≡ linesOf l) where
+      -- the component lines come back in their part of the output
+      lines-put : Written d₁ a (linesOf l) (putMid a (a + l .fields .count * pitch - a) d₁ xs) (a + l .fields .count * pitch)
+      lines-put =
+          record {
+            bytes =
+                ap (putMid a (a + l .fields .count * pitch - a) d₁) g
+                ∙ part-put d₁ a (linesOf l) (omega (arith, lines-room, lines-long)) (add-sub-cancel-left a (l .fields .count * pitch) ∙ sym lines-long);
+            next = ap (λ (n : ℕ). a + n) (sym lines-long);
+          }
 
-        pub end-room : a + l .fields .count * pitch + 11 ≤ length (putMid a (a + l .fields .count * pitch - a) d₁ xs)
-        end-room = omega (arith, lines-room, lines-long, written-length lines-put (omega (arith, lines-room, lines-long)))
+      pub end-room : a + l .fields .count * pitch + 11 ≤ length (putMid a (a + l .fields .count * pitch - a) d₁ xs)
+      end-room = omega (arith, lines-room, lines-long, written-length lines-put (omega (arith, lines-room, lines-long)))
 
-        pub text-put : {d₃ : List ℕ} {c : ℕ}
-            → Written (putMid a (a + l .fields .count * pitch - a) d₁ xs) (a + l .fields .count * pitch) (lineText endWord) d₃ c → d₃ ≡ put d 0 (textOf l)
-        unfolding textOf sheetOf sheetText shanghai
-        text-put w =
-            let g = length-append (headOf l) (linesOf l) in
-            let z = length-lineText endWord in
-            written-then (written-then u lines-put (omega (arith, parts l, room))) w (omega (arith, parts l, room)) .bytes ∙ rw append-assoc
+      pub text-put : {d₃ : List ℕ} {c : ℕ}
+          → Written (putMid a (a + l .fields .count * pitch - a) d₁ xs) (a + l .fields .count * pitch) (lineText endWord) d₃ c → d₃ ≡ put d 0 (textOf l)
+      unfolding textOf sheetOf sheetText shanghai
+      text-put w =
+          let n = length-append (headOf l) (linesOf l) in
+          let z = length-lineText endWord in
+          written-then (written-then u lines-put (omega (arith, parts l, room))) w (omega (arith, parts l, room)) .bytes ∙ rw append-assoc

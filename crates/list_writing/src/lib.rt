@@ -52,22 +52,22 @@ fn write_fault(first_code: u64, run: &[u64], names: &[u8], count: usize) -> usiz
     name
 }
 
-// How many bytes the text takes. The tables of fields and columns are lent, here and below.
+// How many bytes the text takes. The tables are lent, here and below: the rows of the fields, their names as labels, and the columns.
 fn text_size(
     field_rows: &[[usize; FIELD_PARTS]],
-    field_names: &[u8],
+    labels: &[u8],
     columns: &[[usize; COLUMN_PARTS]],
     fields: ListFields,
     run: &[u64],
     names: &[u8],
     letters: &[u8],
 ) -> usize
-    requires { ⌜ FieldsLent (now «field_rows») (now «field_names») × ColumnsLent (now columns) ⌝ }
+    requires { ⌜ FieldsLent (now «field_rows») (now labels) × ColumnsLent (now columns) ⌝ }
     requires { ⌜ passes (listChecks (listing fields (now run) (now names) (now letters))) ≡ true ⌝ }
     ensures { λ r. ⌜ r ≡ length (textOf (listing fields (now (run .entry)) (now (names .entry)) (now (letters .entry)))) ⌝ }
 {
     let figures = list_fields::figures_of(fields);
-    let head = text_head_writing::head_size(field_rows, field_names, letters, figures);
+    let head = text_head_writing::head_size(field_rows, labels, letters, figures);
     let pitch = text_columns::line_width(columns) + 2;
     head + (fields.count * pitch + END_SIZE)
 }
@@ -75,7 +75,7 @@ fn text_size(
 // The answer, which changes nothing.
 fn write_answer(
     field_rows: &[[usize; FIELD_PARTS]],
-    field_names: &[u8],
+    labels: &[u8],
     columns: &[[usize; COLUMN_PARTS]],
     fields: ListFields,
     run: &[u64],
@@ -83,7 +83,7 @@ fn write_answer(
     letters: &[u8],
     room: usize,
 ) -> ListAnswer
-    requires { ⌜ FieldsLent (now «field_rows») (now «field_names») × ColumnsLent (now columns) ⌝ }
+    requires { ⌜ FieldsLent (now «field_rows») (now labels) × ColumnsLent (now columns) ⌝ }
     ensures { λ r. ⌜ listReply r ≡ writeReply (listing fields (now (run .entry)) (now (names .entry)) (now (letters .entry))) room ⌝ }
 {
     let count = fields.count;
@@ -100,15 +100,7 @@ fn write_answer(
     if fault < count {
         return ListAnswer::Refused(Refusal::Component(fault));
     }
-    let size = text_size(
-        field_rows,
-        field_names,
-        columns,
-        fields,
-        run,
-        names,
-        letters,
-    );
+    let size = text_size(field_rows, labels, columns, fields, run, names, letters);
     if room < size {
         return ListAnswer::Refused(Refusal::ListTooShort);
     }
@@ -118,7 +110,7 @@ fn write_answer(
 // Writes the text of a list that no test refuses.
 fn put_list(
     field_rows: &[[usize; FIELD_PARTS]],
-    field_names: &[u8],
+    labels: &[u8],
     columns: &[[usize; COLUMN_PARTS]],
     flags: &[[bool; flags::COLUMNS]; flags::FLAGS],
     fields: ListFields,
@@ -127,14 +119,14 @@ fn put_list(
     letters: &[u8],
     output: &mut [u8],
 )
-    requires { ⌜ FieldsLent (now «field_rows») (now «field_names») × ColumnsLent (now columns) × (now flags ≡ flagTable) ⌝ }
+    requires { ⌜ FieldsLent (now «field_rows») (now labels) × ColumnsLent (now columns) × (now flags ≡ flagTable) ⌝ }
     requires { ⌜ passes (listChecks (listing fields (now run) (now names) (now letters))) ≡ true ⌝ }
     requires { ⌜ length (textOf (listing fields (now run) (now names) (now letters))) ≤ length (now output) ⌝ }
     ensures { λ _. ⌜ now (output .exit) ≡ put (now (output .entry)) 0 (textOf (listing fields (now (run .entry)) (now (names .entry)) (now (letters .entry)))) ⌝ }
 {
     let count = fields.count;
     let figures = list_fields::figures_of(fields);
-    let p = text_head_writing::put_head(field_rows, field_names, letters, figures, output, 0);
+    let p = text_head_writing::put_head(field_rows, labels, letters, figures, output, 0);
     let pitch = text_columns::line_width(columns) + 2;
     let q = p + count * pitch;
     text_rows_writing::put_rows(
@@ -160,12 +152,12 @@ pub fn write(
     ensures { λ r. ⌜ WriteOutcome (listing fields (now (run .entry)) (now (names .entry)) (now (letters .entry))) (now (output .entry)) r (now (output .exit)) ⌝ }
 {
     let field_rows = list_rules::FIELDS;
-    let field_names = list_rules::NAMES;
+    let labels = list_rules::NAMES;
     let columns = list_rules::COLUMNS;
     let flags = flags::TABLE;
     let answer = write_answer(
         &field_rows,
-        &field_names,
+        &labels,
         &columns,
         fields,
         run,
@@ -176,7 +168,7 @@ pub fn write(
     match answer {
         ListAnswer::Done(_) => put_list(
             &field_rows,
-            &field_names,
+            &labels,
             &columns,
             &flags,
             fields,
