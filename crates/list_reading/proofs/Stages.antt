@@ -70,7 +70,7 @@ pub head-whole : (text : List ℕ) (h : HeadShape) → h ≡ shapeFound shanghai
 unfolding shapeFound wrongLine bodyStart shanghai
 head-whole text h e room high =
     let w : wrongLine shanghaiFields text ≡ headLines shanghaiFields =
-        le-antisymm (first-le _ (headLines shanghaiFields)) (omega (arith, ap (λ (x : HeadShape). x .wrong) e)) in
+    le-antisymm (first-le _ (headLines shanghaiFields)) (omega (arith, ap (λ (x : HeadShape). x .wrong) e)) in
     (w, (ap (λ (x : HeadShape). x .place) e ∙ ap (startOf text) w, room))
 
 -- what the head's code asks and says of the tables that are lent

@@ -26,4 +26,3 @@ module _ (f : ℕ → Bool) (n : ℕ) where
     sought-end h =
         let e : k ≡ n = omega arith in
         e ∙ sym (rw e at (v .none))
-

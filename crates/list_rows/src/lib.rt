@@ -74,10 +74,16 @@ pub fn name_place(text: &[u8], first: usize, j: usize) -> TextPart
     let columns = list_rules::COLUMNS;
     let pitch = text_columns::line_width(&columns) + 2;
     if text.len() < first {
-        return TextPart { place: 0, length: 0 };
+        return TextPart {
+            place: 0,
+            length: 0,
+        };
     }
     if (text.len() - first) / pitch <= j {
-        return TextPart { place: 0, length: 0 };
+        return TextPart {
+            place: 0,
+            length: 0,
+        };
     }
     let start = text_columns::column_start(&columns, list_rules::NAME);
     TextPart {

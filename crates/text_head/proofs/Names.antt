@@ -115,7 +115,7 @@ module _ (rows : List (List ℕ)) (names : List ℕ) (made : fieldsWell (fieldsO
       let w : a + n - a ≡ n = omega arith in
       let part = name-part rows names k h a (a + n) refl (sym (before-more rows k)) in
       let long : length (take n (drop a names)) ≡ n =
-          length-take-le n (drop a names) (omega (arith, length-drop a names, all, before-more rows k, before-room rows (k + 1) (length rows) (omega arith))) in
+      length-take-le n (drop a names) (omega (arith, length-drop a names, all, before-more rows k, before-room rows (k + 1) (length rows) (omega arith))) in
       let well = field-well (fieldsOf rows names) made k (omega (arith, fields-length rows names)) .short in
       omega (arith, long, ap length part, ap (λ (i : ℕ). length (take i (drop a names))) w)
 
@@ -124,7 +124,7 @@ module _ (rows : List (List ℕ)) (names : List ℕ) (made : fieldsWell (fieldsO
       elim (ℕ-discrete k 0) [
         | yes e ↦ omega (arith, length-first rows k e)
         | no z ↦ elim (decLt (length rows) k) [
-            | yes p ↦ omega (arith, length-past rows k z p)
-            | no h ↦ omega (arith, length-named rows k z (omega arith), short-row (k - 1) (omega (arith, z)))
-          ]
+          | yes p ↦ omega (arith, length-past rows k z p)
+          | no h ↦ omega (arith, length-named rows k z (omega arith), short-row (k - 1) (omega (arith, z)))
+        ]
       ]

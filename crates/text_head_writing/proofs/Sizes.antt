@@ -180,8 +180,13 @@ module _ (rows : List (List ℕ)) (names : List ℕ) (made : fieldsWell (fieldsO
         turns = omega arith;
         size =
             rw (head-more k)
-            (omega (arith, v .size, s, ap (λ (l : List ℕ). length (lineText l)) line,
-            length-append (headText (fieldsOf rows names) letters (arrayFigure figures) k) (lineText (headLine (fieldsOf rows names) letters (arrayFigure figures) k))));
+            (omega (
+              arith,
+              v .size,
+              s,
+              ap (λ (l : List ℕ). length (lineText l)) line,
+              length-append (headText (fieldsOf rows names) letters (arrayFigure figures) k) (lineText (headLine (fieldsOf rows names) letters (arrayFigure figures) k)),
+            ));
         small = omega (arith, v .small);
         named = to-is rows names all from k to (v .named) next ∙ ap (nameBefore rows) (sym back);
       }
@@ -189,6 +194,7 @@ module _ (rows : List (List ℕ)) (names : List ℕ) (made : fieldsWell (fieldsO
   pub sized-end : (n from k : ℕ) → Sized rows names letters figures n from k → length rows + 2 ≤ k
       → (n ≡ length (headText (fieldsOf rows names) letters (arrayFigure figures) (headLines (fieldsOf rows names)))) × (n ≤ 30_000)
   sized-end n from k v h =
-      let e : k ≡ headLines (fieldsOf rows names) = omega (arith, v .turns, lines-are rows names made all) in
-      (v .size ∙ ap (λ (i : ℕ). length (headText (fieldsOf rows names) letters (arrayFigure figures) i)) e,
-      omega (arith, v .small, v .turns, few rows names made all))
+      let e : k ≡ headLines (fieldsOf rows names) = omega (arith, v .turns, lines-are rows names made all) in (
+        v .size ∙ ap (λ (i : ℕ). length (headText (fieldsOf rows names) letters (arrayFigure figures) i)) e,
+        omega (arith, v .small, v .turns, few rows names made all),
+      )

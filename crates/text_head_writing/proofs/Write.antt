@@ -95,8 +95,12 @@ module _ (rows : List (List ℕ)) (names : List ℕ) (made : fieldsWell (fieldsO
     -- the next line has room
     line-room : at + length (headText (fieldsOf rows names) letters (arrayFigure figures) k) + length line ≤ length d
     line-room =
-        omega (arith, head-grows rows names made all letters figures (headLines (fieldsOf rows names)) (k + 1) (omega (arith, lines-are rows names made all)),
-        ap length (head-more rows names made all letters figures k), length-append (headText (fieldsOf rows names) letters (arrayFigure figures) k) line)
+        omega (
+          arith,
+          head-grows rows names made all letters figures (headLines (fieldsOf rows names)) (k + 1) (omega (arith, lines-are rows names made all)),
+          ap length (head-more rows names made all letters figures k),
+          length-append (headText (fieldsOf rows names) letters (arrayFigure figures) k) line,
+        )
 
     pub lined-room : p + length (lineText (lineFrom rows k (take (to - from) (drop from names)) letters z)) ≤ length d′
     lined-room = omega (arith, line-room, v .written .next, v .long, ap length same)

@@ -69,13 +69,14 @@ pub fn head_size(
     let mut k = 0;
     while k < lines {
         let to = from + text_head::name_length(fields, k);
-        n = n + line_size(
-            fields,
-            k,
-            &names[from..to],
-            letters,
-            figure_for(figures, fields.len(), k),
-        );
+        n = n
+            + line_size(
+                fields,
+                k,
+                &names[from..to],
+                letters,
+                figure_for(figures, fields.len(), k),
+            );
         from = to;
         k += 1;
     }

@@ -96,9 +96,11 @@ returns c =
     let p = pitch-is _ (s .pre .0 .0) _ (w .line-width .ensures .0) in
     let part = rows-part (s .args .text .now) _ _ (s .pre .1 .0 .0) (s .pre .1 .0 .1) _ p in
     let g = fault-lent _ _ (s .pre .0 .0) (s .pre .0 .1) _ _ part _ _ (x .read-columns .ensures .0) in
-    let kept = kept-lent _ _ (s .pre .0 .0) (s .pre .0 .1) _ _ part _ (s .pre .1 .0 .1) _ _ (x .read-columns .ensures .1) in
-    (row-place (s .args .text .now) _ _ (s .pre .1 .0 .0) (s .pre .1 .0 .1) (x .read-columns .result) g (c .before .if1 .taken) _ _ p
-    (c .column-start .ensures .0 ∙ ap (λ (cs : List Column). columnStart cs (x .read-columns .result .column)) (s .pre .0 .0)), kept)
+    let kept = kept-lent _ _ (s .pre .0 .0) (s .pre .0 .1) _ _ part _ (s .pre .1 .0 .1) _ _ (x .read-columns .ensures .1) in (
+      row-place (s .args .text .now) _ _ (s .pre .1 .0 .0) (s .pre .1 .0 .1) (x .read-columns .result) g (c .before .if1 .taken) _ _ p
+          (c .column-start .ensures .0 ∙ ap (λ (cs : List Column). columnStart cs (x .read-columns .result .column)) (s .pre .0 .0)),
+      kept,
+    )
 
 returns-2 : tie.Need-returns-2
 returns-2 c =

@@ -37,7 +37,7 @@ add-to c =
     let l = c .before .before .before .before .before in
     let s = l .before .before .before in
     let r = name-room (s .args .fields .now) (s .args .names .now) (s .pre .1) (l .loop .from) (l .loop .k) (l .loop .from + c .name-length .result) (l .loop .inv .1 .named)
-        (ap (λ (n : ℕ). l .loop .from + n) (c .name-length .ensures)) in
+    (ap (λ (n : ℕ). l .loop .from + n) (c .name-length .ensures)) in
     search needs
 
 part-is-head-line-end : tie.Need-part-is-head-line-end Inv-loop μ-loop
@@ -45,7 +45,7 @@ part-is-head-line-end c =
     let l = c .before .before .before .before .before in
     let s = l .before .before .before in
     let r = name-room (s .args .fields .now) (s .args .names .now) (s .pre .1) (l .loop .from) (l .loop .k) (l .loop .from + c .name-length .result) (l .loop .inv .1 .named)
-        (ap (λ (n : ℕ). l .loop .from + n) (c .name-length .ensures)) in
+    (ap (λ (n : ℕ). l .loop .from + n) (c .name-length .ensures)) in
     search needs
 
 returns-2 : tie.Need-returns-2 Inv-loop μ-loop

@@ -33,8 +33,14 @@ put-number-requires c κs =
     let e = c .field-form .ensures in
     let w = s .pre .0 .1 (s .args .k) (s .pre .0 .0) in (
       (subst (λ (f : Form). f .decimals ≤ mostDecimals) (sym e) (w .0), subst (λ (f : Form). f .digits ≤ mostDigits) (sym e) (w .1)),
-      omega (arith, field-size (s .args .name .now) (numberText (formOf (getD (s .args .fields .now) (s .args .k) [])) (s .args .z)), s .pre .1,
-          p .put-bytes .ensures .next, q .put-byte .ensures .next, ap (λ (f : Form). length (numberText f (s .args .z))) e),
+      omega (
+        arith,
+        field-size (s .args .name .now) (numberText (formOf (getD (s .args .fields .now) (s .args .k) [])) (s .args .z)),
+        s .pre .1,
+        p .put-bytes .ensures .next,
+        q .put-byte .ensures .next,
+        ap (λ (f : Form). length (numberText f (s .args .z))) e,
+      ),
     )
 
 put-bytes-requires-2 : tie.Need-put-bytes-requires-2
@@ -43,8 +49,15 @@ put-bytes-requires-2 c κs =
     let q = r .before .before .before .before .before in
     let p = q .before .before .before .before in
     let s = p .before .before .before .before in
-    omega (arith, field-size (s .args .name .now) (numberText (formOf (getD (s .args .fields .now) (s .args .k) [])) (s .args .z)), s .pre .1,
-    p .put-bytes .ensures .next, q .put-byte .ensures .next, r .put-number .ensures .next, ap (λ (f : Form). length (numberText f (s .args .z))) (r .before .field-form .ensures))
+    omega (
+      arith,
+      field-size (s .args .name .now) (numberText (formOf (getD (s .args .fields .now) (s .args .k) [])) (s .args .z)),
+      s .pre .1,
+      p .put-bytes .ensures .next,
+      q .put-byte .ensures .next,
+      r .put-number .ensures .next,
+      ap (λ (f : Form). length (numberText f (s .args .z))) (r .before .field-form .ensures),
+    )
 
 returns : tie.Need-returns
 returns c =
