@@ -1,5 +1,5 @@
 -- Figures that a form has room for.
-use Prim.Native.Nat.{ℕ, _/_, _^_, _≤_, _<_}
+use Prim.Native.Nat.{_/_, _^_, _≤_, _<_}
 use mathlib.Core.Path.{_≡_}
 use mathlib.Core.Bool.{true}
 use lib.ListN.{length}

@@ -7,13 +7,13 @@ use native.Mathlib.Nat.{add-sub-cancel-left, suc-mul, le-div-iff-mul-le, div-lt-
 use native.Mathlib.Numerals.{add-one}
 use native.Mathlib.Omega.{arith}
 use lib.ListN.{length, take, drop}
-use lib.Seq.{take-take}
 use borrow.Author.Tests.{le-leb, lt-leb}
 use Rattle.sequences.specs.Below.{sumBelow, firstBelow}
 use Rattle.sequences.specs.Stretch.{stretchOf}
 use Rattle.sequences.proofs.Below.{first-end}
+use Rattle.sequences.proofs.Stretch.{part-within}
 use Rattle.lines.specs.Lines.{nameByte, allBytes}
-use Rattle.text_rules.specs.Tables.{columnsOf, columnOf, columnAt}
+use Rattle.text_rules.specs.Tables.{columnAt}
 use Rattle.text_rules.specs.Columns.{columnWidth, columnStart, lineWidth, linePitch}
 use Rattle.list_rules.specs.declared.TextPart.{TextPart}
 use Rattle.list_rules.specs.Shanghai.{shanghaiColumns, nameColumn, nameWidth}
@@ -48,13 +48,6 @@ module _ (text first j pitch : ℕ) (some : 0 < pitch) where
 
   pub line-some : first ≤ text → j < (text - first) / pitch → first + j * pitch + pitch ≤ text
   line-some h q = omega (arith, le-div-iff-mul-le {k = pitch} {x = j + 1} {y = text - first} some .0 (omega arith), add-mul-one j pitch)
-
--- a part of a part
-pub part-within : (a w n : ℕ) (l : List ℕ) → a + w ≤ n → take w (drop a (take n l)) ≡ take w (drop a l)
-part-within zero w n l h = take-take w n l (omega arith)
-part-within (suc a) w zero l h = absurd (omega arith)
-part-within (suc a) w (suc n) [] h = refl
-part-within (suc a) w (suc n) (x ∷ l) h = part-within a w n l (omega arith)
 
 -- The names of a list.
 

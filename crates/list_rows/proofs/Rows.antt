@@ -1,7 +1,7 @@
 -- The component lines of a text as the code reads them, and what is found in them.
 use Prim.Native.Nat.{ℕ, _+_, _-_, _*_, _≤_, _<_}
 use mathlib.Core.Path.{_≡_, refl, sym, ap, ap₂, _∙_}
-use mathlib.Core.Bool.{Bool, true, false, cond}
+use mathlib.Core.Bool.{Bool, true}
 use mathlib.Core.List.{List}
 use native.Mathlib.Nat.{add-sub-cancel-left}
 use native.Mathlib.Omega.{arith}
@@ -9,7 +9,7 @@ use lib.Dec.{ltb}
 use lib.ListN.{length, take, drop, length-drop}
 use lib.Seq.{length-take-le}
 use borrow.Author.Tests.{lt-ltb, le-ltb}
-use Rattle.sequences.specs.Below.{sumBelow, allBelow, firstBelow, joinBelow}
+use Rattle.sequences.specs.Below.{sumBelow, allBelow, firstBelow}
 use Rattle.sequences.specs.Every.{every}
 use Rattle.sequences.proofs.Below.{first-le, first-same}
 use Rattle.sequences.proofs.Stretch.{within}

@@ -10,7 +10,7 @@ use Rattle.fund.specs.Components.{componentFault}
 use Rattle.layout.specs.Places.{componentWidth, mostComponents}
 use Rattle.layout.specs.Components.{componentAt, placesOf}
 use Rattle.rules.specs.Replies.{ifAccepted}
-use Rattle.text_rules.specs.Columns.{columnStart, lineWidth, linePitch, partOf}
+use Rattle.text_rules.specs.Columns.{columnStart, linePitch, partOf}
 use Rattle.text_rules.specs.Head.{isOpening}
 use Rattle.text_rules.specs.Reading.{lineStands, lettersRead, bodyStart, rowCount, rowOf, shapeChecks, fieldChecks, figureRead, runRead}
 use Rattle.list_rules.specs.declared.ListFields.{ListFields}

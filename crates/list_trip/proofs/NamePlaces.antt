@@ -1,18 +1,18 @@
 -- The names of a text that is read, by their places: found from where its component lines start they are those that it says, and
 -- past the last there is none.
-use mathlib.Core.Path.{_≡_, refl, sym, ap, _∙_}
+use mathlib.Core.Path.{_≡_, sym, ap, _∙_}
 use mathlib.Core.Bool.{true, and-false}
-use mathlib.Core.List.{List, [], _∷_}
-use Prim.Native.Nat.{ℕ, zero, suc, _+_, _-_, _*_, _≤_, _<_}
+use mathlib.Core.List.{List, []}
+use Prim.Native.Nat.{ℕ, suc, _+_, _-_, _*_, _≤_, _<_}
 use native.Mathlib.Nat.{suc-mul, le-of-lt}
 use native.Mathlib.Decide.{decLt}
 use native.Mathlib.Omega.{arith}
 use lib.ListN.{length, take, drop, length-append, length-drop}
-use lib.Seq.{take-take, drop-drop}
+use lib.Seq.{drop-drop}
 use borrow.Author.Tests.{le-leb, lt-leb, le-ltb}
 use Rattle.sequences.specs.Below.{sumBelow, joinBelow}
 use Rattle.sequences.specs.Checks.{passes}
-use Rattle.sequences.proofs.Stretch.{within}
+use Rattle.sequences.proofs.Stretch.{part-within, within}
 use Rattle.lines.specs.Lines.{lineText}
 use Rattle.lines.proofs.Laws.{length-lineText}
 use Rattle.text_rules.specs.Tables.{columnAt}
@@ -34,13 +34,6 @@ use Rattle.list_trip.proofs.ReadTests.{reads as list-reads}
 name-there : nameColumn < length shanghaiColumns
 unfolding shanghaiColumns
 name-there = omega arith
-
--- a part of a part
-part-within : (a w n : ℕ) (l : List ℕ) → a + w ≤ n → take w (drop a (take n l)) ≡ take w (drop a l)
-part-within zero w n l h = take-take w n l (omega arith)
-part-within (suc a) w zero l h = absurd (omega arith)
-part-within (suc a) w (suc n) [] h = refl
-part-within (suc a) w (suc n) (x ∷ l) h = part-within a w n l (omega arith)
 
 -- the last line is shorter than a component line, and not empty
 end-some : 0 < length (lineText endWord)

@@ -1,17 +1,24 @@
 -- Laws of stretches: what is read back, lengths, joins, and sums over the stretches where some change.
-use mathlib.Core.Path.{_≡_, sym, ap, _∙_, subst⁻¹}
-use mathlib.Core.List.{List, _++_, append-assoc}
+use mathlib.Core.Path.{_≡_, refl, sym, ap, _∙_, subst⁻¹}
+use mathlib.Core.List.{List, [], _∷_, _++_, append-assoc}
 use mathlib.Core.Logic.{⊎-elim}
 use Prim.Native.Nat.{ℕ, zero, suc, _+_, _-_, _*_, _≤_, _<_}
 use native.Mathlib.Nat.{zero-mul, suc-mul, le-step, lt-suc-self, add-sub-cancel-left, mul-le-mul-right, not-suc-le-zero, eq-or-lt-of-le, le-of-suc-le-suc}
 use native.Mathlib.Decide.{decLt}
 use native.Mathlib.Omega.{arith}
 use lib.ListN.{length, getD, take, drop, length-append, length-drop, take-append-drop}
-use lib.Seq.{length-take-le, take-all, take-at, drop-at, take-append-le, drop-append-le, drop-drop, take-add, getD-take, getD-drop}
+use lib.Seq.{length-take-le, take-take, take-all, take-at, drop-at, take-append-le, drop-append-le, drop-drop, take-add, getD-take, getD-drop}
 use borrow.Rule.Slice.PartMut.{same-len-mid, put-same}
 use Rattle.sequences.specs.Below.{joinBelow}
 use Rattle.sequences.specs.Stretch.{stretchOf, putStretch, onStretch, over}
 use Rattle.sequences.proofs.Below.{sum-two, join-length}
+
+-- a part of a part
+pub part-within : (a w n : ℕ) (l : List ℕ) → a + w ≤ n → take w (drop a (take n l)) ≡ take w (drop a l)
+part-within zero w n l h = take-take w n l (omega arith)
+part-within (suc a) w zero l h = absurd (omega arith)
+part-within (suc a) w (suc n) [] h = refl
+part-within (suc a) w (suc n) (x ∷ l) h = part-within a w n l (omega arith)
 
 -- a stretch lies within the first n of them
 pub within : (w a n : ℕ) → a < n → a * w + w ≤ n * w

@@ -1,7 +1,7 @@
 -- The fields of the head: what each says, and the first at fault as the code goes from line to line.
 use mathlib.Core.Bool.{Bool, true, false, cond, not}
 use mathlib.Core.List.{List, []}
-use mathlib.Core.Path.{_≡_, refl, sym, ap, ap₂, subst, subst⁻¹, _∙_}
+use mathlib.Core.Path.{_≡_, refl, sym, ap, subst, subst⁻¹, _∙_}
 use Prim.Native.Nat.{ℕ, suc, _+_, _-_, _≤_, _<_, zero-le}
 use native.Mathlib.Decide.{ℕ-discrete, decLt}
 use native.Mathlib.Nat.{add-assoc}
@@ -11,7 +11,7 @@ use lib.Dec.{leb, ltb}
 use lib.ListN.{length, getD, take, drop, set, replicate, length-drop, length-set, length-replicate, getD-replicate}
 use lib.Seq.{drop-drop, length-take-le, getD-set-same, getD-set-other}
 use borrow.Author.Tests.{eq-eqb, ne-eqb, not-false, ltb-true, lt-ltb, le-ltb, le-leb}
-use Rattle.sequences.specs.Below.{sumBelow, firstBelow, tabulate}
+use Rattle.sequences.specs.Below.{sumBelow, firstBelow}
 use Rattle.sequences.proofs.Below.{first-none, first-more, first-here, first-all, table-ext}
 use Rattle.digits.specs.Digits.{isNumber, figureOf, reading, plain}
 use Rattle.digits.specs.declared.Figure.{Figure}
@@ -21,7 +21,7 @@ use Rattle.digits.specs.declared.Reading.the-variants.{Good, Ill}
 use Rattle.lines.proofs.Laws.{line-le, line-room, first-length, named-long, part-len, part-next}
 use Rattle.lines.specs.Lines.{isNamed, lineLen, ended, firstLine, nextAt}
 use Rattle.text_rules.specs.Dates.{isDate}
-use Rattle.text_rules.specs.Tables.{Kind, kindOf, kindPart, dateKind, zeroOrOneKind, namePart, formOf, Field, fieldOf, fieldsOf, fieldAt, nameBefore}
+use Rattle.text_rules.specs.Tables.{kindOf, kindPart, dateKind, zeroOrOneKind, namePart, formOf, Field, fieldOf, fieldsOf, fieldAt, nameBefore}
 use Rattle.text_rules.specs.Head.{headLines, fieldName, isKind, isField, isHeadLine}
 use Rattle.text_rules.specs.Reading.{startOf, lineOf, lineStands, wrongLine, fieldStart, wordOf, figureRead, wrongField}
 use Rattle.text_rules.specs.Well.{mostDecimals, mostFields, fieldsWell}

@@ -15,7 +15,7 @@ use Rattle.digits.specs.declared.Form.{Form}
 use Rattle.lines.specs.Words.{bytes}
 use Rattle.lines.specs.Lines.{lineText}
 use Rattle.text_rules.specs.Tables.{formOf, fieldsOf, nameBefore}
-use Rattle.text_rules.specs.Head.{headLines, openingWord, closingWord, tagWord, headLine}
+use Rattle.text_rules.specs.Head.{headLines, openingWord, closingWord, headLine}
 use Rattle.text_rules.specs.Writing.{headText}
 use Rattle.text_rules.specs.Well.{fieldsWell}
 use Rattle.text_head.specs.Head.{nameLength}

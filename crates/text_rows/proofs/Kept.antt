@@ -12,12 +12,12 @@ use lib.ListN.{length, getD, take, drop, length-append, length-drop, List·getD-
 use lib.Seq.{length-take-le, take-add, drop-drop, ext-getD, getD-take, getD-drop, getD-set-same, getD-set-other, getD-at}
 use Rattle.sequences.specs.Below.{joinBelow}
 use Rattle.sequences.proofs.Below.{first-le}
+use Rattle.sequences.proofs.Stretch.{part-within}
 use Rattle.digits.proofs.Read.{compare}
 use Rattle.text_rules.specs.Tables.{Column, TextForm}
 use Rattle.text_rules.specs.Columns.{lineWidth, linePitch, numbersBefore, lineNumbers, holdsText, cellRead, numbersRead}
 use Rattle.text_rows.specs.Rows.{rowIn, faultRow, linesBefore, columnKept, numbersKept}
 use Rattle.text_rows.proofs.Standing.{lines-room, pitch-line}
-use Rattle.text_rows.proofs.Lines.{part-within}
 use Rattle.text_rows.proofs.Faults.{lines-le, lines-more, lines-fault}
 use Rattle.text_rows.proofs.Turns.{numbers-first, numbers-next, numbers-line, kept-long, cond-long}
 

@@ -1,14 +1,15 @@
 -- The columns of component lines: their bytes, their flag, and what is read of them.
-use Prim.Native.Nat.{ℕ, zero, suc, _+_, _-_, _*_, _≤_, _<_}
+use Prim.Native.Nat.{ℕ, _+_, _-_, _*_, _≤_, _<_}
 use mathlib.Core.Path.{_≡_, refl, sym, ap, ap₂, _∙_, subst}
 use mathlib.Core.Bool.{Bool, true, false, cond, not, false≢true}
-use mathlib.Core.List.{List, [], _∷_}
+use mathlib.Core.List.{List, []}
 use native.Mathlib.Nat.{add-sub-cancel-left}
 use native.Mathlib.Omega.{arith}
 use lib.Dec.{eqb}
 use lib.ListN.{length, getD, take, drop, length-drop}
-use lib.Seq.{length-take-le, getD-take, getD-drop, take-take, drop-drop}
+use lib.Seq.{length-take-le, getD-take, getD-drop, drop-drop}
 use borrow.Author.Tests.{eqb-false, eq-eqb, ne-eqb}
+use Rattle.sequences.proofs.Stretch.{part-within}
 use Rattle.digits.specs.declared.Size.{Size}
 use Rattle.digits.specs.declared.Size.the-variants.{Known, Ill}
 use Rattle.digits.proofs.Read.{size-ill, size-known}
@@ -23,13 +24,6 @@ use Rattle.text_columns.specs.Read.{isUsed, cellSize}
 use Rattle.text_columns.proofs.Columns.{width-row}
 use Rattle.text_columns.proofs.Cells.{cellReading, row-cell}
 use Rattle.text_rows.specs.Rows.{rowIn}
-
--- a part of a part
-pub part-within : (a w n : ℕ) (l : List ℕ) → a + w ≤ n → take w (drop a (take n l)) ≡ take w (drop a l)
-part-within zero w n l h = take-take w n l (omega arith)
-part-within (suc a) w zero l h = absurd (omega arith)
-part-within (suc a) w (suc n) [] h = refl
-part-within (suc a) w (suc n) (x ∷ l) h = part-within a w n l (omega arith)
 
 -- a part as the code has it, and its length
 pub part-is : (l : List ℕ) (a w : ℕ) → take (a + w - a) (drop a l) ≡ take w (drop a l)

@@ -1,6 +1,6 @@
 -- A component line by a table of columns, each followed by "|": its parts (bytes by column) and its cells (numbers by column),
 -- reading and writing.
-use Prim.Native.Nat.{ℕ, _+_, _-_, _*_}
+use Prim.Native.Nat.{ℕ, _+_, _-_}
 use mathlib.Core.Bool.{Bool, true, false, cond, not, _&&_}
 use mathlib.Core.List.{List, [], _∷_, _++_}
 use lib.Dec.{eqb}

@@ -1,7 +1,5 @@
 -- `list_reading::letters_place` meets its contract: there are letters where the line is an opening one, and else none.
-use mathlib.Core.Path.{ap}
 use borrow.Author.Needs.{needs}
-use lib.ListN.{length}
 use Rattle.list_reading.proofs.Handed.{letters-none, letters-some}
 use Rattle.list_reading.proofs.letters_place.Statement.{statement}
 use Rattle.list_reading.proofs.letters_place.Tie as tie

@@ -1,7 +1,6 @@
 -- `list_rows::name_from` meets its contract: it is the part of the text at that place.
-use mathlib.Core.Path.{ap, _∙_}
+use mathlib.Core.Path.{ap}
 use native.Mathlib.Nat.{add-sub-cancel-left}
-use Rattle.list_rules.specs.declared.TextPart.{TextPart}
 use Rattle.list_rules.specs.Reading.{partIn, nameFrom}
 use borrow.Author.Needs.{needs}
 use Rattle.list_rows.proofs.name_from.Statement.{statement}

@@ -1,6 +1,5 @@
 -- `list_rows::name_place` meets its contract: the text has such a line where so many bytes are left.
-use mathlib.Core.Path.{_≡_, refl}
-use native.Mathlib.Omega.{arith}
+use mathlib.Core.Path.{refl}
 use borrow.Author.Needs.{needs}
 use Rattle.sequences.specs.Below.{sumBelow, allBelow}
 use Rattle.sequences.specs.Every.{every}

@@ -1,9 +1,9 @@
 -- `list_rows::read_rows` meets its contract: the lines are a part of the text, and the fault found in them has its place.
-use mathlib.Core.Path.{_≡_, refl, sym, ap, _∙_}
+use mathlib.Core.Path.{sym, ap, _∙_}
 use mathlib.Core.List.{List}
 use Rattle.text_rules.specs.Tables.{Column}
 use Rattle.text_rules.specs.Columns.{linePitch, columnStart}
-use Prim.Native.Nat.{ℕ, _*_}
+use Prim.Native.Nat.{_*_}
 use native.Mathlib.Omega.{arith}
 use borrow.Author.Needs.{needs}
 use Rattle.list_rows.proofs.Rows.{lent-well, columns-many, pitch-is, end-room, row-room, part-long, rows-part, flag-low, fault-lent, kept-lent, column-low, place-short, row-place, row-none}
@@ -36,7 +36,8 @@ read-columns-requires c κs =
     let w = c .before .before in
     let s = w .before .before .before in (
       (lent-well _ (s .pre .0 .0), flag-low _ (s .pre .0 .0)),
-      part-long (s .args .text .now) (s .args .start) (s .args .count) _ (pitch-is _ (s .pre .0 .0) _ (w .line-width .ensures .0)) (s .pre .1 .1) ∙ ap (λ (cs : List Column). s .args .count * linePitch cs) (sym (s .pre .0 .0)),
+      part-long (s .args .text .now) (s .args .start) (s .args .count) _ (pitch-is _ (s .pre .0 .0) _ (w .line-width .ensures .0)) (s .pre .1 .1)
+          ∙ ap (λ (cs : List Column). s .args .count * linePitch cs) (sym (s .pre .0 .0)),
     )
 
 mul-place : tie.Need-mul-place

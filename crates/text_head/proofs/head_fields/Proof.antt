@@ -1,11 +1,9 @@
 -- `text_head::head_fields` meets its contract. The loop's invariant: no field before `k` is at fault, and their figures are kept.
-use mathlib.Core.Path.{_≡_, refl, sym, ap, _∙_}
-use Prim.Native.Nat.{_+_, _-_}
+use mathlib.Core.Path.{refl}
+use Prim.Native.Nat.{_-_}
 use native.Mathlib.Omega.{arith}
 use lib.ListN.{length}
 use borrow.Author.Needs.{needs}
-use Rattle.text_rules.specs.Tables.{fieldsOf, nameBefore}
-use Rattle.text_rules.specs.Well.{fieldsWell}
 use Rattle.text_head.proofs.Fields.{Fielded, few, decimals-few, name-room, name-long, fielded-start, fielded-room, fielded-ill, fielded-again, fielded-end}
 use Rattle.text_head.proofs.head_fields.Statement.{statement}
 use Rattle.text_head.proofs.head_fields.Tie as tie

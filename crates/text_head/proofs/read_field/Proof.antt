@@ -1,5 +1,5 @@
 -- `text_head::read_field` meets its contract: the characters are a number of the field's form, and its size is of its kind.
-use mathlib.Core.Path.{_≡_, sym, subst, _∙_}
+use mathlib.Core.Path.{sym, subst, _∙_}
 use Prim.Native.Nat.{_≤_}
 use Rattle.digits.specs.declared.Form.{Form}
 use Rattle.text_rules.specs.Well.{mostDecimals}
