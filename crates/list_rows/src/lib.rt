@@ -86,8 +86,11 @@ pub fn name_place(text: &[u8], first: usize, j: usize) -> TextPart
         };
     }
     let start = text_columns::column_start(&columns, list_rules::NAME);
+    let lines = j * pitch;
+    let row = first + lines;
+    let place = row + start;
     TextPart {
-        place: (first + j * pitch) + start,
+        place,
         length: NAME_WIDTH,
     }
 }

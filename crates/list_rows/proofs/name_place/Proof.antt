@@ -32,27 +32,27 @@ column-start-requires : tie.Need-column-start-requires
 unfolding columnsWell columnWell allBelow every lineWidth columnStart columnWidth columnAt sumBelow columnsOf columnOf useOf
 column-start-requires c κs = (refl, search needs)
 
-mul-t14 : tie.Need-mul-t14
+mul-lines : tie.Need-mul-lines
 unfolding columnsOf columnOf useOf shanghaiColumns
-mul-t14 c =
+mul-lines c =
     let w = c .before .before .before .before in
     let s = w .before .before .before in
     let p = pitch-ours _ (w .line-width .ensures .0) in
     let l = line-some _ _ _ _ (search needs) (search needs) (c .before .before .if2 .left) in
     search needs
 
-add-t18 : tie.Need-add-t18
+add-row : tie.Need-add-row
 unfolding columnsOf columnOf useOf shanghaiColumns
-add-t18 c =
+add-row c =
     let w = c .before .before .before .before in
     let s = w .before .before .before in
     let p = pitch-ours _ (w .line-width .ensures .0) in
     let l = line-some _ _ _ _ (search needs) (search needs) (c .before .before .if2 .left) in
     search needs
 
-add-t19 : tie.Need-add-t19
+add-place : tie.Need-add-place
 unfolding columnsOf columnOf useOf shanghaiColumns
-add-t19 c =
+add-place c =
     let w = c .before .before .before .before in
     let s = w .before .before .before in
     let p = pitch-ours _ (w .line-width .ensures .0) in
@@ -81,7 +81,7 @@ name-place-spec =
     returns-2
     (λ c. search needs)
     column-start-requires
-    mul-t14
-    add-t18
-    add-t19
+    mul-lines
+    add-row
+    add-place
     returns-3)
