@@ -29,7 +29,7 @@ use Rattle.list_rules.specs.Fields.{fieldsFrom, fieldsInRange}
 use Rattle.list_rules.proofs.Fields.{fields-same}
 use Rattle.text_rules.specs.Columns.{linePitch, columnFault, lineNumbers, numbersRead}
 use Rattle.lines.specs.Lines.{ended}
-use Rattle.text_rules.specs.Head.{isOpening}
+use Rattle.text_rules.specs.Head.{isOpening, lettersStart}
 use Rattle.text_head.proofs.Opening.{letters-count}
 use Rattle.text_rules.specs.Reading.{startOf, lineOf, lineStands, lettersRead, rowCount, rowOf, shapeChecks, fieldChecks, wrongField, fieldStart, figureRead, wrongRow, columnPlace, runRead}
 use Rattle.text_rules.specs.Well.{mostFields}
@@ -222,7 +222,7 @@ module _ (text letters : List ℕ) (e : letters ≡ lettersRead text) where
   opening-none h = rw h
 
   place-cases : (b : Bool) → lineStands isOpening text 0 ≡ b → (length letters ≡ 0 → record { place = 0; length = 0 } ≡ lettersPlace text)
-      × (1 ≤ length letters → record { place = 4; length = length letters } ≡ lettersPlace text)
+      × (1 ≤ length letters → record { place = lettersStart; length = length letters } ≡ lettersPlace text)
   unfolding lettersPlace
   place-cases true h = ((λ n. absurd (omega (arith, opening-some h, ap length e))), λ n. rw (h, e))
   place-cases false h = ((λ n. rw h), λ n. absurd (omega (arith, opening-none h, ap length e)))
@@ -230,7 +230,7 @@ module _ (text letters : List ℕ) (e : letters ≡ lettersRead text) where
   pub letters-none : length letters ≡ 0 → record { place = 0; length = 0 } ≡ lettersPlace text
   letters-none = place-cases _ refl .0
 
-  pub letters-some : 1 ≤ length letters → record { place = 4; length = length letters } ≡ lettersPlace text
+  pub letters-some : 1 ≤ length letters → record { place = lettersStart; length = length letters } ≡ lettersPlace text
   letters-some = place-cases _ refl .1
 
 -- the components

@@ -19,7 +19,7 @@ use Rattle.list_rules.specs.declared.ListRead.{ListRead}
 use Rattle.list_rules.specs.declared.ListAnswer.the-variants.{Done}
 use Rattle.text_rules.specs.Tables.{Column, Field, columnsOf, fieldsOf}
 use Rattle.text_rules.specs.Columns.{linePitch}
-use Rattle.text_rules.specs.Head.{endWord, headLines}
+use Rattle.text_rules.specs.Head.{endWord, headLines, endSize}
 use Rattle.text_rules.specs.Reading.{startOf, lineOf, lineStands, wrongLine, bodyStart, rowsFrom, rowStart, rowCount, endStart}
 use Rattle.text_rules.specs.Well.{fieldsWell}
 use Rattle.text_rules.proofs.Tables.{fields-length}
@@ -132,7 +132,7 @@ module _ (text : List ℕ) where
       }
 
 -- ENDENDEND has nine bytes
-end-next : (text : List ℕ) (at : ℕ) → lineStands (λ l. same l endWord) text at ≡ true → nextAt text at ≡ at + 11
+end-next : (text : List ℕ) (at : ℕ) → lineStands (λ l. same l endWord) text at ≡ true → nextAt text at ≡ at + endSize
 unfolding lineStands lineOf nextAt
 end-next text at h =
     let s : same (firstLine (drop at text)) endWord ≡ true = and-right (ended (drop at text)) _ h in
@@ -147,13 +147,13 @@ module _ (text : List ℕ) (end : ℕ) (e : wrongLine shanghaiFields text ≡ he
   ends : endMissing text ≡ false
   ends = rw f at (ap not h)
 
-  next-is : nextAt text (endStart shanghai text) ≡ end + 11
+  next-is : nextAt text (endStart shanghai text) ≡ end + endSize
   next-is = rw (← f) (end-next text end h)
 
   -- bytes behind it
-  pub shaped-behind : end + 11 < length text → Shaped text (wrongAt (end + 11))
+  pub shaped-behind : end + endSize < length text → Shaped text (wrongAt (end + endSize))
   shaped-behind l =
-      let p = more-stops text (head-passes text e) ends (rw next-is (lt-ltb (end + 11) (length text) l)) in
+      let p = more-stops text (head-passes text e) ends (rw next-is (lt-ltb (end + endSize) (length text) l)) in
       record {
         wrong-is = rw (p .0);
         place-is = λ _. p .1 ∙ rw next-is;
@@ -161,10 +161,10 @@ module _ (text : List ℕ) (end : ℕ) (e : wrongLine shanghaiFields text ≡ he
       }
 
   -- every line stands
-  pub shaped-rows : (start count : ℕ) → start ≡ bodyStart shanghai text → count ≡ rowCount shanghai text → start + count * linePitch shanghaiColumns ≤ length text → length text ≤ end + 11
+  pub shaped-rows : (start count : ℕ) → start ≡ bodyStart shanghai text → count ≡ rowCount shanghai text → start + count * linePitch shanghaiColumns ≤ length text → length text ≤ end + endSize
       → Shaped text (rowsAt start count)
   shaped-rows start count s c r l =
-      let p = shape-passes text (head-passes text e) ends (rw next-is (le-ltb (end + 11) (length text) l)) in
+      let p = shape-passes text (head-passes text e) ends (rw next-is (le-ltb (end + endSize) (length text) l)) in
       record {
         wrong-is = rw p;
         place-is = λ q. absurd (false≢true q);

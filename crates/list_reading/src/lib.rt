@@ -28,9 +28,6 @@ pub struct Shape {
     pub count: usize,
 }
 
-// How many bytes the last line takes with its end.
-const END_SIZE: usize = 11;
-
 fn wrong_at(place: usize) -> Shape
     ensures { λ r. ⌜ r ≡ wrongAt place ⌝ }
 {
@@ -65,7 +62,7 @@ fn body_shape(columns: &[[usize; COLUMN_PARTS]], text: &[u8], start: usize) -> S
     if !end_stands(text, end) {
         return wrong_at(end);
     }
-    let behind = end + END_SIZE;
+    let behind = end + text_rules::END_SIZE;
     if behind < text.len() {
         return wrong_at(behind);
     }
@@ -244,7 +241,7 @@ pub fn letters_place(text: &[u8]) -> TextPart
         };
     }
     TextPart {
-        place: 4,
+        place: text_rules::LETTERS_START,
         length: n,
     }
 }

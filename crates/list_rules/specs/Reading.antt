@@ -11,7 +11,7 @@ use Rattle.layout.specs.Places.{componentWidth, mostComponents}
 use Rattle.layout.specs.Components.{componentAt, placesOf}
 use Rattle.rules.specs.Replies.{ifAccepted}
 use Rattle.text_rules.specs.Columns.{columnStart, linePitch, partOf}
-use Rattle.text_rules.specs.Head.{isOpening}
+use Rattle.text_rules.specs.Head.{isOpening, lettersStart}
 use Rattle.text_rules.specs.Reading.{lineStands, lettersRead, bodyStart, rowCount, rowOf, shapeChecks, fieldChecks, figureRead, runRead}
 use Rattle.list_rules.specs.declared.ListFields.{ListFields}
 use Rattle.list_rules.specs.declared.TextPart.{TextPart}
@@ -66,7 +66,7 @@ partIn text p = take (p .length) (drop (p .place) text)
 
 -- the letters of the first line; an empty part where the line is another
 unfoldable pub lettersPlace : List ℕ → TextPart
-lettersPlace text = cond (lineStands isOpening text 0) (record { place = 4; length = length (lettersRead text) }) (record { place = 0; length = 0 })
+lettersPlace text = cond (lineStands isOpening text 0) (record { place = lettersStart; length = length (lettersRead text) }) (record { place = 0; length = 0 })
 
 -- the name of component j, where the text has such a component line
 unfoldable pub nameRead : List ℕ → ℕ → List ℕ

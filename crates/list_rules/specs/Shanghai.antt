@@ -5,6 +5,7 @@ use mathlib.Core.List.{List, [], _∷_}
 use Rattle.flags.specs.Table.{flagTable, rateUsed, amountUsed}
 use Rattle.digits.specs.declared.Form.{Form}
 use Rattle.lines.specs.Words.{bytes}
+use Rattle.text_rules.specs.Dates.{dateDigits}
 use Rattle.text_rules.specs.Tables.{Use, alwaysUsed, usedByFlag, forText, Column, Kind, anyValue, dateValue, zeroOrOneValue, Field, TextForm}
 
 -- ---- the columns of a component line
@@ -68,8 +69,8 @@ shanghaiFields =
     ∷ field (bytes "CreationRedemption") whole anyValue
     ∷ field (bytes "Recordnum") whole anyValue
     ∷ field (bytes "EstimateCashComponent") signedMoney anyValue
-    ∷ field (bytes "TradingDay") (fixedDigits 8) dateValue
-    ∷ field (bytes "PreTradingDay") (fixedDigits 8) dateValue
+    ∷ field (bytes "TradingDay") (fixedDigits dateDigits) dateValue
+    ∷ field (bytes "PreTradingDay") (fixedDigits dateDigits) dateValue
     ∷ field (bytes "CashComponent") signedMoney anyValue
     ∷ field (bytes "NAVperCU") money anyValue
     ∷ field (bytes "NAV") (form 0 4 false) anyValue

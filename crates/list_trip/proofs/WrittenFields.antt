@@ -16,7 +16,7 @@ use Rattle.digits.specs.Digits.{plain, cap}
 use Rattle.digits.specs.Signed.{figureSigned}
 use Rattle.digits.specs.Fits.{Fits}
 use Rattle.text_rules.specs.Tables.{Kind, anyValue, dateValue, zeroOrOneValue, Field, fieldAt, noField}
-use Rattle.text_rules.specs.Dates.{isDate}
+use Rattle.text_rules.specs.Dates.{dateDigits, isDate}
 use Rattle.text_rules.specs.Head.{isKind}
 use Rattle.text_rules.proofs.Dates.{date-sound}
 use Rattle.list_rules.specs.declared.ListFields.{ListFields}
@@ -81,14 +81,14 @@ cash-says (negsuc n) t =
       small = omega arith;
     }
 
--- a date has eight digits
-date-low : (d : ℕ) → isDate d ≡ true → d < 10 ^ 8
+-- a date has no more digits than its field
+date-low : (d : ℕ) → isDate d ≡ true → d < 10 ^ dateDigits
 date-low d e =
     div-lt-iff-lt-mul {k = 10_000} {x = d} {y = 10_000} (omega arith) .0 (omega (arith, date-sound d e .year-high))
 
-date-says : {name : List ℕ} (d : ℕ) → isDate d ≡ true → Says (unsigned name 8 0 dateValue) (plain d)
+date-says : {name : List ℕ} (d : ℕ) → isDate d ≡ true → Says (unsigned name dateDigits 0 dateValue) (plain d)
 unfolding isKind
-date-says d e = fixed-says 8 dateValue d (omega (arith, date-low d e)) (date-low d e) e
+date-says d e = fixed-says dateDigits dateValue d (omega (arith, date-low d e)) (date-low d e) e
 
 -- The fields of a list in their ranges.
 
@@ -106,18 +106,18 @@ module _ (l : ListFields) (fit : fieldsInRange l ≡ true) (few : l .count ≤ m
       let s = fields-sound l fit in
       let r = fund-sound (l .fund) (s .fund) in
       paired-at Says (plain (getD (l .fund .limits) (k - limitsField) 0)) {rs = shanghaiFields}
-      (both (fixed-says 6 anyValue (l .fund .«first_code» + 1) (omega (arith, r .first-code)) (omega (arith, r .first-code)) refl)
-      (both (any-says 0 (l .fund .«basket_size») (omega (arith, r .size-high)))
-      (both (any-says 5 (l .fund .«max_cash_ratio» .0) (omega (arith, r .ratio)))
-      (both (free-says 0 zeroOrOneValue (l .publish) (omega (arith, s .publish)) (le-leb _ _ (s .publish)))
-      (both (any-says 0 (l .fund .switch) (omega (arith, r .switch)))
-      (both (any-says 0 (l .count) (omega arith))
+      (both (fixed-says _ anyValue (l .fund .«first_code» + 1) (omega (arith, r .first-code)) (omega (arith, r .first-code)) refl)
+      (both (any-says _ (l .fund .«basket_size») (omega (arith, r .size-high)))
+      (both (any-says _ (l .fund .«max_cash_ratio» .0) (omega (arith, r .ratio)))
+      (both (free-says _ zeroOrOneValue (l .publish) (omega (arith, s .publish)) (le-leb _ _ (s .publish)))
+      (both (any-says _ (l .fund .switch) (omega (arith, r .switch)))
+      (both (any-says _ (l .count) (omega arith))
       (both (cash-says (l .fund .«estimated_cash») (r .cash))
       (both (date-says (l .«trading_day») (s .trading-day))
       (both (date-says (l .«pre_trading_day») (s .pre-trading-day))
       (both (cash-says (l .«cash_component») (s .cash))
-      (both (any-says 2 (l .«nav_per_cu») (omega (arith, s .nav-per-cu)))
-      (both (any-says 4 (l .nav) (omega (arith, s .nav)))
+      (both (any-says _ (l .«nav_per_cu») (omega (arith, s .nav-per-cu)))
+      (both (any-says _ (l .nav) (omega (arith, s .nav)))
       (behind (limit-says k h)
       (behind (limit-says k h)
       (behind (limit-says k h)

@@ -2,7 +2,7 @@
 use mathlib.Core.Path.{_≡_, refl, sym, _∙_}
 use mathlib.Core.Bool.{Bool, true, false, cond, false≢true}
 use mathlib.Core.List.{List}
-use Prim.Native.Nat.{ℕ, zero, suc, _+_, _*_, _/_, _^_, _≤_, _<_}
+use Prim.Native.Nat.{ℕ, zero, suc, _+_, _-_, _*_, _/_, _^_, _≤_, _<_}
 use native.Mathlib.Nat.{add-zero, mul-comm, div-one, div-lt-iff-lt-mul, le-of-eq}
 use native.Mathlib.Omega.{arith}
 use lib.ListN.{length, getD, length-append}
@@ -54,19 +54,22 @@ fixed-fits digits n h l =
     plain-fits (form digits 0 digits) n h (λ z. rw (div-one n) l) (λ z. rw (ne-eqb digits 0 z) (le-of-eq (fixed-length digits n)))
 
 -- as many digits as n has, and no decimals
-whole-fits : (d n : ℕ) → n ≤ cap → n < 10 ^ suc d → d ≤ 18 → Fits (form 0 0 (suc d)) (plain n)
+whole-fits : (width n : ℕ) → n ≤ cap → n < 10 ^ width → 1 ≤ width → width ≤ 19 → Fits (form 0 0 width) (plain n)
 unfolding signedText plainText wholeText
-whole-fits d n h l most = plain-fits (form 0 0 (suc d)) n h (λ z. absurd (z refl)) (λ z. decimal-short d n l most)
+whole-fits zero n h l some most = absurd (omega arith)
+whole-fits (suc d) n h l some most = plain-fits (form 0 0 (suc d)) n h (λ z. absurd (z refl)) (λ z. decimal-short d n l (omega arith))
 
 -- with decimals
-point-fits : (d decimals n : ℕ) → (decimals ≡ 0 → ⊥) → n ≤ cap → n / 10 ^ decimals < 10 ^ suc d → d ≤ 18
-    → Fits (form 0 decimals (d + decimals + 2)) (plain n)
+point-fits : (width decimals n : ℕ) → (decimals ≡ 0 → ⊥) → n ≤ cap → n / 10 ^ decimals < 10 ^ (width - decimals - 1) → decimals + 2 ≤ width → width ≤ 20
+    → Fits (form 0 decimals width) (plain n)
 unfolding signedText plainText wholeText
-point-fits d decimals n some h l most =
-    plain-fits (form 0 decimals (d + decimals + 2)) n h (λ z. absurd (z refl))
+point-fits width decimals n some h l wide most =
+    let d = width - decimals - 2 in
+    let e : width - decimals - 1 ≡ suc d = omega arith in
+    plain-fits (form 0 decimals width) n h (λ z. absurd (z refl))
     (λ z.
     rw (ne-eqb decimals 0 some, length-append)
-    (omega (arith, decimal-short d (n / 10 ^ decimals) l most, fixed-length decimals n)))
+    (omega (arith, decimal-short d (n / 10 ^ decimals) (rw e at l) (omega arith), fixed-length decimals n)))
 
 -- a column that the flag's row of the table says to be used or not
 use-fits : (b : Bool) (c : Column) (n : ℕ) (s : List ℕ) → Fits (numberForm c) (plain n) → (b ≡ false → n ≡ 0)
@@ -88,12 +91,12 @@ module _ (g : ℕ) (c : Component) (r : ComponentRanges g c) where
   -- code, name, quantity, flag, rate and amount
   pub component-fits : (words : List ℕ) → allBytes nameByte (partAt (shanghai .columns) words nameColumn) ≡ true → RowFits shanghai (componentNumbers c) words
   unfolding shanghai shanghaiColumns componentNumbers contentAt contentBy cellAt numbersBefore holdsText isText columnAt sumBelow numberForm
-  component-fits words name zero h = fixed-fits 6 (c .code) (omega (arith, r .code)) (omega (arith, r .code))
+  component-fits words name zero h = fixed-fits _ (c .code) (omega (arith, r .code)) (omega (arith, r .code))
   component-fits words name (suc zero) h = name
-  component-fits words name (suc (suc zero)) h = whole-fits 7 (c .quantity) (omega (arith, r .quantity)) (omega (arith, r .quantity)) (omega arith)
-  component-fits words name (suc (suc (suc zero))) h = fixed-fits 1 (c .flag) (omega (arith, r .flag)) (omega (arith, r .flag))
+  component-fits words name (suc (suc zero)) h = whole-fits _ (c .quantity) (omega (arith, r .quantity)) (omega (arith, r .quantity)) (omega arith) (omega arith)
+  component-fits words name (suc (suc (suc zero))) h = fixed-fits _ (c .flag) (omega (arith, r .flag)) (omega (arith, r .flag))
   component-fits words name (suc (suc (suc (suc zero)))) h =
-      flag-fits (c .flag) rateUsed _ (c .rate .0) _ (point-fits 0 5 (c .rate .0) (λ e. omega arith) (omega (arith, r .rate)) rate-low (omega arith)) (r .rate-use)
+      flag-fits (c .flag) rateUsed _ (c .rate .0) _ (point-fits _ _ (c .rate .0) (λ e. omega arith) (omega (arith, r .rate)) rate-low (omega arith) (omega arith)) (r .rate-use)
   component-fits words name (suc (suc (suc (suc (suc zero))))) h =
-      flag-fits (c .flag) amountUsed _ (c .amount .0) _ (point-fits 7 3 (c .amount .0) (λ e. omega arith) (omega (arith, r .amount)) amount-low (omega arith)) (r .amount-use)
+      flag-fits (c .flag) amountUsed _ (c .amount .0) _ (point-fits _ _ (c .amount .0) (λ e. omega arith) (omega (arith, r .amount)) amount-low (omega arith) (omega arith)) (r .amount-use)
   component-fits words name (suc (suc (suc (suc (suc (suc k)))))) h = absurd (omega arith)

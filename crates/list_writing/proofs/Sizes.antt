@@ -15,7 +15,7 @@ use Rattle.digits.specs.Written.{Written, put}
 use Rattle.digits.proofs.Put.{written-then, written-length}
 use Rattle.lines.specs.Lines.{lineText}
 use Rattle.lines.proofs.Laws.{length-lineText}
-use Rattle.text_rules.specs.Head.{isLetters, endWord}
+use Rattle.text_rules.specs.Head.{isLetters, endWord, mostLetters, endSize}
 use Rattle.text_rules.specs.Columns.{linePitch}
 use Rattle.text_rules.specs.Writing.{sheetText}
 use Rattle.text_rules.specs.Well.{mostLine}
@@ -27,9 +27,9 @@ use Rattle.list_trip.proofs.WrittenSheet.{text-length}
 use Rattle.list_writing.proofs.Lent.{headOf, linesOf}
 
 -- the letters are at most eight
-pub letters-few : (l : Listing) → Passing l → length (l .letters) ≤ 8
+pub letters-few : (l : Listing) → Passing l → length (l .letters) ≤ mostLetters
 unfolding isLetters
-letters-few l p = inside-facts 1 8 (length (l .letters)) (and-eq-true-iff _ _ .0 (p .letters) .0) .1
+letters-few l p = inside-facts 1 mostLetters (length (l .letters)) (and-eq-true-iff _ _ .0 (p .letters) .0) .1
 
 -- the component lines of any well-made table are not too long
 pub lines-low : (count width : ℕ) → count ≤ mostComponents → width ≤ mostLine → count * (width + 2) ≤ mostComponents * (mostLine + 2)
@@ -38,7 +38,7 @@ lines-low count width h w =
     mul-le-mul h wide
 
 -- the lengths of a text's parts
-parts : (l : Listing) → length (textOf l) ≡ length (headOf l) + (length (linesOf l) + 11)
+parts : (l : Listing) → length (textOf l) ≡ length (headOf l) + (length (linesOf l) + endSize)
 unfolding textOf sheetOf sheetText shanghai
 parts l =
     let a = length-append (headOf l) (linesOf l ++ lineText endWord) in
@@ -53,7 +53,7 @@ module _ (l : Listing) (e : passes (listChecks l) ≡ true) (pitch : ℕ) (f : p
   pitched : l .fields .count * pitch ≡ l .fields .count * linePitch shanghaiColumns
   pitched = ap (λ (n : ℕ). l .fields .count * n) f
 
-  pub text-size : (head : ℕ) → head ≡ length (headOf l) → head + (l .fields .count * pitch + 11) ≡ length (textOf l)
+  pub text-size : (head : ℕ) → head ≡ length (headOf l) → head + (l .fields .count * pitch + endSize) ≡ length (textOf l)
   text-size head h = omega (arith, h, pitched, text-length l e, length-lineText endWord)
 
   lines-long : length (linesOf l) ≡ l .fields .count * pitch
@@ -61,7 +61,7 @@ module _ (l : Listing) (e : passes (listChecks l) ≡ true) (pitch : ℕ) (f : p
 
   -- written into a lent output
   module _ (d : List ℕ) (room : length (textOf l) ≤ length d) {d₁ : List ℕ} {a : ℕ} (u : Written d 0 (headOf l) d₁ a) where
-    pub lines-room : a + l .fields .count * pitch + 11 ≤ length d₁
+    pub lines-room : a + l .fields .count * pitch + endSize ≤ length d₁
     lines-room = omega (arith, room, parts l, lines-long, u .next, written-length u (head-room l d room))
 
     pub part-long : length (take (a + l .fields .count * pitch - a) (drop a d₁)) ≡ l .fields .count * pitch
@@ -80,7 +80,7 @@ module _ (l : Listing) (e : passes (listChecks l) ≡ true) (pitch : ℕ) (f : p
             next = ap (λ (n : ℕ). a + n) (sym lines-long);
           }
 
-      pub end-room : a + l .fields .count * pitch + 11 ≤ length (putMid a (a + l .fields .count * pitch - a) d₁ xs)
+      pub end-room : a + l .fields .count * pitch + endSize ≤ length (putMid a (a + l .fields .count * pitch - a) d₁ xs)
       end-room = omega (arith, lines-room, lines-long, written-length lines-put (omega (arith, lines-room, lines-long)))
 
       pub text-put : {d₃ : List ℕ} {c : ℕ}

@@ -20,9 +20,6 @@ use rules::Refusal;
 use text_rules::COLUMN_PARTS;
 use text_rules::FIELD_PARTS;
 
-// How many bytes the last line takes with its end.
-const END_SIZE: usize = 11;
-
 // Refusal 1's test. The range comes first, so that no product is too large.
 fn lengths_fit(count: usize, run: usize, names: usize) -> bool
     ensures { λ r. ⌜ r ≡ lengthsFit count run names ⌝ }
@@ -69,7 +66,7 @@ fn text_size(
     let figures = list_fields::figures_of(fields);
     let head = text_head_writing::head_size(field_rows, labels, letters, figures);
     let pitch = text_columns::line_width(columns) + 2;
-    head + (fields.count * pitch + END_SIZE)
+    head + (fields.count * pitch + text_rules::END_SIZE)
 }
 
 // The answer, which changes nothing.

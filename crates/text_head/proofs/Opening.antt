@@ -12,7 +12,7 @@ use Rattle.sequences.specs.Every.{every}
 use Rattle.sequences.proofs.Every.{every-at, inside-true, inside-facts, false-of}
 use Rattle.lines.proofs.Answers.{inside-low, inside-high}
 use Rattle.lines.specs.Lines.{same, letterByte, allBytes, lineLen, ended, firstLine}
-use Rattle.text_rules.specs.Head.{isLetters, lettersOf, isOpening, openingWord}
+use Rattle.text_rules.specs.Head.{isLetters, lettersOf, isOpening, openingWord, mostLetters}
 use Rattle.text_rules.specs.Reading.{lineOf, lineStands, lettersRead}
 use Rattle.text_head.proofs.Shape.{stands-open, stands-ended}
 
@@ -20,19 +20,19 @@ use Rattle.text_head.proofs.Shape.{stands-open, stands-ended}
 module _ (s : List ℕ) where
   pub letters-none : length s < 1 → false ≡ isLetters s
   unfolding isLetters
-  letters-none h = rw (inside-low 1 8 (length s) h)
+  letters-none h = rw (inside-low 1 mostLetters (length s) h)
 
-  pub letters-more : 1 ≤ length s → 8 < length s → false ≡ isLetters s
+  pub letters-more : 1 ≤ length s → mostLetters < length s → false ≡ isLetters s
   unfolding isLetters
-  letters-more g h = rw (inside-high 1 8 (length s) g h)
+  letters-more g h = rw (inside-high 1 mostLetters (length s) g h)
 
-  pub letters-some : 1 ≤ length s → length s ≤ 8 → allBytes letterByte s ≡ isLetters s
+  pub letters-some : 1 ≤ length s → length s ≤ mostLetters → allBytes letterByte s ≡ isLetters s
   unfolding isLetters
-  letters-some g h = rw (inside-true 1 8 (length s) g h)
+  letters-some g h = rw (inside-true 1 mostLetters (length s) g h)
 
-  pub letters-count : isLetters s ≡ true → (1 ≤ length s) × (length s ≤ 8)
+  pub letters-count : isLetters s ≡ true → (1 ≤ length s) × (length s ≤ mostLetters)
   unfolding isLetters
-  letters-count e = inside-facts 1 8 (length s) (and-eq-true-iff _ _ .0 e .0)
+  letters-count e = inside-facts 1 mostLetters (length s) (and-eq-true-iff _ _ .0 e .0)
 
 -- "[ETF", letters, "]"
 module _ (l : List ℕ) where

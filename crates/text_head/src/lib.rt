@@ -104,7 +104,7 @@ pub fn is_letters(s: &[u8]) -> bool
     if s.len() < 1 {
         return false;
     }
-    if 8 < s.len() {
+    if text_rules::MOST_LETTERS < s.len() {
         return false;
     }
     lines::is_letters(s)

@@ -20,14 +20,14 @@ use Rattle.lines.proofs.Answers.{inside-low, inside-high}
 use Rattle.lines.proofs.Laws.{length-lineText}
 use Rattle.lines.specs.Lines.{lineText}
 use Rattle.text_rules.specs.Tables.{formOf, Field, fieldOf, fieldsOf, fieldAt, nameBefore}
-use Rattle.text_rules.specs.Head.{headLines, fieldName, openingWord, closingWord, tagWord, fieldLine, headLine}
+use Rattle.text_rules.specs.Head.{headLines, fieldName, openingWord, closingWord, tagWord, fieldLine, headLine, openingRest, tagSize}
 use Rattle.text_rules.specs.Writing.{headText}
 use Rattle.text_rules.specs.Well.{mostDecimals, mostDigits, mostFields, mostLine, fieldsWell}
 use Rattle.text_rules.proofs.Tables.{fields-length, field-row}
 use Rattle.text_rules.proofs.Well.{field-well, fields-few}
 use Rattle.text_head.specs.Head.{nameLength}
 use Rattle.text_head.proofs.Names.{to-is, name-of, short-line}
-use Rattle.text_head_writing.specs.Lines.{FormsWell, figureFor, lineFrom, arrayFigure}
+use Rattle.text_head_writing.specs.Lines.{FormsWell, figureFor, lineFrom, arrayFigure, mostHeadLine, mostHead}
 
 -- ---- the figure of a line
 module _ (count : ℕ) (figures : List Figure) (k : ℕ) where
@@ -83,14 +83,14 @@ pub field-size : (name value : List ℕ) → length (lineText (name ++ 61 ∷ va
 field-size name value = length-lineText (name ++ 61 ∷ value) ∙ omega (arith, length-append name (61 ∷ value))
 
 module _ (rows : List (List ℕ)) (k : ℕ) (name letters : List ℕ) (z : Figure) where
-  pub size-first : k ≡ 0 → length (lineText (lineFrom rows k name letters z)) ≡ length letters + 7
+  pub size-first : k ≡ 0 → length (lineText (lineFrom rows k name letters z)) ≡ length letters + openingRest
   size-first e = rw (line-first rows k name letters z e, length-lineText) (omega (arith, length-append letters closingWord))
 
   pub size-named : (k ≡ 0 → ⊥) → k ≤ length rows
       → length (lineText (lineFrom rows k name letters z)) ≡ length name + (length (numberText (formOf (getD rows (k - 1) [])) z) + 3)
   size-named h m = rw (line-named rows k name letters z h m) (field-size name _)
 
-  pub size-tag : (k ≡ 0 → ⊥) → length rows < k → length (lineText (lineFrom rows k name letters z)) ≡ 8
+  pub size-tag : (k ≡ 0 → ⊥) → length rows < k → length (lineText (lineFrom rows k name letters z)) ≡ tagSize
   size-tag h m = rw (line-tag rows k name letters z h m, length-lineText)
 
 -- ---- the lines one behind the other, by a table whose names stand in a run
@@ -145,7 +145,7 @@ module _ (rows : List (List ℕ)) (names : List ℕ) (made : fieldsWell (fieldsO
 pub record Sized (rows : List (List ℕ)) (names letters : List ℕ) (figures : List Figure) (n from k : ℕ) : Type 0 where
   pub turns : k ≤ length rows + 2
   pub size : n ≡ length (headText (fieldsOf rows names) letters (arrayFigure figures) k)
-  pub small : n ≤ 1_100 * k
+  pub small : n ≤ mostHeadLine * k
   pub named : from ≡ nameBefore rows (k - 1)
 
 module _ (rows : List (List ℕ)) (names : List ℕ) (made : fieldsWell (fieldsOf rows names) ≡ true)
@@ -171,7 +171,7 @@ module _ (rows : List (List ℕ)) (names : List ℕ) (made : fieldsWell (fieldsO
   sized-start = record { turns = zero-le; size = sym (ap length head-none); small = zero-le; named = refl }
 
   pub sized-again : (n from k to m : ℕ) (z : Figure) → Sized rows names letters figures n from k → k < length rows + 2 → to ≡ from + nameLength rows k
-      → z ≡ figureFor (length rows) figures k → m ≡ length (lineText (lineFrom rows k (take (to - from) (drop from names)) letters z)) → m ≤ 1_100
+      → z ≡ figureFor (length rows) figures k → m ≡ length (lineText (lineFrom rows k (take (to - from) (drop from names)) letters z)) → m ≤ mostHeadLine
       → Sized rows names letters figures (n + m) to (k + 1)
   sized-again n from k to m z v low next e s most =
       let line = line-is rows names made all letters figures from k to (v .named) next z e in
@@ -192,7 +192,7 @@ module _ (rows : List (List ℕ)) (names : List ℕ) (made : fieldsWell (fieldsO
       }
 
   pub sized-end : (n from k : ℕ) → Sized rows names letters figures n from k → length rows + 2 ≤ k
-      → (n ≡ length (headText (fieldsOf rows names) letters (arrayFigure figures) (headLines (fieldsOf rows names)))) × (n ≤ 30_000)
+      → (n ≡ length (headText (fieldsOf rows names) letters (arrayFigure figures) (headLines (fieldsOf rows names)))) × (n ≤ mostHead)
   sized-end n from k v h =
       let e : k ≡ headLines (fieldsOf rows names) = omega (arith, v .turns, lines-are rows names made all) in (
         v .size ∙ ap (λ (i : ℕ). length (headText (fieldsOf rows names) letters (arrayFigure figures) i)) e,

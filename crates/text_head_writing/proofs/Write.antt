@@ -15,7 +15,7 @@ use Rattle.digits.specs.declared.Form.{Form}
 use Rattle.lines.specs.Words.{bytes}
 use Rattle.lines.specs.Lines.{lineText}
 use Rattle.text_rules.specs.Tables.{formOf, fieldsOf, nameBefore}
-use Rattle.text_rules.specs.Head.{headLines, openingWord, closingWord, headLine}
+use Rattle.text_rules.specs.Head.{headLines, openingWord, closingWord, headLine, openingRest}
 use Rattle.text_rules.specs.Writing.{headText}
 use Rattle.text_rules.specs.Well.{fieldsWell}
 use Rattle.text_head.specs.Head.{nameLength}
@@ -25,7 +25,7 @@ use Rattle.text_head_writing.proofs.Sizes.{line-first, line-named, line
 
 module _ {d d₁ d₂ d₃ : List ℕ} {at p q r : ℕ} where
   -- the first line
-  pub opening-put : {letters : List ℕ} → at + (length letters + 7) ≤ length d
+  pub opening-put : {letters : List ℕ} → at + (length letters + openingRest) ≤ length d
       → Written d at openingWord d₁ p → Written d₁ p letters d₂ q → Written d₂ q (bytes "]\r\n") d₃ r
       → Written d at (lineText (openingWord ++ (letters ++ closingWord))) d₃ r
   unfolding lineText

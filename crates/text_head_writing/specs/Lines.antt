@@ -29,3 +29,10 @@ lineFrom rows k name letters z =
 -- the figures of an array
 abbrev pub arrayFigure : List Figure → ℕ → Figure
 arrayFigure figures i = getD figures i (plain 0)
+
+-- how many bytes a line of the head and the head take at most
+abbrev pub mostHeadLine : ℕ
+mostHeadLine = 1_100
+
+abbrev pub mostHead : ℕ
+mostHead = 30_000

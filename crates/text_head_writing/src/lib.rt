@@ -8,10 +8,10 @@ ghost use Rattle.digits.specs.Written.{Written};
 ghost use Rattle.digits.specs.Digits.{numberText};
 ghost use Rattle.lines.specs.Lines.{lineText};
 ghost use Rattle.text_rules.specs.Tables.{fieldsOf, formOf, nameBefore};
-ghost use Rattle.text_rules.specs.Head.{headLines, openingWord, closingWord};
+ghost use Rattle.text_rules.specs.Head.{headLines, openingWord, closingWord, mostLetters, openingRest};
 ghost use Rattle.text_rules.specs.Writing.{headText};
 ghost use Rattle.text_rules.specs.Well.{fieldsWell, mostFields, mostLine};
-ghost use Rattle.text_head_writing.specs.Lines.{FormsWell, figureFor, lineFrom, arrayFigure};
+ghost use Rattle.text_head_writing.specs.Lines.{FormsWell, figureFor, lineFrom, arrayFigure, mostHeadLine, mostHead};
 use digits::Figure;
 use text_rules::FIELD_PARTS;
 use text_rules::MOST_FIELDS;
@@ -38,17 +38,17 @@ fn line_size(
     letters: &[u8],
     z: Figure,
 ) -> usize
-    requires { ⌜ FormsWell (now fields) × (length (now name) ≤ mostLine) × (length (now letters) ≤ 8) ⌝ }
-    ensures { λ r. ⌜ (r ≡ length (lineText (lineFrom (now (fields .entry)) k (now (name .entry)) (now (letters .entry)) z))) × (r ≤ 1100) ⌝ }
+    requires { ⌜ FormsWell (now fields) × (length (now name) ≤ mostLine) × (length (now letters) ≤ mostLetters) ⌝ }
+    ensures { λ r. ⌜ (r ≡ length (lineText (lineFrom (now (fields .entry)) k (now (name .entry)) (now (letters .entry)) z))) × (r ≤ mostHeadLine) ⌝ }
 {
     if k == 0 {
-        return letters.len() + 7;
+        return letters.len() + text_rules::OPENING_REST;
     }
     if k <= fields.len() {
         return name.len()
             + (digits_writing::number_size(text_head::field_form(fields, k - 1), z) + 3);
     }
-    8
+    text_rules::TAG_SIZE
 }
 
 // How many bytes the head takes.
@@ -59,9 +59,9 @@ pub fn head_size(
     figures: [Figure; MOST_FIELDS],
 ) -> usize
     requires { ⌜ (fieldsWell (fieldsOf (now fields) (now names)) ≡ true) × (length (now names) ≡ nameBefore (now fields) (length (now fields))) ⌝ }
-    requires { ⌜ length (now letters) ≤ 8 ⌝ }
+    requires { ⌜ length (now letters) ≤ mostLetters ⌝ }
     ensures { λ r. ⌜ r ≡ length (headText (fieldsOf (now (fields .entry)) (now (names .entry))) (now (letters .entry)) (arrayFigure figures) (headLines (fieldsOf (now (fields .entry)) (now (names .entry))))) ⌝ }
-    ensures { λ r. ⌜ r ≤ 30_000 ⌝ }
+    ensures { λ r. ⌜ r ≤ mostHead ⌝ }
 {
     let lines = fields.len() + 2;
     let mut n = 0;
@@ -85,7 +85,7 @@ pub fn head_size(
 
 // Writes the first line.
 fn put_opening(dst: &mut [u8], at: usize, letters: &[u8]) -> usize
-    requires { ⌜ at + (length (now letters) + 7) ≤ length (now dst) ⌝ }
+    requires { ⌜ at + (length (now letters) + openingRest) ≤ length (now dst) ⌝ }
     ensures { λ r. ⌜ Written (now (dst .entry)) at (lineText (openingWord ++ (now (letters .entry) ++ closingWord))) (now (dst .exit)) r ⌝ }
 {
     let p = digits_writing::put_bytes(dst, at, b"[ETF");

@@ -5,6 +5,9 @@ use mathlib.Core.List.{[], _∷_}
 use lib.Dec.{eqb}
 use Rattle.sequences.specs.Every.{every, inside}
 
+abbrev pub dateDigits : ℕ
+dateDigits = 8
+
 unfoldable pub isLeap : ℕ → Bool
 isLeap year = eqb (year % 4) 0 && (not (eqb (year % 100) 0) || eqb (year % 400) 0)
 

@@ -30,6 +30,16 @@ unfoldable pub isField : Field → List ℕ → Bool
 isField f s = isNumber (f .form) s && isKind (f .kind) (figureOf (f .form) s .size)
 
 -- "[ETF", 1 to 8 letters or digits, "]"
+abbrev pub mostLetters : ℕ
+mostLetters = 8
+
+-- where the letters start, and how many bytes stand beside them in their line
+abbrev pub lettersStart : ℕ
+lettersStart = 4
+
+abbrev pub besideLetters : ℕ
+besideLetters = 5
+
 abbrev pub openingWord : List ℕ
 openingWord = bytes "[ETF"
 
@@ -37,15 +47,15 @@ abbrev pub closingWord : List ℕ
 closingWord = bytes "]"
 
 unfoldable pub isLetters : List ℕ → Bool
-isLetters s = inside 1 8 (length s) && allBytes letterByte s
+isLetters s = inside 1 mostLetters (length s) && allBytes letterByte s
 
 unfoldable pub lettersOf : List ℕ → List ℕ
-lettersOf l = take (length l - 5) (drop 4 l)
+lettersOf l = take (length l - besideLetters) (drop lettersStart l)
 
 unfoldable pub isOpening : List ℕ → Bool
 isOpening l =
     every
-    (same (take 4 l) openingWord
+    (same (take lettersStart l) openingWord
     ∷ isLetters (lettersOf l)
     ∷ eqb (getD l (length l - 1) 0) 93
     ∷ [])
@@ -56,6 +66,16 @@ tagWord = bytes "TAGTAG"
 
 abbrev pub endWord : List ℕ
 endWord = bytes "ENDENDEND"
+
+-- how many bytes these lines take with their ends, the first beside its letters
+abbrev pub openingRest : ℕ
+openingRest = 7
+
+abbrev pub tagSize : ℕ
+tagSize = 8
+
+abbrev pub endSize : ℕ
+endSize = 11
 
 -- line k of the head is the one that is to stand there
 unfoldable pub isHeadLine : List Field → ℕ → List ℕ → Bool

@@ -46,5 +46,17 @@ pub const ZERO_OR_ONE: usize = 2;
 // How many fields there is room for.
 pub const MOST_FIELDS: usize = 24;
 
+// How many letters the first line has at most, where they start, and what it takes beside them with its end.
+pub const MOST_LETTERS: usize = 8;
+
+pub const LETTERS_START: usize = 4;
+
+pub const OPENING_REST: usize = 7;
+
+// How many bytes the line before the component lines and the last line take with their ends.
+pub const TAG_SIZE: usize = 8;
+
+pub const END_SIZE: usize = 11;
+
 // What stands behind each column.
 pub const BAR: u8 = 124;

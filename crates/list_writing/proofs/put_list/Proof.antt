@@ -6,6 +6,7 @@ use borrow.Author.Needs.{needs}
 use Rattle.digits.specs.Written.{Written}
 use Rattle.lines.specs.Lines.{lineText}
 use Rattle.text_rules.specs.Columns.{linePitch}
+use Rattle.text_rules.specs.Head.{endSize}
 use Rattle.list_rules.specs.Shanghai.{shanghaiColumns}
 use Rattle.list_rules.specs.Writing.{Listing, listing}
 use Rattle.list_rows.proofs.Rows.{lent-well, pitch-is}
@@ -33,7 +34,7 @@ pitched c = pitch-is _ (c .before .before .before .before .before .before .befor
 -- the component lines and the last line have room behind the head
 roomy : (c : tie.After-line-width) → let h = c .before .before .before in
     let s = h .before .before .before .before .before .before .before .before in
-    h .put-head .result + s .args .fields .count * (c .line-width .result + 2) + 11 ≤ length (h .put-head .last .1 .1 .1 .1 .0)
+    h .put-head .result + s .args .fields .count * (c .line-width .result + 2) + endSize ≤ length (h .put-head .last .1 .1 .1 .1 .0)
 roomy c =
     let s = c .before .before .before .before .before .before .before .before .before .before .before in
     lines-room (list s) (s .pre .1 .0) _ (pitched c) (s .args .output .now) (s .pre .1 .1) (headed (c .before .before .before))
