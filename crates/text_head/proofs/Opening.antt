@@ -12,7 +12,7 @@ use Rattle.sequences.specs.Every.{every}
 use Rattle.sequences.proofs.Every.{every-at, inside-true, inside-facts, false-of}
 use Rattle.lines.proofs.Answers.{inside-low, inside-high}
 use Rattle.lines.specs.Lines.{same, letterByte, allBytes, lineLen, ended, firstLine}
-use Rattle.text_rules.specs.Head.{isLetters, lettersOf, isOpening, openingWord, mostLetters}
+use Rattle.text_rules.specs.Head.{isLetters, lettersOf, isOpening, openingWord, mostLetters, lettersStart, besideLetters, shortestOpening}
 use Rattle.text_rules.specs.Reading.{lineOf, lineStands, lettersRead}
 use Rattle.text_head.proofs.Shape.{stands-open, stands-ended}
 
@@ -37,30 +37,30 @@ module _ (s : List ℕ) where
 -- "[ETF", letters, "]"
 module _ (l : List ℕ) where
   -- such a line has 6 bytes and more
-  pub opening-room : isOpening l ≡ true → 6 ≤ length l
+  pub opening-room : isOpening l ≡ true → shortestOpening ≤ length l
   unfolding isOpening lettersOf
   opening-room e =
-      let n = letters-count (take (length l - 5) (drop 4 l)) (every-at _ e 1) in
-      omega (arith, length-take (length l - 5) (drop 4 l))
+      let n = letters-count (take (length l - besideLetters) (drop lettersStart l)) (every-at _ e 1) in
+      omega (arith, length-take (length l - besideLetters) (drop lettersStart l))
 
-  pub opening-short : length l < 6 → false ≡ isOpening l
+  pub opening-short : length l < shortestOpening → false ≡ isOpening l
   opening-short h = sym (false-of (isOpening l) (λ e. let r = opening-room e in omega arith))
 
-  pub opening-other : same (take 4 l) openingWord ≡ false → false ≡ isOpening l
+  pub opening-other : same (take lettersStart l) openingWord ≡ false → false ≡ isOpening l
   unfolding isOpening every
   opening-other e = rw e
 
   -- the part that the code passes on
-  opening-part : take (length l - 1 - 4) (drop 4 l) ≡ lettersOf l
+  opening-part : take (length l - 1 - lettersStart) (drop lettersStart l) ≡ lettersOf l
   unfolding lettersOf
-  opening-part = let e : length l - 1 - 4 ≡ length l - 5 = omega arith in rw e
+  opening-part = let e : length l - 1 - lettersStart ≡ length l - besideLetters = omega arith in rw e
 
-  module _ (word : same (take 4 l) openingWord ≡ true) where
-    pub opening-bare : isLetters (take (length l - 1 - 4) (drop 4 l)) ≡ false → false ≡ isOpening l
+  module _ (word : same (take lettersStart l) openingWord ≡ true) where
+    pub opening-bare : isLetters (take (length l - 1 - lettersStart) (drop lettersStart l)) ≡ false → false ≡ isOpening l
     unfolding isOpening every
     opening-bare e = rw (word, ← opening-part, e)
 
-    pub opening-last : isLetters (take (length l - 1 - 4) (drop 4 l)) ≡ true → eqb (getD l (length l - 1) 0) 93 ≡ isOpening l
+    pub opening-last : isLetters (take (length l - 1 - lettersStart) (drop lettersStart l)) ≡ true → eqb (getD l (length l - 1) 0) 93 ≡ isOpening l
     unfolding isOpening every
     opening-last e = rw (word, ← opening-part, e, and-true)
 
@@ -90,13 +90,13 @@ module _ (text : List ℕ) (n : ℕ) (len : n ≡ lineLen text) where
     letters-other e = rw (stands-first, e)
 
     -- the line has 6 bytes and more
-    pub letters-room : isOpening (take n text) ≡ true → 6 ≤ n
+    pub letters-room : isOpening (take n text) ≡ true → shortestOpening ≤ n
     letters-room e = omega (arith, opening-room (take n text) e, length-take n text)
 
-    pub letters-part : isOpening (take n text) ≡ true → take (n - 1 - 4) (drop 4 text) ≡ lettersRead text
+    pub letters-part : isOpening (take n text) ≡ true → take (n - 1 - lettersStart) (drop lettersStart text) ≡ lettersRead text
     unfolding lettersRead lettersOf lineOf firstLine
     letters-part e =
-        let r : 6 ≤ n = letters-room e in
-        let m : n - 1 - 4 ≡ n - 5 = omega arith in
-        rw (stands-first, e, ← len, length-take-le n text (omega arith), drop-front 4 n text (omega arith) (omega arith), m)
-        (sym (take-take (n - 5) (n - 4) (drop 4 text) (omega arith)))
+        let r : shortestOpening ≤ n = letters-room e in
+        let m : n - 1 - lettersStart ≡ n - besideLetters = omega arith in
+        rw (stands-first, e, ← len, length-take-le n text (omega arith), drop-front lettersStart n text (omega arith) (omega arith), m)
+        (sym (take-take (n - besideLetters) (n - lettersStart) (drop lettersStart text) (omega arith)))

@@ -115,13 +115,13 @@ fn is_opening(line: &[u8]) -> bool
     ensures { λ r. ⌜ r ≡ isOpening (now (line .entry)) ⌝ }
 {
     let n = line.len();
-    if n < 6 {
+    if n < text_rules::SHORTEST_OPENING {
         return false;
     }
-    if !lines::same_bytes(&line[..4], b"[ETF") {
+    if !lines::same_bytes(&line[..text_rules::LETTERS_START], b"[ETF") {
         return false;
     }
-    if !is_letters(&line[4..n - 1]) {
+    if !is_letters(&line[text_rules::LETTERS_START..n - 1]) {
         return false;
     }
     line[n - 1] == 93
@@ -237,5 +237,5 @@ pub fn letters(text: &[u8]) -> &[u8]
     if !is_opening(&text[..n]) {
         return &text[..0];
     }
-    &text[4..n - 1]
+    &text[text_rules::LETTERS_START..n - 1]
 }

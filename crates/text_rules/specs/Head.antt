@@ -40,6 +40,9 @@ lettersStart = 4
 abbrev pub besideLetters : ℕ
 besideLetters = 5
 
+abbrev pub shortestOpening : ℕ
+shortestOpening = 6
+
 abbrev pub openingWord : List ℕ
 openingWord = bytes "[ETF"
 

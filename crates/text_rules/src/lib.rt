@@ -46,10 +46,12 @@ pub const ZERO_OR_ONE: usize = 2;
 // How many fields there is room for.
 pub const MOST_FIELDS: usize = 24;
 
-// How many letters the first line has at most, where they start, and what it takes beside them with its end.
+// How many letters the first line has at most, where they start, how short it may be, and what it takes beside them with its end.
 pub const MOST_LETTERS: usize = 8;
 
 pub const LETTERS_START: usize = 4;
+
+pub const SHORTEST_OPENING: usize = 6;
 
 pub const OPENING_REST: usize = 7;
 

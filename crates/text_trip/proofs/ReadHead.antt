@@ -15,7 +15,7 @@ use Rattle.digits.proofs.Trip.{number-again}
 use Rattle.lines.specs.Lines.{letterByte, allBytes, isNamed}
 use Rattle.lines.proofs.Laws.{same-is, named-long, named-split}
 use Rattle.text_rules.specs.Tables.{TextForm, fieldAt}
-use Rattle.text_rules.specs.Head.{headLines, fieldName, isField, openingWord, closingWord, isLetters, lettersOf, isOpening, tagWord, isHeadLine, headLine}
+use Rattle.text_rules.specs.Head.{headLines, fieldName, isField, openingWord, closingWord, isLetters, lettersOf, isOpening, tagWord, isHeadLine, headLine, mostLetters, lettersStart, besideLetters, shortestOpening}
 use Rattle.text_rules.specs.Reading.{startOf, lineOf, wordOf, figureRead, lettersRead}
 use Rattle.text_rules.proofs.Well.{WellForm, field-well}
 use Rattle.text_trip.specs.Trips.{renamedLine}
@@ -30,26 +30,26 @@ unfolding isOpening
 opening-letters l e = every-at _ e 1
 
 -- it has at least six bytes
-opening-long : (l : List ℕ) → isOpening l ≡ true → 6 ≤ length l
+opening-long : (l : List ℕ) → isOpening l ≡ true → shortestOpening ≤ length l
 unfolding isLetters lettersOf
 opening-long l e =
     let p = and-eq-true-iff (inside 1 8 (length (lettersOf l))) (allBytes letterByte (lettersOf l)) .0 (opening-letters l e) in
-    omega (arith, inside-facts 1 8 (length (lettersOf l)) (p .0) .0, length-take (length l - 5) (drop 4 l), length-drop 4 l)
+    omega (arith, inside-facts 1 mostLetters (length (lettersOf l)) (p .0) .0, length-take (length l - besideLetters) (drop lettersStart l), length-drop lettersStart l)
 
 -- and is its word, its letters and its bracket
 opening-again : (l : List ℕ) → isOpening l ≡ true → openingWord ++ (lettersOf l ++ closingWord) ≡ l
 unfolding isOpening lettersOf
 opening-again l e =
     let long = opening-long l e in
-    let size = length-drop 4 l in
-    let place : 4 + (length l - 5) ≡ length l - 1 = omega arith in
+    let size = length-drop lettersStart l in
+    let place : lettersStart + (length l - besideLetters) ≡ length l - 1 = omega arith in
     let bracket : getD l (length l - 1) 0 ≡ 93 = eqb-true _ _ (every-at _ e 2) in
-    let last : getD (drop 4 l) (length l - 5) 0 ≡ 93 = getD-drop 4 l (length l - 5) 0 ∙ ap (λ (k : ℕ). getD l k 0) place ∙ bracket in
+    let last : getD (drop lettersStart l) (length l - besideLetters) 0 ≡ 93 = getD-drop lettersStart l (length l - besideLetters) 0 ∙ ap (λ (k : ℕ). getD l k 0) place ∙ bracket in
     ap₂ _++_ (sym (same-is _ _ (every-at _ e 0)))
-    (ap₂ (λ (b : ℕ) (r : List ℕ). take (length l - 5) (drop 4 l) ++ b ∷ r) (sym last)
-    (sym (drop-of-length-le (drop 4 l) {i = suc (length l - 5)} (omega arith)))
-    ∙ sym (split-at (drop 4 l) (length l - 5) 0 (omega arith)))
-    ∙ take-append-drop 4 l
+    (ap₂ (λ (b : ℕ) (r : List ℕ). take (length l - besideLetters) (drop lettersStart l) ++ b ∷ r) (sym last)
+    (sym (drop-of-length-le (drop lettersStart l) {i = suc (length l - besideLetters)} (omega arith)))
+    ∙ sym (split-at (drop lettersStart l) (length l - besideLetters) 0 (omega arith)))
+    ∙ take-append-drop lettersStart l
 
 -- A field's line with its name as it is listed: its value is the same, and it is as long as it was.
 

@@ -20,7 +20,7 @@ use Rattle.digits.proofs.Bytes.{isHigh, number-high}
 use Rattle.lines.specs.Lines.{otherByte, same, isNamed, allBytes, letterByte}
 use Rattle.lines.proofs.Laws.{noCR, noCR-append, bytes-noCR, letters-noCR, same-refl, named-written, value-written}
 use Rattle.text_rules.specs.Tables.{Field, fieldAt}
-use Rattle.text_rules.specs.Head.{headLines, fieldName, openingWord, closingWord, isLetters, lettersOf, isOpening, tagWord, isHeadLine, fieldLine, headLine}
+use Rattle.text_rules.specs.Head.{headLines, fieldName, openingWord, closingWord, isLetters, lettersOf, isOpening, tagWord, isHeadLine, fieldLine, headLine, besideLetters}
 use Rattle.text_rules.specs.Well.{fieldsWell}
 use Rattle.text_rules.proofs.Well.{field-well}
 
@@ -49,7 +49,7 @@ module _ (letters : List ℕ) where
   -- its letters are the ones written
   opening-letters : lettersOf openingLine ≡ letters
   unfolding lettersOf
-  opening-letters = take-at letters closingWord (length openingLine - 5) (omega (arith, opening-length))
+  opening-letters = take-at letters closingWord (length openingLine - besideLetters) (omega (arith, opening-length))
 
   -- "]" stands last
   opening-last : getD openingLine (length openingLine - 1) 0 ≡ 93

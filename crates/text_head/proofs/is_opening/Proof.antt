@@ -6,12 +6,13 @@ use Rattle.text_head.proofs.Opening.{opening-short, opening-other, open
 use borrow.Author.Needs.{needs}
 use Rattle.text_head.proofs.is_opening.Statement.{statement}
 use Rattle.text_head.proofs.is_opening.Tie as tie
+use Rattle.text_rules.specs.Head.{lettersStart}
 
 returns : tie.Need-returns
 returns c = opening-short _ (c .if1 .taken)
 
 slice-aggregate-same-bytes : tie.Need-slice-aggregate-same-bytes
-slice-aggregate-same-bytes c = sym (length-take-le 4 (c .before .before .before .args .line .now) (search needs))
+slice-aggregate-same-bytes c = sym (length-take-le lettersStart (c .before .before .before .args .line .now) (search needs))
 
 returns-2 : tie.Need-returns-2
 returns-2 c = opening-other _ (sym (c .before .same-bytes .ensures) ∙ not-true _ (c .if2 .taken))
