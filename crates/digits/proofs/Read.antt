@@ -1,6 +1,6 @@
 -- Reading: digits one by one, as far as the cap, and a number before and after its point.
 use mathlib.Core.Path.{_≡_, refl, sym, ap, _∙_}
-use mathlib.Core.Bool.{Bool, true, false, cond, not, _&&_, false≢true, and-false, and-true}
+use mathlib.Core.Bool.{Bool, true, false, not, _&&_, false≢true, and-false, and-true}
 use mathlib.Core.List.{List, [], _∷_}
 use Prim.Native.Nat.{ℕ, zero, suc, _+_, _-_, _*_, _≤_, _<_}
 use native.Mathlib.Omega.{arith}
@@ -15,7 +15,7 @@ use Rattle.sequences.specs.Every.{every, inside}
 use Rattle.sequences.proofs.Every.{every-at, inside-true, inside-facts}
 use Rattle.digits.specs.declared.Form.{Form}
 use Rattle.digits.specs.declared.Size.the-variants.{Known, Ill as NoSize}
-use Rattle.digits.specs.Digits.{isDigit, allDigits, from, spare, cap, capped, isWhole, pointAt, isPlain, plainSize, sizeReading, readOn}
+use Rattle.digits.specs.Digits.{isDigit, allDigits, from, spare, cap, capped, isShaped, isWhole, pointAt, isPlain, plainSize, sizeReading, readOn}
 
 -- a is at most b, or more
 pub compare {ℓ} : {X : Type ℓ} (a b : ℕ) → (a ≤ b → X) → (b < a → X) → X
@@ -88,13 +88,13 @@ module _ (s : List ℕ) (before : ℕ) where
   read-start h = record { inside = omega arith; within = h; well = refl; size = refl }
 
   module _ (i a : ℕ) (t : ReadTo s before i a) where
-    pub read-again : (w : ℕ) → i < length s → 48 ≤ getD s i 0 → getD s i 0 ≤ 57 → w ≡ capped (a * 10 + (getD s i 0 - 48)) → ReadTo s before (i + 1) w
+    pub read-again : (w : ℕ) → i < length s → isDigit (getD s i 0) ≡ true → w ≡ capped (a * 10 + (getD s i 0 - 48)) → ReadTo s before (i + 1) w
     unfolding allDigits from
-    read-again w h lo hi e =
+    read-again w h d e =
         record {
           inside = omega arith;
           within = rw e (capped-within _);
-          well = t .well ∙ rw (add-one, drop-cons s i 0, digit-yes (getD s i 0) lo hi);
+          well = t .well ∙ rw (add-one, drop-cons s i 0, d);
           size = t .size ∙ rw (add-one, drop-cons s i 0, e) (sym (capped-from (a * 10 + (getD s i 0 - 48)) (drop (suc i) s)));
         }
 
@@ -108,56 +108,45 @@ module _ (s : List ℕ) (before : ℕ) where
 
 -- ---- before the point
 
--- so many digits as the form says, and no spare zero
-unfoldable pub shaped : ℕ → List ℕ → Bool
-shaped digits s = cond (eqb digits 0) (not (spare s)) (eqb (length s) digits)
-
-pub shaped-none : (digits : ℕ) (s : List ℕ) → digits ≡ 0 → length s ≡ 0 → shaped digits s ≡ false
-unfolding shaped spare
+pub shaped-none : (digits : ℕ) (s : List ℕ) → digits ≡ 0 → length s ≡ 0 → isShaped digits s ≡ false
+unfolding isShaped spare
 shaped-none digits [] e h = rw e
 shaped-none digits (b ∷ r) e h = absurd (omega arith)
 
-pub shaped-zero : (digits : ℕ) (s : List ℕ) → digits ≡ 0 → 1 < length s → getD s 0 0 ≡ 48 → shaped digits s ≡ false
-unfolding shaped spare
-shaped-zero digits [] e h k = absurd (omega arith)
-shaped-zero digits (b ∷ []) e h k = absurd (omega arith)
-shaped-zero digits (b ∷ d ∷ r) e h k = rw (e, eq-eqb b 48 k)
-
-pub shaped-one : (digits : ℕ) (s : List ℕ) → digits ≡ 0 → length s ≡ 1 → shaped digits s ≡ true
-unfolding shaped spare
+pub shaped-one : (digits : ℕ) (s : List ℕ) → digits ≡ 0 → length s ≡ 1 → isShaped digits s ≡ true
+unfolding isShaped spare
 shaped-one digits [] e h = absurd (omega arith)
 shaped-one digits (b ∷ []) e h = rw e
 shaped-one digits (b ∷ d ∷ r) e h = absurd (omega arith)
 
-pub shaped-more : (digits : ℕ) (s : List ℕ) → digits ≡ 0 → 1 < length s → (getD s 0 0 ≡ 48 → ⊥) → shaped digits s ≡ true
-unfolding shaped spare
-shaped-more digits [] e h k = absurd (omega arith)
-shaped-more digits (b ∷ []) e h k = absurd (omega arith)
-shaped-more digits (b ∷ d ∷ r) e h k = rw (e, ne-eqb b 48 k)
+pub shaped-first : (digits : ℕ) (s : List ℕ) → digits ≡ 0 → 1 < length s → not (eqb (getD s 0 0) 48) ≡ isShaped digits s
+unfolding isShaped spare
+shaped-first digits [] e h = absurd (omega arith)
+shaped-first digits (b ∷ []) e h = absurd (omega arith)
+shaped-first digits (b ∷ d ∷ r) e h = rw e
 
-pub shaped-long : (digits : ℕ) (s : List ℕ) → (digits ≡ 0 → ⊥) → (length s ≡ digits → ⊥) → shaped digits s ≡ false
-unfolding shaped
-shaped-long digits s e h = rw (ne-eqb digits 0 e, ne-eqb (length s) digits h)
+pub shaped-count : (digits : ℕ) (s : List ℕ) → (digits ≡ 0 → ⊥) → eqb (length s) digits ≡ isShaped digits s
+unfolding isShaped
+shaped-count digits s e = rw (ne-eqb digits 0 e)
 
-pub shaped-fixed : (digits : ℕ) (s : List ℕ) → (digits ≡ 0 → ⊥) → length s ≡ digits → shaped digits s ≡ true
-unfolding shaped
-shaped-fixed digits s e h = rw (ne-eqb digits 0 e, eq-eqb (length s) digits h)
+pub shaped-fixed : (digits : ℕ) (s : List ℕ) → (digits ≡ 0 → ⊥) → length s ≡ digits → isShaped digits s ≡ true
+shaped-fixed digits s e h = sym (shaped-count digits s e) ∙ eq-eqb (length s) digits h
 
 module _ (digits : ℕ) (s : List ℕ) where
-  pub whole-ill : (n : ℕ) → shaped digits s ≡ false → NoSize ≡ sizeReading (isWhole digits s) n
-  unfolding isWhole shaped every
+  pub whole-ill : (n : ℕ) → isShaped digits s ≡ false → NoSize ≡ sizeReading (isWhole digits s) n
+  unfolding isWhole isShaped every
   whole-ill n e = rw e
 
-  pub whole-true : shaped digits s ≡ true → allDigits s ≡ true → isWhole digits s ≡ true
-  unfolding isWhole shaped every
+  pub whole-true : isShaped digits s ≡ true → allDigits s ≡ true → isWhole digits s ≡ true
+  unfolding isWhole isShaped every
   whole-true e d = rw (e, d)
 
-  pub whole-facts : isWhole digits s ≡ true → (shaped digits s ≡ true) × (allDigits s ≡ true)
-  unfolding isWhole shaped
+  pub whole-facts : isWhole digits s ≡ true → (isShaped digits s ≡ true) × (allDigits s ≡ true)
+  unfolding isWhole isShaped
   whole-facts e = (every-at _ e 0, every-at _ e 1)
 
-  pub whole-known : shaped digits s ≡ true → readOn 0 s ≡ sizeReading (isWhole digits s) (capped (from 0 s))
-  unfolding isWhole shaped every readOn
+  pub whole-known : isShaped digits s ≡ true → readOn 0 s ≡ sizeReading (isWhole digits s) (capped (from 0 s))
+  unfolding isWhole isShaped every readOn
   whole-known e = rw (e, and-true)
 
 -- ---- with the decimals of the form
@@ -175,7 +164,7 @@ pub known-within : (digits : ℕ) (s : List ℕ) (v : ℕ) → sizeReading (isWh
 known-within digits s v e = omega (arith, size-known (isWhole digits s) (capped (from 0 s)) v e .1, capped-within (from 0 s))
 
 pub whole-empty : (digits : ℕ) → isWhole digits [] ≡ false
-unfolding isWhole every spare
+unfolding isWhole isShaped every spare
 whole-empty zero = refl
 whole-empty (suc digits) = rw (eqb·suc-zero digits, eqb·zero-suc digits)
 

@@ -17,8 +17,8 @@ use Rattle.sequences.proofs.Every.{every-at}
 use Rattle.digits.specs.declared.Form.{Form}
 use Rattle.digits.specs.declared.Figure.{Figure}
 use Rattle.digits.specs.Digits.{plain, fixed, tens, decimal, wholeText, plainText, signedText, numberText, allDigits, from, spare, cap, capped}
-use Rattle.digits.specs.Digits.{isWhole, pointAt, isPlain, plainSize, hasMinus, isSigned, signedFigure, blanks, allBlank, trimmed, isNumber, figureOf}
-use Rattle.digits.proofs.Read.{compare, both-pass, capped-small, capped-within, capped-exact, from-grows, shaped, shaped-fixed, whole-true, whole-facts, whole-empty}
+use Rattle.digits.specs.Digits.{isShaped, isWhole, pointAt, isPlain, plainSize, hasMinus, isSigned, signedFigure, blanks, allBlank, trimmed, isNumber, figureOf}
+use Rattle.digits.proofs.Read.{compare, both-pass, capped-small, capped-within, capped-exact, from-grows, shaped-fixed, whole-true, whole-facts, whole-empty}
 use Rattle.digits.proofs.Count.{fixed-length, fixed-digits, from-fixed, from-shift, from-below, fixed-from, tens-wide, decimal-length, decimal-spare, decimal-digits, decimal-from, from-decimal}
 use Rattle.digits.proofs.Sign.{minus-first, minus-other}
 use Rattle.digits.specs.Fits.{Fits}
@@ -28,7 +28,7 @@ use Rattle.digits.proofs.Write.{whole-free, whole-fixed, plain-free, pl
 
 module _ (digits n : ℕ) (small : n ≤ cap) (fits : (digits ≡ 0 → ⊥) → n < 10 ^ digits) where
   whole-well : isWhole digits (wholeText digits n) ≡ true
-  unfolding shaped
+  unfolding isShaped
   whole-well =
       elim (ℕ-discrete digits 0) [
         | yes e ↦ rw (whole-free digits n e) (whole-true digits (decimal n) (rw (e, decimal-spare n (omega arith))) (decimal-digits n))
@@ -45,7 +45,7 @@ module _ (digits n : ℕ) (small : n ≤ cap) (fits : (digits ≡ 0 → ⊥) →
       ]
 
 whole-again : (digits : ℕ) (s : List ℕ) → isWhole digits s ≡ true → from 0 s ≤ cap → wholeText digits (from 0 s) ≡ s
-unfolding shaped
+unfolding isShaped
 whole-again digits s e small =
     let t = whole-facts digits s e in
     elim (ℕ-discrete digits 0) [

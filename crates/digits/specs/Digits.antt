@@ -81,9 +81,13 @@ cap = 1_000_000_000_000_000_000
 unfoldable pub capped : ℕ → ℕ
 capped n = cond (leb n cap) n cap
 
+-- so many characters, or for 0 some with no spare zero
+unfoldable pub isShaped : ℕ → List ℕ → Bool
+isShaped digits s = cond (eqb digits 0) (not (spare s)) (eqb (length s) digits)
+
 -- so many digits, or for 0 digits with no spare zero
 unfoldable pub isWhole : ℕ → List ℕ → Bool
-isWhole digits s = every (cond (eqb digits 0) (not (spare s)) (eqb (length s) digits) ∷ allDigits s ∷ [])
+isWhole digits s = every (isShaped digits s ∷ allDigits s ∷ [])
 
 -- where the point stands, with so many decimals behind it
 unfoldable pub pointAt : ℕ → List ℕ → ℕ

@@ -1,8 +1,9 @@
 // Reads a number's field, by its form.
 ghost use mathlib.Core.Path.{_≡_};
-ghost use Prim.Native.Nat.{_+_, _*_, _≤_, _<_};
+ghost use mathlib.Core.Bool.{true, false};
+ghost use Prim.Native.Nat.{_+_, _-_, _*_, _^_, _≤_, _<_};
 ghost use lib.ListN.{length};
-ghost use Rattle.digits.specs.Digits.{cap, from, capped, isWhole, isPlain, plainSize, isSigned, signedFigure, blanks, allBlank, isNumber, figureOf, sizeReading, reading, readOn, minusFigure, belowZero, aboveZero};
+ghost use Rattle.digits.specs.Digits.{cap, from, capped, isDigit, isShaped, isWhole, isPlain, plainSize, isSigned, signedFigure, blanks, allBlank, isNumber, figureOf, sizeReading, reading, readOn, minusFigure, belowZero, aboveZero};
 use digits::Figure;
 use digits::Form;
 use digits::Reading;
@@ -23,6 +24,13 @@ fn next_size(a: u64, digit: u64) -> u64
     v
 }
 
+// The value of a digit; more than 9 where the byte is none.
+fn digit_of(b: u8) -> u64
+    ensures { λ r. ⌜ (r ≤ 9 → (isDigit b ≡ true) × (r ≡ b - 48)) × (9 < r → isDigit b ≡ false) ⌝ }
+{
+    std::num::wrapping_sub_u64(b as u64, 48)
+}
+
 // The digits of s, read on after the number before; any count of them.
 pub fn read_on(s: &[u8], before: u64) -> Size
     requires { ⌜ before ≤ cap ⌝ }
@@ -31,35 +39,55 @@ pub fn read_on(s: &[u8], before: u64) -> Size
     let mut a: u64 = before;
     let mut i = 0;
     while i < s.len() {
-        let b = s[i];
-        if b < 48 {
+        let digit = digit_of(s[i]);
+        if 9 < digit {
             return Size::Ill;
         }
-        if 57 < b {
-            return Size::Ill;
-        }
-        a = next_size(a, (b - 48) as u64);
+        a = next_size(a, digit);
         i += 1;
     }
     Size::Known(a)
 }
 
-// What stands before the point.
-pub fn read_whole(digits: usize, s: &[u8]) -> Size
-    ensures { λ r. ⌜ r ≡ sizeReading (isWhole digits (now (s .entry))) (capped (from 0 (now (s .entry)))) ⌝ }
+// The same of digits that are too few to meet the cap.
+pub fn read_few(s: &[u8], before: u64) -> Size
+    requires { ⌜ (before + 1) * 10 ^ length (now s) ≤ cap ⌝ }
+    ensures { λ r. ⌜ r ≡ readOn before (now (s .entry)) ⌝ }
 {
-    if digits == 0 {
-        if s.len() == 0 {
+    let mut a: u64 = before;
+    let mut i = 0;
+    while i < s.len() {
+        let digit = digit_of(s[i]);
+        if 9 < digit {
             return Size::Ill;
         }
-        if 1 < s.len() {
-            if s[0] == 48 {
-                return Size::Ill;
-            }
-        }
-        return read_on(s, 0);
+        a = a * 10 + digit;
+        i += 1;
     }
-    if s.len() != digits {
+    Size::Known(a)
+}
+
+// Whether there are so many digits, or for 0 some and no spare zero.
+pub fn is_shaped(digits: usize, s: &[u8]) -> bool
+    ensures { λ r. ⌜ r ≡ isShaped digits (now (s .entry)) ⌝ }
+{
+    if digits != 0 {
+        return s.len() == digits;
+    }
+    if s.len() == 0 {
+        return false;
+    }
+    if s.len() == 1 {
+        return true;
+    }
+    s[0] != 48
+}
+
+// What stands before the point.
+fn read_whole(digits: usize, s: &[u8]) -> Size
+    ensures { λ r. ⌜ r ≡ sizeReading (isWhole digits (now (s .entry))) (capped (from 0 (now (s .entry)))) ⌝ }
+{
+    if !is_shaped(digits, s) {
         return Size::Ill;
     }
     read_on(s, 0)

@@ -77,7 +77,11 @@ fn read_right(n: usize, s: &[u8]) -> Size
     ensures { λ r. ⌜ r ≡ numberSize (rightForm n 0) (now (s .entry)) ⌝ }
 {
     let b = digits_reading::leading_blanks(s);
-    digits_reading::read_whole(n, &s[b..])
+    let t = &s[b..];
+    if !digits_reading::is_shaped(n, t) {
+        return Size::Ill;
+    }
+    digits_reading::read_few(t, 0)
 }
 
 // A number with decimals, right in its column, so that the point stands at a known place.
@@ -92,7 +96,7 @@ fn read_point(decimals: usize, s: &[u8]) -> Size
     let head = read_right(0, &s[..p]);
     match head {
         Size::Ill => Size::Ill,
-        Size::Known(v) => digits_reading::read_on(&s[p + 1..], v),
+        Size::Known(v) => digits_reading::read_few(&s[p + 1..], v),
     }
 }
 
