@@ -1,5 +1,5 @@
 -- What is read of a column with a number is what the definitions say of it.
-use Prim.Native.Nat.{ℕ, _<_}
+use Prim.Native.Nat.{ℕ, _≤_, _<_}
 use mathlib.Core.Path.{_≡_, refl, _∙_}
 use mathlib.Core.Bool.{Bool, true, false, cond}
 use mathlib.Core.List.{List}
@@ -13,6 +13,7 @@ use Rattle.digits.specs.declared.Size.{Size}
 use Rattle.digits.specs.Digits.{allBlank, isPlain, plainSize, hasMinus, isSigned, signedFigure, trimmed, isNumber, figureOf, sizeReading}
 use Rattle.text_rules.specs.Tables.{widthPart, digitsPart, decimalsPart, usePart, flagPart, byFlagUse, textUse, Column, useOf, columnOf}
 use Rattle.text_rules.specs.Columns.{Content, numberCell, blankCell, contentBy, numberForm, isCell, cellOf}
+use Rattle.text_rules.specs.Well.{mostWidth}
 use Rattle.text_rules.proofs.Well.{WellColumn}
 use Rattle.text_columns.specs.Read.{rightForm, numberSize, isUsed, cellSize}
 
@@ -80,14 +81,17 @@ module _ (flags : List (List Bool)) (flag : ℕ) (row : List ℕ) (s : List ℕ)
       cell-size (columnOf row) s (well .some) (isUsed flags (getD row usePart 0) (getD row flagPart 0) flag)
       (content-used flags (getD row usePart 0) (getD row flagPart 0) flag h)
 
--- the point of a number with decimals has room
+-- a column is narrow, and the point of a number with decimals has room
 pub row-fits : (row : List ℕ) {n : ℕ} → WellColumn (columnOf row) → n ≡ getD row widthPart 0
-    → 0 < getD row decimalsPart 0 → (getD row digitsPart 0 ≡ 0) × (getD row decimalsPart 0 < n)
+    → (n ≤ mostWidth) × (0 < getD row decimalsPart 0 → (getD row digitsPart 0 ≡ 0) × (getD row decimalsPart 0 < n))
 unfolding columnOf
-row-fits row well e h = (
-  elim (ℕ-discrete (getD row digitsPart 0) 0) [
-    | yes q ↦ q
-    | no q ↦ absurd (omega (arith, well .digits q .1))
-  ],
-  omega (arith, e, well .point (λ z. omega (arith, z)) .1),
+row-fits row well e = (
+  omega (arith, e, well .narrow),
+  λ h. (
+    elim (ℕ-discrete (getD row digitsPart 0) 0) [
+      | yes q ↦ q
+      | no q ↦ absurd (omega (arith, well .digits q .1))
+    ],
+    omega (arith, e, well .point (λ z. omega (arith, z)) .1),
+  ),
 )

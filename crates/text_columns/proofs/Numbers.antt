@@ -1,18 +1,22 @@
 -- A number right in its column: the blanks before it, and the point at a known place.
-use Prim.Native.Nat.{ℕ, zero, suc, _+_, _-_, _≤_, _<_}
+use Prim.Native.Nat.{ℕ, zero, suc, _+_, _-_, _*_, _^_, _≤_, _<_}
 use mathlib.Core.Path.{_≡_, refl, sym, ap, _∙_}
-use mathlib.Core.Bool.{true, false}
+use mathlib.Core.Bool.{Bool, true, false}
 use mathlib.Core.List.{List, [], _∷_}
 use native.Mathlib.Decide.{ℕ-discrete}
+use native.Mathlib.Nat.{pow-le-pow-right, mul-le-mul-right}
 use native.Mathlib.Omega.{arith}
 use lib.ListN.{length, getD, take, drop, length-drop}
+use lib.Pow.{pow-add}
 use lib.Seq.{length-take-le, getD-drop, drop-drop, take-add, drop-at}
 use borrow.Author.Tests.{eq-eqb, ne-eqb}
 use Rattle.digits.specs.declared.Size.{Size}
 use Rattle.digits.specs.declared.Size.the-variants.{Known, Ill}
-use Rattle.digits.specs.Digits.{blanks, allBlank, from, cap, capped, isWhole, isPlain, plainSize, hasMinus, isSigned, signedFigure, trimmed, isNumber, figureOf, sizeReading, readOn}
+use Rattle.digits.specs.Digits.{blanks, allBlank, from, cap, capped, isShaped, isWhole, isPlain, plainSize, hasMinus, isSigned, signedFigure, trimmed, isNumber, figureOf, sizeReading, readOn}
 use Rattle.digits.proofs.Put.{rest-all}
-use Rattle.digits.proofs.Read.{compare, known-within, plain-short, plain-point, plain-ill, plain-known}
+use Rattle.digits.proofs.Read.{compare, capped-small, capped-large, size-known, whole-ill, whole-known, whole-facts, plain-short, plain-point, plain-ill, plain-known}
+use Rattle.digits.proofs.Count.{from-below}
+use Rattle.text_rules.specs.Well.{mostWidth}
 use Rattle.text_columns.specs.Read.{rightForm, numberSize}
 
 -- the characters behind the blanks
@@ -28,11 +32,34 @@ unfolding behind numberSize rightForm isNumber figureOf trimmed isSigned signedF
 number-plain n d s = refl
 
 -- what is read behind the blanks
-pub right-whole : (n : ℕ) (s : List ℕ) (b : ℕ) → b ≡ blanks s → {r : Size}
-    → r ≡ sizeReading (isWhole n (take (length s - b) (drop b s))) (capped (from 0 (take (length s - b) (drop b s))))
-    → r ≡ numberSize (rightForm n 0) s
-unfolding behind
-right-whole n s b e g = g ∙ rw (rest-all b s, e) (sym (number-whole n s))
+
+module _ (n : ℕ) (s : List ℕ) (b : ℕ) (first : b ≡ blanks s) where
+  -- the characters behind them, as the code has them
+  abbrev rest : List ℕ
+  rest = take (length s - b) (drop b s)
+
+  number-rest : numberSize (rightForm n 0) s ≡ sizeReading (isWhole n rest) (capped (from 0 rest))
+  unfolding behind
+  number-rest = number-whole n s ∙ rw (rest-all b s, first)
+
+  pub right-ill : {t : Bool} → t ≡ isShaped n rest → t ≡ false → Ill ≡ numberSize (rightForm n 0) s
+  right-ill e f = whole-ill n rest _ (sym e ∙ f) ∙ sym number-rest
+
+  pub right-known : {t : Bool} → t ≡ isShaped n rest → t ≡ true → {r : Size} → r ≡ readOn 0 rest → r ≡ numberSize (rightForm n 0) s
+  right-known e f g = g ∙ whole-known n rest (sym e ∙ f) ∙ sym number-rest
+
+-- the cap only lessens a number
+capped-below : (n : ℕ) → capped n ≤ n
+capped-below n = compare n cap (λ h. omega (arith, capped-small n h)) (λ h. omega (arith, capped-large n h, h))
+
+-- a column is too narrow for the cap
+narrow-power : (n : ℕ) → n ≤ mostWidth → 10 ^ n ≤ cap
+narrow-power n h = pow-le-pow-right {n = 10} (omega arith) h
+
+pub right-room : (s : List ℕ) (b : ℕ) → length s ≤ mostWidth → (0 + 1) * 10 ^ length (take (length s - b) (drop b s)) ≤ cap
+right-room s b h =
+    let l : length (take (length s - b) (drop b s)) ≡ length s - b = ap length (rest-all b s) ∙ length-drop b s in
+    omega (arith, narrow-power (length (take (length s - b) (drop b s))) (omega (arith, l, h)))
 
 -- the blanks stand before a byte that is none
 before-byte : (s : List ℕ) (p : ℕ) → p < length s → (getD s p 0 ≡ 32 → ⊥) → (blanks s ≤ p) × (blanks (take p s) ≡ blanks s)
@@ -48,6 +75,10 @@ before-byte (b ∷ r) (suc p) h e =
 -- a part of a front
 front-part : (n m : ℕ) (l : List ℕ) → n ≤ length l → drop n (take (n + m) l) ≡ take m (drop n l)
 front-part n m l h = rw (take-add n m l) (drop-at (take n l) (take m (drop n l)) n (length-take-le n l h))
+
+-- what stands before a place is no wider
+pub head-narrow : (d : ℕ) (s : List ℕ) → length s ≤ mostWidth → length (take (length s - (d + 1)) s) ≤ mostWidth
+head-narrow d s h = omega (arith, length-take-le (length s - (d + 1)) s (omega arith), h)
 
 -- A number with decimals, whose point stands at a place of the column.
 
@@ -114,9 +145,22 @@ module _ (d : ℕ) (s : List ℕ) (some : 0 < d) (long : d < length s) where
         ∙ plain-known (rightForm 0 d) (behind s) decimals-some v (byte-behind (before .0) ∙ point) (sym head-is ∙ e)
         ∙ sym (number-plain 0 d s)
 
-    -- what is read before the point is no more than the cap
-    pub head-capped : (v : ℕ) → numberSize (rightForm 0 0) (take place s) ≡ Known v → v ≤ cap
-    head-capped v e = known-within 0 (behind (take place s)) v (sym (number-whole 0 (take place s)) ∙ e)
+    -- what is read before the point leaves room for the decimals
+    head-below : (v : ℕ) → numberSize (rightForm 0 0) (take place s) ≡ Known v → v + 1 ≤ 10 ^ place
+    unfolding behind
+    head-below v e =
+        let head : List ℕ = behind (take place s) in
+        let k = size-known (isWhole 0 head) (capped (from 0 head)) v (sym (number-whole 0 (take place s)) ∙ e) in
+        let short : length head ≤ place = omega (arith, length-drop (blanks (take place s)) (take place s), length-take-le place s (omega arith)) in
+        let low = from-below head (whole-facts 0 head (k .0) .1) in
+        omega (arith, k .1, capped-below (from 0 head), low, pow-le-pow-right {n = 10} (omega arith) short)
+
+    pub head-room : (v : ℕ) → length s ≤ mostWidth → numberSize (rightForm 0 0) (take place s) ≡ Known v
+        → (v + 1) * 10 ^ length (take (length s - (place + 1)) (drop (place + 1) s)) ≤ cap
+    head-room v narrow e =
+        let l : length (take (length s - (place + 1)) (drop (place + 1) s)) ≡ d = omega (arith, ap length (rest-all (place + 1) s), length-drop (place + 1) s) in
+        let low : (v + 1) * 10 ^ d ≤ 10 ^ place * 10 ^ d = mul-le-mul-right (10 ^ d) (head-below v e) in
+        rw l (omega (arith, low, pow-add 10 place d, narrow-power (place + d) (omega arith)))
 
 -- A column of blanks.
 

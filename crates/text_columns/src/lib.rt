@@ -6,7 +6,7 @@ ghost use lib.ListN.{length};
 ghost use Rattle.digits.specs.Digits.{allBlank, sizeReading};
 ghost use Rattle.text_rules.specs.Tables.{columnsOf};
 ghost use Rattle.text_rules.specs.Columns.{columnStart, lineWidth, isRow};
-ghost use Rattle.text_rules.specs.Well.{columnsWell, mostLine};
+ghost use Rattle.text_rules.specs.Well.{mostWidth, columnsWell, mostLine};
 ghost use Rattle.text_columns.specs.Read.{rightForm, numberSize, isUsed, cellSize};
 use digits::Size;
 use text_rules::BAR;
@@ -74,6 +74,7 @@ pub fn is_used(
 
 // A whole number of n digits, or for 0 of as many as there are, right in its column.
 fn read_right(n: usize, s: &[u8]) -> Size
+    requires { ⌜ length (now s) ≤ mostWidth ⌝ }
     ensures { λ r. ⌜ r ≡ numberSize (rightForm n 0) (now (s .entry)) ⌝ }
 {
     let b = digits_reading::leading_blanks(s);
@@ -86,7 +87,7 @@ fn read_right(n: usize, s: &[u8]) -> Size
 
 // A number with decimals, right in its column, so that the point stands at a known place.
 fn read_point(decimals: usize, s: &[u8]) -> Size
-    requires { ⌜ (0 < decimals) × (decimals < length (now s)) ⌝ }
+    requires { ⌜ (0 < decimals) × (decimals < length (now s)) × (length (now s) ≤ mostWidth) ⌝ }
     ensures { λ r. ⌜ r ≡ numberSize (rightForm 0 decimals) (now (s .entry)) ⌝ }
 {
     let p = s.len() - (decimals + 1);
@@ -112,6 +113,7 @@ fn read_blanks(s: &[u8]) -> Size
 
 // The number of a column, with so many digits (0: as many as there are) and decimals; 0 for its blanks where it is not used.
 pub fn read_cell(used: bool, digits: usize, decimals: usize, s: &[u8]) -> Size
+    requires { ⌜ length (now s) ≤ mostWidth ⌝ }
     requires { ⌜ (0 < decimals → (digits ≡ 0) × (decimals < length (now s))) ⌝ }
     ensures { λ r. ⌜ r ≡ cellSize used digits decimals (now (s .entry)) ⌝ }
 {

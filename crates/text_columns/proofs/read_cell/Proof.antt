@@ -13,12 +13,14 @@ returns-2 : tie.Need-returns-2
 returns-2 c = cell-right _ _ _ (not-false _ (c .before .before .if1 .left)) (c .before .if2 .taken) (c .read-right .ensures)
 
 read-point-requires : tie.Need-read-point-requires
-read-point-requires c κs = (omega (arith, c .if2 .left), c .before .before .before .pre (omega (arith, c .if2 .left)) .1)
+read-point-requires c κs =
+    let p = c .before .before .before .pre in
+    (omega (arith, c .if2 .left), p .1 (omega (arith, c .if2 .left)) .1, p .0)
 
 returns-3 : tie.Need-returns-3
 returns-3 c =
     let i = c .before .before in
-    cell-point _ _ _ (not-false _ (i .if1 .left)) (i .before .before .pre (omega (arith, c .before .if2 .left)) .0) (c .read-point .ensures)
+    cell-point _ _ _ (not-false _ (i .if1 .left)) (i .before .before .pre .1 (omega (arith, c .before .if2 .left)) .0) (c .read-point .ensures)
 
 pub read-cell-spec : {M : Type 1} → statement M
 read-cell-spec =
