@@ -27,11 +27,12 @@ use Rattle.text_rules.specs.Reading.{startOf, lineOf, lineStands, wrongLine, fi
 use Rattle.text_rules.specs.Well.{mostDecimals, mostFields, fieldsWell}
 use Rattle.text_rules.proofs.Tables.{fields-length, field-row}
 use Rattle.text_rules.proofs.Well.{field-well, fields-few}
+use Rattle.text_lines.proofs.Standing.{stands-facts}
+use Rattle.text_lines.proofs.Opening.{drop-front}
 use Rattle.text_head.specs.declared.HeadFields.{HeadFields}
 use Rattle.text_head.specs.Head.{rowReading, figuresFound, fieldsFound}
 use Rattle.text_head.proofs.Names.{before-more, before-room, name-part}
-use Rattle.text_head.proofs.Opening.{drop-front}
-use Rattle.text_head.proofs.Shape.{stands-facts, wrongAt}
+use Rattle.text_head.proofs.Shape.{wrongAt}
 
 -- ---- what more than its form a value has to be
 module _ (kind v : ℕ) where

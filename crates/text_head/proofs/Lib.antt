@@ -1,4 +1,3 @@
 pub mod Names
-pub mod Opening
 pub mod Shape
 pub mod Fields

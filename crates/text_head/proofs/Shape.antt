@@ -1,5 +1,5 @@
 -- The first line of the head at fault, as the code goes from line to line.
-use mathlib.Core.Bool.{Bool, true, false, cond, not, and-eq-true-iff}
+use mathlib.Core.Bool.{Bool, true, false, cond, not}
 use mathlib.Core.List.{List}
 use mathlib.Core.Path.{_≡_, refl, sym, ap, ap₂, _∙_}
 use Prim.Native.Nat.{ℕ, _+_, _-_, _≤_, _<_, zero-le}
@@ -11,11 +11,12 @@ use borrow.Author.Tests.{eq-eqb, ne-eqb, eqb-false, le-leb, lt-leb, leb-true}
 use Rattle.sequences.specs.Below.{sumBelow, firstBelow}
 use Rattle.sequences.proofs.Below.{first-none, first-more, first-here}
 use Rattle.lines.proofs.Laws.{part-ended, part-open, part-first, part-next, part-room}
-use Rattle.lines.specs.Lines.{same, isNamed, lineLen, ended}
+use Rattle.lines.specs.Lines.{same, isNamed, lineLen}
 use Rattle.text_rules.specs.Tables.{Field, fieldsOf, nameBefore}
 use Rattle.text_rules.specs.Head.{headLines, fieldName, tagWord, isOpening, isHeadLine}
 use Rattle.text_rules.specs.Reading.{startOf, lineOf, lineStands, wrongLine}
 use Rattle.text_rules.proofs.Tables.{fields-length}
+use Rattle.text_lines.proofs.Standing.{stands-not, stands-as}
 use Rattle.text_head.specs.declared.HeadShape.{HeadShape}
 use Rattle.text_head.specs.Head.{nameLength, lineIs, shapeFound}
 use Rattle.text_head.proofs.Names.{to-is, name-of}
@@ -33,20 +34,6 @@ module _ (count k : ℕ) (name l : List ℕ) where
   pub head-tag : (k ≡ 0 → ⊥) → count < k → same l tagWord ≡ lineIs count k name l
   unfolding lineIs
   head-tag h m = rw (ne-eqb k 0 h, lt-leb k count m)
-
--- ---- a line that stands: it has its end, and is the one to stand there
-module _ (test : List ℕ → Bool) (text : List ℕ) (at : ℕ) where
-  pub stands-open : ended (drop at text) ≡ false → lineStands test text at ≡ false
-  unfolding lineStands
-  stands-open e = rw e
-
-  pub stands-ended : ended (drop at text) ≡ true → lineStands test text at ≡ test (lineOf text at)
-  unfolding lineStands
-  stands-ended e = rw e
-
-  pub stands-facts : lineStands test text at ≡ true → (ended (drop at text) ≡ true) × (test (lineOf text at) ≡ true)
-  unfolding lineStands
-  stands-facts e = and-eq-true-iff (ended (drop at text)) (test (lineOf text at)) .0 e
 
 -- line k is at fault
 unfoldable pub wrongAt : List Field → List ℕ → ℕ → Bool
@@ -111,13 +98,13 @@ module _ (rows : List (List ℕ)) (names text : List ℕ) (all : length names �
 
       module _ (n : ℕ) (len : n ≡ lineLen (take (length text - at) (drop at text))) where
         pub shape-open : length text - at ≤ n → Answered k at
-        shape-open h = shape-wrong low (stands-open (isHeadLine fs k) text at (part-open text at n len h))
+        shape-open h = shape-wrong low (stands-not (isHeadLine fs k) text at (part-open text at n len h))
 
         module _ (h : n < length text - at) where
           stands-part : lineStands (isHeadLine fs k) text at ≡ isHeadLine fs k (take (at + n - at) (drop at text))
           unfolding lineOf
           stands-part =
-              stands-ended (isHeadLine fs k) text at (part-ended text at n len h)
+              stands-as (isHeadLine fs k) text at (part-ended text at n len h)
               ∙ ap (isHeadLine fs k) (sym (part-first text at n len))
 
           pub shape-other : lineIs (length rows) k (take (to - from) (drop from names)) (take (at + n - at) (drop at text)) ≡ false → Answered k at

@@ -6,8 +6,8 @@ ghost use Prim.Native.Nat.{_≤_, _<_};
 ghost use lib.ListN.{length, getD};
 ghost use Rattle.digits.specs.Digits.{reading, plain};
 ghost use Rattle.text_rules.specs.Tables.{fieldsOf, formOf, kindOf, nameBefore};
-ghost use Rattle.text_rules.specs.Head.{headLines, isKind, isLetters, isOpening};
-ghost use Rattle.text_rules.specs.Reading.{wrongLine, lettersRead};
+ghost use Rattle.text_rules.specs.Head.{headLines, isKind};
+ghost use Rattle.text_rules.specs.Reading.{wrongLine};
 ghost use Rattle.text_rules.specs.Well.{mostDecimals, fieldsWell};
 ghost use Rattle.text_head.specs.Head.{nameLength, lineIs, rowReading, shapeFound, fieldsFound};
 use digits::Figure;
@@ -97,42 +97,12 @@ fn read_field(fields: &[[usize; FIELD_PARTS]], k: usize, s: &[u8]) -> Reading
     }
 }
 
-// Whether the letters are 1 to 8 letters or digits.
-pub fn is_letters(s: &[u8]) -> bool
-    ensures { λ r. ⌜ r ≡ isLetters (now (s .entry)) ⌝ }
-{
-    if s.len() < 1 {
-        return false;
-    }
-    if text_rules::MOST_LETTERS < s.len() {
-        return false;
-    }
-    lines::is_letters(s)
-}
-
-// Whether the line is "[ETF", letters and "]".
-fn is_opening(line: &[u8]) -> bool
-    ensures { λ r. ⌜ r ≡ isOpening (now (line .entry)) ⌝ }
-{
-    let n = line.len();
-    if n < text_rules::SHORTEST_OPENING {
-        return false;
-    }
-    if !lines::same_bytes(&line[..text_rules::LETTERS_START], b"[ETF") {
-        return false;
-    }
-    if !is_letters(&line[text_rules::LETTERS_START..n - 1]) {
-        return false;
-    }
-    line[n - 1] == 93
-}
-
 // Whether the line is line k of a head of so many fields, where it has that name.
 fn is_head_line(count: usize, k: usize, name: &[u8], line: &[u8]) -> bool
     ensures { λ r. ⌜ r ≡ lineIs count k (now (name .entry)) (now (line .entry)) ⌝ }
 {
     if k == 0 {
-        return is_opening(line);
+        return text_lines::is_opening(line);
     }
     if k <= count {
         return lines::is_named(name, line);
@@ -224,18 +194,4 @@ pub fn head_fields(fields: &[[usize; FIELD_PARTS]], names: &[u8], text: &[u8]) -
         place: at,
         figures,
     }
-}
-
-// The letters of a text's first line, as that part of it; an empty part where the line is another.
-pub fn letters(text: &[u8]) -> &[u8]
-    ensures { λ r. ⌜ now r ≡ lettersRead (now (text .entry)) ⌝ }
-{
-    let n = lines::line_len(text);
-    if text.len() <= n {
-        return &text[..0];
-    }
-    if !is_opening(&text[..n]) {
-        return &text[..0];
-    }
-    &text[text_rules::LETTERS_START..n - 1]
 }

@@ -17,7 +17,7 @@ use Rattle.digits.proofs.Read.{compare}
 use Rattle.text_rules.specs.Tables.{Column, TextForm}
 use Rattle.text_rules.specs.Columns.{lineWidth, linePitch, numbersBefore, lineNumbers, holdsText, cellRead, numbersRead}
 use Rattle.text_rows.specs.Rows.{rowIn, faultRow, linesBefore, columnKept, numbersKept}
-use Rattle.text_rows.proofs.Standing.{lines-room, pitch-line}
+use Rattle.text_lines.proofs.Standing.{lines-room, pitch-line}
 use Rattle.text_rows.proofs.Faults.{lines-le, lines-more, lines-fault}
 use Rattle.text_rows.proofs.Turns.{numbers-first, numbers-next, numbers-line, kept-long, cond-long}
 

@@ -1,5 +1,4 @@
 pub mod First
-pub mod Standing
 pub mod Lines
 pub mod Faults
 pub mod Turns

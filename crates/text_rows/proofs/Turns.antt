@@ -24,7 +24,7 @@ use Rattle.text_columns.proofs.Columns.{Placed, width-row}
 use Rattle.text_rows.specs.declared.CellFault.{CellFault}
 use Rattle.text_rows.specs.Rows.{rowIn, faultIn, linesBefore, columnKept, numbersKept}
 use Rattle.text_rows.specs.Turns.{wordsFault, cellsFault, columnStored, LinesHere, ColumnHere}
-use Rattle.text_rows.proofs.Standing.{next-line, lines-room, pitch-line}
+use Rattle.text_lines.proofs.Standing.{next-line, lines-room, pitch-line}
 use Rattle.text_rows.proofs.Lines.{part-is, words-wrong, text-row, readingAt, reading-ill, reading-known, cell-in}
 use Rattle.text_rows.proofs.Faults.{wrongAt, cells-first, lines-none, lines-more, lines-le, columnBefore, column-none, column-more, fault-found}
 

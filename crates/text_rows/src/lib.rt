@@ -1,12 +1,11 @@
-// The component lines of a text, by a table of columns that is lent: how many stand, and what they say, read column by column.
+// The component lines of a text, by a table of columns that is lent: what they say, read column by column.
 ghost use mathlib.Core.Path.{_≡_};
 ghost use mathlib.Core.Bool.{true, false, cond};
 ghost use Prim.Native.Nat.{_+_, _-_, _*_, _≤_, _<_};
 ghost use lib.Dec.{ltb};
 ghost use lib.ListN.{length, set};
 ghost use Rattle.text_rules.specs.Tables.{columnsOf, lineForm};
-ghost use Rattle.text_rules.specs.Columns.{lineWidth, linePitch, lineNumbers, holdsText, isRow};
-ghost use Rattle.text_rules.specs.Reading.{lineStands, rowsFrom};
+ghost use Rattle.text_rules.specs.Columns.{linePitch, lineNumbers, holdsText};
 ghost use Rattle.text_rules.specs.Well.{columnsWell};
 ghost use Rattle.text_rows.specs.Rows.{faultIn, columnKept, numbersKept};
 ghost use Rattle.text_rows.specs.Turns.{wordsFault, cellsFault, columnStored, LinesHere, ColumnHere};
@@ -23,36 +22,6 @@ use text_rules::WIDTH;
 pub struct CellFault {
     pub row: usize,
     pub column: usize,
-}
-
-// Whether a component line with its end stands at a place.
-fn row_stands(columns: &[[usize; COLUMN_PARTS]], width: usize, text: &[u8], at: usize) -> bool
-    requires { ⌜ (columnsWell (columnsOf (now columns)) ≡ true) × (width ≡ lineWidth (columnsOf (now columns))) ⌝ }
-    requires { ⌜ at ≤ length (now text) ⌝ }
-    ensures { λ r. ⌜ r ≡ lineStands (isRow (columnsOf (now (columns .entry)))) (now (text .entry)) at ⌝ }
-{
-    let n = lines::likely_len(&text[at..], width);
-    if text.len() - at <= n {
-        return false;
-    }
-    text_columns::is_row(columns, width, &text[at..at + n])
-}
-
-// How many component lines stand from a place on, before the first line that is none.
-pub fn row_count(columns: &[[usize; COLUMN_PARTS]], text: &[u8], start: usize) -> usize
-    requires { ⌜ columnsWell (columnsOf (now columns)) ≡ true ⌝ }
-    requires { ⌜ start ≤ length (now text) ⌝ }
-    ensures { λ r. ⌜ r ≡ rowsFrom (columnsOf (now (columns .entry))) (now (text .entry)) start ⌝ }
-    ensures { λ r. ⌜ start + r * linePitch (columnsOf (now (columns .entry))) ≤ length (now (text .entry)) ⌝ }
-{
-    let width = text_columns::line_width(columns);
-    let mut at = start;
-    let mut j = 0;
-    while row_stands(columns, width, text, at) {
-        at = at + (width + 2);
-        j += 1;
-    }
-    j
 }
 
 // How many numbers column k has in a line.

@@ -5,7 +5,7 @@ use lib.ListN.{length}
 use borrow.Author.Needs.{needs}
 use Rattle.text_rules.specs.Tables.{lineForm, columnsOf}
 use Rattle.text_columns.proofs.Columns.{column-placed}
-use Rattle.text_rows.proofs.Standing.{pitch-here}
+use Rattle.text_lines.proofs.Standing.{pitch-here}
 use Rattle.text_rows.proofs.Turns.{ColumnsRead, columns-start, columns-lines, columns-here, columns-again, columns-end}
 use Rattle.text_rows.proofs.read_columns.Statement.{statement}
 use Rattle.text_rows.proofs.read_columns.Tie as tie

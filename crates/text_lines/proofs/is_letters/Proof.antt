@@ -1,9 +1,9 @@
--- `text_head::is_letters` meets its contract: 1 to 8 bytes, each a letter or a digit.
+-- `text_lines::is_letters` meets its contract: 1 to 8 bytes, each a letter or a digit.
 use mathlib.Core.Path.{_∙_}
-use Rattle.text_head.proofs.Opening.{letters-none, letters-more, letters-some}
+use Rattle.text_lines.proofs.Opening.{letters-none, letters-more, letters-some}
 use borrow.Author.Needs.{needs}
-use Rattle.text_head.proofs.is_letters.Statement.{statement}
-use Rattle.text_head.proofs.is_letters.Tie as tie
+use Rattle.text_lines.proofs.is_letters.Statement.{statement}
+use Rattle.text_lines.proofs.is_letters.Tie as tie
 
 returns : tie.Need-returns
 returns c = letters-none _ (c .if1 .taken)

@@ -16,16 +16,30 @@ use Rattle.text_rules.specs.Tables.{Column}
 use Rattle.text_rules.specs.Columns.{lineWidth, linePitch, isRow}
 use Rattle.text_rules.specs.Reading.{lineOf, lineStands, rowsFrom}
 
+-- A line that stands has its end, and is the one to stand there.
+
+module _ (test : List ℕ → Bool) (text : List ℕ) (at : ℕ) where
+  pub stands-not : ended (drop at text) ≡ false → lineStands test text at ≡ false
+  unfolding lineStands
+  stands-not e = rw e
+
+  pub stands-as : ended (drop at text) ≡ true → lineStands test text at ≡ test (lineOf text at)
+  unfolding lineStands
+  stands-as e = rw e
+
+  pub stands-facts : lineStands test text at ≡ true → (ended (drop at text) ≡ true) × (test (lineOf text at) ≡ true)
+  unfolding lineStands
+  stands-facts e = and-eq-true-iff (ended (drop at text)) (test (lineOf text at)) .0 e
+
 -- What the code's tests say of a line at a place, n its length.
 
 module _ (test : List ℕ → Bool) (text : List ℕ) (at n : ℕ) (e : n ≡ lineLen (take (length text - at) (drop at text))) where
   pub stands-open : length text - at ≤ n → false ≡ lineStands test text at
-  unfolding lineStands
-  stands-open h = rw (part-open text at n e h)
+  stands-open h = sym (stands-not test text at (part-open text at n e h))
 
   pub stands-ended : n < length text - at → {b : Bool} → b ≡ test (take (at + n - at) (drop at text)) → b ≡ lineStands test text at
-  unfolding lineStands lineOf
-  stands-ended h f = f ∙ rw (part-first text at n e, part-ended text at n e h)
+  unfolding lineOf
+  stands-ended h f = f ∙ ap test (part-first text at n e) ∙ sym (stands-as test text at (part-ended text at n e h))
 
 -- Lines of one width, one behind the other.
 
@@ -51,10 +65,10 @@ module _ (cs : List Column) where
   row-length l e = eqb-true (length l) (lineWidth cs) (and-eq-true-iff _ _ .0 e .0)
 
   row-next : (text : List ℕ) (at : ℕ) → at ≤ length text → lineStands (isRow cs) text at ≡ true → at + linePitch cs ≤ length text
-  unfolding lineStands lineOf ended
+  unfolding lineOf ended
   row-next text at w e =
       let s : List ℕ = drop at text in
-      let both = and-eq-true-iff (ended s) (isRow cs (firstLine s)) .0 e in
+      let both = stands-facts (isRow cs) text at e in
       omega (
         arith,
         pitch-line,

@@ -1,11 +1,11 @@
--- `text_head::letters` meets its contract: the letters stand in the first line, where it is the one to stand there.
+-- `text_lines::letters` meets its contract: the letters stand in the first line, where it is the one to stand there.
 use mathlib.Core.Path.{sym, _∙_}
 use lib.Seq.{length-take-le}
 use borrow.Author.Tests.{not-true, not-false}
-use Rattle.text_head.proofs.Opening.{letters-open, letters-other, letters-room, letters-part}
+use Rattle.text_lines.proofs.Opening.{letters-open, letters-other, letters-room, letters-part}
 use borrow.Author.Needs.{needs}
-use Rattle.text_head.proofs.letters.Statement.{statement}
-use Rattle.text_head.proofs.letters.Tie as tie
+use Rattle.text_lines.proofs.letters.Statement.{statement}
+use Rattle.text_lines.proofs.letters.Tie as tie
 
 returns : tie.Need-returns
 returns c = letters-open _ _ (c .before .before .line-len .ensures .0) (c .before .if1 .taken)

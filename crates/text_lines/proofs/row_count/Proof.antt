@@ -1,13 +1,13 @@
--- `text_rows::row_count` meets its contract. The loop's invariant: `j` component lines stand, and the next would start at `at`.
+-- `text_lines::row_count` meets its contract. The loop's invariant: `j` component lines stand, and the next would start at `at`.
 use Prim.Native.Nat.{_-_}
 use mathlib.Core.Path.{sym, _∙_}
 use native.Mathlib.Omega.{arith}
 use lib.ListN.{length}
 use borrow.Author.Needs.{needs}
 use Rattle.text_rules.specs.Tables.{columnsOf}
-use Rattle.text_rows.proofs.Standing.{Counted, counted-start, counted-again, counted-end}
-use Rattle.text_rows.proofs.row_count.Statement.{statement}
-use Rattle.text_rows.proofs.row_count.Tie as tie
+use Rattle.text_lines.proofs.Standing.{Counted, counted-start, counted-again, counted-end}
+use Rattle.text_lines.proofs.row_count.Statement.{statement}
+use Rattle.text_lines.proofs.row_count.Tie as tie
 
 abbrev Inv-loop : tie.InvT-loop
 Inv-loop columns text start width at₀ j₀ at j = Counted (columnsOf columns) text start at j

@@ -14,7 +14,7 @@ use Rattle.lines.proofs.Answers.{inside-low, inside-high}
 use Rattle.lines.specs.Lines.{same, letterByte, allBytes, lineLen, ended, firstLine}
 use Rattle.text_rules.specs.Head.{isLetters, lettersOf, isOpening, openingWord, mostLetters, lettersStart, besideLetters, shortestOpening}
 use Rattle.text_rules.specs.Reading.{lineOf, lineStands, lettersRead}
-use Rattle.text_head.proofs.Shape.{stands-open, stands-ended}
+use Rattle.text_lines.proofs.Standing.{stands-not, stands-as}
 
 -- 1 to 8 letters or digits
 module _ (s : List ℕ) where
@@ -76,13 +76,13 @@ drop-front a n s h l =
 module _ (text : List ℕ) (n : ℕ) (len : n ≡ lineLen text) where
   pub letters-open : length text ≤ n → [] ≡ lettersRead text
   unfolding lettersRead ended
-  letters-open h = rw (stands-open isOpening text 0 (le-ltb (lineLen text) (length text) (omega arith)))
+  letters-open h = rw (stands-not isOpening text 0 (le-ltb (lineLen text) (length text) (omega arith)))
 
   module _ (h : n < length text) where
     stands-first : lineStands isOpening text 0 ≡ isOpening (take n text)
     unfolding lineOf firstLine ended
     stands-first =
-        stands-ended isOpening text 0 (lt-ltb (lineLen text) (length text) (omega arith))
+        stands-as isOpening text 0 (lt-ltb (lineLen text) (length text) (omega arith))
         ∙ ap (λ (k : ℕ). isOpening (take k text)) (sym len)
 
     pub letters-other : isOpening (take n text) ≡ false → [] ≡ lettersRead text

@@ -1,10 +1,10 @@
--- `text_rows::row_stands` meets its contract: the line has its end, and it is a component line.
+-- `text_lines::row_stands` meets its contract: the line has its end, and it is a component line.
 use borrow.Author.Needs.{needs}
 use Rattle.text_rules.specs.Tables.{columnsOf}
 use Rattle.text_rules.specs.Columns.{isRow}
-use Rattle.text_rows.proofs.Standing.{stands-open, stands-ended}
-use Rattle.text_rows.proofs.row_stands.Statement.{statement}
-use Rattle.text_rows.proofs.row_stands.Tie as tie
+use Rattle.text_lines.proofs.Standing.{stands-open, stands-ended}
+use Rattle.text_lines.proofs.row_stands.Statement.{statement}
+use Rattle.text_lines.proofs.row_stands.Tie as tie
 
 returns : tie.Need-returns
 returns c = stands-open (isRow (columnsOf (c .before .before .before .before .args .columns .now))) _ _ _ (c .before .likely-len .ensures .0) (c .if1 .taken)

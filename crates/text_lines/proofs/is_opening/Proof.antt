@@ -1,11 +1,11 @@
--- `text_head::is_opening` meets its contract: "[ETF", then the letters, then "]".
+-- `text_lines::is_opening` meets its contract: "[ETF", then the letters, then "]".
 use mathlib.Core.Path.{sym, _∙_}
 use lib.Seq.{length-take-le}
 use borrow.Author.Tests.{not-true, not-false}
-use Rattle.text_head.proofs.Opening.{opening-short, opening-other, opening-bare, opening-last}
+use Rattle.text_lines.proofs.Opening.{opening-short, opening-other, opening-bare, opening-last}
 use borrow.Author.Needs.{needs}
-use Rattle.text_head.proofs.is_opening.Statement.{statement}
-use Rattle.text_head.proofs.is_opening.Tie as tie
+use Rattle.text_lines.proofs.is_opening.Statement.{statement}
+use Rattle.text_lines.proofs.is_opening.Tie as tie
 use Rattle.text_rules.specs.Head.{lettersStart}
 
 returns : tie.Need-returns
