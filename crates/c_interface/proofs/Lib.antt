@@ -1,4 +1,1 @@
-mod Laws
-pub mod Openings
-pub mod Texts
-mod Parts
+pub mod Through

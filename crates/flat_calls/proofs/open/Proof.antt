@@ -1,9 +1,9 @@
--- `c_interface::roffelaine_open` meets its contract: refusal 1 by the fund's width, else what opening answers and leaves.
-use Rattle.c_interface.proofs.Openings.{outcome-as, opens-refused, opens-done}
-use Rattle.c_interface.proofs.Laws.{told-as}
+-- `flat_calls::open` meets its contract: refusal 1 by the fund's width, else what opening answers and leaves.
+use Rattle.flat_calls.proofs.Openings.{outcome-as, opens-refused, opens-done}
+use Rattle.flat_calls.proofs.Laws.{told-as}
 use borrow.Author.Needs.{needs}
-use Rattle.c_interface.proofs.roffelaine_open.Statement.{statement}
-use Rattle.c_interface.proofs.roffelaine_open.Tie as tie
+use Rattle.flat_calls.proofs.open.Statement.{statement}
+use Rattle.flat_calls.proofs.open.Tie as tie
 
 returns : tie.Need-returns
 returns c =
@@ -17,8 +17,8 @@ returns-2 c =
     let read = called .before .before .before .before in
     opens-done _ _ (read .before .if1 .left) _ _ _ _ _ (answer .of-answer .ensures) (outcome-as (read .fund-of .ensures) (called .«open» .ensures)) _ _ _ (c .tell2 .ensures)
 
-pub roffelaine-open-spec : {M : Type 1} → statement M
-roffelaine-open-spec =
+pub open-spec : {M : Type 1} → statement M
+open-spec =
     tie.close
     (tie.spec
     (λ c κs. search needs) (λ c κs. search needs)

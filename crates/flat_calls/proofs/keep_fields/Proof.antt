@@ -1,8 +1,8 @@
--- `c_interface::keep_fields` meets its contract: the number decides whether the fields are stored.
+-- `flat_calls::keep_fields` meets its contract: the number decides whether the fields are stored.
 use borrow.Author.Tests.{eq-eqb, ne-eqb}
 use borrow.Author.Needs.{needs}
-use Rattle.c_interface.proofs.keep_fields.Statement.{statement}
-use Rattle.c_interface.proofs.keep_fields.Tie as tie
+use Rattle.flat_calls.proofs.keep_fields.Statement.{statement}
+use Rattle.flat_calls.proofs.keep_fields.Tie as tie
 
 put-fields-requires : tie.Need-put-fields-requires
 put-fields-requires c κs =

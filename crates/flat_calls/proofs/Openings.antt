@@ -9,17 +9,14 @@ use borrow.Author.Tests.{eq-eqb, ne-eqb}
 use Rattle.sequences.specs.Checks.{reply, isAccepted}
 use Rattle.layout.specs.declared.Fund.{Fund}
 use Rattle.layout.specs.Places.{fundWidth}
-use Rattle.layout.specs.Day.{dayAt}
 use Rattle.rules.specs.declared.Answer.{Answer}
 use Rattle.rules.specs.Replies.{answerReply}
 use Rattle.rules.specs.Opening.{Opening, openingReply, openedRun, openedBook, openedPrices}
-use Rattle.balance.specs.Balanced.{opened}
-use Rattle.driver_rows.specs.Rows.{stateOf}
 use Rattle.opening.specs.Given.{given, Outcome}
 use Rattle.answers.specs.declared.Numbers.{Numbers}
 use Rattle.answers.specs.Numbers.{replyOf, Told}
-use Rattle.c_interface.specs.Opening.{flatReply, FlatOutcome}
-use Rattle.c_interface.proofs.Laws.{told-as, kept, sizes-refuse}
+use Rattle.flat_calls.specs.Opening.{flatReply, FlatOutcome}
+use Rattle.flat_calls.proofs.Laws.{told-as, kept, sizes-refuse}
 
 -- an outcome with the same fund
 pub outcome-as : {accounts count : ℕ} {f g : Fund} {components holdings book prices day : List ℕ} {r : Answer} {book′ prices′ day′ : List ℕ}
@@ -65,7 +62,7 @@ module _ (fund : List ℕ) (o : Opening) where
         day-says = λ yes. out .day-says (rw same at yes);
       }
 
-  -- The chain: an opening accepted through its run is an accepted opening, and what it leaves is the state that demand 3 starts from.
+  -- an opening accepted through its run is an accepted opening
   module _ (accepted : isAccepted (flatReply fund o) ≡ true) where
     accepted-by : Dec (length fund ≡ fundWidth) → isAccepted (openingReply o) ≡ true
     accepted-by (yes fit) = rw (reply-same fit) at accepted
@@ -73,7 +70,3 @@ module _ (fund : List ℕ) (o : Opening) where
 
     pub opening-accepted : isAccepted (openingReply o) ≡ true
     opening-accepted = accepted-by (ℕ-discrete (length fund) fundWidth)
-
-    pub opened-through : (number place value : ℕ) (book prices day : List ℕ)
-        → FlatOutcome fund o number place value book prices day → opened o ≡ stateOf (dayAt day) book prices
-    opened-through number place value book prices day out = rw (out .day-says accepted, out .book-is, out .prices-is, accepted)

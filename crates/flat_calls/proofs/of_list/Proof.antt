@@ -1,9 +1,9 @@
--- `c_interface::of_list` meets its contract: case by case.
+-- `flat_calls::of_list` meets its contract: case by case.
 use mathlib.Core.Path.{sym, ap, _∙_}
 use borrow.Author.Needs.{needs}
 use Rattle.list_rules.specs.Replies.{listReply}
-use Rattle.c_interface.proofs.of_list.Statement.{statement}
-use Rattle.c_interface.proofs.of_list.Tie as tie
+use Rattle.flat_calls.proofs.of_list.Statement.{statement}
+use Rattle.flat_calls.proofs.of_list.Tie as tie
 
 returns : tie.Need-returns
 returns c = ap listReply (sym (c .before .answer .given .1))

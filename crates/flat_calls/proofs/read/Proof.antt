@@ -1,9 +1,9 @@
--- `c_interface::roffelaine_read` meets its contract: refusal 1 by the width, else what reading answers and leaves, and the fields stored where it is accepted.
+-- `flat_calls::read` meets its contract: refusal 1 by the width, else what reading answers and leaves, and the fields stored where it is accepted.
 use borrow.Author.Needs.{needs}
-use Rattle.c_interface.proofs.Texts.{read-refused, read-cash, read-done}
-use Rattle.c_interface.proofs.Laws.{told-as}
-use Rattle.c_interface.proofs.roffelaine_read.Statement.{statement}
-use Rattle.c_interface.proofs.roffelaine_read.Tie as tie
+use Rattle.flat_calls.proofs.Texts.{read-refused, read-cash, read-done}
+use Rattle.flat_calls.proofs.Laws.{told-as}
+use Rattle.flat_calls.proofs.read.Statement.{statement}
+use Rattle.flat_calls.proofs.read.Tie as tie
 
 returns : tie.Need-returns
 returns c =
@@ -25,8 +25,8 @@ returns-2 c =
     read-done _ _ _ _ _ (answer .of-list .ensures) (called .read .ensures) _ _ (called .before .before .if1 .left) _ _ _ _ _
     (c .tell2 .ensures) (kept .keep-fields .ensures) (first .keep-first .ensures)
 
-pub roffelaine-read-spec : {M : Type 1} → statement M
-roffelaine-read-spec =
+pub read-spec : {M : Type 1} → statement M
+read-spec =
     tie.close
     (tie.spec
     (λ c κs. search needs) (λ c κs. search needs)

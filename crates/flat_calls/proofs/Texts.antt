@@ -28,8 +28,8 @@ use Rattle.list_reading.specs.Outcome.{ReadOutcome}
 use Rattle.list_writing.specs.Outcome.{WriteOutcome}
 use Rattle.list_layout.specs.Run.{fieldsWidth, fieldsAt, fieldsNumbers}
 use Rattle.list_layout.proofs.Laws.{fields-flat}
-use Rattle.c_interface.specs.Text.{Taking, taking, ofWidth, takingReply, TextRead, TextWritten}
-use Rattle.c_interface.proofs.Laws.{told-as, kept, sizes-refuse}
+use Rattle.flat_calls.specs.Text.{Taking, taking, ofWidth, takingReply, TextRead, TextWritten}
+use Rattle.flat_calls.proofs.Laws.{told-as, kept, sizes-refuse}
 
 -- The width.
 

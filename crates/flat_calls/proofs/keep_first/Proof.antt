@@ -1,7 +1,7 @@
--- `c_interface::keep_first` meets its contract: the number decides whether the place is stored.
+-- `flat_calls::keep_first` meets its contract: the number decides whether the place is stored.
 use borrow.Author.Tests.{eq-eqb, ne-eqb}
-use Rattle.c_interface.proofs.keep_first.Statement.{statement}
-use Rattle.c_interface.proofs.keep_first.Tie as tie
+use Rattle.flat_calls.proofs.keep_first.Statement.{statement}
+use Rattle.flat_calls.proofs.keep_first.Tie as tie
 
 returns : tie.Need-returns
 returns c = rw (eq-eqb _ 0 (c .if1 .taken))

@@ -6,7 +6,7 @@ use lib.ListN.{length, set}
 use borrow.Author.Tests.{le-leb, lt-leb}
 use Rattle.sequences.proofs.Runs.{sets-front}
 use Rattle.list_rules.specs.declared.TextPart.{TextPart}
-use Rattle.c_interface.specs.Text.{partWidth, partKept}
+use Rattle.flat_calls.specs.Text.{partWidth, partKept}
 
 module _ (p : TextPart) (run : List ℕ) where
   pub part-stored : partWidth ≤ length run → set (set run 0 (p .place)) 1 (p .length) ≡ partKept p run

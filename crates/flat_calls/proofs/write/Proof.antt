@@ -1,9 +1,9 @@
--- `c_interface::roffelaine_write` meets its contract: refusal 1 by the width, else what writing answers and leaves.
+-- `flat_calls::write` meets its contract: refusal 1 by the width, else what writing answers and leaves.
 use borrow.Author.Needs.{needs}
-use Rattle.c_interface.proofs.Texts.{write-refused, write-done}
-use Rattle.c_interface.proofs.Laws.{told-as}
-use Rattle.c_interface.proofs.roffelaine_write.Statement.{statement}
-use Rattle.c_interface.proofs.roffelaine_write.Tie as tie
+use Rattle.flat_calls.proofs.Texts.{write-refused, write-done}
+use Rattle.flat_calls.proofs.Laws.{told-as}
+use Rattle.flat_calls.proofs.write.Statement.{statement}
+use Rattle.flat_calls.proofs.write.Tie as tie
 
 returns : tie.Need-returns
 returns c =
@@ -18,8 +18,8 @@ returns-2 c =
     rw (← read .fields-at .ensures)
     (write-done _ _ _ (read .before .if1 .left) _ _ _ (answer .of-list .ensures) (called .write .ensures) _ _ _ (c .tell2 .ensures))
 
-pub roffelaine-write-spec : {M : Type 1} → statement M
-roffelaine-write-spec =
+pub write-spec : {M : Type 1} → statement M
+write-spec =
     tie.close
     (tie.spec
     (λ c κs. search needs) (λ c κs. search needs)

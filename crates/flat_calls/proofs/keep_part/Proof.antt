@@ -1,10 +1,10 @@
--- `c_interface::keep_part` meets its contract: the run's length decides whether the part is stored.
+-- `flat_calls::keep_part` meets its contract: the run's length decides whether the part is stored.
 use mathlib.Core.Path.{refl}
 use native.Mathlib.Omega.{arith}
 use borrow.Author.Needs.{needs}
-use Rattle.c_interface.proofs.Parts.{part-stored, part-left}
-use Rattle.c_interface.proofs.keep_part.Statement.{statement}
-use Rattle.c_interface.proofs.keep_part.Tie as tie
+use Rattle.flat_calls.proofs.Parts.{part-stored, part-left}
+use Rattle.flat_calls.proofs.keep_part.Statement.{statement}
+use Rattle.flat_calls.proofs.keep_part.Tie as tie
 
 returns : tie.Need-returns
 returns c = (refl, part-stored _ _ (omega arith))

@@ -1,0 +1,4 @@
+pub mod Laws
+pub mod Openings
+pub mod Texts
+mod Parts
