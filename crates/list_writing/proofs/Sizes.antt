@@ -19,7 +19,7 @@ use Rattle.text_rules.specs.Head.{isLetters, endWord, mostLetters, endSize}
 use Rattle.text_rules.specs.Columns.{linePitch}
 use Rattle.text_rules.specs.Writing.{sheetText}
 use Rattle.text_rules.specs.Well.{mostLine}
-use Rattle.text_rows_writing.proofs.Cells.{part-put}
+use Rattle.text_cells_writing.proofs.Cells.{part-put}
 use Rattle.list_rules.specs.Shanghai.{shanghai, shanghaiColumns}
 use Rattle.list_rules.specs.Writing.{Listing, sheetOf, textOf, listChecks}
 use Rattle.list_trip.proofs.WrittenPassing.{Passing}

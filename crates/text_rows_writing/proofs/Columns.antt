@@ -21,8 +21,9 @@ use Rattle.text_rules.specs.Well.{columnsWell}
 use Rattle.text_rules.proofs.Tables.{end-line}
 use Rattle.text_rules.proofs.Well.{WellColumn, column-well}
 use Rattle.text_trip.specs.Trips.{CellFits, RowFits}
-use Rattle.text_rows_writing.proofs.Cells.{number-length}
-use Rattle.text_rows_writing.specs.Lines.{usedBy, usedText, lineSoFar}
+use Rattle.text_cells_writing.specs.Cells.{usedBy, usedText}
+use Rattle.text_cells_writing.proofs.Cells.{number-length}
+use Rattle.text_rows_writing.specs.Lines.{lineSoFar}
 
 -- ---- a number column's text, and what fits it, by whether it is used
 module _ (flags : List (List Bool)) (flag : ℕ) (c : Column) (n : ℕ) (s : List ℕ) where

@@ -1,4 +1,4 @@
--- Where the columns of a line stand: what each takes is added to what those before it take. When a column is used.
+-- Where the columns of a line stand: what each takes is added to what those before it take.
 use mathlib.Core.Path.{_≡_, refl, sym, ap, _∙_}
 use mathlib.Core.Bool.{Bool, true, false, cond}
 use mathlib.Core.List.{List, []}
@@ -11,33 +11,19 @@ use lib.ListN.{length, getD}
 use borrow.Author.Tests.{ne-eqb}
 use Rattle.sequences.specs.Below.{sumBelow}
 use Rattle.sequences.proofs.Below.{cond-le}
-use Rattle.flags.specs.Table.{entryIn}
-use Rattle.text_rules.specs.Tables.{alwaysUsed, usedByFlag, forText, Column, useOf, columnOf, columnsOf, byFlagUse, textUse, widthPart, usePart, flagPart}
+use Rattle.text_rules.specs.Tables.{alwaysUsed, usedByFlag, Column, useOf, columnOf, columnsOf, byFlagUse, textUse, widthPart, usePart, flagPart}
 use Rattle.text_rules.specs.Columns.{columnWidth, columnStart, lineWidth, isText, holdsText, numbersBefore, wordsBefore}
 use Rattle.text_rules.specs.Well.{columnsWell, mostLine}
 use Rattle.text_rules.proofs.Tables.{column-row, columns-length, end-line}
 use Rattle.text_rules.proofs.Well.{line-short}
 use Rattle.text_rows_writing.specs.declared.Taken.{Taken}
-use Rattle.text_rows_writing.specs.Lines.{takenBefore, usedBy}
+use Rattle.text_rows_writing.specs.Lines.{takenBefore}
 
 taken-eq : {a a′ b b′ c c′ : ℕ} → a ≡ a′ → b ≡ b′ → c ≡ c′
     → _≡_ {A = Taken} (record { bytes = a; numbers = b; words = c }) (record { bytes = a′; numbers = b′; words = c′ })
 taken-eq p q r = cc
 
 -- ---- use, as the numbers of a table say it
-pub use-flag : (flags : List (List Bool)) (flag used column : ℕ) → used ≡ byFlagUse → entryIn flags flag column ≡ usedBy flags flag (useOf used column)
-unfolding useOf usedBy
-use-flag flags flag used column e = rw e
-
-by-text : (flags : List (List Bool)) (flag : ℕ) (b : Bool) → true ≡ usedBy flags flag (cond b forText alwaysUsed)
-unfolding usedBy
-by-text flags flag true = refl
-by-text flags flag false = refl
-
-pub use-other : (flags : List (List Bool)) (flag used column : ℕ) → (used ≡ byFlagUse → ⊥) → true ≡ usedBy flags flag (useOf used column)
-unfolding useOf
-use-other flags flag used column h = rw (ne-eqb used byFlagUse h) (by-text flags flag (eqb used textUse))
-
 text-use : (used column : ℕ) → used ≡ textUse → isText (useOf used column) ≡ true
 unfolding useOf isText
 text-use used column e = rw e

@@ -3,34 +3,29 @@ use mathlib.Core.Path.{_≡_, sym, ap, _∙_, subst}
 use mathlib.Core.Bool.{Bool, true, false, cond}
 use mathlib.Core.List.{List, [], _∷_, _++_}
 use Prim.Native.Nat.{ℕ, suc, _+_, _-_, _*_, _≤_, _<_}
-use native.Mathlib.Nat.{add-sub-cancel-left}
+use native.Mathlib.Nat.{add-zero, add-sub-cancel-left}
 use native.Mathlib.Numerals.{add-one}
 use native.Mathlib.Omega.{arith}
-use lib.ListN.{length, getD, take, drop, replicate, length-append, length-drop, length-replicate, take-append-drop}
-use lib.Seq.{length-take-le, take-append-le, drop-append-le, drop-drop}
+use lib.ListN.{length, getD, take, drop, replicate, length-append, length-drop, length-replicate}
+use lib.Seq.{length-take-le}
 use Rattle.sequences.specs.Below.{sumBelow}
 use Rattle.sequences.specs.Stretch.{stretchOf}
 use Rattle.sequences.proofs.Below.{sum-grows}
 use Rattle.sequences.proofs.Stretch.{within, stretch-length, stretch-at, join-ext}
+use Rattle.digits.specs.Digits.{plain}
+use Rattle.digits.specs.Fits.{Fits}
 use Rattle.text_rules.specs.Tables.{Column, TextForm, columnAt}
-use Rattle.text_rules.specs.Columns.{columnWidth, columnStart, lineWidth, linePitch, isText, holdsText, numbersBefore, wordsBefore, lineNumbers, lineWords, cellAt, partAt, contentAt, columnText}
+use Rattle.text_rules.specs.Columns.{columnWidth, columnStart, lineWidth, linePitch, isText, holdsText, numbersBefore, wordsBefore, lineNumbers, lineWords}
+use Rattle.text_rules.specs.Columns.{numberForm, cellAt, partAt, contentAt, columnText}
 use Rattle.text_rules.specs.Writing.{numbersAt, wordsAt, rowsText}
 use Rattle.text_rules.specs.Well.{columnsWell, flagWell}
 use Rattle.text_rules.proofs.Tables.{end-line}
 use Rattle.text_rules.proofs.Well.{WellColumn, flag-facts}
-use Rattle.text_rows_writing.specs.Lines.{usedBy, usedText, numberAt, wordAt, linesPut, BlankAt, NumbersFit, RowsReady, RowsSoFar}
-use Rattle.text_rows_writing.proofs.Cells.{used-length}
-use Rattle.text_rows_writing.proofs.Stretches.{lines-same, lines-long, lines-here}
+use Rattle.text_cells_writing.specs.Cells.{usedBy, usedText}
+use Rattle.text_cells_writing.proofs.Cells.{used-length}
+use Rattle.text_rows_writing.specs.Lines.{numberAt, wordAt, linesPut, BlankAt, NumbersFit, RowsReady, RowsSoFar}
+use Rattle.text_rows_writing.proofs.Stretches.{InLine, part-stretch, lines-same, lines-long, lines-here}
 use Rattle.text_rows_writing.proofs.Columns.{used-text, used-fits, words-text, blank-part, words-room, text-length, line-first, line-blank, line-next, line-last}
-
--- a part of a stretch, in the whole
-part-stretch : (w : ℕ) (b : List ℕ) (i p k : ℕ) → i * w + w ≤ length b → p + k ≤ w → take k (drop (i * w + p) b) ≡ take k (drop p (stretchOf w b i))
-unfolding stretchOf
-part-stretch w b i p k h r =
-    let rest : List ℕ = drop (i * w) b in
-    let long : length (take w rest) ≡ w = length-take-le w rest (rw length-drop (omega arith)) in
-    ap (take k) (sym (drop-drop p (i * w) b) ∙ ap (drop p) (sym (take-append-drop w rest)) ∙ drop-append-le p (take w rest) (drop w rest) (omega arith))
-    ∙ take-append-le k (drop p (take w rest)) (drop w rest) (rw length-drop (omega arith))
 
 -- the number of a column that holds one stands within those of the line
 number-inside : (cs : List Column) (k : ℕ) → k < length cs → holdsText cs k ≡ false → numbersBefore cs k < lineNumbers cs
@@ -39,30 +34,41 @@ number-inside cs k h e =
     let more = rw e at (sum-grows (λ i. cond (holdsText cs i) 0 1) (suc k) (length cs) h) in
     omega arith
 
--- a number column's text in line i
-pub number-here : (flags : List (List Bool)) (c : Column) (run : List ℕ) (stride flagPlace place i : ℕ) {used : Bool}
-    → used ≡ usedBy flags (getD run (i * stride + flagPlace) 0) (c .used)
-    → usedText used c (getD run (i * stride + place) 0) ≡ numberAt flags c run stride flagPlace place i
-unfolding numberAt
-number-here flags c run stride flagPlace place i e = ap (λ (u : Bool). usedText u c (getD run (i * stride + place) 0)) e
+-- ---- a number column in a line i, from a run in which the line's numbers start at q
+module _ (flags : List (List Bool)) (c : Column) (run : List ℕ) (stride flagPlace place : ℕ) where
+  module _ {count n i q : ℕ} (l : InLine stride 0 count n q i) {used : Bool} (told : used ≡ usedBy flags (getD run (q + flagPlace) 0) (c .used)) where
+    start : q ≡ i * stride
+    start = l .place ∙ add-zero (i * stride)
 
--- what is written into a line is as long as its column and the bar
-pub numbers-long : (flags : List (List Bool)) (c : Column) (run : List ℕ) (stride flagPlace place count : ℕ) → WellColumn c
-    → NumbersFit flags c run stride flagPlace place count → (i : ℕ) → i < count → length (numberAt flags c run stride flagPlace place i) ≡ c .width + 1
-unfolding numberAt
-numbers-long flags c run stride flagPlace place count well fit i h = used-length c _ well _ (fit i h)
+    pub number-here : usedText used c (getD run (q + place) 0) ≡ numberAt flags c run stride flagPlace place i
+    unfolding numberAt
+    number-here = rw (told, start)
 
-module _ (width : ℕ) (texts : List ℕ) (stride place count : ℕ) (long : length texts ≡ count * stride) (room : place + width ≤ stride) (i : ℕ) (below : i < count) where
-  pub word-length : length (take (i * stride + place + width - (i * stride + place)) (drop (i * stride + place) texts)) ≡ width
-  word-length =
-      let inside : i * stride + stride ≤ length texts = rw long (within stride i count below) in
-      rw (add-sub-cancel-left (i * stride + place) width) (length-take-le width (drop (i * stride + place) texts) (rw length-drop (omega arith)))
+    pub number-fits : NumbersFit flags c run stride flagPlace place count → i < count → used ≡ true → Fits (numberForm c) (plain (getD run (q + place) 0))
+    number-fits fit h u = rw start (fit i h (rw start at (sym told ∙ u)))
 
-  pub words-long : length (wordAt width texts stride place i) ≡ width + 1
+  -- what is written into a line ends in it
+  pub numbers-held : (at w count : ℕ) → WellColumn c → at + c .width < w → NumbersFit flags c run stride flagPlace place count
+      → (i : ℕ) → i < count → at + length (numberAt flags c run stride flagPlace place i) ≤ w
+  unfolding numberAt
+  numbers-held at w count well room fit i h = omega (arith, used-length c _ well _ (fit i h))
+
+-- ---- words, from texts in which they stand from q on
+pub part-long : (q k : ℕ) (s : List ℕ) → q + k ≤ length s → length (take (q + k - q) (drop q s)) ≡ k
+part-long q k s h = rw (add-sub-cancel-left q k) (length-take-le k (drop q s) (rw length-drop (omega arith)))
+
+module _ (width : ℕ) (texts : List ℕ) (stride place : ℕ) where
+  pub word-here : {count n i q : ℕ} → InLine stride place count n q i → take (q + width - q) (drop q texts) ++ 124 ∷ [] ≡ wordAt width texts stride place i
   unfolding wordAt
-  words-long =
-      length-append (take width (drop (i * stride + place) texts)) (124 ∷ [])
-      ∙ omega (arith, rw (add-sub-cancel-left (i * stride + place) width) at word-length)
+  word-here {count} {n} {i} {q} l = rw (add-sub-cancel-left q width, l .place)
+
+  pub words-held : (at w count : ℕ) → length texts ≡ count * stride → place + width ≤ stride → at + width < w
+      → (i : ℕ) → i < count → at + length (wordAt width texts stride place i) ≤ w
+  unfolding wordAt
+  words-held at w count long inside room i h =
+      let end : i * stride + place + width ≤ length texts = rw long (omega (arith, within stride i count h)) in
+      let few : length (take width (drop (i * stride + place) texts)) ≡ width = length-take-le width (drop (i * stride + place) texts) (rw length-drop (omega arith)) in
+      omega (arith, length-append (take width (drop (i * stride + place) texts)) (124 ∷ []))
 
 pub rows-all : {t : TextForm} {run texts : List ℕ} {count k n : ℕ} {b : List ℕ} → k ≡ n → RowsSoFar t run texts count k b → RowsSoFar t run texts count n b
 rows-all {t} {run} {texts} {count} {k} {n} {b} e v = subst (λ (i : ℕ). RowsSoFar t run texts count i b) e v
@@ -132,8 +138,7 @@ module _ (t : TextForm) (run texts : List ℕ) (count : ℕ) (well : columnsWell
         ∙ lines-same _ _ _ _ count b
         (λ i l.
         ap (λ (s : List ℕ). s ++ 124 ∷ [])
-        (part-stretch (lineWords (t .columns)) texts i (wordsBefore (t .columns) k) (columnWidth (t .columns) k)
-        (rw (ready .words) (within (lineWords (t .columns)) i count l)) (word-room e)
+        (part-stretch (lineWords (t .columns)) texts i (wordsBefore (t .columns) k) (columnWidth (t .columns) k) (word-room e)
         ∙ sym (words-text (t .flags) _ (columnAt (t .columns) k) _ _ (columnAt (t .columns) k .used) e))))
 
     -- numbers

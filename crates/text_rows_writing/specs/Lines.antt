@@ -1,37 +1,27 @@
 -- What the component lines hold while they are written column by column.
 use Prim.Native.Nat.{ℕ, zero, suc, _+_, _-_, _*_, _<_}
 use mathlib.Core.Path.{_≡_}
-use mathlib.Core.Bool.{Bool, true, cond}
+use mathlib.Core.Bool.{Bool, true}
 use mathlib.Core.List.{List, [], _∷_, _++_}
 use lib.ListN.{length, getD, take, drop, replicate}
 use Rattle.sequences.specs.Below.{joinBelow}
 use Rattle.sequences.specs.Stretch.{stretchOf, onStretch}
-use Rattle.flags.specs.Table.{entryIn}
-use Rattle.digits.specs.Digits.{plain, numberText}
+use Rattle.digits.specs.Digits.{plain}
 use Rattle.digits.specs.Fits.{Fits}
 use Rattle.digits.specs.Written.{put}
-use Rattle.text_rules.specs.Tables.{Use, alwaysUsed, usedByFlag, forText, Column, TextForm}
+use Rattle.text_rules.specs.Tables.{Column, TextForm}
 use Rattle.text_rules.specs.Columns.{columnStart, linePitch, numbersBefore, wordsBefore, lineNumbers, lineWords, numberForm, columnText}
 use Rattle.text_rules.specs.Writing.{numbersAt, wordsAt}
 use Rattle.text_rules.specs.Well.{columnsWell, flagWell}
 use Rattle.text_trip.specs.Trips.{RowFits}
+use Rattle.text_cells_writing.specs.Cells.{usedBy, usedText}
 use Rattle.text_rows_writing.specs.declared.Taken.{Taken}
 
 -- what the columns before column k take of a line
 unfoldable pub takenBefore : List Column → ℕ → Taken
 takenBefore cs k = record { bytes = columnStart cs k; numbers = numbersBefore cs k; words = wordsBefore cs k }
 
--- a column with that use has something to say in a line with that flag
-unfoldable pub usedBy : List (List Bool) → ℕ → Use → Bool
-usedBy flags flag alwaysUsed = true
-usedBy flags flag (usedByFlag column) = entryIn flags flag column
-usedBy flags flag forText = true
-
--- a number where the column is used, and blanks where it is not, with the bar
-unfoldable pub usedText : Bool → Column → ℕ → List ℕ
-usedText used c n = cond used (numberText (numberForm c) (plain n)) (replicate (c .width) 32) ++ 124 ∷ []
-
--- the same in the i-th line, from a run that has so many numbers a line, the number and the flag at their places among them
+-- a number column's text in the i-th line, from a run that has so many numbers a line, the number and the flag at their places among them
 unfoldable pub numberAt : List (List Bool) → Column → List ℕ → ℕ → ℕ → ℕ → ℕ → List ℕ
 numberAt flags c run stride flagPlace place i =
     usedText (usedBy flags (getD run (i * stride + flagPlace) 0) (c .used)) c (getD run (i * stride + place) 0)

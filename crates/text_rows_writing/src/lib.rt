@@ -1,18 +1,15 @@
 // Writes the component lines of a text, by a table of columns that is lent, column by column.
 ghost use mathlib.Core.Path.{_≡_};
 ghost use mathlib.Core.Bool.{true};
-ghost use mathlib.Core.List.{[], _∷_, _++_};
+ghost use mathlib.Core.List.{[], _∷_};
 ghost use Prim.Native.Nat.{ℕ, _+_, _*_, _≤_, _<_};
-ghost use lib.ListN.{length, take, drop, replicate};
-ghost use Rattle.digits.specs.Digits.{plain, numberText};
-ghost use Rattle.digits.specs.Fits.{Fits};
-ghost use Rattle.digits.specs.Written.{put};
-ghost use Rattle.text_rules.specs.Tables.{columnsOf, columnOf, useOf, lineForm};
-ghost use Rattle.text_rules.specs.Columns.{linePitch, lineNumbers, lineWords, numberForm};
+ghost use lib.ListN.{length, replicate};
+ghost use Rattle.text_rules.specs.Tables.{columnsOf, columnOf, lineForm};
+ghost use Rattle.text_rules.specs.Columns.{linePitch, lineNumbers, lineWords};
 ghost use Rattle.text_rules.specs.Writing.{numbersAt, wordsAt, rowsText};
 ghost use Rattle.text_rules.specs.Well.{columnWell, columnsWell, flagWell};
 ghost use Rattle.text_trip.specs.Trips.{RowFits};
-ghost use Rattle.text_rows_writing.specs.Lines.{takenBefore, usedBy, usedText, numberAt, wordAt, linesPut, BlankAt, NumbersFit, TableReady, RowsReady, RowsSoFar};
+ghost use Rattle.text_rows_writing.specs.Lines.{takenBefore, numberAt, wordAt, linesPut, BlankAt, NumbersFit, TableReady, RowsReady, RowsSoFar};
 use text_rules::COLUMN_PARTS;
 
 // What the columns before one take of a line: bytes of the line with their bars, numbers, and bytes of text.
@@ -62,77 +59,6 @@ fn taken_before(columns: &[[usize; COLUMN_PARTS]], k: usize) -> Taken
     taken
 }
 
-// Whether a column that is not for text has a number in a line with that flag.
-fn is_used(
-    flags: &[[bool; flags::COLUMNS]; flags::FLAGS],
-    used: usize,
-    column: usize,
-    flag: u64,
-) -> bool
-    ensures { λ r. ⌜ r ≡ usedBy (now (flags .entry)) flag (useOf used column) ⌝ }
-{
-    if used == text_rules::BY_FLAG {
-        return flags::entry_in(flags, flag, column);
-    }
-    true
-}
-
-// Writes a number into its cell, which holds only blanks.
-fn put_number(cell: &mut [u8], column: [usize; COLUMN_PARTS], n: u64)
-    requires { ⌜ (columnWell (columnOf column) ≡ true) × (now cell ≡ replicate (columnOf column .width) 32) ⌝ }
-    requires { ⌜ Fits (numberForm (columnOf column)) (plain n) ⌝ }
-    ensures { λ _. ⌜ now (cell .exit) ≡ numberText (numberForm (columnOf column)) (plain n) ⌝ }
-{
-    let width = column[text_rules::WIDTH];
-    if column[text_rules::DIGITS] != 0 {
-        digits_writing::tail::put_last(cell, width, width, n);
-        return;
-    }
-    let decimals = column[text_rules::DECIMALS];
-    if decimals == 0 {
-        digits_writing::tail::put_whole(cell, width, n);
-        return;
-    }
-    let left = digits_writing::tail::put_last(cell, width, decimals, n);
-    let point = width - (decimals + 1);
-    cell[point] = 46;
-    digits_writing::tail::put_whole(cell, point, left);
-}
-
-// Writes a number into its place in a line, where the column is used, and the bar behind it.
-fn put_cell(line: &mut [u8], at: usize, column: [usize; COLUMN_PARTS], used: bool, n: u64)
-    requires { ⌜ (columnWell (columnOf column) ≡ true) × (at + columnOf column .width < length (now line)) ⌝ }
-    requires { ⌜ take (columnOf column .width) (drop at (now line)) ≡ replicate (columnOf column .width) 32 ⌝ }
-    requires { ⌜ (used ≡ true → Fits (numberForm (columnOf column)) (plain n)) ⌝ }
-    ensures { λ _. ⌜ now (line .exit) ≡ put (now (line .entry)) at (usedText used (columnOf column) n) ⌝ }
-{
-    let e = at + column[text_rules::WIDTH];
-    if !used {
-        line[e] = text_rules::BAR;
-        return;
-    }
-    put_number(&mut line[at..e], column, n);
-    line[e] = text_rules::BAR;
-}
-
-// Writes words into their place in a line, and the bar behind them.
-fn put_words(line: &mut [u8], at: usize, words: &[u8])
-    requires { ⌜ at + length (now words) < length (now line) ⌝ }
-    ensures { λ _. ⌜ now (line .exit) ≡ put (now (line .entry)) at (now (words .entry) ++ 124 ∷ []) ⌝ }
-{
-    let e = digits_writing::put_bytes(line, at, words);
-    digits_writing::put_byte(line, e, text_rules::BAR);
-}
-
-// Writes the end of a line.
-fn put_end(line: &mut [u8], at: usize)
-    requires { ⌜ at + 2 ≤ length (now line) ⌝ }
-    ensures { λ _. ⌜ now (line .exit) ≡ put (now (line .entry)) at (13 ∷ 10 ∷ []) ⌝ }
-{
-    let e = digits_writing::put_byte(line, at, 13);
-    digits_writing::put_byte(line, e, 10);
-}
-
 // Writes a column of numbers into so many lines of `pitch` bytes.
 fn put_numbers_column(
     flags: &[[bool; flags::COLUMNS]; flags::FLAGS],
@@ -152,19 +78,19 @@ fn put_numbers_column(
     requires { ⌜ NumbersFit (now flags) (columnOf column) (now run) stride «flag_place» place count ⌝ }
     ensures { λ _. ⌜ now (rows .exit) ≡ linesPut pitch at (numberAt (now (flags .entry)) (columnOf column) (now (run .entry)) stride «flag_place» place) count (now (rows .entry)) ⌝ }
 {
+    let mut p = at;
+    let mut q = 0;
     let mut j = 0;
     while j < count {
-        let q = j * stride;
-        let used = is_used(
+        let used = text_cells_writing::is_used(
             flags,
             column[text_rules::USE],
             column[text_rules::FLAG_COLUMN],
             run[q + flag_place],
         );
-        let n = run[q + place];
-        let p = j * pitch;
-        let e = p + pitch;
-        put_cell(&mut rows[p..e], at, column, used, n);
+        text_cells_writing::put_cell(rows, p, column, used, run[q + place]);
+        p = p + pitch;
+        q = q + stride;
         j += 1;
     }
 }
@@ -185,12 +111,13 @@ fn put_words_column(
     requires { ⌜ length (now rows) ≡ count * pitch ⌝ }
     ensures { λ _. ⌜ now (rows .exit) ≡ linesPut pitch at (wordAt width (now (texts .entry)) stride place) count (now (rows .entry)) ⌝ }
 {
+    let mut p = at;
+    let mut q = place;
     let mut j = 0;
     while j < count {
-        let m = j * stride + place;
-        let p = j * pitch;
-        let e = p + pitch;
-        put_words(&mut rows[p..e], at, &texts[m..m + width]);
+        text_cells_writing::put_words(rows, p, &texts[q..q + width]);
+        p = p + pitch;
+        q = q + stride;
         j += 1;
     }
 }
@@ -200,11 +127,11 @@ fn put_ends(count: usize, rows: &mut [u8], pitch: usize, at: usize)
     requires { ⌜ (at + 2 ≤ pitch) × (length (now rows) ≡ count * pitch) ⌝ }
     ensures { λ _. ⌜ now (rows .exit) ≡ linesPut pitch at (λ _. 13 ∷ 10 ∷ []) count (now (rows .entry)) ⌝ }
 {
+    let mut p = at;
     let mut j = 0;
     while j < count {
-        let p = j * pitch;
-        let e = p + pitch;
-        put_end(&mut rows[p..e], at);
+        text_cells_writing::put_end(rows, p);
+        p = p + pitch;
         j += 1;
     }
 }

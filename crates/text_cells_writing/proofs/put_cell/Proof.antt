@@ -1,12 +1,12 @@
--- `text_rows_writing::put_cell` meets its contract: the number comes back in its part of the line, or the blanks are there already.
+-- `text_cells_writing::put_cell` meets its contract: the number comes back in its part of the line, or the blanks are there already.
 use native.Mathlib.Nat.{add-sub-cancel-left}
 use borrow.Author.Tests.{not-true, not-false}
 use borrow.Author.Needs.{needs}
 use Rattle.text_rules.proofs.Well.{column-facts}
 use Rattle.text_rules.specs.Tables.{columnOf}
-use Rattle.text_rows_writing.proofs.Cells.{unused-put, bar-room, used-put}
-use Rattle.text_rows_writing.proofs.put_cell.Statement.{statement}
-use Rattle.text_rows_writing.proofs.put_cell.Tie as tie
+use Rattle.text_cells_writing.proofs.Cells.{unused-put, bar-room, used-put}
+use Rattle.text_cells_writing.proofs.put_cell.Statement.{statement}
+use Rattle.text_cells_writing.proofs.put_cell.Tie as tie
 
 add-e : tie.Need-add-e
 unfolding columnOf

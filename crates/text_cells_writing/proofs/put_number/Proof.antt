@@ -1,12 +1,12 @@
--- `text_rows_writing::put_number` meets its contract: in each of the three forms what is written ends where the cell ends, in blanks.
+-- `text_cells_writing::put_number` meets its contract: in each of the three forms what is written ends where the cell ends, in blanks.
 use native.Mathlib.Omega.{arith}
 use lib.ListN.{length-set}
 use borrow.Author.Needs.{needs}
 use Rattle.text_rules.specs.Tables.{columnOf}
 use Rattle.text_rules.proofs.Well.{column-facts}
-use Rattle.text_rows_writing.proofs.Cells.{cell-length, digits-put, whole-room, whole-put, point-room, tail-length, same-cell, pointed-put}
-use Rattle.text_rows_writing.proofs.put_number.Statement.{statement}
-use Rattle.text_rows_writing.proofs.put_number.Tie as tie
+use Rattle.text_cells_writing.proofs.Cells.{cell-length, digits-put, whole-room, whole-put, point-room, tail-length, same-cell, pointed-put}
+use Rattle.text_cells_writing.proofs.put_number.Statement.{statement}
+use Rattle.text_cells_writing.proofs.put_number.Tie as tie
 
 put-last-requires : tie.Need-put-last-requires
 unfolding columnOf

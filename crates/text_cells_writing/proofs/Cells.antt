@@ -16,7 +16,7 @@ use Rattle.digits.proofs.Count.{fixed-length, decimal-length}
 use Rattle.text_rules.specs.Tables.{Column}
 use Rattle.text_rules.specs.Columns.{numberForm}
 use Rattle.text_rules.proofs.Well.{WellColumn}
-use Rattle.text_rows_writing.specs.Lines.{usedText}
+use Rattle.text_cells_writing.specs.Cells.{usedText}
 
 -- what is written in front of what was written
 put-front : (d : List ℕ) (at : ℕ) (xs ys : List ℕ) → at + length xs + length ys ≤ length d

@@ -1,9 +1,9 @@
--- `text_rows_writing::is_used` meets its contract: the table's number for the use chooses the definition's case.
+-- `text_cells_writing::is_used` meets its contract: the table's number for the use chooses the definition's case.
 use mathlib.Core.Path.{_∙_}
 use borrow.Author.Needs.{needs}
-use Rattle.text_rows_writing.proofs.Places.{use-flag, use-other}
-use Rattle.text_rows_writing.proofs.is_used.Statement.{statement}
-use Rattle.text_rows_writing.proofs.is_used.Tie as tie
+use Rattle.text_cells_writing.proofs.Uses.{use-flag, use-other}
+use Rattle.text_cells_writing.proofs.is_used.Statement.{statement}
+use Rattle.text_cells_writing.proofs.is_used.Tie as tie
 
 returns : tie.Need-returns
 returns c = c .entry-in .ensures ∙ use-flag _ _ _ _ (c .before .if1 .taken)

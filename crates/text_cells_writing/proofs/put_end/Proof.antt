@@ -1,9 +1,9 @@
--- `text_rows_writing::put_end` meets its contract: two writes, one behind the other.
+-- `text_cells_writing::put_end` meets its contract: two writes, one behind the other.
 use native.Mathlib.Omega.{arith}
 use borrow.Author.Needs.{needs}
 use Rattle.digits.proofs.Put.{written-then}
-use Rattle.text_rows_writing.proofs.put_end.Statement.{statement}
-use Rattle.text_rows_writing.proofs.put_end.Tie as tie
+use Rattle.text_cells_writing.proofs.put_end.Statement.{statement}
+use Rattle.text_cells_writing.proofs.put_end.Tie as tie
 
 returns : tie.Need-returns
 returns c = written-then (c .before .before .before .before .before .before .put-byte .ensures) (c .before .before .put-byte2 .ensures) (omega arith) .bytes

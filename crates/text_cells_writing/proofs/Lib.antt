@@ -1,0 +1,2 @@
+pub mod Cells
+pub mod Uses
