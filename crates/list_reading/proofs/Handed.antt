@@ -43,12 +43,14 @@ use Rattle.list_rules.specs.Reading.{fieldsRead, isCounted, readFault, readRepl
 use Rattle.list_rows.specs.declared.RowFault.{RowFault}
 use Rattle.list_rows.specs.Rows.{shanghaiLines, rowsOf, rowsFound, runKept}
 use Rattle.list_rows.proofs.Rows.{row-ours, fault-ours, numbers-ours}
-use Rattle.list_trip.proofs.Form.{line-numbers, fields-length}
+use Rattle.list_rules.proofs.Lent.{fields-count}
+use Rattle.list_trip.proofs.Form.{line-numbers}
 use Rattle.list_trip.proofs.Names.{name-read}
 use Rattle.list_trip.proofs.NamePlaces.{name-part, name-at}
-use Rattle.list_reading.specs.declared.Shape.{Shape}
+use Rattle.list_shape.specs.declared.Shape.{Shape}
+use Rattle.list_shape.specs.Shape.{Rows, Shaped}
 use Rattle.list_reading.specs.Outcome.{ReadOutcome}
-use Rattle.list_reading.specs.Stages.{Rows, Shaped, Found, Spelled, Ranged, refusedRead}
+use Rattle.list_reading.specs.Stages.{Found, Spelled, Ranged, refusedRead}
 use Rattle.list_reading.proofs.Replies.{fieldWrong, countWrong, field-facts, fields-pass, reply-18, reply-19-field, reply-19-row, reply-20, reply-2, reply-3, reply-16, reply-0}
 use Rattle.list_reading.proofs.Stages.{outcome-refused, outcome-read}
 
@@ -155,7 +157,7 @@ module _ (text : List ℕ) (start count : ℕ) (r : Rows text start count) where
 -- no field is wrong
 wrong-none : (text : List ℕ) → passes (fieldChecks shanghai text) ≡ true → wrongField shanghaiFields text ≡ fieldCount
 unfolding wrongField shanghai
-wrong-none text e = first-stops _ (length shanghaiFields) (field-facts text e .0) ∙ fields-length
+wrong-none text e = first-stops _ (length shanghaiFields) (field-facts text e .0) ∙ fields-count
 
 -- the figures and the fields
 module _ (text : List ℕ) (start count : ℕ) (figures : List Figure) (s : Spelled text start count figures) where

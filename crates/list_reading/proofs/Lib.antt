@@ -1,4 +1,3 @@
 pub mod Replies
-pub mod Tests
 pub mod Stages
 pub mod Handed

@@ -2,51 +2,18 @@
 use Prim.Native.Nat.{ℕ, _*_}
 use mathlib.Core.Path.{_≡_, sym, _∙_}
 use mathlib.Core.Bool.{Bool, true, false, not, _&&_}
-use mathlib.Core.List.{List}
+use mathlib.Core.List.{List, [], _∷_, _++_}
 use lib.Dec.{leb, ltb}
 use lib.ListN.{length}
-use Rattle.sequences.specs.Checks.{reply, answered, passes}
-use Rattle.sequences.proofs.Checks.{passed-all, passes-all, answered-stop}
+use Rattle.sequences.specs.Checks.{Check, check, reply, answered, passes}
+use Rattle.sequences.proofs.Checks.{passed-all, passes-all, answered-next, answered-stop}
 use Rattle.layout.specs.Places.{componentWidth}
-use Rattle.lines.specs.Lines.{same, nextAt}
-use Rattle.text_rules.specs.Head.{headLines, endWord}
-use Rattle.text_rules.specs.Reading.{startOf, lineStands, wrongLine, rowCount, endStart, shapeChecks, wrongField, fieldStart, wrongRow, columnPlace, fieldChecks, figureRead}
+use Rattle.text_rules.specs.Reading.{rowCount, shapeChecks, wrongField, fieldStart, wrongRow, columnPlace, fieldChecks, figureRead}
 use Rattle.list_rules.specs.Shanghai.{shanghai, shanghaiFields, creationCodeField}
 use Rattle.list_rules.specs.Fields.{fieldsInRange}
 use Rattle.list_rules.specs.Reading.{fieldsRead, isCounted, readFault, rangeChecks, readChecks, readReply}
 
 module _ (text : List ℕ) where
-  -- the tests of 18
-  abbrev pub lineWrong : Bool
-  lineWrong = ltb (wrongLine shanghaiFields text) (headLines shanghaiFields)
-
-  abbrev pub endMissing : Bool
-  endMissing = not (lineStands (λ l. same l endWord) text (endStart shanghai text))
-
-  abbrev pub moreBehind : Bool
-  moreBehind = ltb (nextAt text (endStart shanghai text)) (length text)
-
-  pub shape-facts : passes (shapeChecks shanghai text) ≡ true → (lineWrong ≡ false) × (endMissing ≡ false) × (moreBehind ≡ false)
-  unfolding shapeChecks shanghai
-  shape-facts e = let p = passed-all (shapeChecks shanghai text) e in (p .0, p .1 .0, p .1 .1 .0)
-
-  pub shape-passes : lineWrong ≡ false → endMissing ≡ false → moreBehind ≡ false → passes (shapeChecks shanghai text) ≡ true
-  unfolding shapeChecks shanghai
-  shape-passes a b c = passes-all (shapeChecks shanghai text) (a, (b, (c, tt)))
-
-  pub line-stops : lineWrong ≡ true → (passes (shapeChecks shanghai text) ≡ false) × (answered (shapeChecks shanghai text) 0 ≡ reply 18 (startOf text (wrongLine shanghaiFields text)) 0)
-  unfolding shapeChecks passes answered shanghai
-  line-stops e = (rw e, rw e)
-
-  pub end-stops : lineWrong ≡ false → endMissing ≡ true → (passes (shapeChecks shanghai text) ≡ false) × (answered (shapeChecks shanghai text) 0 ≡ reply 18 (endStart shanghai text) 0)
-  unfolding shapeChecks passes answered shanghai
-  end-stops a e = (rw (a, e), rw (a, e))
-
-  pub more-stops : lineWrong ≡ false → endMissing ≡ false → moreBehind ≡ true
-      → (passes (shapeChecks shanghai text) ≡ false) × (answered (shapeChecks shanghai text) 0 ≡ reply 18 (nextAt text (endStart shanghai text)) 0)
-  unfolding shapeChecks passes answered shanghai
-  more-stops a b e = (rw (a, b, e), rw (a, b, e))
-
   -- the tests of 19
   abbrev pub fieldWrong : Bool
   fieldWrong = ltb (wrongField shanghaiFields text) (length shanghaiFields)
@@ -69,39 +36,59 @@ module _ (text : List ℕ) where
   abbrev pub rangeWrong : Bool
   rangeWrong = not (leb 1 (figureRead shanghaiFields text creationCodeField .size) && fieldsInRange (fieldsRead text))
 
+  -- the test of 3
+  abbrev pub faultBelow : Bool
+  faultBelow = ltb (readFault text) (rowCount shanghai text)
+
   module _ (room : ℕ) where
+    -- the test of 16
+    abbrev pub roomWrong : Bool
+    roomWrong = ltb room (componentWidth * rowCount shanghai text)
+
+    abbrev roomChecks : List Check
+    roomChecks = check roomWrong 16 0 ∷ []
+
     pub reply-18 : (place : ℕ) → passes (shapeChecks shanghai text) ≡ false → answered (shapeChecks shanghai text) 0 ≡ reply 18 place 0 → reply 18 place 0 ≡ readReply text room
     unfolding readReply readChecks
     reply-18 place e q = sym (answered-stop (shapeChecks shanghai text) _ _ 0 e ∙ q)
 
     module _ (s : passes (shapeChecks shanghai text) ≡ true) where
+      -- past 18
+      past-shape : readReply text room ≡ answered (fieldChecks shanghai text ++ (rangeChecks text ++ roomChecks)) (rowCount shanghai text)
+      unfolding readReply readChecks
+      past-shape = answered-next (shapeChecks shanghai text) _ _ s
+
       pub reply-19-field : fieldWrong ≡ true → reply 19 (fieldStart shanghaiFields text (wrongField shanghaiFields text)) 0 ≡ readReply text room
-      unfolding readReply readChecks shapeChecks fieldChecks answered shanghai
-      reply-19-field e = let p = shape-facts s in rw (p .0, p .1, p .2, e)
+      unfolding fieldChecks answered shanghai
+      reply-19-field e = sym (past-shape ∙ rw e)
 
       pub reply-19-row : fieldWrong ≡ false → rowWrong ≡ true → reply 19 (columnPlace shanghai text (wrongRow shanghai text)) 0 ≡ readReply text room
-      unfolding readReply readChecks shapeChecks fieldChecks answered shanghai
-      reply-19-row a e = let p = shape-facts s in rw (p .0, p .1, p .2, a, e)
+      unfolding fieldChecks answered shanghai
+      reply-19-row a e = sym (past-shape ∙ rw (a, e))
 
       module _ (f : passes (fieldChecks shanghai text) ≡ true) where
+        -- past 19
+        past-fields : readReply text room ≡ answered (rangeChecks text ++ roomChecks) (rowCount shanghai text)
+        past-fields = past-shape ∙ answered-next (fieldChecks shanghai text) _ _ f
+
         pub reply-20 : countWrong ≡ true → reply 20 0 0 ≡ readReply text room
-        unfolding readReply readChecks shapeChecks fieldChecks rangeChecks answered shanghai
-        reply-20 e = let p = shape-facts s in let q = field-facts f in rw (p .0, p .1, p .2, q .0, q .1, e)
+        unfolding rangeChecks answered
+        reply-20 e = sym (past-fields ∙ rw e)
 
         pub reply-2 : countWrong ≡ false → rangeWrong ≡ true → reply 2 0 0 ≡ readReply text room
-        unfolding readReply readChecks shapeChecks fieldChecks rangeChecks answered shanghai
-        reply-2 a e = let p = shape-facts s in let q = field-facts f in rw (p .0, p .1, p .2, q .0, q .1, a, e)
+        unfolding rangeChecks answered
+        reply-2 a e = sym (past-fields ∙ rw (a, e))
 
         module _ (a : countWrong ≡ false) (b : rangeWrong ≡ false) where
-          pub reply-3 : ltb (readFault text) (rowCount shanghai text) ≡ true → reply 3 (readFault text) 0 ≡ readReply text room
-          unfolding readReply readChecks shapeChecks fieldChecks rangeChecks answered shanghai
-          reply-3 e = let p = shape-facts s in let q = field-facts f in rw (p .0, p .1, p .2, q .0, q .1, a, b, e)
+          pub reply-3 : faultBelow ≡ true → reply 3 (readFault text) 0 ≡ readReply text room
+          unfolding rangeChecks answered
+          reply-3 e = sym (past-fields ∙ rw (a, b, e))
 
-          module _ (c : ltb (readFault text) (rowCount shanghai text) ≡ false) where
-            pub reply-16 : ltb room (componentWidth * rowCount shanghai text) ≡ true → reply 16 0 0 ≡ readReply text room
-            unfolding readReply readChecks shapeChecks fieldChecks rangeChecks answered shanghai
-            reply-16 e = let p = shape-facts s in let q = field-facts f in rw (p .0, p .1, p .2, q .0, q .1, a, b, c, e)
+          module _ (c : faultBelow ≡ false) where
+            pub reply-16 : roomWrong ≡ true → reply 16 0 0 ≡ readReply text room
+            unfolding rangeChecks answered
+            reply-16 e = sym (past-fields ∙ rw (a, b, c, e))
 
-            pub reply-0 : ltb room (componentWidth * rowCount shanghai text) ≡ false → reply 0 0 (rowCount shanghai text) ≡ readReply text room
-            unfolding readReply readChecks shapeChecks fieldChecks rangeChecks answered shanghai
-            reply-0 e = let p = shape-facts s in let q = field-facts f in rw (p .0, p .1, p .2, q .0, q .1, a, b, c, e)
+            pub reply-0 : roomWrong ≡ false → reply 0 0 (rowCount shanghai text) ≡ readReply text room
+            unfolding rangeChecks answered
+            reply-0 e = sym (past-fields ∙ rw (a, b, c, e))

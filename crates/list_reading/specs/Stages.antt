@@ -1,42 +1,23 @@
 -- What the stages of reading say to each other: what is known of the text after each of them.
-use Prim.Native.Nat.{ℕ, _+_, _*_, _≤_}
+use Prim.Native.Nat.{ℕ, _*_, _≤_}
 use mathlib.Core.Path.{_≡_}
-use mathlib.Core.Bool.{true, false, not, _&&_}
+use mathlib.Core.Bool.{true, _&&_}
 use mathlib.Core.List.{List}
 use lib.Dec.{leb}
 use lib.ListN.{length, take}
-use Rattle.sequences.specs.Checks.{reply, answered, passes}
+use Rattle.sequences.specs.Checks.{passes}
 use Rattle.layout.specs.Places.{mostComponents, componentWidth, basketWidth}
 use Rattle.rules.specs.declared.Refusal.{Refusal}
 use Rattle.digits.specs.declared.Figure.{Figure}
-use Rattle.text_rules.specs.Columns.{linePitch}
-use Rattle.text_rules.specs.Head.{headLines}
-use Rattle.text_rules.specs.Reading.{wrongLine, bodyStart, rowCount, shapeChecks, fieldChecks, figureRead}
+use Rattle.text_rules.specs.Reading.{rowCount, fieldChecks, figureRead}
 use Rattle.text_head.specs.Head.{figuresFound}
 use Rattle.list_rules.specs.declared.ListRead.{ListRead}
 use Rattle.list_rules.specs.declared.ListAnswer.the-variants.{Refused}
 use Rattle.list_rules.specs.declared.ListFields.{ListFields}
-use Rattle.list_rules.specs.Shanghai.{shanghai, shanghaiFields, shanghaiColumns, creationCodeField}
+use Rattle.list_rules.specs.Shanghai.{shanghai, shanghaiFields, creationCodeField}
 use Rattle.list_rules.specs.Fields.{fieldsInRange, blankFields}
 use Rattle.list_rules.specs.Reading.{fieldsRead, isCounted, componentsRun}
-use Rattle.list_reading.specs.declared.Shape.{Shape}
-
--- the component lines of a text whose lines all stand
-pub record Rows (text : List ℕ) (start count : ℕ) : Type 0 where
-  pub head-stands : wrongLine shanghaiFields text ≡ headLines shanghaiFields
-  pub start-is : start ≡ bodyStart shanghai text
-  pub count-is : count ≡ rowCount shanghai text
-  pub room : start + count * linePitch shanghaiColumns ≤ length text
-  pub lines-stand : passes (shapeChecks shanghai text) ≡ true
-
--- what refusal 18's tests found of a text
-pub record Shaped (text : List ℕ) (s : Shape) : Type 0 where
-  pub wrong-is : s .wrong ≡ not (passes (shapeChecks shanghai text))
-  pub place-is : s .wrong ≡ true → answered (shapeChecks shanghai text) 0 ≡ reply 18 (s .place) 0
-  pub rows : s .wrong ≡ false → Rows text (s .start) (s .count)
-
-abbrev pub wrongAt : ℕ → Shape
-wrongAt place = record { wrong = true; place = place; start = 0; count = 0 }
+use Rattle.list_shape.specs.Shape.{Rows}
 
 -- the numbers of the text's components stand at the front of an array, where they are not too many
 pub record Found (text : List ℕ) (count : ℕ) (numbers : List ℕ) : Type 0 where

@@ -1,7 +1,7 @@
 -- The component lines of a text as the code reads them, and what is found in them.
 use Prim.Native.Nat.{ℕ, _+_, _-_, _*_, _≤_, _<_}
 use mathlib.Core.Path.{_≡_, refl, sym, ap, ap₂, _∙_}
-use mathlib.Core.Bool.{Bool, true}
+use mathlib.Core.Bool.{Bool}
 use mathlib.Core.List.{List}
 use native.Mathlib.Nat.{add-sub-cancel-left}
 use native.Mathlib.Omega.{arith}
@@ -9,41 +9,25 @@ use lib.Dec.{ltb}
 use lib.ListN.{length, take, drop, length-drop}
 use lib.Seq.{length-take-le}
 use borrow.Author.Tests.{lt-ltb, le-ltb}
-use Rattle.sequences.specs.Below.{sumBelow, allBelow, firstBelow}
-use Rattle.sequences.specs.Every.{every}
+use Rattle.sequences.specs.Below.{firstBelow}
 use Rattle.sequences.proofs.Below.{first-le, first-same}
 use Rattle.sequences.proofs.Stretch.{within}
 use Rattle.flags.specs.Table.{flagTable}
-use Rattle.text_rules.specs.Tables.{Column, TextForm, lineForm, columnsOf, columnAt}
-use Rattle.text_rules.specs.Columns.{columnWidth, columnStart, lineWidth, linePitch, flagOf, contentOf, wrongCell, columnFault, cellRead, numbersRead}
+use Rattle.text_rules.specs.Tables.{Column, TextForm, lineForm, columnsOf}
+use Rattle.text_rules.specs.Columns.{columnStart, lineWidth, linePitch, flagOf, contentOf, wrongCell, columnFault, cellRead, numbersRead}
 use Rattle.text_rules.specs.Reading.{bodyStart, rowStart, rowCount, rowOf, wrongRow, columnPlace}
-use Rattle.text_rules.proofs.Tables.{columns-length}
-use Rattle.text_rules.specs.Well.{columnWell, columnsWell}
 use Rattle.text_rows.specs.declared.CellFault.{CellFault}
 use Rattle.text_rows.specs.Rows.{rowIn, faultRow, faultIn, numbersKept}
 use Rattle.text_rows.proofs.Kept.{row-in}
 use Rattle.list_rules.specs.Shanghai.{shanghai, shanghaiColumns, flagColumn}
 use Rattle.list_rows.specs.declared.RowFault.{RowFault}
 use Rattle.list_rules.specs.Lent.{ColumnsLent}
+use Rattle.list_rules.proofs.Lent.{columns-many}
 use Rattle.list_rows.specs.Rows.{shanghaiLines, rowsOf, rowsFound, runKept}
 
--- the table is well made
-ours-well : columnsWell shanghaiColumns ≡ true
-unfolding columnsWell columnWell allBelow every lineWidth columnStart columnWidth columnAt sumBelow shanghaiColumns
-ours-well = refl
-
-pub lent-well : (columns : List (List ℕ)) → ColumnsLent columns → columnsWell (columnsOf columns) ≡ true
-lent-well columns e = ap columnsWell e ∙ ours-well
-
-pub pitch-ours : (width : ℕ) → width ≡ lineWidth shanghaiColumns → width + 2 ≡ linePitch shanghaiColumns
-unfolding linePitch
-pitch-ours width f = ap (λ (n : ℕ). n + 2) f
-
 pub pitch-is : (columns : List (List ℕ)) → ColumnsLent columns → (width : ℕ) → width ≡ lineWidth (columnsOf columns) → width + 2 ≡ linePitch shanghaiColumns
-pitch-is columns e width f = pitch-ours width (f ∙ ap lineWidth e)
-
-pub columns-many : (columns : List (List ℕ)) → ColumnsLent columns → length columns ≡ length shanghaiColumns
-columns-many columns e = sym (columns-length columns) ∙ ap length e
+unfolding linePitch
+pitch-is columns e width f = ap (λ (n : ℕ). n + 2) (f ∙ ap lineWidth e)
 
 pub flag-low : (columns : List (List ℕ)) → ColumnsLent columns → flagColumn < length columns
 unfolding shanghaiColumns

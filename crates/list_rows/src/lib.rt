@@ -71,7 +71,7 @@ pub fn name_place(text: &[u8], first: usize, j: usize) -> TextPart
     ensures { λ r. ⌜ r ≡ namePlace (now (text .entry)) first j ⌝ }
     ensures { λ r. ⌜ r .place + r .length ≤ length (now (text .entry)) ⌝ }
 {
-    let columns = list_rules::COLUMNS;
+    let columns = list_rules::columns();
     let pitch = text_columns::line_width(&columns) + 2;
     if text.len() < first {
         return TextPart {

@@ -1,7 +1,7 @@
 -- The Shanghai form of the text: its table of columns, its table of fields, and which is which.
 use Prim.Native.Nat.{ℕ}
 use mathlib.Core.Bool.{Bool, true, false}
-use mathlib.Core.List.{List, [], _∷_}
+use mathlib.Core.List.{List, [], _∷_, _++_}
 use Rattle.flags.specs.Table.{flagTable, rateUsed, amountUsed}
 use Rattle.digits.specs.declared.Form.{Form}
 use Rattle.lines.specs.Words.{bytes}
@@ -83,6 +83,14 @@ shanghaiFields =
     ∷ field (bytes "NetCreationLimitPerUser") whole anyValue
     ∷ field (bytes "NetRedemptionLimitPerUser") whole anyValue
     ∷ []
+
+-- their names, one behind the other
+unfoldable pub namesOf : List Field → List ℕ
+namesOf [] = []
+namesOf (f ∷ fs) = f .name ++ namesOf fs
+
+unfoldable pub shanghaiNames : List ℕ
+shanghaiNames = namesOf shanghaiFields
 
 -- how many they are, and which is which
 abbrev pub fieldCount : ℕ

@@ -1,4 +1,7 @@
-// What the list text promises: the types of a list and its answers. The definitions are in specs/.
+// What the list text promises: the types of a list and its answers, and the tables of its form. The definitions are in specs/.
+ghost use mathlib.Core.Path.{_≡_};
+ghost use Rattle.list_rules.specs.Shanghai.{shanghaiNames};
+ghost use Rattle.list_rules.specs.Lent.{ColumnsLent, FieldsLent};
 use layout::Fund;
 use rules::Refusal;
 use text_rules::ALWAYS;
@@ -165,3 +168,23 @@ pub const NAMES: [u8; 295] = *b"Fundid1\
     NetRedemptionLimit\
     NetCreationLimitPerUser\
     NetRedemptionLimitPerUser";
+
+// The tables, to be lent: the columns of a component line.
+pub fn columns() -> [[usize; COLUMN_PARTS]; COLUMN_COUNT]
+    ensures { λ r. ⌜ ColumnsLent r ⌝ }
+{
+    COLUMNS
+}
+
+// The fields of the head, and their names.
+pub fn field_rows() -> [[usize; FIELD_PARTS]; FIELD_COUNT]
+    ensures { λ r. ⌜ FieldsLent r shanghaiNames ⌝ }
+{
+    FIELDS
+}
+
+pub fn names() -> [u8; 295]
+    ensures { λ r. ⌜ r ≡ shanghaiNames ⌝ }
+{
+    NAMES
+}

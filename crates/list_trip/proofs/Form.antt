@@ -1,24 +1,15 @@
--- The Shanghai form, computed: its tables are well made, and how many numbers, words and fields it has.
+-- The component lines of the Shanghai form, computed: how many numbers and words they have.
 use mathlib.Core.Path.{_≡_, refl}
-use mathlib.Core.Bool.{true}
 use mathlib.Core.List.{List, append-nil}
 use Prim.Native.Nat.{ℕ}
 use native.Mathlib.Nat.{le-of-eq}
 use lib.ListN.{length}
 use lib.Seq.{take-all}
-use Rattle.sequences.specs.Below.{sumBelow, allBelow, joinBelow}
-use Rattle.sequences.specs.Every.{every}
+use Rattle.sequences.specs.Below.{sumBelow, joinBelow}
 use Rattle.layout.specs.Places.{componentWidth}
-use Rattle.lines.specs.Lines.{otherByte, allBytes}
-use Rattle.text_rules.specs.Tables.{columnAt, fieldAt}
-use Rattle.text_rules.specs.Columns.{columnWidth, columnStart, lineWidth, isText, holdsText, numbersBefore, wordsBefore, lineNumbers, lineWords, partOf, wordsRead, partAt}
-use Rattle.text_rules.specs.Well.{columnWell, columnsWell, isAlways, flagWell, fieldWell, fieldsWell, formWell}
-use Rattle.list_rules.specs.Shanghai.{shanghai, shanghaiColumns, shanghaiFields, fieldCount, nameColumn, nameWidth}
-
-pub shanghai-well : formWell shanghai ≡ true
-unfolding formWell every fieldsWell fieldWell columnsWell columnWell flagWell isAlways shanghai shanghaiColumns shanghaiFields
-    columnAt fieldAt allBelow allBytes otherByte lineWidth columnStart columnWidth sumBelow
-shanghai-well = refl
+use Rattle.text_rules.specs.Tables.{columnAt}
+use Rattle.text_rules.specs.Columns.{columnWidth, isText, holdsText, numbersBefore, wordsBefore, lineNumbers, lineWords, partOf, wordsRead, partAt}
+use Rattle.list_rules.specs.Shanghai.{shanghai, shanghaiColumns, nameColumn, nameWidth}
 
 -- its numbers are those of a component, and its words are the name
 pub line-numbers : lineNumbers (shanghai .columns) ≡ componentWidth
@@ -40,8 +31,3 @@ part-name s e = take-all nameWidth s (le-of-eq e)
 pub name-width : columnWidth shanghaiColumns nameColumn ≡ nameWidth
 unfolding shanghaiColumns columnWidth columnAt
 name-width = refl
-
--- its fields
-pub fields-length : length (shanghai .fields) ≡ fieldCount
-unfolding shanghai shanghaiFields
-fields-length = refl

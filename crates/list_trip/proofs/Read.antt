@@ -28,7 +28,8 @@ use Rattle.list_rules.specs.Fields.{fieldsFrom, figureAt}
 use Rattle.list_rules.specs.Reading.{fieldsRead, componentsRun, readFault}
 use Rattle.list_rules.specs.Writing.{nameAt, sheetOf, textOf, sizesFit, nameFault, writeFault, listChecks}
 use Rattle.list_trip.specs.Trips.{namesRead, listRead, ReadWrites}
-use Rattle.list_trip.proofs.Form.{shanghai-well, line-numbers, line-words, part-name, fields-length}
+use Rattle.list_rules.proofs.Lent.{shanghai-well, fields-count}
+use Rattle.list_trip.proofs.Form.{line-numbers, line-words, part-name}
 use Rattle.list_trip.proofs.Names.{names-texts}
 use Rattle.list_trip.proofs.WrittenSheet.{words-at}
 use Rattle.list_trip.proofs.Written.{written-reads}
@@ -102,7 +103,7 @@ module _ (text : List ℕ) (r : Reads text) where
   head-again : headText shanghaiFields (lettersRead text) (figureAt (fieldsRead text)) (headLines shanghaiFields)
       ≡ headText shanghaiFields (lettersRead text) (figureRead shanghaiFields text) (headLines shanghaiFields)
   unfolding shanghai
-  head-again = head-same shanghaiFields (lettersRead text) _ _ (λ k h. figures-again text r k (omega (arith, fields-length))) (headLines shanghaiFields)
+  head-again = head-same shanghaiFields (lettersRead text) _ _ (λ k h. figures-again text r k (omega (arith, fields-count))) (headLines shanghaiFields)
 
   sheet-again : textOf (listRead text) ≡ sheetText shanghai (sheetRead shanghai text)
   unfolding textOf sheetOf sheetText listRead sheetRead componentsRun shanghai
@@ -112,7 +113,7 @@ module _ (text : List ℕ) (r : Reads text) where
 
   again : textOf (listRead text) ≡ renamed shanghai text
   unfolding shanghai
-  again = sheet-again ∙ text-again text r .again (λ k h. figures-small text r k (omega (arith, fields-length)))
+  again = sheet-again ∙ text-again text r .again (λ k h. figures-small text r k (omega (arith, fields-count)))
 
   -- its fund has all its limits
   limits-length : length (listRead text .fields .fund .limits) ≡ limitCount

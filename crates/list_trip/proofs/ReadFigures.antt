@@ -24,7 +24,7 @@ use Rattle.list_rules.specs.Shanghai.{shanghai, shanghaiFields, fieldCount, est
 use Rattle.list_rules.specs.Fields.{figureAt}
 use Rattle.list_rules.specs.Reading.{fieldsRead}
 use Rattle.list_rules.proofs.Fields.{figures-fields}
-use Rattle.list_trip.proofs.Form.{fields-length}
+use Rattle.list_rules.proofs.Lent.{fields-count}
 use Rattle.list_trip.proofs.ReadTests.{Reads, count-read}
 use Rattle.list_trip.proofs.WrittenFields.{figure-small}
 
@@ -60,7 +60,7 @@ module _ (text : List ℕ) (r : Reads text) where
   unfolding isField shanghai
   field-number k h =
       and-eq-true-iff (isNumber (fieldAt shanghaiFields k .form) (wordOf shanghaiFields text k)) _ .0
-      (forms shanghai text (r .shape) (r .fields) .fields k (omega (arith, fields-length))) .0
+      (forms shanghai text (r .shape) (r .fields) .fields k (omega (arith, fields-count))) .0
 
   -- the fields say the figures that were read
   pub figures-again : (k : ℕ) → k < fieldCount → figureAt (fieldsRead text) k ≡ figureRead shanghaiFields text k
@@ -73,7 +73,8 @@ module _ (text : List ℕ) (r : Reads text) where
 
   -- which are below the cap
   pub figures-small : (k : ℕ) → k < fieldCount → figureRead shanghaiFields text k .size < cap
+  unfolding shanghai
   figures-small k h =
       let p = count-read text r in
       subst (λ (z : Figure). z .size < cap) (figures-again k h)
-      (figure-small (fieldsRead text) (r .ranges) (omega (arith, p .1, p .2)) k (omega (arith, fields-length)))
+      (figure-small (fieldsRead text) (r .ranges) (omega (arith, p .1, p .2)) k (omega (arith, fields-count)))

@@ -25,7 +25,7 @@ use Rattle.list_rules.specs.Reading.{fieldsRead, componentsRun, isCounted, read
 use Rattle.list_rules.specs.Writing.{Listing, sheetOf, textOf}
 use Rattle.list_rules.proofs.Fields.{fields-figures, fields-same}
 use Rattle.list_trip.specs.Trips.{namesRead, listRead, WrittenReads}
-use Rattle.list_trip.proofs.Form.{shanghai-well, fields-length}
+use Rattle.list_rules.proofs.Lent.{shanghai-well, fields-count}
 use Rattle.list_trip.proofs.Names.{names-texts}
 use Rattle.list_trip.proofs.WrittenPassing.{Passing, passing}
 use Rattle.list_trip.proofs.WrittenSheet.{sheet-fits}
@@ -58,7 +58,7 @@ module _ (l : Listing) (full : length (l .fields .fund .limits) ≡ limitCount) 
 
   figure-there : (k : ℕ) → k < fieldCount → figureRead shanghaiFields (textOf l) k ≡ figureAt (l .fields) k
   unfolding textOf sheetOf shanghai
-  figure-there k h = b .figures k (omega (arith, fields-length))
+  figure-there k h = b .figures k (omega (arith, fields-count))
 
   -- the fields are those of the list
   fields-there : fieldsRead (textOf l) ≡ l .fields

@@ -20,7 +20,8 @@ use Rattle.text_trip.proofs.WrittenRows.{rows-length}
 use Rattle.list_rules.specs.Shanghai.{shanghai, shanghaiColumns, shanghaiFields, nameColumn, nameWidth}
 use Rattle.list_rules.specs.Fields.{figureAt}
 use Rattle.list_rules.specs.Writing.{Listing, nameAt, sheetOf, textOf, listChecks}
-use Rattle.list_trip.proofs.Form.{shanghai-well, line-numbers, line-words, part-name}
+use Rattle.list_rules.proofs.Lent.{shanghai-well}
+use Rattle.list_trip.proofs.Form.{line-numbers, line-words, part-name}
 use Rattle.list_trip.proofs.WrittenPassing.{Passing, passing, component-fine, name-fine, name-length}
 use Rattle.list_trip.proofs.WrittenForms.{run-stretch, component-fits}
 use Rattle.list_trip.proofs.WrittenFields.{figure-fits, figure-kind}

@@ -1,16 +1,9 @@
 -- `list_reading::name` meets its contract: an empty part where a line is wrong or the component is none of the text's, else its name.
-use mathlib.Core.Path.{refl, _∙_}
+use mathlib.Core.Path.{_∙_}
 use borrow.Author.Needs.{needs}
-use Rattle.sequences.specs.Below.{sumBelow}
-use Rattle.text_rules.specs.Tables.{fieldsOf, fieldOf, formOf, kindOf, nameBefore, columnsOf, columnOf, useOf}
-use Rattle.list_rules.specs.Shanghai.{shanghaiFields, shanghaiColumns}
 use Rattle.list_reading.proofs.Handed.{name-wrong, name-past, name-is}
 use Rattle.list_reading.proofs.name.Statement.{statement}
 use Rattle.list_reading.proofs.name.Tie as tie
-
-shape-of-requires : tie.Need-shape-of-requires
-unfolding fieldsOf fieldOf formOf kindOf nameBefore sumBelow columnsOf columnOf useOf shanghaiFields shanghaiColumns
-shape-of-requires c κs = (record { fields-are = refl; all-named = refl }, refl)
 
 returns : tie.Need-returns
 returns c = name-wrong _ _ _ (c .before .before .shape-of .ensures) (c .before .if1 .taken)
@@ -27,8 +20,7 @@ pub name-spec : {M : Type 1} → statement M
 name-spec =
     tie.close
     (tie.spec
-    (λ c. search needs) (λ c. search needs) (λ c. search needs)
-    shape-of-requires
+    (λ c κs. search needs)
     (λ c. search needs)
     returns
     (λ c. search needs)

@@ -1,79 +1,69 @@
 -- `list_rows::name_place` meets its contract: the text has such a line where so many bytes are left.
-use mathlib.Core.Path.{refl}
+use mathlib.Core.Path.{_≡_, ap, _∙_}
+use mathlib.Core.List.{List}
+use Prim.Native.Nat.{_+_, _*_, _≤_}
+use native.Mathlib.Omega.{arith}
+use lib.ListN.{length}
 use borrow.Author.Needs.{needs}
-use Rattle.sequences.specs.Below.{sumBelow, allBelow}
-use Rattle.sequences.specs.Every.{every}
-use Rattle.text_rules.specs.Tables.{columnsOf, columnOf, useOf, columnAt}
-use Rattle.text_rules.specs.Columns.{columnWidth, columnStart, lineWidth}
-use Rattle.text_rules.specs.Well.{columnWell, columnsWell}
-use Rattle.list_rules.specs.Shanghai.{shanghaiColumns}
-use Rattle.list_rows.proofs.Rows.{pitch-ours}
+use Rattle.text_rules.specs.Tables.{Column}
+use Rattle.text_rules.specs.Columns.{columnStart, linePitch}
+use Rattle.list_rules.specs.Shanghai.{shanghaiColumns, nameColumn, nameWidth}
+use Rattle.list_rules.proofs.Lent.{columns-well}
+use Rattle.list_rows.proofs.Rows.{pitch-is}
 use Rattle.list_rows.proofs.Names.{line-none, line-some, place-none, place-is, place-room}
 use Rattle.list_rows.proofs.name_place.Statement.{statement}
 use Rattle.list_rows.proofs.name_place.Tie as tie
 
+-- the length of a line with its end, and where its name starts
+pitch : (c : tie.After-line-width) → c .line-width .result + 2 ≡ linePitch shanghaiColumns
+pitch c = pitch-is _ (c .before .before .columns .ensures) _ (c .line-width .ensures .0)
+
+start : (c : tie.After-column-start) → c .column-start .result ≡ columnStart shanghaiColumns nameColumn
+start c =
+    c .column-start .ensures .0
+    ∙ ap (λ (cs : List Column). columnStart cs nameColumn) (c .before .before .before .before .before .before .columns .ensures)
+
+-- the text has the line
+line : (c : tie.Else2) → let w = c .before .before in let a = w .before .before .before .before .args in
+    a .first + a .j * (w .line-width .result + 2) + (w .line-width .result + 2) ≤ length (a .text .now)
+line c = line-some _ _ _ _ (omega arith) (c .before .if1 .left) (c .if2 .left)
+
+room : (c : tie.After-column-start) → let w = c .before .before .before .before in let a = w .before .before .before .before .args in
+    a .first + a .j * (w .line-width .result + 2) + c .column-start .result + nameWidth ≤ length (a .text .now)
+room c =
+    let w = c .before .before .before .before in
+    let a = w .before .before .before .before .args in
+    place-room (a .text .now) (a .first) (a .j) _ (pitch w) (line (c .before .before)) (start c)
+
 line-width-requires : tie.Need-line-width-requires
-unfolding columnsWell columnWell allBelow every lineWidth columnStart columnWidth columnAt sumBelow columnsOf columnOf useOf
-line-width-requires c κs = refl
+line-width-requires c κs = columns-well _ (c .before .columns .ensures)
 
 returns : tie.Need-returns
-unfolding columnsOf columnOf useOf shanghaiColumns
-returns c =
-    let w = c .before in
-    (place-none _ _ _ _ (pitch-ours _ (w .line-width .ensures .0)) (search needs), search needs)
+returns c = (place-none _ _ _ _ (pitch (c .before)) (search needs), search needs)
 
 returns-2 : tie.Need-returns-2
-unfolding columnsOf columnOf useOf shanghaiColumns
-returns-2 c =
-    let w = c .before .before in
-    (place-none _ _ _ _ (pitch-ours _ (w .line-width .ensures .0)) (line-none _ _ _ _ (search needs) (search needs) (c .if2 .taken)), search needs)
+returns-2 c = (place-none _ _ _ _ (pitch (c .before .before)) (line-none _ _ _ _ (omega arith) (c .before .if1 .left) (c .if2 .taken)), search needs)
 
 column-start-requires : tie.Need-column-start-requires
-unfolding columnsWell columnWell allBelow every lineWidth columnStart columnWidth columnAt sumBelow columnsOf columnOf useOf
-column-start-requires c κs = (refl, search needs)
+column-start-requires c κs = (columns-well _ (c .before .before .before .before .before .columns .ensures), search needs)
 
 mul-lines : tie.Need-mul-lines
-unfolding columnsOf columnOf useOf shanghaiColumns
-mul-lines c =
-    let w = c .before .before .before .before in
-    let s = w .before .before .before in
-    let p = pitch-ours _ (w .line-width .ensures .0) in
-    let l = line-some _ _ _ _ (search needs) (search needs) (c .before .before .if2 .left) in
-    search needs
+mul-lines c = let r = room c in search needs
 
 add-row : tie.Need-add-row
-unfolding columnsOf columnOf useOf shanghaiColumns
-add-row c =
-    let w = c .before .before .before .before in
-    let s = w .before .before .before in
-    let p = pitch-ours _ (w .line-width .ensures .0) in
-    let l = line-some _ _ _ _ (search needs) (search needs) (c .before .before .if2 .left) in
-    search needs
+add-row c = let r = room c in search needs
 
 add-place : tie.Need-add-place
-unfolding columnsOf columnOf useOf shanghaiColumns
-add-place c =
-    let w = c .before .before .before .before in
-    let s = w .before .before .before in
-    let p = pitch-ours _ (w .line-width .ensures .0) in
-    let l = line-some _ _ _ _ (search needs) (search needs) (c .before .before .if2 .left) in
-    let r = place-room (s .args .text .now) (s .args .first) (s .args .j) _ p l (c .column-start .ensures .0) in
-    search needs
+add-place c = let r = room c in search needs
 
 returns-3 : tie.Need-returns-3
-unfolding columnsOf columnOf useOf shanghaiColumns
-returns-3 c =
-    let w = c .before .before .before .before in
-    let s = w .before .before .before in
-    let p = pitch-ours _ (w .line-width .ensures .0) in
-    let l = line-some _ _ _ _ (search needs) (search needs) (c .before .before .if2 .left) in
-    (place-is _ _ _ _ p l (c .column-start .ensures .0), place-room (s .args .text .now) (s .args .first) (s .args .j) _ p l (c .column-start .ensures .0))
+returns-3 c = (place-is _ _ _ _ (pitch (c .before .before .before .before)) (line (c .before .before)) (start c), room c)
 
 pub name-place-spec : {M : Type 1} → statement M
 name-place-spec =
     tie.close
     (tie.spec
-    (λ c. search needs)
+    (λ c κs. search needs) (λ c. search needs)
     line-width-requires
     (λ c. search needs)
     returns

@@ -6,12 +6,13 @@ use Rattle.text_rules.specs.Columns.{linePitch, columnStart}
 use Prim.Native.Nat.{_*_}
 use native.Mathlib.Omega.{arith}
 use borrow.Author.Needs.{needs}
-use Rattle.list_rows.proofs.Rows.{lent-well, columns-many, pitch-is, end-room, row-room, part-long, rows-part, flag-low, fault-lent, kept-lent, column-low, place-short, row-place, row-none}
+use Rattle.list_rules.proofs.Lent.{columns-well, columns-many}
+use Rattle.list_rows.proofs.Rows.{pitch-is, end-room, row-room, part-long, rows-part, flag-low, fault-lent, kept-lent, column-low, place-short, row-place, row-none}
 use Rattle.list_rows.proofs.read_rows.Statement.{statement}
 use Rattle.list_rows.proofs.read_rows.Tie as tie
 
 line-width-requires : tie.Need-line-width-requires
-line-width-requires c κs = lent-well _ (c .before .before .pre .0 .0)
+line-width-requires c κs = columns-well _ (c .before .before .pre .0 .0)
 
 mul-end : tie.Need-mul-end
 mul-end c =
@@ -35,7 +36,7 @@ read-columns-requires : tie.Need-read-columns-requires
 read-columns-requires c κs =
     let w = c .before .before in
     let s = w .before .before .before in (
-      (lent-well _ (s .pre .0 .0), flag-low _ (s .pre .0 .0)),
+      (columns-well _ (s .pre .0 .0), flag-low _ (s .pre .0 .0)),
       part-long (s .args .text .now) (s .args .start) (s .args .count) _ (pitch-is _ (s .pre .0 .0) _ (w .line-width .ensures .0)) (s .pre .1 .1)
           ∙ ap (λ (cs : List Column). s .args .count * linePitch cs) (sym (s .pre .0 .0)),
     )
@@ -74,7 +75,7 @@ column-start-requires c κs =
     let g = fault-lent _ _ (s .pre .0 .0) (s .pre .0 .1) _ _ part _ _ (x .read-columns .ensures .0) in
     let kept = kept-lent _ _ (s .pre .0 .0) (s .pre .0 .1) _ _ part _ (s .pre .1 .0 .1) _ _ (x .read-columns .ensures .1) in
     let low = column-low (s .args .text .now) _ _ (s .pre .1 .0 .0) (s .pre .1 .0 .1) (x .read-columns .result) g (c .if1 .taken) in
-    (lent-well _ (s .pre .0 .0), omega (arith, low, columns-many _ (s .pre .0 .0)))
+    (columns-well _ (s .pre .0 .0), omega (arith, low, columns-many _ (s .pre .0 .0)))
 
 add-place-2 : tie.Need-add-place-2
 add-place-2 c =

@@ -1,10 +1,10 @@
--- `list_reading::end_stands` meets its contract: the line has its end, and it is ENDENDEND.
+-- `list_shape::end_stands` meets its contract: the line has its end, and it is ENDENDEND.
 use borrow.Author.Needs.{needs}
 use Rattle.lines.specs.Lines.{same}
 use Rattle.text_rules.specs.Head.{endWord}
 use Rattle.text_rows.proofs.Standing.{stands-open, stands-ended}
-use Rattle.list_reading.proofs.end_stands.Statement.{statement}
-use Rattle.list_reading.proofs.end_stands.Tie as tie
+use Rattle.list_shape.proofs.end_stands.Statement.{statement}
+use Rattle.list_shape.proofs.end_stands.Tie as tie
 
 returns : tie.Need-returns
 returns c = stands-open (λ l. same l endWord) _ _ _ (c .before .line-len .ensures .0) (c .if1 .taken)

@@ -1,4 +1,4 @@
--- `list_reading::body_shape` meets its contract: each return is a law of what stands behind the head.
+-- `list_shape::body_shape` meets its contract: each return is a law of what stands behind the head.
 use mathlib.Core.Path.{_≡_, sym, ap, _∙_}
 use mathlib.Core.Bool.{true}
 use Prim.Native.Nat.{ℕ, _+_, _*_, _≤_}
@@ -10,10 +10,11 @@ use Rattle.text_rules.specs.Columns.{linePitch}
 use Rattle.text_rules.specs.Head.{endWord}
 use Rattle.text_rules.specs.Reading.{lineStands, rowCount, endStart}
 use Rattle.list_rules.specs.Shanghai.{shanghai, shanghaiColumns}
-use Rattle.list_rows.proofs.Rows.{lent-well, pitch-is, end-room}
-use Rattle.list_reading.proofs.Stages.{shaped-at, shaped-end, shaped-behind, shaped-rows, end-is, count-found, rows-room}
-use Rattle.list_reading.proofs.body_shape.Statement.{statement}
-use Rattle.list_reading.proofs.body_shape.Tie as tie
+use Rattle.list_rules.proofs.Lent.{columns-well}
+use Rattle.list_rows.proofs.Rows.{pitch-is, end-room}
+use Rattle.list_shape.proofs.Shaped.{shaped-at, shaped-end, shaped-behind, shaped-rows, end-is, count-found, rows-room}
+use Rattle.list_shape.proofs.body_shape.Statement.{statement}
+use Rattle.list_shape.proofs.body_shape.Tie as tie
 
 -- the component lines are the text's, and take so many bytes
 count : (c : tie.After-line-width) → c .before .row-count .result ≡ rowCount shanghai (c .before .before .before .args .text .now)
@@ -42,10 +43,10 @@ ends : (c : tie.Else1) → let w = c .before .before in let a = w .before .befor
 ends c = sym (c .before .end-stands .ensures) ∙ not-false _ (c .if1 .left)
 
 row-count-requires : tie.Need-row-count-requires
-row-count-requires c κs = let p = c .before .pre in (lent-well _ (p .0 .0), p .1 .1)
+row-count-requires c κs = let p = c .before .pre in (columns-well _ (p .0 .0), p .1 .1)
 
 line-width-requires : tie.Need-line-width-requires
-line-width-requires c κs = lent-well _ (c .before .before .pre .0 .0)
+line-width-requires c κs = columns-well _ (c .before .before .pre .0 .0)
 
 add-end : tie.Need-add-end
 add-end c = let r = room c in search needs

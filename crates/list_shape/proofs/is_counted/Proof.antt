@@ -1,8 +1,8 @@
--- `list_reading::is_counted` meets its contract: each return is a law of the test for what was compared before it.
+-- `list_shape::is_counted` meets its contract: each return is a law of the test for what was compared before it.
 use borrow.Author.Needs.{needs}
-use Rattle.list_reading.proofs.Tests.{count-low, count-high, count-same}
-use Rattle.list_reading.proofs.is_counted.Statement.{statement}
-use Rattle.list_reading.proofs.is_counted.Tie as tie
+use Rattle.list_shape.proofs.Counts.{count-low, count-high, count-same}
+use Rattle.list_shape.proofs.is_counted.Statement.{statement}
+use Rattle.list_shape.proofs.is_counted.Tie as tie
 
 returns : tie.Need-returns
 returns c = count-low _ _ (c .if1 .taken)

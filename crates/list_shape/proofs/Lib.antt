@@ -1,0 +1,3 @@
+pub mod Checks
+pub mod Shaped
+pub mod Counts

@@ -1,0 +1,93 @@
+// The lines of a list text in the Shanghai form: refusals 18 and 20, and where the component lines stand.
+ghost use mathlib.Core.Path.{_≡_};
+ghost use Prim.Native.Nat.{_≤_};
+ghost use lib.ListN.{length};
+ghost use Rattle.lines.specs.Lines.{same};
+ghost use Rattle.text_rules.specs.Head.{headLines, endWord};
+ghost use Rattle.text_rules.specs.Reading.{lineStands, wrongLine, bodyStart};
+ghost use Rattle.list_rules.specs.Shanghai.{shanghai, shanghaiFields};
+ghost use Rattle.list_rules.specs.Reading.{isCounted};
+ghost use Rattle.list_rules.specs.Lent.{ColumnsLent};
+ghost use Rattle.list_shape.specs.Shape.{Shaped, wrongAt};
+use text_rules::COLUMN_PARTS;
+
+// What refusal 18's tests find: its place, or where the component lines start and how many there are.
+pub struct Shape {
+    pub wrong: bool,
+    pub place: usize,
+    pub start: usize,
+    pub count: usize,
+}
+
+fn wrong_at(place: usize) -> Shape
+    ensures { λ r. ⌜ r ≡ wrongAt place ⌝ }
+{
+    Shape {
+        wrong: true,
+        place,
+        start: 0,
+        count: 0,
+    }
+}
+
+// Whether ENDENDEND with its end stands at a place.
+fn end_stands(text: &[u8], at: usize) -> bool
+    requires { ⌜ at ≤ length (now text) ⌝ }
+    ensures { λ r. ⌜ r ≡ lineStands (λ l. same l endWord) (now (text .entry)) at ⌝ }
+{
+    let n = lines::line_len(&text[at..]);
+    if text.len() - at <= n {
+        return false;
+    }
+    lines::same_bytes(&text[at..at + n], b"ENDENDEND")
+}
+
+// Refusal 18 behind the head.
+fn body_shape(columns: &[[usize; COLUMN_PARTS]], text: &[u8], start: usize) -> Shape
+    requires { ⌜ ColumnsLent (now columns) × (wrongLine shanghaiFields (now text) ≡ headLines shanghaiFields) ⌝ }
+    requires { ⌜ (start ≡ bodyStart shanghai (now text)) × (start ≤ length (now text)) ⌝ }
+    ensures { λ r. ⌜ Shaped (now (text .entry)) r ⌝ }
+{
+    let count = text_rows::row_count(columns, text, start);
+    let end = start + count * (text_columns::line_width(columns) + 2);
+    if !end_stands(text, end) {
+        return wrong_at(end);
+    }
+    let behind = end + text_rules::END_SIZE;
+    if behind < text.len() {
+        return wrong_at(behind);
+    }
+    Shape {
+        wrong: false,
+        place: 0,
+        start,
+        count,
+    }
+}
+
+// Refusal 18.
+pub fn shape_of(text: &[u8]) -> Shape
+    ensures { λ r. ⌜ Shaped (now (text .entry)) r ⌝ }
+{
+    let fields = list_rules::field_rows();
+    let names = list_rules::names();
+    let head = text_head::head_shape(&fields, &names, text);
+    if head.wrong < list_rules::FIELD_COUNT + 2 {
+        return wrong_at(head.place);
+    }
+    let columns = list_rules::columns();
+    body_shape(&columns, text, head.place)
+}
+
+// Refusal 20's test.
+pub fn is_counted(recordnum: u64, count: usize) -> bool
+    ensures { λ r. ⌜ r ≡ isCounted recordnum count ⌝ }
+{
+    if recordnum < 1 {
+        return false;
+    }
+    if (layout::MOST_COMPONENTS as u64) < recordnum {
+        return false;
+    }
+    recordnum == count as u64
+}
