@@ -30,7 +30,7 @@ use Rattle.list_rules.proofs.Fields.{fields-same}
 use Rattle.text_rules.specs.Columns.{linePitch, columnFault, lineNumbers, numbersRead}
 use Rattle.lines.specs.Lines.{ended}
 use Rattle.text_rules.specs.Head.{isOpening, lettersStart}
-use Rattle.text_head.proofs.Opening.{letters-count}
+use Rattle.text_lines.proofs.Opening.{letters-count}
 use Rattle.text_rules.specs.Reading.{startOf, lineOf, lineStands, lettersRead, rowCount, rowOf, shapeChecks, fieldChecks, wrongField, fieldStart, figureRead, wrongRow, columnPlace, runRead}
 use Rattle.text_rules.specs.Well.{mostFields}
 use Rattle.text_trip.proofs.Below.{join-same}

@@ -119,7 +119,7 @@ pub fn read(text: &[u8], run: &mut [u64]) -> ListRead
 pub fn letters(text: &[u8]) -> &[u8]
     ensures { λ r. ⌜ now r ≡ lettersRead (now (text .entry)) ⌝ }
 {
-    text_head::letters(text)
+    text_lines::letters(text)
 }
 
 // Where they stand.

@@ -48,7 +48,7 @@ fn body_shape(columns: &[[usize; COLUMN_PARTS]], text: &[u8], start: usize) -> S
     requires { ⌜ (start ≡ bodyStart shanghai (now text)) × (start ≤ length (now text)) ⌝ }
     ensures { λ r. ⌜ Shaped (now (text .entry)) r ⌝ }
 {
-    let count = text_rows::row_count(columns, text, start);
+    let count = text_lines::row_count(columns, text, start);
     let end = start + count * (text_columns::line_width(columns) + 2);
     if !end_stands(text, end) {
         return wrong_at(end);

@@ -90,7 +90,7 @@ fn write_answer(
     if !list_fields::fields_in_range(fields) {
         return ListAnswer::Refused(Refusal::FundField);
     }
-    if !text_head::is_letters(letters) {
+    if !text_lines::is_letters(letters) {
         return ListAnswer::Refused(Refusal::FundField);
     }
     let fault = write_fault(fields.fund.first_code, run, names, count);

@@ -2,7 +2,7 @@
 use borrow.Author.Needs.{needs}
 use Rattle.lines.specs.Lines.{same}
 use Rattle.text_rules.specs.Head.{endWord}
-use Rattle.text_rows.proofs.Standing.{stands-open, stands-ended}
+use Rattle.text_lines.proofs.Standing.{stands-open, stands-ended}
 use Rattle.list_shape.proofs.end_stands.Statement.{statement}
 use Rattle.list_shape.proofs.end_stands.Tie as tie
 
