@@ -1,17 +1,11 @@
 // Writes a number's field, by its form.
 ghost use mathlib.Core.Path.{_≡_};
 ghost use Prim.Native.Nat.{_+_, _≤_, _<_, _^_};
-ghost use mathlib.Core.List.{[], _∷_};
-ghost use lib.ListN.{length, take, drop, replicate};
-ghost use Rattle.digits.specs.Digits.{fixed, tens, wholeText, plainText, signedText, numberText};
-ghost use Rattle.digits.specs.Written.{put, Written};
+ghost use lib.ListN.{length};
+ghost use Rattle.digits.specs.Digits.{tens, wholeText, plainText, signedText, numberText};
+ghost use Rattle.digits.specs.Written.{Written};
 use digits::Figure;
 use digits::Form;
-
-pub mod tail;
-
-// The bytes that are written at once.
-const BLOCK: usize = 8;
 
 // How many digits n has after its first.
 fn more_digits(n: u64) -> usize
@@ -86,91 +80,13 @@ pub fn number_size(form: Form, z: Figure) -> usize
     n
 }
 
-// Writes one byte.
-pub fn put_byte(dst: &mut [u8], at: usize, b: u8) -> usize
-    requires { ⌜ at < length (now dst) ⌝ }
-    ensures { λ r. ⌜ Written (now (dst .entry)) at (b ∷ []) (now (dst .exit)) r ⌝ }
-{
-    dst[at] = b;
-    at + 1
-}
-
-// Writes all of src.
-pub fn put_bytes(dst: &mut [u8], at: usize, src: &[u8]) -> usize
-    requires { ⌜ at + length (now src) ≤ length (now dst) ⌝ }
-    ensures { λ r. ⌜ Written (now (dst .entry)) at (now (src .entry)) (now (dst .exit)) r ⌝ }
-{
-    let mut i = 0;
-    while i < src.len() {
-        dst[at + i] = src[i];
-        i += 1;
-    }
-    at + i
-}
-
-// Writes the block of src from a place on. Its length is a constant, so that it is one move.
-fn put_block(dst: &mut [u8], at: usize, src: &[u8], from: usize)
-    requires { ⌜ (from + 8 ≤ length (now src)) × (at + 8 ≤ length (now dst)) ⌝ }
-    ensures { λ _. ⌜ now (dst .exit) ≡ put (now (dst .entry)) at (take 8 (drop from (now (src .entry)))) ⌝ }
-{
-    let mut k = 0;
-    while k < BLOCK {
-        dst[at + k] = src[from + k];
-        k += 1;
-    }
-}
-
-// Writes all of src as `put_bytes` does, in blocks as far as they go.
-pub fn put_blocks(dst: &mut [u8], at: usize, src: &[u8]) -> usize
-    requires { ⌜ at + length (now src) ≤ length (now dst) ⌝ }
-    ensures { λ r. ⌜ Written (now (dst .entry)) at (now (src .entry)) (now (dst .exit)) r ⌝ }
-{
-    let mut i = 0;
-    while BLOCK <= src.len() - i {
-        put_block(dst, at + i, src, i);
-        i += BLOCK;
-    }
-    if i == src.len() {
-        return at + i;
-    }
-    put_bytes(dst, at + i, &src[i..])
-}
-
-// Writes k blanks.
-pub fn put_blanks(dst: &mut [u8], at: usize, k: usize) -> usize
-    requires { ⌜ at + k ≤ length (now dst) ⌝ }
-    ensures { λ r. ⌜ Written (now (dst .entry)) at (replicate k 32) (now (dst .exit)) r ⌝ }
-{
-    let mut i = 0;
-    while i < k {
-        dst[at + i] = 32;
-        i += 1;
-    }
-    at + i
-}
-
-// Writes the last k digits of n.
-pub fn put_fixed(dst: &mut [u8], at: usize, k: usize, n: u64) -> usize
-    requires { ⌜ at + k ≤ length (now dst) ⌝ }
-    ensures { λ r. ⌜ Written (now (dst .entry)) at (fixed k n) (now (dst .exit)) r ⌝ }
-{
-    let mut m = n;
-    let mut i = k;
-    while 0 < i {
-        i -= 1;
-        dst[at + i] = 48 + ((m % 10) as u8);
-        m = m / 10;
-    }
-    at + k
-}
-
 // Writes the digits before the point.
 fn put_whole(dst: &mut [u8], at: usize, digits: usize, n: u64) -> usize
     requires { ⌜ at + length (wholeText digits n) ≤ length (now dst) ⌝ }
     ensures { λ r. ⌜ Written (now (dst .entry)) at (wholeText digits n) (now (dst .exit)) r ⌝ }
 {
     let k = whole_size(digits, n);
-    put_fixed(dst, at, k, n)
+    digits_put::put_fixed(dst, at, k, n)
 }
 
 // Writes the number without its sign.
@@ -184,8 +100,8 @@ fn put_plain(dst: &mut [u8], at: usize, form: Form, n: u64) -> usize
         return put_whole(dst, at, form.digits, n);
     }
     let p = put_whole(dst, at, form.digits, n / power(k));
-    let q = put_byte(dst, p, 46);
-    put_fixed(dst, q, k, n)
+    let q = digits_put::put_byte(dst, p, 46);
+    digits_put::put_fixed(dst, q, k, n)
 }
 
 // Writes the number with its sign.
@@ -195,7 +111,7 @@ fn put_signed(dst: &mut [u8], at: usize, form: Form, z: Figure) -> usize
     ensures { λ r. ⌜ Written (now (dst .entry)) at (signedText form z) (now (dst .exit)) r ⌝ }
 {
     if z.negative {
-        let p = put_byte(dst, at, 45);
+        let p = digits_put::put_byte(dst, at, 45);
         return put_plain(dst, p, form, z.size);
     }
     put_plain(dst, at, form, z.size)
@@ -208,6 +124,6 @@ pub fn put_number(dst: &mut [u8], at: usize, form: Form, z: Figure) -> usize
     ensures { λ r. ⌜ Written (now (dst .entry)) at (numberText form z) (now (dst .exit)) r ⌝ }
 {
     let k = number_size(form, z) - signed_size(form, z);
-    let p = put_blanks(dst, at, k);
+    let p = digits_put::put_blanks(dst, at, k);
     put_signed(dst, p, form, z)
 }

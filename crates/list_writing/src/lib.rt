@@ -135,7 +135,7 @@ fn put_list(
         count,
         &mut output[p..q],
     );
-    digits_writing::put_bytes(output, q, b"ENDENDEND\r\n");
+    digits_put::put_bytes(output, q, b"ENDENDEND\r\n");
 }
 
 // Writes a list at the front of the lent output, and answers how many bytes it takes. A refusal changes nothing.

@@ -36,18 +36,18 @@ fn put_number(cell: &mut [u8], column: [usize; COLUMN_PARTS], n: u64)
 {
     let width = column[text_rules::WIDTH];
     if column[text_rules::DIGITS] != 0 {
-        digits_writing::tail::put_last(cell, width, width, n);
+        digits_put::tail::put_last(cell, width, width, n);
         return;
     }
     let decimals = column[text_rules::DECIMALS];
     if decimals == 0 {
-        digits_writing::tail::put_whole(cell, width, n);
+        digits_put::tail::put_whole(cell, width, n);
         return;
     }
-    let left = digits_writing::tail::put_last(cell, width, decimals, n);
+    let left = digits_put::tail::put_last(cell, width, decimals, n);
     let point = width - (decimals + 1);
     cell[point] = 46;
-    digits_writing::tail::put_whole(cell, point, left);
+    digits_put::tail::put_whole(cell, point, left);
 }
 
 // Writes a number into its place in a line, where the column is used, and the bar behind it.
@@ -71,8 +71,8 @@ pub fn put_words(line: &mut [u8], at: usize, words: &[u8])
     requires { ⌜ at + length (now words) < length (now line) ⌝ }
     ensures { λ _. ⌜ now (line .exit) ≡ put (now (line .entry)) at (now (words .entry) ++ 124 ∷ []) ⌝ }
 {
-    let e = digits_writing::put_blocks(line, at, words);
-    digits_writing::put_byte(line, e, text_rules::BAR);
+    let e = digits_put::put_blocks(line, at, words);
+    digits_put::put_byte(line, e, text_rules::BAR);
 }
 
 // Writes the end of a line.
@@ -80,6 +80,6 @@ pub fn put_end(line: &mut [u8], at: usize)
     requires { ⌜ at + 2 ≤ length (now line) ⌝ }
     ensures { λ _. ⌜ now (line .exit) ≡ put (now (line .entry)) at (13 ∷ 10 ∷ []) ⌝ }
 {
-    let e = digits_writing::put_byte(line, at, 13);
-    digits_writing::put_byte(line, e, 10);
+    let e = digits_put::put_byte(line, at, 13);
+    digits_put::put_byte(line, e, 10);
 }

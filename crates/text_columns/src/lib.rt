@@ -77,12 +77,12 @@ fn read_right(n: usize, s: &[u8]) -> Size
     requires { ⌜ length (now s) ≤ mostWidth ⌝ }
     ensures { λ r. ⌜ r ≡ numberSize (rightForm n 0) (now (s .entry)) ⌝ }
 {
-    let b = digits_reading::leading_blanks(s);
+    let b = digits_scan::leading_blanks(s);
     let t = &s[b..];
-    if !digits_reading::is_shaped(n, t) {
+    if !digits_scan::is_shaped(n, t) {
         return Size::Ill;
     }
-    digits_reading::read_few(t, 0)
+    digits_scan::read_few(t, 0)
 }
 
 // A number with decimals, right in its column, so that the point stands at a known place.
@@ -97,7 +97,7 @@ fn read_point(decimals: usize, s: &[u8]) -> Size
     let head = read_right(0, &s[..p]);
     match head {
         Size::Ill => Size::Ill,
-        Size::Known(v) => digits_reading::read_few(&s[p + 1..], v),
+        Size::Known(v) => digits_scan::read_few(&s[p + 1..], v),
     }
 }
 
@@ -105,7 +105,7 @@ fn read_point(decimals: usize, s: &[u8]) -> Size
 fn read_blanks(s: &[u8]) -> Size
     ensures { λ r. ⌜ r ≡ sizeReading (allBlank (now (s .entry))) 0 ⌝ }
 {
-    if digits_reading::is_blank(s) {
+    if digits_scan::is_blank(s) {
         return Size::Known(0);
     }
     Size::Ill

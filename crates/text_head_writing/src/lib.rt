@@ -88,9 +88,9 @@ fn put_opening(dst: &mut [u8], at: usize, letters: &[u8]) -> usize
     requires { ⌜ at + (length (now letters) + openingRest) ≤ length (now dst) ⌝ }
     ensures { λ r. ⌜ Written (now (dst .entry)) at (lineText (openingWord ++ (now (letters .entry) ++ closingWord))) (now (dst .exit)) r ⌝ }
 {
-    let p = digits_writing::put_bytes(dst, at, b"[ETF");
-    let q = digits_writing::put_bytes(dst, p, letters);
-    digits_writing::put_bytes(dst, q, b"]\r\n")
+    let p = digits_put::put_bytes(dst, at, b"[ETF");
+    let q = digits_put::put_bytes(dst, p, letters);
+    digits_put::put_bytes(dst, q, b"]\r\n")
 }
 
 // Writes the line of field k, with that name.
@@ -106,10 +106,10 @@ fn put_field(
     requires { ⌜ at + length (lineText (now name ++ 61 ∷ numberText (formOf (getD (now fields) k [])) z)) ≤ length (now dst) ⌝ }
     ensures { λ r. ⌜ Written (now (dst .entry)) at (lineText (now (name .entry) ++ 61 ∷ numberText (formOf (getD (now (fields .entry)) k [])) z)) (now (dst .exit)) r ⌝ }
 {
-    let p = digits_writing::put_bytes(dst, at, name);
-    let q = digits_writing::put_byte(dst, p, 61);
+    let p = digits_put::put_bytes(dst, at, name);
+    let q = digits_put::put_byte(dst, p, 61);
     let r = digits_writing::put_number(dst, q, text_head::field_form(fields, k), z);
-    digits_writing::put_bytes(dst, r, b"\r\n")
+    digits_put::put_bytes(dst, r, b"\r\n")
 }
 
 // Writes line k of the head, with that name.
@@ -132,7 +132,7 @@ fn put_line(
     if k <= fields.len() {
         return put_field(fields, k - 1, name, z, dst, at);
     }
-    digits_writing::put_bytes(dst, at, b"TAGTAG\r\n")
+    digits_put::put_bytes(dst, at, b"TAGTAG\r\n")
 }
 
 // Writes the head.

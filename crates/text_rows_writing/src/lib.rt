@@ -209,7 +209,7 @@ pub fn put_rows(
     ensures { λ _. ⌜ now (rows .exit) ≡ rowsText (lineForm (columnsOf (now (columns .entry))) «flag_at» (now (flags .entry))) (now (run .entry)) (now (texts .entry)) count ⌝ }
 {
     let line = taken_before(columns, columns.len());
-    digits_writing::put_blanks(rows, 0, rows.len());
+    digits_put::put_blanks(rows, 0, rows.len());
     put_columns(flags, columns, flag_at, line, run, texts, count, rows);
     put_ends(count, rows, line.bytes + 2, line.bytes);
 }
