@@ -150,7 +150,7 @@ pub fn name(text: &[u8], j: usize) -> &[u8]
     if shape.count <= j {
         return &text[..0];
     }
-    list_rows::name_from(text, shape.start, j)
+    list_names::name_from(text, shape.start, j)
 }
 
 // The same without looking at the text's lines again: `first` is where reading found the first component line. With another place
@@ -158,12 +158,12 @@ pub fn name(text: &[u8], j: usize) -> &[u8]
 pub fn name_from(text: &[u8], first: usize, j: usize) -> &[u8]
     ensures { λ r. ⌜ now r ≡ nameFrom (now (text .entry)) first j ⌝ }
 {
-    list_rows::name_from(text, first, j)
+    list_names::name_from(text, first, j)
 }
 
 // Where that name stands.
 pub fn name_place(text: &[u8], first: usize, j: usize) -> TextPart
     ensures { λ r. ⌜ r ≡ namePlace (now (text .entry)) first j ⌝ }
 {
-    list_rows::name_place(text, first, j)
+    list_names::name_place(text, first, j)
 }

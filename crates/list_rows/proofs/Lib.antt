@@ -1,4 +1,2 @@
-pub mod Sought
 pub mod Rows
-pub mod Names
-pub mod Copies
+mod Copies

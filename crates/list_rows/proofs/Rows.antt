@@ -25,10 +25,6 @@ use Rattle.list_rules.specs.Lent.{ColumnsLent}
 use Rattle.list_rules.proofs.Lent.{columns-many}
 use Rattle.list_rows.specs.Rows.{shanghaiLines, rowsOf, rowsFound, runKept}
 
-pub pitch-is : (columns : List (List ℕ)) → ColumnsLent columns → (width : ℕ) → width ≡ lineWidth (columnsOf columns) → width + 2 ≡ linePitch shanghaiColumns
-unfolding linePitch
-pitch-is columns e width f = ap (λ (n : ℕ). n + 2) (f ∙ ap lineWidth e)
-
 pub flag-low : (columns : List (List ℕ)) → ColumnsLent columns → flagColumn < length columns
 unfolding shanghaiColumns
 flag-low columns e = omega (arith, columns-many columns e)

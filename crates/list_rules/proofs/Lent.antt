@@ -1,5 +1,5 @@
 -- The Shanghai form is well made and has so many fields, and the tables that are lent are well made too.
-use Prim.Native.Nat.{ℕ}
+use Prim.Native.Nat.{ℕ, _+_}
 use mathlib.Core.Path.{_≡_, refl, sym, ap, _∙_}
 use mathlib.Core.Bool.{true}
 use mathlib.Core.List.{List}
@@ -8,7 +8,7 @@ use Rattle.sequences.specs.Below.{sumBelow, allBelow}
 use Rattle.sequences.specs.Every.{every}
 use Rattle.lines.specs.Lines.{otherByte, allBytes}
 use Rattle.text_rules.specs.Tables.{Column, columnsOf, fieldsOf, columnAt, fieldAt}
-use Rattle.text_rules.specs.Columns.{columnWidth, columnStart, lineWidth}
+use Rattle.text_rules.specs.Columns.{columnWidth, columnStart, lineWidth, linePitch}
 use Rattle.text_rules.specs.Well.{columnWell, columnsWell, isAlways, flagWell, fieldWell, fieldsWell, formWell}
 use Rattle.text_rules.proofs.Tables.{columns-length}
 use Rattle.text_rules.proofs.Well.{form-facts}
@@ -44,3 +44,8 @@ module _ (rows : List (List ℕ)) (names : List ℕ) (lent : FieldsLent rows nam
 -- the rows and the names that two functions hand back go together
 pub fields-lent : (rows : List (List ℕ)) (names : List ℕ) → FieldsLent rows shanghaiNames → names ≡ shanghaiNames → FieldsLent rows names
 fields-lent rows names lent e = rw e lent
+
+-- what a line takes with its end
+pub pitch-is : (columns : List (List ℕ)) → ColumnsLent columns → (width : ℕ) → width ≡ lineWidth (columnsOf columns) → width + 2 ≡ linePitch shanghaiColumns
+unfolding linePitch
+pitch-is columns e width f = ap (λ (n : ℕ). n + 2) (f ∙ ap lineWidth e)

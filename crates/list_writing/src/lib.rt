@@ -42,7 +42,7 @@ fn write_fault(first_code: u64, run: &[u64], names: &[u8], count: usize) -> usiz
     ensures { λ r. ⌜ r ≡ min (componentFault «first_code» (placesOf (componentAt (now (run .entry))) count) count) (nameFault (now (names .entry)) count) ⌝ }
 {
     let fault = fund::run_fault(first_code, run, count);
-    let name = list_rows::name_fault(names, count);
+    let name = list_names::name_fault(names, count);
     if fault < name {
         return fault;
     }

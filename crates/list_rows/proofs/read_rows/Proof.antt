@@ -7,7 +7,8 @@ use Prim.Native.Nat.{_*_}
 use native.Mathlib.Omega.{arith}
 use borrow.Author.Needs.{needs}
 use Rattle.list_rules.proofs.Lent.{columns-well, columns-many}
-use Rattle.list_rows.proofs.Rows.{pitch-is, end-room, row-room, part-long, rows-part, flag-low, fault-lent, kept-lent, column-low, place-short, row-place, row-none}
+use Rattle.list_rows.proofs.Rows.{end-room, row-room, part-long, rows-part, flag-low, fault-lent, kept-lent, column-low, place-short, row-place, row-none}
+use Rattle.list_rules.proofs.Lent.{pitch-is}
 use Rattle.list_rows.proofs.read_rows.Statement.{statement}
 use Rattle.list_rows.proofs.read_rows.Tie as tie
 

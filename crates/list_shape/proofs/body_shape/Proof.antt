@@ -11,7 +11,8 @@ use Rattle.text_rules.specs.Head.{endWord}
 use Rattle.text_rules.specs.Reading.{lineStands, rowCount, endStart}
 use Rattle.list_rules.specs.Shanghai.{shanghai, shanghaiColumns}
 use Rattle.list_rules.proofs.Lent.{columns-well}
-use Rattle.list_rows.proofs.Rows.{pitch-is, end-room}
+use Rattle.list_rows.proofs.Rows.{end-room}
+use Rattle.list_rules.proofs.Lent.{pitch-is}
 use Rattle.list_shape.proofs.Shaped.{shaped-at, shaped-end, shaped-behind, shaped-rows, end-is, count-found, rows-room}
 use Rattle.list_shape.proofs.body_shape.Statement.{statement}
 use Rattle.list_shape.proofs.body_shape.Tie as tie

@@ -1,4 +1,4 @@
--- `list_rows::name_place` meets its contract: the text has such a line where so many bytes are left.
+-- `list_names::name_place` meets its contract: the text has such a line where so many bytes are left.
 use mathlib.Core.Path.{_≡_, ap, _∙_}
 use mathlib.Core.List.{List}
 use Prim.Native.Nat.{_+_, _*_, _≤_}
@@ -9,10 +9,10 @@ use Rattle.text_rules.specs.Tables.{Column}
 use Rattle.text_rules.specs.Columns.{columnStart, linePitch}
 use Rattle.list_rules.specs.Shanghai.{shanghaiColumns, nameColumn, nameWidth}
 use Rattle.list_rules.proofs.Lent.{columns-well}
-use Rattle.list_rows.proofs.Rows.{pitch-is}
-use Rattle.list_rows.proofs.Names.{line-none, line-some, place-none, place-is, place-room}
-use Rattle.list_rows.proofs.name_place.Statement.{statement}
-use Rattle.list_rows.proofs.name_place.Tie as tie
+use Rattle.list_rules.proofs.Lent.{pitch-is}
+use Rattle.list_names.proofs.Names.{line-none, line-some, place-none, place-is, place-room}
+use Rattle.list_names.proofs.name_place.Statement.{statement}
+use Rattle.list_names.proofs.name_place.Tie as tie
 
 -- the length of a line with its end, and where its name starts
 pitch : (c : tie.After-line-width) → c .line-width .result + 2 ≡ linePitch shanghaiColumns

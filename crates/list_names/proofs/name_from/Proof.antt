@@ -1,10 +1,10 @@
--- `list_rows::name_from` meets its contract: it is the part of the text at that place.
+-- `list_names::name_from` meets its contract: it is the part of the text at that place.
 use mathlib.Core.Path.{ap}
 use native.Mathlib.Nat.{add-sub-cancel-left}
 use Rattle.list_rules.specs.Reading.{partIn, nameFrom}
 use borrow.Author.Needs.{needs}
-use Rattle.list_rows.proofs.name_from.Statement.{statement}
-use Rattle.list_rows.proofs.name_from.Tie as tie
+use Rattle.list_names.proofs.name_from.Statement.{statement}
+use Rattle.list_names.proofs.name_from.Tie as tie
 
 returns : tie.Need-returns
 unfolding nameFrom

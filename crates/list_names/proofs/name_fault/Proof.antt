@@ -1,13 +1,13 @@
--- `list_rows::name_fault` meets its contract. Where every byte is fine, no name is at fault. The loop's invariant: no name below `j` is at
+-- `list_names::name_fault` meets its contract. Where every byte is fine, no name is at fault. The loop's invariant: no name below `j` is at
 -- fault.
 use Prim.Native.Nat.{_-_}
 use mathlib.Core.Path.{sym, _∙_}
 use lib.Seq.{length-take-le}
 use borrow.Author.Needs.{needs}
-use Rattle.list_rows.proofs.Sought.{Sought, sought-start, sought-again, sought-found, sought-end}
-use Rattle.list_rows.proofs.Names.{badAt, bad-here, bad-first, names-fine}
-use Rattle.list_rows.proofs.name_fault.Statement.{statement}
-use Rattle.list_rows.proofs.name_fault.Tie as tie
+use Rattle.list_names.proofs.Sought.{Sought, sought-start, sought-again, sought-found, sought-end}
+use Rattle.list_names.proofs.Names.{badAt, bad-here, bad-first, names-fine}
+use Rattle.list_names.proofs.name_fault.Statement.{statement}
+use Rattle.list_names.proofs.name_fault.Tie as tie
 
 abbrev Inv-loop : tie.InvT-loop
 Inv-loop names count n j₀ j = Sought (badAt names) count j

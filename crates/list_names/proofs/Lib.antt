@@ -1,0 +1,2 @@
+mod Sought
+mod Names
