@@ -1,4 +1,4 @@
--- The tables that are lent are the Shanghai form's: they are well made, and the head and the component lines written by them are the list's.
+-- The tables that are lent are the Shanghai form's: the head and the component lines written by them are the list's.
 use mathlib.Core.Path.{_≡_, refl, ap, ap₂, _∙_, subst⁻¹}
 use mathlib.Core.Bool.{Bool, true}
 use mathlib.Core.List.{List}
@@ -15,17 +15,16 @@ use Rattle.text_rules.specs.Tables.{Field, Column, TextForm, lineForm, columnsO
 use Rattle.text_rules.specs.Columns.{lineNumbers, lineWords, contentAt, columnText, rowText}
 use Rattle.text_rules.specs.Head.{headLines}
 use Rattle.text_rules.specs.Writing.{numbersAt, wordsAt, headText, rowsText}
-use Rattle.text_rules.specs.Well.{fieldsWell, flagWell, mostFields}
-use Rattle.text_rules.proofs.Well.{form-facts}
+use Rattle.text_rules.specs.Well.{mostFields}
 use Rattle.text_trip.specs.Trips.{RowFits}
 use Rattle.text_head_writing.specs.Lines.{arrayFigure}
 use Rattle.list_rules.specs.declared.ListFields.{ListFields}
-use Rattle.list_rules.specs.Shanghai.{shanghai, shanghaiFields, shanghaiColumns, fieldCount, flagColumn}
+use Rattle.list_rules.specs.Shanghai.{shanghai, shanghaiFields, fieldCount, flagColumn}
 use Rattle.list_rules.specs.Fields.{figureAt, figuresOf}
 use Rattle.list_rules.specs.Lent.{ColumnsLent, FieldsLent}
 use Rattle.list_rules.specs.Writing.{Listing, sheetOf, listChecks}
 use Rattle.list_rows.specs.Rows.{shanghaiLines}
-use Rattle.list_trip.proofs.Form.{shanghai-well, fields-length}
+use Rattle.list_rules.proofs.Lent.{fields-count}
 use Rattle.list_trip.proofs.ReadFigures.{head-same}
 use Rattle.list_trip.proofs.WrittenSheet.{rows-fit, sheet-fits}
 
@@ -36,21 +35,11 @@ headOf l = headText shanghaiFields (l .letters) (figureAt (l .fields)) (headLine
 abbrev pub linesOf : Listing → List ℕ
 linesOf l = rowsText shanghai (l .run) (l .names) (l .fields .count)
 
--- The Shanghai form.
-
-ours-fields : fieldsWell shanghaiFields ≡ true
-unfolding shanghai
-ours-fields = form-facts shanghai shanghai-well .fields
-
-ours-flag : flagWell shanghaiColumns flagColumn ≡ true
-unfolding shanghai
-ours-flag = form-facts shanghai shanghai-well .flag
-
 -- an array has the figures of the fields
 figure-same : (fields : ListFields) (k : ℕ) → k < length shanghaiFields → arrayFigure (figuresOf fields) k ≡ figureAt fields k
 unfolding figuresOf shanghai
 figure-same fields k h =
-    let low : k < fieldCount = omega (arith, fields-length) in
+    let low : k < fieldCount = omega (arith, fields-count) in
     table-at _ mostFields k (plain 0) (omega arith) ∙ rw (lt-ltb k fieldCount low)
 
 -- a component line is the same whatever the fields of the head are
@@ -65,9 +54,6 @@ fit-ours l e = rows-fit l e
 
 -- The lent fields.
 module _ (rows : List (List ℕ)) (names : List ℕ) (lent : FieldsLent rows names) where
-  pub fields-well : fieldsWell (fieldsOf rows names) ≡ true
-  fields-well = ap fieldsWell (lent .fields-are) ∙ ours-fields
-
   pub head-lent : (l : Listing) (figures : List Figure) → figures ≡ figuresOf (l .fields)
       → headText (fieldsOf rows names) (l .letters) (arrayFigure figures) (headLines (fieldsOf rows names)) ≡ headOf l
   head-lent l figures e =
@@ -76,9 +62,6 @@ module _ (rows : List (List ℕ)) (names : List ℕ) (lent : FieldsLent rows nam
 
 -- The lent columns and flags.
 module _ (columns : List (List ℕ)) (e : ColumnsLent columns) where
-  pub flag-well : flagWell (columnsOf columns) flagColumn ≡ true
-  flag-well = ap (λ (cs : List Column). flagWell cs flagColumn) e ∙ ours-flag
-
   module _ (l : Listing) (p : passes (listChecks l) ≡ true) where
     pub run-long : length (l .run) ≡ l .fields .count * lineNumbers (columnsOf columns)
     unfolding sheetOf shanghai

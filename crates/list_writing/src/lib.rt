@@ -148,9 +148,9 @@ pub fn write(
 ) -> ListAnswer
     ensures { λ r. ⌜ WriteOutcome (listing fields (now (run .entry)) (now (names .entry)) (now (letters .entry))) (now (output .entry)) r (now (output .exit)) ⌝ }
 {
-    let field_rows = list_rules::FIELDS;
-    let labels = list_rules::NAMES;
-    let columns = list_rules::COLUMNS;
+    let field_rows = list_rules::field_rows();
+    let labels = list_rules::names();
+    let columns = list_rules::columns();
     let flags = flags::TABLE;
     let answer = write_answer(
         &field_rows,

@@ -9,9 +9,10 @@ use Rattle.text_rules.specs.Columns.{linePitch}
 use Rattle.text_rules.specs.Head.{endSize}
 use Rattle.list_rules.specs.Shanghai.{shanghaiColumns}
 use Rattle.list_rules.specs.Writing.{Listing, listing}
-use Rattle.list_rows.proofs.Rows.{lent-well, pitch-is}
+use Rattle.list_rules.proofs.Lent.{columns-well, flag-well, fields-well}
+use Rattle.list_rows.proofs.Rows.{pitch-is}
 use Rattle.list_trip.proofs.WrittenPassing.{passing}
-use Rattle.list_writing.proofs.Lent.{headOf, linesOf, fields-well, head-lent, flag-well, run-long, names-long, lines-lent, fit-lent}
+use Rattle.list_writing.proofs.Lent.{headOf, linesOf, head-lent, run-long, names-long, lines-lent, fit-lent}
 use Rattle.list_writing.proofs.Sizes.{head-room, lines-room, part-long, end-room, text-put}
 use Rattle.list_writing.proofs.put_list.Statement.{statement}
 use Rattle.list_writing.proofs.put_list.Tie as tie
@@ -57,7 +58,7 @@ put-head-requires c κs =
     ((fields-well _ _ (s .pre .0 .0), s .pre .0 .0 .all-named), rw h (head-room (list s) (s .args .output .now) (s .pre .1 .1)))
 
 line-width-requires : tie.Need-line-width-requires
-line-width-requires c κs = lent-well _ (c .before .before .before .before .before .before .before .before .before .before .pre .0 .1)
+line-width-requires c κs = columns-well _ (c .before .before .before .before .before .before .before .before .before .before .pre .0 .1)
 
 mul-q : tie.Need-mul-q
 mul-q c =
@@ -80,7 +81,7 @@ put-rows-requires c κs =
     let s = c .before .before .before .before .before .before .before .before .before .before .before .before in
     let p = s .pre .1 .0 in
     let e = s .pre .0 .1 in (
-      (lent-well _ e, flag-well _ e),
+      (columns-well _ e, flag-well _ e),
       (
         (run-long _ e (list s) p, names-long _ e (list s) p),
         (

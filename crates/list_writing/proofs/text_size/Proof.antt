@@ -4,9 +4,10 @@ use native.Mathlib.Omega.{arith}
 use borrow.Author.Needs.{needs}
 use lib.ListN.{length}
 use Rattle.list_rules.specs.Writing.{Listing, listing}
-use Rattle.list_rows.proofs.Rows.{lent-well, pitch-is}
+use Rattle.list_rules.proofs.Lent.{columns-well, fields-well}
+use Rattle.list_rows.proofs.Rows.{pitch-is}
 use Rattle.list_trip.proofs.WrittenPassing.{Passing, passing}
-use Rattle.list_writing.proofs.Lent.{headOf, fields-well, head-lent}
+use Rattle.list_writing.proofs.Lent.{headOf, head-lent}
 use Rattle.list_writing.proofs.Sizes.{letters-few, lines-low, text-size}
 use Rattle.list_writing.proofs.text_size.Statement.{statement}
 use Rattle.list_writing.proofs.text_size.Tie as tie
@@ -33,7 +34,7 @@ head-size-requires c κs =
     ((fields-well _ _ (s .pre .0 .0), s .pre .0 .0 .all-named), letters-few (list s) (fine s))
 
 line-width-requires : tie.Need-line-width-requires
-line-width-requires c κs = lent-well _ (c .before .before .before .before .before .before .pre .0 .1)
+line-width-requires c κs = columns-well _ (c .before .before .before .before .before .before .pre .0 .1)
 
 mul-result : tie.Need-mul-result
 mul-result c =
