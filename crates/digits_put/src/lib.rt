@@ -5,8 +5,6 @@ ghost use mathlib.Core.List.{[], _∷_};
 ghost use lib.ListN.{length, take, drop, replicate};
 ghost use Rattle.digits.specs.Digits.{fixed};
 ghost use Rattle.digits.specs.Written.{put, Written};
-use digits::Figure;
-use digits::Form;
 
 pub mod tail;
 

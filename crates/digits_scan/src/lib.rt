@@ -4,9 +4,6 @@ ghost use mathlib.Core.Bool.{true, false};
 ghost use Prim.Native.Nat.{_+_, _-_, _*_, _^_, _≤_, _<_};
 ghost use lib.ListN.{length};
 ghost use Rattle.digits.specs.Digits.{cap, capped, isDigit, isShaped, blanks, allBlank, readOn};
-use digits::Figure;
-use digits::Form;
-use digits::Reading;
 use digits::Size;
 
 // Above every range: what a number that is more is read as.

@@ -10,7 +10,7 @@ use Rattle.text_rules.specs.Head.{endSize}
 use Rattle.list_rules.specs.Shanghai.{shanghaiColumns}
 use Rattle.list_rules.specs.Writing.{Listing, listing}
 use Rattle.list_rules.proofs.Lent.{columns-well, flag-well, fields-well}
-use Rattle.list_rows.proofs.Rows.{pitch-is}
+use Rattle.list_rules.proofs.Lent.{pitch-is}
 use Rattle.list_trip.proofs.WrittenPassing.{passing}
 use Rattle.list_writing.proofs.Lent.{headOf, linesOf, head-lent, run-long, names-long, lines-lent, fit-lent}
 use Rattle.list_writing.proofs.Sizes.{head-room, lines-room, part-long, end-room, text-put}

@@ -5,7 +5,7 @@ use borrow.Author.Needs.{needs}
 use lib.ListN.{length}
 use Rattle.list_rules.specs.Writing.{Listing, listing}
 use Rattle.list_rules.proofs.Lent.{columns-well, fields-well}
-use Rattle.list_rows.proofs.Rows.{pitch-is}
+use Rattle.list_rules.proofs.Lent.{pitch-is}
 use Rattle.list_trip.proofs.WrittenPassing.{Passing, passing}
 use Rattle.list_writing.proofs.Lent.{headOf, head-lent}
 use Rattle.list_writing.proofs.Sizes.{letters-few, lines-low, text-size}
