@@ -12,7 +12,7 @@ use Rattle.sequences.specs.Every.{inside}
 use Rattle.sequences.proofs.Every.{every-at, inside-facts}
 use Rattle.flags.specs.Table.{entryIn}
 use Rattle.digits.specs.declared.Form.{Form}
-use Rattle.digits.specs.Digits.{plain, fixed, wholeText, plainText, signedText, numberText, cap, capped, from, blanks, isDigit, allDigits, isWhole, isPlain, plainSize}
+use Rattle.digits.specs.Digits.{plain, fixed, wholeText, plainText, signedText, numberText, cap, capped, from, blanks, isDigit, allDigits, isShaped, isWhole, isPlain, plainSize}
 use Rattle.digits.specs.Digits.{hasMinus, isSigned, signedFigure, trimmed, isNumber, figureOf}
 use Rattle.digits.specs.Fits.{Fits}
 use Rattle.text_rules.specs.Tables.{Use, alwaysUsed, usedByFlag, forText, Column, TextForm, columnAt}
@@ -61,7 +61,7 @@ digit-size b h = let e : 0 * 10 + (b - 48) ≡ b - 48 = omega arith in rw (e, le
 -- by whether it is a blank
 digit-cases : (b : ℕ) (blank : Bool) → isSigned oneDigit (drop (cond blank 1 0) (b ∷ [])) ≡ true
     → signedFigure oneDigit (drop (cond blank 1 0) (b ∷ [])) .size ≡ b - 48
-unfolding isSigned signedFigure hasMinus isPlain plainSize isWhole allDigits isDigit
+unfolding isSigned signedFigure hasMinus isPlain plainSize isWhole isShaped allDigits isDigit
 digit-cases b true e = absurd (false≢true (every-at _ e 0))
 digit-cases b false e =
     digit-size b (inside-facts 48 57 b (and-eq-true-iff (inside 48 57 b) true .0 (every-at _ e 1) .0) .1)
