@@ -1,4 +1,1 @@
-pub mod Replies
-pub mod Lent
-pub mod Sizes
-pub mod Tests
+mod Replies

@@ -24,7 +24,7 @@ use Rattle.list_rules.specs.Shanghai.{shanghai, shanghaiColumns}
 use Rattle.list_rules.specs.Writing.{Listing, sheetOf, textOf, listChecks}
 use Rattle.list_trip.proofs.WrittenPassing.{Passing}
 use Rattle.list_trip.proofs.WrittenSheet.{text-length}
-use Rattle.list_writing.proofs.Lent.{headOf, linesOf}
+use Rattle.list_writing_tests.proofs.Lent.{headOf, linesOf}
 
 -- the letters are at most eight
 pub letters-few : (l : Listing) → Passing l → length (l .letters) ≤ mostLetters

@@ -1,0 +1,4 @@
+mod Replies
+pub mod Lent
+pub mod Sizes
+mod Tests
