@@ -1,4 +1,3 @@
-pub mod Replies
-pub mod Lent
+pub mod Outcomes
+pub mod Lines
 pub mod Sizes
-pub mod Tests

@@ -1,41 +1,27 @@
--- How long the text of a list is, and its head, component lines and last line written one behind the other.
-use mathlib.Core.Path.{_≡_, sym, ap, _∙_}
-use mathlib.Core.Bool.{true, and-eq-true-iff}
+-- The head, the component lines and the last line of a list, written one behind the other.
+use mathlib.Core.Path.{_≡_, refl, sym, ap, _∙_}
+use mathlib.Core.Bool.{true}
 use mathlib.Core.List.{List, _++_, append-assoc}
 use Prim.Native.Nat.{ℕ, _+_, _-_, _*_, _≤_}
-use native.Mathlib.Nat.{mul-le-mul, add-sub-cancel-left}
+use native.Mathlib.Nat.{add-sub-cancel-left}
 use native.Mathlib.Omega.{arith}
 use lib.ListN.{length, take, drop, length-append, length-drop}
 use lib.Seq.{length-take-le}
 use borrow.Rule.Slice.PartMut.{putMid}
 use Rattle.sequences.specs.Checks.{passes}
-use Rattle.sequences.proofs.Every.{inside-facts}
-use Rattle.layout.specs.Places.{mostComponents}
 use Rattle.digits.specs.Written.{Written, put}
 use Rattle.digits.proofs.Put.{written-then, written-length}
 use Rattle.lines.specs.Lines.{lineText}
 use Rattle.lines.proofs.Laws.{length-lineText}
-use Rattle.text_rules.specs.Head.{isLetters, endWord, mostLetters, endSize}
+use Rattle.text_rules.specs.Head.{endWord, endSize}
 use Rattle.text_rules.specs.Columns.{linePitch}
 use Rattle.text_rules.specs.Writing.{sheetText}
-use Rattle.text_rules.specs.Well.{mostLine}
 use Rattle.text_rows_writing.proofs.Cells.{part-put}
 use Rattle.list_rules.specs.Shanghai.{shanghai, shanghaiColumns}
 use Rattle.list_rules.specs.Writing.{Listing, sheetOf, textOf, listChecks}
-use Rattle.list_trip.proofs.WrittenPassing.{Passing}
-use Rattle.list_trip.proofs.WrittenSheet.{text-length}
-use Rattle.list_writing.proofs.Lent.{headOf, linesOf}
-
--- the letters are at most eight
-pub letters-few : (l : Listing) → Passing l → length (l .letters) ≤ mostLetters
-unfolding isLetters
-letters-few l p = inside-facts 1 mostLetters (length (l .letters)) (and-eq-true-iff _ _ .0 (p .letters) .0) .1
-
--- the component lines of any well-made table are not too long
-pub lines-low : (count width : ℕ) → count ≤ mostComponents → width ≤ mostLine → count * (width + 2) ≤ mostComponents * (mostLine + 2)
-lines-low count width h w =
-    let wide : width + 2 ≤ mostLine + 2 = omega arith in
-    mul-le-mul h wide
+use Rattle.list_writing_tests.proofs.Heads.{headOf}
+use Rattle.list_writing_tests.proofs.Sizes.{text-size}
+use Rattle.list_writing.proofs.Lines.{linesOf}
 
 -- the lengths of a text's parts
 parts : (l : Listing) → length (textOf l) ≡ length (headOf l) + (length (linesOf l) + endSize)
@@ -50,14 +36,8 @@ head-room l d room = omega (arith, parts l, room)
 
 -- A list that passes, with the length of a component line as the code computes it.
 module _ (l : Listing) (e : passes (listChecks l) ≡ true) (pitch : ℕ) (f : pitch ≡ linePitch shanghaiColumns) where
-  pitched : l .fields .count * pitch ≡ l .fields .count * linePitch shanghaiColumns
-  pitched = ap (λ (n : ℕ). l .fields .count * n) f
-
-  pub text-size : (head : ℕ) → head ≡ length (headOf l) → head + (l .fields .count * pitch + endSize) ≡ length (textOf l)
-  text-size head h = omega (arith, h, pitched, text-length l e, length-lineText endWord)
-
   lines-long : length (linesOf l) ≡ l .fields .count * pitch
-  lines-long = omega (arith, pitched, parts l, text-length l e, length-lineText endWord)
+  lines-long = omega (arith, parts l, text-size l e pitch f _ refl)
 
   -- written into a lent output
   module _ (d : List ℕ) (room : length (textOf l) ≤ length d) {d₁ : List ℕ} {a : ℕ} (u : Written d 0 (headOf l) d₁ a) where

@@ -1,4 +1,4 @@
--- `list_writing::write_answer` meets its contract: each return is the reply of a law for what was tested before it.
+-- `list_writing_tests::write_answer` meets its contract: each return is the reply of a law for what was tested before it.
 use mathlib.Core.Path.{_≡_, sym, _∙_}
 use mathlib.Core.Bool.{true, false}
 use borrow.Author.Needs.{needs}
@@ -6,9 +6,9 @@ use borrow.Author.Tests.{not-true, not-false, lt-ltb, le-ltb}
 use Rattle.sequences.specs.Checks.{passes}
 use Rattle.list_rules.specs.Fields.{fieldsInRange}
 use Rattle.list_rules.specs.Writing.{Listing, listing, sizesFit, writeFault, listChecks}
-use Rattle.list_writing.proofs.Replies.{sizes-sound, sizes-are, rangeWrong, range-fields, range-letters, range-right, list-passes, fault-is, reply-1, reply-2, reply-3, reply-16, reply-0}
-use Rattle.list_writing.proofs.write_answer.Statement.{statement}
-use Rattle.list_writing.proofs.write_answer.Tie as tie
+use Rattle.list_writing_tests.proofs.Replies.{sizes-sound, sizes-are, rangeWrong, range-fields, range-letters, range-right, list-passes, fault-is, reply-1, reply-2, reply-3, reply-16, reply-0}
+use Rattle.list_writing_tests.proofs.write_answer.Statement.{statement}
+use Rattle.list_writing_tests.proofs.write_answer.Tie as tie
 
 -- the list
 abbrev list : tie.Start → Listing

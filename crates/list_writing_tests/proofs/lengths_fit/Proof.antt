@@ -1,8 +1,8 @@
--- `list_writing::lengths_fit` meets its contract: each return is a law of the test for what was compared before it.
+-- `list_writing_tests::lengths_fit` meets its contract: each return is a law of the test for what was compared before it.
 use borrow.Author.Needs.{needs}
-use Rattle.list_writing.proofs.Tests.{count-low, count-high, run-other, names-decide}
-use Rattle.list_writing.proofs.lengths_fit.Statement.{statement}
-use Rattle.list_writing.proofs.lengths_fit.Tie as tie
+use Rattle.list_writing_tests.proofs.Tests.{count-low, count-high, run-other, names-decide}
+use Rattle.list_writing_tests.proofs.lengths_fit.Statement.{statement}
+use Rattle.list_writing_tests.proofs.lengths_fit.Tie as tie
 
 returns : tie.Need-returns
 returns c = count-low _ _ _ (c .if1 .taken)

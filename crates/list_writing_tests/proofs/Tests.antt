@@ -9,7 +9,7 @@ use borrow.Author.Tests.{le-leb, lt-leb, eq-eqb, ne-eqb}
 use Rattle.layout.specs.Places.{mostComponents, componentWidth}
 use Rattle.list_rules.specs.Shanghai.{nameWidth}
 use Rattle.sequences.specs.Every.{every, inside}
-use Rattle.list_writing.specs.Outcome.{lengthsFit}
+use Rattle.list_writing_tests.specs.Lengths.{lengthsFit}
 
 and-last : (b : Bool) → b ≡ (b && true)
 and-last true = refl

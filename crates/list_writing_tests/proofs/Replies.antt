@@ -1,28 +1,21 @@
 -- The reply of writing, test by test.
 use mathlib.Core.Path.{_≡_, refl, sym, ap, _∙_}
 use mathlib.Core.Bool.{Bool, true, false, not, _&&_}
-use mathlib.Core.List.{List}
 use Prim.Native.Nat.{ℕ, _*_, _≤_, min}
 use lib.Dec.{ltb}
 use lib.ListN.{length}
-use borrow.Author.Tests.{eqb-true, ltb-false}
-use Rattle.sequences.specs.Checks.{reply, answered, passes, isAccepted}
+use borrow.Author.Tests.{eqb-true}
+use Rattle.sequences.specs.Checks.{reply, answered, passes}
 use Rattle.sequences.proofs.Every.{every-at, inside-facts}
-use Rattle.sequences.proofs.Checks.{passed-all, passes-all, answered-next, accepted-passes}
+use Rattle.sequences.proofs.Checks.{passes-all, answered-next}
 use Rattle.fund.specs.Components.{componentFault}
 use Rattle.layout.specs.Places.{mostComponents, componentWidth}
 use Rattle.layout.specs.Components.{componentAt, placesOf}
-use Rattle.rules.specs.declared.Refusal.{Refusal}
-use Rattle.rules.proofs.Replies.{is-refused}
-use Rattle.digits.specs.Written.{put}
-use Rattle.list_rules.specs.declared.ListAnswer.{ListAnswer}
-use Rattle.list_rules.specs.declared.ListAnswer.the-variants.{Done, Refused}
-use Rattle.list_rules.specs.Replies.{listReply}
 use Rattle.text_rules.specs.Head.{isLetters}
 use Rattle.list_rules.specs.Shanghai.{nameWidth}
 use Rattle.list_rules.specs.Fields.{fieldsInRange}
-use Rattle.list_rules.specs.Writing.{Listing, sizesFit, nameFault, writeFault, listChecks, textOf, writeChecks, writeReply, outputAfter}
-use Rattle.list_writing.specs.Outcome.{WriteOutcome, lengthsFit}
+use Rattle.list_rules.specs.Writing.{Listing, sizesFit, nameFault, writeFault, listChecks, textOf, writeChecks, writeReply}
+use Rattle.list_writing_tests.specs.Lengths.{lengthsFit}
 
 module _ (l : Listing) where
   pub sizes-are : lengthsFit (l .fields .count) (length (l .run)) (length (l .names)) ≡ sizesFit l
@@ -86,24 +79,3 @@ module _ (l : Listing) where
     pub reply-0 : passes (listChecks l) ≡ true → ltb room (length (textOf l)) ≡ false → reply 0 0 (length (textOf l)) ≡ writeReply l room
     unfolding writeReply writeChecks answered
     reply-0 p e = sym (answered-next (listChecks l) _ _ p ∙ rw e)
-
--- what writing leaves of the output
-module _ (l : Listing) (output : List ℕ) (r : ListAnswer) (e : listReply r ≡ writeReply l (length output)) where
-  pub outcome-written : (n : ℕ) (output′ : List ℕ) → r ≡ Done n → output′ ≡ put output 0 (textOf l) → WriteOutcome l output r output′
-  unfolding outputAfter isAccepted
-  outcome-written n output′ d p = record { answer-is = e; output-is = rw (← e, d) p }
-
-  pub outcome-refused : (why : Refusal) → r ≡ Refused why → WriteOutcome l output r output
-  unfolding outputAfter
-  outcome-refused why d = record { answer-is = e; output-is = rw (is-refused why _ (ap listReply (sym d) ∙ e)) }
-
-  -- an accepted list passes its tests and fits
-  accepted : (n : ℕ) → r ≡ Done n → isAccepted (writeReply l (length output)) ≡ true
-  unfolding isAccepted
-  accepted n d = rw (← e, d)
-
-  pub accepted-list : (n : ℕ) → r ≡ Done n → (passes (listChecks l) ≡ true) × (length (textOf l) ≤ length output)
-  unfolding writeReply writeChecks listChecks
-  accepted-list n d =
-      let p = passed-all _ (accepted-passes (writeChecks l (length output)) _ tt (accepted n d)) in
-      (passes-all (listChecks l) (p .0, (p .1 .0, (p .1 .1 .0, tt))), ltb-false _ _ (p .1 .1 .1 .0))

@@ -1,4 +1,4 @@
--- `list_writing::text_size` meets its contract: the head's bytes, a pitch for each component line, and the last line.
+-- `list_writing_tests::text_size` meets its contract: the head's bytes, a pitch for each component line, and the last line.
 use mathlib.Core.Path.{_≡_}
 use native.Mathlib.Omega.{arith}
 use borrow.Author.Needs.{needs}
@@ -7,10 +7,10 @@ use Rattle.list_rules.specs.Writing.{Listing, listing}
 use Rattle.list_rules.proofs.Lent.{columns-well, fields-well}
 use Rattle.list_rows.proofs.Rows.{pitch-is}
 use Rattle.list_trip.proofs.WrittenPassing.{Passing, passing}
-use Rattle.list_writing.proofs.Lent.{headOf, head-lent}
-use Rattle.list_writing.proofs.Sizes.{letters-few, lines-low, text-size}
-use Rattle.list_writing.proofs.text_size.Statement.{statement}
-use Rattle.list_writing.proofs.text_size.Tie as tie
+use Rattle.list_writing_tests.proofs.Heads.{headOf, head-lent}
+use Rattle.list_writing_tests.proofs.Sizes.{letters-few, lines-low, text-size}
+use Rattle.list_writing_tests.proofs.text_size.Statement.{statement}
+use Rattle.list_writing_tests.proofs.text_size.Tie as tie
 
 -- the list
 abbrev list : tie.Start → Listing

@@ -1,0 +1,4 @@
+pub mod Replies
+pub mod Heads
+pub mod Sizes
+pub mod Tests
