@@ -55,20 +55,21 @@ module _ (text : List ℕ) where
   unfolding rowsOf
   rows-part start count e f pitch g = rw (add-sub-cancel-left start (count * pitch), e, f, g)
 
+-- the form of the tables that are lent
+pub form-lent : (columns : List (List ℕ)) (flags : List (List Bool)) → ColumnsLent columns → flags ≡ flagTable → lineForm (columnsOf columns) flagColumn flags ≡ shanghaiLines
+form-lent columns flags e f = ap₂ (λ (cs : List Column) (t : List (List Bool)). lineForm cs flagColumn t) e f
+
 -- What the code found and kept, with the tables that it was lent.
 module _ (columns : List (List ℕ)) (flags : List (List Bool)) (e : ColumnsLent columns) (f : flags ≡ flagTable) (part text : List ℕ) (g : part ≡ rowsOf text) (count : ℕ) where
-  form-lent : lineForm (columnsOf columns) flagColumn flags ≡ shanghaiLines
-  form-lent = ap₂ (λ (cs : List Column) (t : List (List Bool)). lineForm cs flagColumn t) e f
-
   pub fault-lent : (fault : CellFault) → fault ≡ faultIn (lineForm (columnsOf columns) flagColumn flags) part count → fault ≡ faultIn shanghaiLines (rowsOf text) count
-  fault-lent fault h = h ∙ ap₂ (λ (t : TextForm) (l : List ℕ). faultIn t l count) form-lent g
+  fault-lent fault h = h ∙ ap₂ (λ (t : TextForm) (l : List ℕ). faultIn t l count) (form-lent columns flags e f) g
 
   pub kept-lent : count ≡ rowCount shanghai text → (run run′ : List ℕ) → run′ ≡ numbersKept (lineForm (columnsOf columns) flagColumn flags) part count (length columns) run
       → run′ ≡ runKept text run
   unfolding runKept
   kept-lent c run run′ h =
       h
-      ∙ ap₂ (λ (t : TextForm) (l : List ℕ). numbersKept t l count (length columns) run) form-lent g
+      ∙ ap₂ (λ (t : TextForm) (l : List ℕ). numbersKept t l count (length columns) run) (form-lent columns flags e f) g
       ∙ ap₂ (λ (n m : ℕ). numbersKept shanghaiLines (rowsOf text) n m run) c (columns-many columns e)
 
 -- What is found, where the code has the fault of these lines.

@@ -1,1 +1,3 @@
-mod Replies
+pub mod Outcomes
+pub mod Lines
+pub mod Sizes

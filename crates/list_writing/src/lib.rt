@@ -1,4 +1,4 @@
-// Writing the list text. The tables are lent: the rows of the fields, their names as labels, and the columns.
+// Writing the list text.
 ghost use mathlib.Core.Path.{_≡_};
 ghost use mathlib.Core.Bool.{true};
 ghost use Prim.Native.Nat.{_*_, _≤_};
@@ -11,6 +11,7 @@ ghost use Rattle.list_rules.specs.Writing.{listing, listChecks, textOf};
 ghost use Rattle.list_writing.specs.Outcome.{WriteOutcome};
 use list_rules::ListAnswer;
 use list_rules::ListFields;
+use rules::Refusal;
 use text_rules::COLUMN_PARTS;
 use text_rules::FIELD_PARTS;
 

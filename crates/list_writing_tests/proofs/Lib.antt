@@ -1,4 +1,4 @@
-mod Replies
-pub mod Lent
+pub mod Replies
+pub mod Heads
 pub mod Sizes
-mod Tests
+pub mod Tests

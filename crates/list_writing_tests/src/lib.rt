@@ -1,4 +1,4 @@
-// The tests of writing a list: what it answers.
+// What writing a list answers: its tests, and how many bytes the text takes.
 ghost use mathlib.Core.Path.{_≡_};
 ghost use mathlib.Core.Bool.{true};
 ghost use Prim.Native.Nat.{_*_, _≤_, min};

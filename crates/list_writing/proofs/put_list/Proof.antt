@@ -12,8 +12,9 @@ use Rattle.list_rules.specs.Writing.{Listing, listing}
 use Rattle.list_rules.proofs.Lent.{columns-well, flag-well, fields-well}
 use Rattle.list_rules.proofs.Lent.{pitch-is}
 use Rattle.list_trip.proofs.WrittenPassing.{passing}
-use Rattle.list_writing_tests.proofs.Lent.{headOf, linesOf, head-lent, run-long, names-long, lines-lent, fit-lent}
-use Rattle.list_writing_tests.proofs.Sizes.{head-room, lines-room, part-long, end-room, text-put}
+use Rattle.list_writing_tests.proofs.Heads.{headOf, head-lent}
+use Rattle.list_writing.proofs.Lines.{linesOf, run-long, names-long, lines-lent, fit-lent}
+use Rattle.list_writing.proofs.Sizes.{head-room, lines-room, part-long, end-room, text-put}
 use Rattle.list_writing.proofs.put_list.Statement.{statement}
 use Rattle.list_writing.proofs.put_list.Tie as tie
 

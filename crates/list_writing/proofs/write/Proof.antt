@@ -5,7 +5,7 @@ use Rattle.flags.specs.Table.{flagTable}
 use Rattle.list_rules.specs.Lent.{FieldsLent}
 use Rattle.list_rules.specs.Writing.{Listing, listing}
 use Rattle.list_rules.proofs.Lent.{fields-lent}
-use Rattle.list_writing.proofs.Replies.{outcome-written, outcome-refused, accepted-list}
+use Rattle.list_writing.proofs.Outcomes.{outcome-written, outcome-refused, accepted-list}
 use Rattle.list_writing.proofs.write.Statement.{statement}
 use Rattle.list_writing.proofs.write.Tie as tie
 

@@ -7,7 +7,7 @@ use Rattle.list_rules.specs.Writing.{Listing, listing}
 use Rattle.list_rules.proofs.Lent.{columns-well, fields-well}
 use Rattle.list_rules.proofs.Lent.{pitch-is}
 use Rattle.list_trip.proofs.WrittenPassing.{Passing, passing}
-use Rattle.list_writing_tests.proofs.Lent.{headOf, head-lent}
+use Rattle.list_writing_tests.proofs.Heads.{headOf, head-lent}
 use Rattle.list_writing_tests.proofs.Sizes.{letters-few, lines-low, text-size}
 use Rattle.list_writing_tests.proofs.text_size.Statement.{statement}
 use Rattle.list_writing_tests.proofs.text_size.Tie as tie

@@ -1,4 +1,4 @@
--- What writing leaves, from its answer.
+-- What writing leaves of the output, and what an accepted answer says of the list.
 use mathlib.Core.Path.{_≡_, sym, ap, _∙_}
 use mathlib.Core.Bool.{true}
 use mathlib.Core.List.{List}
@@ -16,7 +16,6 @@ use Rattle.list_rules.specs.Replies.{listReply}
 use Rattle.list_rules.specs.Writing.{Listing, listChecks, textOf, writeChecks, writeReply, outputAfter}
 use Rattle.list_writing.specs.Outcome.{WriteOutcome}
 
--- what writing leaves of the output
 module _ (l : Listing) (output : List ℕ) (r : ListAnswer) (e : listReply r ≡ writeReply l (length output)) where
   pub outcome-written : (n : ℕ) (output′ : List ℕ) → r ≡ Done n → output′ ≡ put output 0 (textOf l) → WriteOutcome l output r output′
   unfolding outputAfter isAccepted
