@@ -7,8 +7,9 @@ use lib.ListN.{length, getD}
 use Rattle.sequences.specs.Every.{inside}
 use Rattle.digits.specs.declared.Figure.{Figure}
 use Rattle.digits.specs.Digits.{plain, numberText}
-use Rattle.text_rules.specs.Tables.{formOf}
-use Rattle.text_rules.specs.Head.{openingWord, closingWord, tagWord}
+use Rattle.text_rules.specs.Tables.{fieldsOf, formOf}
+use Rattle.text_rules.specs.Head.{headLines, openingWord, closingWord, tagWord}
+use Rattle.text_rules.specs.Writing.{headText}
 use Rattle.text_rules.specs.Well.{mostDecimals, mostDigits}
 
 -- every row's number has few decimals and digits
@@ -29,6 +30,10 @@ lineFrom rows k name letters z =
 -- the figures of an array
 abbrev pub arrayFigure : List Figure → ℕ → Figure
 arrayFigure figures i = getD figures i (plain 0)
+
+-- the whole head, from the rows of its table and the names
+abbrev pub wholeHead : List (List ℕ) → List ℕ → List ℕ → List Figure → List ℕ
+wholeHead rows names letters figures = headText (fieldsOf rows names) letters (arrayFigure figures) (headLines (fieldsOf rows names))
 
 -- how many bytes a line of the head and the head take at most
 abbrev pub mostHeadLine : ℕ

@@ -8,10 +8,9 @@ ghost use Rattle.digits.specs.Written.{Written};
 ghost use Rattle.digits.specs.Digits.{numberText};
 ghost use Rattle.lines.specs.Lines.{lineText};
 ghost use Rattle.text_rules.specs.Tables.{fieldsOf, formOf, nameBefore};
-ghost use Rattle.text_rules.specs.Head.{headLines, openingWord, closingWord, mostLetters, openingRest};
-ghost use Rattle.text_rules.specs.Writing.{headText};
+ghost use Rattle.text_rules.specs.Head.{openingWord, closingWord, mostLetters, openingRest};
 ghost use Rattle.text_rules.specs.Well.{fieldsWell, mostFields, mostLine};
-ghost use Rattle.text_head_writing.specs.Lines.{FormsWell, figureFor, lineFrom, arrayFigure, mostHeadLine, mostHead};
+ghost use Rattle.text_head_writing.specs.Lines.{FormsWell, figureFor, lineFrom, wholeHead, mostHeadLine, mostHead};
 use digits::Figure;
 use text_rules::FIELD_PARTS;
 use text_rules::MOST_FIELDS;
@@ -60,7 +59,7 @@ pub fn head_size(
 ) -> usize
     requires { ⌜ (fieldsWell (fieldsOf (now fields) (now names)) ≡ true) × (length (now names) ≡ nameBefore (now fields) (length (now fields))) ⌝ }
     requires { ⌜ length (now letters) ≤ mostLetters ⌝ }
-    ensures { λ r. ⌜ r ≡ length (headText (fieldsOf (now (fields .entry)) (now (names .entry))) (now (letters .entry)) (arrayFigure figures) (headLines (fieldsOf (now (fields .entry)) (now (names .entry))))) ⌝ }
+    ensures { λ r. ⌜ r ≡ length (wholeHead (now (fields .entry)) (now (names .entry)) (now (letters .entry)) figures) ⌝ }
     ensures { λ r. ⌜ r ≤ mostHead ⌝ }
 {
     let lines = fields.len() + 2;
@@ -145,8 +144,8 @@ pub fn put_head(
     at: usize,
 ) -> usize
     requires { ⌜ (fieldsWell (fieldsOf (now fields) (now names)) ≡ true) × (length (now names) ≡ nameBefore (now fields) (length (now fields))) ⌝ }
-    requires { ⌜ at + length (headText (fieldsOf (now fields) (now names)) (now letters) (arrayFigure figures) (headLines (fieldsOf (now fields) (now names)))) ≤ length (now dst) ⌝ }
-    ensures { λ r. ⌜ Written (now (dst .entry)) at (headText (fieldsOf (now (fields .entry)) (now (names .entry))) (now (letters .entry)) (arrayFigure figures) (headLines (fieldsOf (now (fields .entry)) (now (names .entry))))) (now (dst .exit)) r ⌝ }
+    requires { ⌜ at + length (wholeHead (now fields) (now names) (now letters) figures) ≤ length (now dst) ⌝ }
+    ensures { λ r. ⌜ Written (now (dst .entry)) at (wholeHead (now (fields .entry)) (now (names .entry)) (now (letters .entry)) figures) (now (dst .exit)) r ⌝ }
 {
     let lines = fields.len() + 2;
     let mut p = at;

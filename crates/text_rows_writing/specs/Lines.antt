@@ -9,7 +9,7 @@ use Rattle.sequences.specs.Stretch.{stretchOf, onStretch}
 use Rattle.digits.specs.Digits.{plain}
 use Rattle.digits.specs.Fits.{Fits}
 use Rattle.digits.specs.Written.{put}
-use Rattle.text_rules.specs.Tables.{Column, TextForm}
+use Rattle.text_rules.specs.Tables.{Column, TextForm, columnsOf, lineForm}
 use Rattle.text_rules.specs.Columns.{columnStart, linePitch, numbersBefore, wordsBefore, lineNumbers, lineWords, numberForm, columnText}
 use Rattle.text_rules.specs.Writing.{numbersAt, wordsAt}
 use Rattle.text_rules.specs.Well.{columnsWell, flagWell}
@@ -56,13 +56,21 @@ pub record TableReady (cs : List Column) (flagAt : ℕ) (line : Taken) : Type 0 
   pub flag : flagWell cs flagAt ≡ true
   pub whole : line ≡ takenBefore cs (length cs)
 
+-- the numbers and the words of each line below n fit
+abbrev pub RowsFit : TextForm → List ℕ → List ℕ → ℕ → Type 0
+RowsFit t run texts n = (j : ℕ) → j < n → RowFits t (numbersAt t run j) (wordsAt t texts j)
+
 -- so many lines of numbers and of words, that fit
 pub record RowsReady (t : TextForm) (run texts : List ℕ) (count : ℕ) : Type 0 where
   pub numbers : length run ≡ count * lineNumbers (t .columns)
   pub words : length texts ≡ count * lineWords (t .columns)
-  pub fits : (j : ℕ) → j < count → RowFits t (numbersAt t run j) (wordsAt t texts j)
+  pub fits : RowsFit t run texts count
 
 -- every line has its first k columns
 pub record RowsSoFar (t : TextForm) (run texts : List ℕ) (count k : ℕ) (b : List ℕ) : Type 0 where
   pub long : length b ≡ count * linePitch (t .columns)
   pub lines : (i : ℕ) → i < count → stretchOf (linePitch (t .columns)) b i ≡ lineSoFar t (numbersAt t run i) (wordsAt t texts i) k
+
+-- every line has all columns of a table
+abbrev pub RowsWhole : List (List ℕ) → ℕ → List (List Bool) → List ℕ → List ℕ → ℕ → List ℕ → Type 0
+RowsWhole table flagAt flags run texts count b = RowsSoFar (lineForm (columnsOf table) flagAt flags) run texts count (length table) b

@@ -2,14 +2,13 @@
 ghost use mathlib.Core.Path.{_≡_};
 ghost use mathlib.Core.Bool.{true};
 ghost use mathlib.Core.List.{[], _∷_};
-ghost use Prim.Native.Nat.{ℕ, _+_, _*_, _≤_, _<_};
+ghost use Prim.Native.Nat.{_+_, _*_, _≤_, _<_};
 ghost use lib.ListN.{length, replicate};
 ghost use Rattle.text_rules.specs.Tables.{columnsOf, columnOf, lineForm};
 ghost use Rattle.text_rules.specs.Columns.{linePitch, lineNumbers, lineWords};
-ghost use Rattle.text_rules.specs.Writing.{numbersAt, wordsAt, rowsText};
+ghost use Rattle.text_rules.specs.Writing.{rowsText};
 ghost use Rattle.text_rules.specs.Well.{columnWell, columnsWell, flagWell};
-ghost use Rattle.text_trip.specs.Trips.{RowFits};
-ghost use Rattle.text_rows_writing.specs.Lines.{takenBefore, numberAt, wordAt, linesPut, BlankAt, NumbersFit, TableReady, RowsReady, RowsSoFar};
+ghost use Rattle.text_rows_writing.specs.Lines.{takenBefore, numberAt, wordAt, linesPut, BlankAt, NumbersFit, TableReady, RowsFit, RowsReady, RowsWhole};
 use text_rules::COLUMN_PARTS;
 
 // What the columns before one take of a line: bytes of the line with their bars, numbers, and bytes of text.
@@ -150,7 +149,7 @@ fn put_columns(
     requires { ⌜ TableReady (columnsOf (now columns)) «flag_at» line ⌝ }
     requires { ⌜ RowsReady (lineForm (columnsOf (now columns)) «flag_at» (now flags)) (now run) (now texts) count ⌝ }
     requires { ⌜ now rows ≡ replicate (count * linePitch (columnsOf (now columns))) 32 ⌝ }
-    ensures { λ _. ⌜ RowsSoFar (lineForm (columnsOf (now (columns .entry))) «flag_at» (now (flags .entry))) (now (run .entry)) (now (texts .entry)) count (length (now (columns .entry))) (now (rows .exit)) ⌝ }
+    ensures { λ _. ⌜ RowsWhole (now (columns .entry)) «flag_at» (now (flags .entry)) (now (run .entry)) (now (texts .entry)) count (now (rows .exit)) ⌝ }
 {
     let flag_place = taken_before(columns, flag_at).numbers;
     let pitch = line.bytes + 2;
@@ -205,7 +204,7 @@ pub fn put_rows(
     requires { ⌜ (columnsWell (columnsOf (now columns)) ≡ true) × (flagWell (columnsOf (now columns)) «flag_at» ≡ true) ⌝ }
     requires { ⌜ (length (now run) ≡ count * lineNumbers (columnsOf (now columns))) × (length (now texts) ≡ count * lineWords (columnsOf (now columns))) ⌝ }
     requires { ⌜ length (now rows) ≡ count * linePitch (columnsOf (now columns)) ⌝ }
-    requires { ⌜ ((j : ℕ) → j < count → RowFits (lineForm (columnsOf (now columns)) «flag_at» (now flags)) (numbersAt (lineForm (columnsOf (now columns)) «flag_at» (now flags)) (now run) j) (wordsAt (lineForm (columnsOf (now columns)) «flag_at» (now flags)) (now texts) j)) ⌝ }
+    requires { ⌜ RowsFit (lineForm (columnsOf (now columns)) «flag_at» (now flags)) (now run) (now texts) count ⌝ }
     ensures { λ _. ⌜ now (rows .exit) ≡ rowsText (lineForm (columnsOf (now (columns .entry))) «flag_at» (now (flags .entry))) (now (run .entry)) (now (texts .entry)) count ⌝ }
 {
     let line = taken_before(columns, columns.len());
