@@ -1,15 +1,11 @@
 // Puts bytes, blanks and digits into a run.
-ghost use mathlib.Core.Path.{_≡_};
 ghost use Prim.Native.Nat.{_+_, _≤_, _<_};
 ghost use mathlib.Core.List.{[], _∷_};
-ghost use lib.ListN.{length, take, drop, replicate};
+ghost use lib.ListN.{length, replicate};
 ghost use Rattle.digits.specs.Digits.{fixed};
-ghost use Rattle.digits.specs.Written.{put, Written};
+ghost use Rattle.digits.specs.Written.{Written};
 
 pub mod tail;
-
-// The bytes that are written at once.
-const BLOCK: usize = 8;
 
 // Writes one byte.
 pub fn put_byte(dst: &mut [u8], at: usize, b: u8) -> usize
@@ -31,34 +27,6 @@ pub fn put_bytes(dst: &mut [u8], at: usize, src: &[u8]) -> usize
         i += 1;
     }
     at + i
-}
-
-// Writes the block of src from a place on. Its length is a constant, so that it is one move.
-fn put_block(dst: &mut [u8], at: usize, src: &[u8], from: usize)
-    requires { ⌜ (from + 8 ≤ length (now src)) × (at + 8 ≤ length (now dst)) ⌝ }
-    ensures { λ _. ⌜ now (dst .exit) ≡ put (now (dst .entry)) at (take 8 (drop from (now (src .entry)))) ⌝ }
-{
-    let mut k = 0;
-    while k < BLOCK {
-        dst[at + k] = src[from + k];
-        k += 1;
-    }
-}
-
-// Writes all of src as `put_bytes` does, in blocks as far as they go.
-pub fn put_blocks(dst: &mut [u8], at: usize, src: &[u8]) -> usize
-    requires { ⌜ at + length (now src) ≤ length (now dst) ⌝ }
-    ensures { λ r. ⌜ Written (now (dst .entry)) at (now (src .entry)) (now (dst .exit)) r ⌝ }
-{
-    let mut i = 0;
-    while BLOCK <= src.len() - i {
-        put_block(dst, at + i, src, i);
-        i += BLOCK;
-    }
-    if i == src.len() {
-        return at + i;
-    }
-    put_bytes(dst, at + i, &src[i..])
 }
 
 // Writes k blanks.

@@ -3,6 +3,7 @@ use mathlib.Core.Path.{_≡_, refl, sym, ap, _∙_}
 use mathlib.Core.Bool.{Bool, true, false}
 use mathlib.Core.List.{List, [], _∷_, _++_, append-assoc, append-nil}
 use Prim.Native.Nat.{ℕ, suc, _+_, _-_, _/_, _^_, _≤_, _<_}
+use native.Mathlib.Decide.{ℕ-discrete}
 use native.Mathlib.Omega.{arith}
 use lib.ListN.{length, set, take, drop, replicate, length-set, length-append, length-replicate, replicate-append-replicate, take-append-drop, drop-of-length-le}
 use lib.Seq.{length-take-le, take-at, drop-at, take-append-le, take-take, drop-drop}
@@ -10,11 +11,12 @@ use borrow.Author.Tests.{eq-eqb, ne-eqb}
 use borrow.Rule.Slice.PartMut.{putMid}
 use Rattle.digits.specs.Digits.{plain, fixed, tens, decimal, wholeText, plainText, signedText, numberText}
 use Rattle.digits.specs.Fits.{Fits}
-use Rattle.digits.specs.Written.{put}
+use Rattle.digits.specs.Written.{put, Written}
 use Rattle.digits.proofs.Put.{put-before, put-length, growing-again}
 use Rattle.digits.proofs.Count.{fixed-length, decimal-length}
 use Rattle.text_rules.specs.Tables.{Column}
 use Rattle.text_rules.specs.Columns.{numberForm}
+use Rattle.text_rules.specs.Well.{mostDecimals, mostDigits}
 use Rattle.text_rules.proofs.Well.{WellColumn}
 use Rattle.text_cells_writing.specs.Cells.{usedText}
 
@@ -82,10 +84,34 @@ number-length c n well fits =
     length-append (replicate (c .width - length (signedText (numberForm c) (plain n))) 32) (signedText (numberForm c) (plain n))
     ∙ rw length-replicate (omega arith)
 
+-- its form has few digits and decimals
+pub form-small : (c : Column) → WellColumn c → (c .decimals ≤ mostDecimals) × (c .digits ≤ mostDigits)
+form-small c well = (
+  elim (ℕ-discrete (c .decimals) 0) [
+    | yes e ↦ omega (arith, e)
+    | no h ↦ well .point h .0
+  ],
+  elim (ℕ-discrete (c .digits) 0) [
+    | yes e ↦ omega (arith, e)
+    | no h ↦ omega (arith, well .digits h .0, well .narrow)
+  ],
+)
+
+-- what fills a run is all of it
+filled : (d xs : List ℕ) → length xs ≡ length d → put d 0 xs ≡ xs
+unfolding put
+filled d xs h = rw (drop-of-length-le d {i = 0 + length xs} (omega arith)) (simp append-nil)
+
 -- ---- a number in its cell d, which holds only blanks
 module _ (c : Column) (n : ℕ) (well : WellColumn c) (fits : Fits (numberForm c) (plain n)) {d : List ℕ} (blank : d ≡ replicate (c .width) 32) where
   pub cell-length : length d ≡ c .width
   cell-length = rw blank (length-replicate {A = ℕ} (c .width) 32)
+
+  pub number-room : 0 + length (numberText (numberForm c) (plain n)) ≤ length d
+  number-room = omega (arith, number-length c n well fits, cell-length)
+
+  pub number-put : {d′ : List ℕ} {e : ℕ} → Written d 0 (numberText (numberForm c) (plain n)) d′ e → d′ ≡ numberText (numberForm c) (plain n)
+  number-put w = w .bytes ∙ filled d _ (number-length c n well fits ∙ sym cell-length)
 
   text-room : length (signedText (numberForm c) (plain n)) ≤ c .width
   unfolding numberForm

@@ -11,7 +11,12 @@ ghost use Rattle.text_rules.specs.Tables.{columnOf, useOf};
 ghost use Rattle.text_rules.specs.Columns.{numberForm};
 ghost use Rattle.text_rules.specs.Well.{columnWell};
 ghost use Rattle.text_cells_writing.specs.Cells.{usedBy, usedText};
+use digits::Figure;
+use digits::Form;
 use text_rules::COLUMN_PARTS;
+
+// Numbers below it have 32 bits, and almost all are: they are written from the right, the others by their form.
+const SMALL: u64 = 4_294_967_296;
 
 // Whether a column that is not for text has a number in a line with that flag.
 pub fn is_used(
@@ -28,8 +33,8 @@ pub fn is_used(
     true
 }
 
-// Writes a number into its cell, which holds only blanks.
-fn put_number(cell: &mut [u8], column: [usize; COLUMN_PARTS], n: u64)
+// Writes a small number into its cell, which holds only blanks.
+fn put_small(cell: &mut [u8], column: [usize; COLUMN_PARTS], n: u32)
     requires { ⌜ (columnWell (columnOf column) ≡ true) × (now cell ≡ replicate (columnOf column .width) 32) ⌝ }
     requires { ⌜ Fits (numberForm (columnOf column)) (plain n) ⌝ }
     ensures { λ _. ⌜ now (cell .exit) ≡ numberText (numberForm (columnOf column)) (plain n) ⌝ }
@@ -48,6 +53,29 @@ fn put_number(cell: &mut [u8], column: [usize; COLUMN_PARTS], n: u64)
     let point = width - (decimals + 1);
     cell[point] = 46;
     digits_put::tail::put_whole(cell, point, left);
+}
+
+// Writes a number into its cell, which holds only blanks.
+fn put_number(cell: &mut [u8], column: [usize; COLUMN_PARTS], n: u64)
+    requires { ⌜ (columnWell (columnOf column) ≡ true) × (now cell ≡ replicate (columnOf column .width) 32) ⌝ }
+    requires { ⌜ Fits (numberForm (columnOf column)) (plain n) ⌝ }
+    ensures { λ _. ⌜ now (cell .exit) ≡ numberText (numberForm (columnOf column)) (plain n) ⌝ }
+{
+    if n < SMALL {
+        put_small(cell, column, n as u32);
+        return;
+    }
+    let form = Form {
+        digits: column[text_rules::DIGITS],
+        decimals: column[text_rules::DECIMALS],
+        signed: false,
+        width: column[text_rules::WIDTH],
+    };
+    let z = Figure {
+        negative: false,
+        size: n,
+    };
+    digits_writing::put_number(cell, 0, form, z);
 }
 
 // Writes a number into its place in a line, where the column is used, and the bar behind it.
@@ -71,7 +99,7 @@ pub fn put_words(line: &mut [u8], at: usize, words: &[u8])
     requires { ⌜ at + length (now words) < length (now line) ⌝ }
     ensures { λ _. ⌜ now (line .exit) ≡ put (now (line .entry)) at (now (words .entry) ++ 124 ∷ []) ⌝ }
 {
-    let e = digits_put::put_blocks(line, at, words);
+    let e = digits_put::put_bytes(line, at, words);
     digits_put::put_byte(line, e, text_rules::BAR);
 }
 
