@@ -16,7 +16,7 @@ use Rattle.lines.proofs.Laws.{length-lineText}
 use Rattle.text_rules.specs.Head.{endWord, endSize}
 use Rattle.text_rules.specs.Columns.{linePitch}
 use Rattle.text_rules.specs.Writing.{sheetText}
-use Rattle.text_rows_writing.proofs.Cells.{part-put}
+use Rattle.text_cells_writing.proofs.Cells.{part-put}
 use Rattle.list_rules.specs.Shanghai.{shanghai, shanghaiColumns}
 use Rattle.list_rules.specs.Writing.{Listing, sheetOf, textOf, listChecks}
 use Rattle.list_writing_tests.proofs.Heads.{headOf}

@@ -11,7 +11,6 @@ ghost use Rattle.list_rules.specs.Writing.{listing, listChecks, textOf};
 ghost use Rattle.list_writing.specs.Outcome.{WriteOutcome};
 use list_rules::ListAnswer;
 use list_rules::ListFields;
-use rules::Refusal;
 use text_rules::COLUMN_PARTS;
 use text_rules::FIELD_PARTS;
 
