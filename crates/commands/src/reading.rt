@@ -2,6 +2,7 @@
 ghost use Rattle.io.specs.Counts.{Counts};
 use program_io::input;
 use program_io::input::Cursor;
+use text_rules::END_SIZE;
 
 // What was taken into a buffer so far.
 pub struct Taken {
@@ -14,9 +15,6 @@ pub struct Taken {
 }
 
 const LINE_END: u64 = 10;
-
-// How many bytes the list's last line takes with its end.
-const END_SIZE: usize = 11;
 
 fn nothing_taken(cursor: Cursor) -> Taken {
     Taken {

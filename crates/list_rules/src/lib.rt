@@ -56,7 +56,7 @@ pub const NAME: usize = 1;
 pub const FLAG: usize = 3;
 
 // Width, digits, decimals, use, and the flag table's column where a flag decides.
-pub const COLUMNS: [[usize; COLUMN_PARTS]; COLUMN_COUNT] = [
+const COLUMNS: [[usize; COLUMN_PARTS]; COLUMN_COUNT] = [
     // Code.
     [6, 6, 0, ALWAYS, 0],
     // Name.
@@ -104,7 +104,7 @@ pub const UNIT_VALUE: usize = 11;
 pub const LIMITS: usize = 12;
 
 // Length of the name, digits, decimals, sign and kind.
-pub const FIELDS: [[usize; FIELD_PARTS]; FIELD_COUNT] = [
+const FIELDS: [[usize; FIELD_PARTS]; FIELD_COUNT] = [
     // Fundid1.
     [7, 6, 0, 0, ANY],
     // CreationRedemptionUnit.
@@ -148,7 +148,9 @@ pub const FIELDS: [[usize; FIELD_PARTS]; FIELD_COUNT] = [
 ];
 
 // Their names, one behind the other.
-pub const NAMES: [u8; 295] = *b"Fundid1\
+pub const NAMES_SIZE: usize = 295;
+
+const NAMES: [u8; NAMES_SIZE] = *b"Fundid1\
     CreationRedemptionUnit\
     MaxCashRatio\
     Publish\
@@ -183,7 +185,7 @@ pub fn field_rows() -> [[usize; FIELD_PARTS]; FIELD_COUNT]
     FIELDS
 }
 
-pub fn names() -> [u8; 295]
+pub fn names() -> [u8; NAMES_SIZE]
     ensures { λ r. ⌜ r ≡ shanghaiNames ⌝ }
 {
     NAMES
