@@ -82,7 +82,7 @@ const WIDTHS: [(&str, &str, usize); 10] = [
     ("RECORD_WIDTH", "layout", RECORD_NUMBERS),
     ("ROW_WIDTH", "layout", ROW_NUMBERS),
     ("ANSWER_WIDTH", "layout", ANSWER_NUMBERS),
-    ("PART_WIDTH", "c_interface", PART_NUMBERS),
+    ("PART_WIDTH", "flat_calls", PART_NUMBERS),
     ("MOST_COMPONENTS", "layout", MAX_COMPONENTS),
     ("NAME_WIDTH", "list_rules", NAME_BYTES),
 ];
