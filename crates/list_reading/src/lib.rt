@@ -87,9 +87,7 @@ fn read_fields(text: &[u8], start: usize, count: usize, run: &mut [u64]) -> List
     requires { ⌜ Rows (now text) start count ⌝ }
     ensures { λ r. ⌜ ReadOutcome (now (text .entry)) (now (run .entry)) r (now (run .exit)) ⌝ }
 {
-    let fields = list_rules::field_rows();
-    let names = list_rules::names();
-    let head = text_head::head_fields(&fields, &names, text);
+    let head = list_shape::head_fields(text);
     if head.wrong < list_rules::FIELD_COUNT {
         return refused(Refusal::TextField(head.place));
     }

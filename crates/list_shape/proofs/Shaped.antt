@@ -16,7 +16,8 @@ use Rattle.text_rules.specs.Columns.{linePitch}
 use Rattle.text_rules.specs.Head.{endWord, headLines, endSize}
 use Rattle.text_rules.specs.Reading.{startOf, lineOf, lineStands, wrongLine, bodyStart, rowsFrom, rowStart, rowCount, endStart}
 use Rattle.text_head.specs.declared.HeadShape.{HeadShape}
-use Rattle.text_head.specs.Head.{shapeFound}
+use Rattle.text_head.specs.declared.HeadFields.{HeadFields}
+use Rattle.text_head.specs.Head.{shapeFound, fieldsFound}
 use Rattle.list_rules.specs.Shanghai.{shanghai, shanghaiFields, shanghaiColumns, fieldCount}
 use Rattle.list_rules.specs.Lent.{ColumnsLent, FieldsLent}
 use Rattle.list_rules.proofs.Lent.{fields-count}
@@ -46,10 +47,17 @@ pub lines-many : headLines shanghaiFields ≡ fieldCount + 2
 unfolding headLines
 lines-many = ap (λ (n : ℕ). n + 2) fields-count
 
--- what the head's code says of the tables that are lent
-pub head-found : (rows : List (List ℕ)) (names : List ℕ) → FieldsLent rows names
-    → (text : List ℕ) (h : HeadShape) → h ≡ shapeFound (fieldsOf rows names) text → h ≡ shapeFound shanghaiFields text
-head-found rows names lent text h e = e ∙ ap (λ (fs : List Field). shapeFound fs text) (lent .fields-are)
+-- what the head's code asks and says of the tables that are lent
+module _ (rows : List (List ℕ)) (names : List ℕ) (lent : FieldsLent rows names) where
+  pub head-found : (text : List ℕ) (h : HeadShape) → h ≡ shapeFound (fieldsOf rows names) text → h ≡ shapeFound shanghaiFields text
+  head-found text h e = e ∙ ap (λ (fs : List Field). shapeFound fs text) (lent .fields-are)
+
+  pub fields-found : (text : List ℕ) (h : HeadFields) → h ≡ fieldsFound (fieldsOf rows names) text → h ≡ fieldsFound shanghaiFields text
+  fields-found text h e = e ∙ ap (λ (fs : List Field). fieldsFound fs text) (lent .fields-are)
+
+  pub head-right : (text : List ℕ) → wrongLine shanghaiFields text ≡ headLines shanghaiFields
+      → wrongLine (fieldsOf rows names) text ≡ headLines (fieldsOf rows names)
+  head-right text e = rw (lent .fields-are) e
 
 -- what the code of the component lines says of the table that is lent
 module _ (rows : List (List ℕ)) (lent : ColumnsLent rows) (text : List ℕ) (start : ℕ) where

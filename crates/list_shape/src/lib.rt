@@ -1,14 +1,16 @@
-// The lines of a list text in the Shanghai form: refusals 18 and 20, and where the component lines stand.
+// The lines of a list text in the Shanghai form and its head: refusals 18, 19 and 20 there, and where the component lines stand.
 ghost use mathlib.Core.Path.{_≡_};
 ghost use Prim.Native.Nat.{_≤_};
 ghost use lib.ListN.{length};
 ghost use Rattle.lines.specs.Lines.{same};
 ghost use Rattle.text_rules.specs.Head.{headLines, endWord};
 ghost use Rattle.text_rules.specs.Reading.{lineStands, wrongLine, bodyStart};
+ghost use Rattle.text_head.specs.Head.{fieldsFound};
 ghost use Rattle.list_rules.specs.Shanghai.{shanghai, shanghaiFields};
 ghost use Rattle.list_rules.specs.Reading.{isCounted};
 ghost use Rattle.list_rules.specs.Lent.{ColumnsLent};
 ghost use Rattle.list_shape.specs.Shape.{Shaped, wrongAt};
+use text_head::HeadFields;
 use text_rules::COLUMN_PARTS;
 
 // What refusal 18's tests find: its place, or where the component lines start and how many there are.
@@ -77,6 +79,16 @@ pub fn shape_of(text: &[u8]) -> Shape
     }
     let columns = list_rules::columns();
     body_shape(&columns, text, head.place)
+}
+
+// Refusal 19 in the head, where its lines stand.
+pub fn head_fields(text: &[u8]) -> HeadFields
+    requires { ⌜ wrongLine shanghaiFields (now text) ≡ headLines shanghaiFields ⌝ }
+    ensures { λ r. ⌜ r ≡ fieldsFound shanghaiFields (now (text .entry)) ⌝ }
+{
+    let fields = list_rules::field_rows();
+    let names = list_rules::names();
+    text_head::head_fields(&fields, &names, text)
 }
 
 // Refusal 20's test.

@@ -1,45 +1,33 @@
 -- `list_reading::read_fields` meets its contract: each return is the reply of a law for what was tested before it.
-use mathlib.Core.Path.{_≡_, refl}
+use mathlib.Core.Path.{refl}
 use Prim.Native.Nat.{_≤_}
 use native.Mathlib.Omega.{arith}
 use lib.ListN.{length}
 use borrow.Author.Needs.{needs}
 use Rattle.flags.specs.Table.{flagTable}
-use Rattle.text_head.specs.Head.{fieldsFound}
 use Rattle.list_rules.specs.Shanghai.{shanghaiFields}
-use Rattle.list_rules.specs.Lent.{FieldsLent}
-use Rattle.list_rules.proofs.Lent.{fields-well, fields-count, fields-lent}
-use Rattle.list_reading.proofs.Stages.{fields-found, head-right}
+use Rattle.list_rules.proofs.Lent.{fields-count}
 use Rattle.list_reading.proofs.Handed.{refused-with, field-reply, row-reply, spelled, found}
 use Rattle.list_reading.proofs.read_fields.Statement.{statement}
 use Rattle.list_reading.proofs.read_fields.Tie as tie
-
--- the tables are the form's, and so is what the head's code found
-lent : (c : tie.After-names) → FieldsLent (c .before .field-rows .result) (c .names .result)
-lent c = fields-lent _ _ (c .before .field-rows .ensures) (c .names .ensures)
-
-headed : (c : tie.After-head-fields) → c .head-fields .result ≡ fieldsFound shanghaiFields (c .before .before .before .before .before .before .before .args .text .now)
-headed c = fields-found _ _ (lent (c .before .before .before)) _ _ (c .head-fields .ensures)
 
 -- no field of the head is wrong
 high : (c : tie.Else1) → length shanghaiFields ≤ c .before .before .head-fields .result .wrong
 high c = omega (arith, fields-count, c .if1 .left)
 
 head-fields-requires : tie.Need-head-fields-requires
-head-fields-requires c κs =
-    let f = lent (c .before .before) in
-    (fields-well _ _ f, (f .all-named, head-right _ _ f _ (c .before .before .before .before .before .before .pre .head-stands)))
+head-fields-requires c κs = c .before .before .pre .head-stands
 
 returns : tie.Need-returns
 returns c =
     let h = c .before .before .before in
     refused-with _ _ _ _ (c .refused .ensures)
-    (field-reply _ _ _ (h .before .before .before .before .before .before .before .pre) _ (headed h) _ (omega (arith, fields-count, c .before .if1 .taken)))
+    (field-reply _ _ _ (h .before .before .before .pre) _ (h .head-fields .ensures) _ (omega (arith, fields-count, c .before .if1 .taken)))
 
 read-rows-requires : tie.Need-read-rows-requires
 unfolding flagTable
 read-rows-requires c κs =
-    let r = c .before .before .before .before .before .before .before .before .before .before .before .before .before .pre in
+    let r = c .before .before .before .before .before .before .before .before .before .pre in
     ((c .before .before .before .columns .ensures, refl), ((r .start-is, r .count-is), r .room))
 
 returns-2 : tie.Need-returns-2
@@ -48,7 +36,7 @@ returns-2 c =
     let e = r .before .before .before .before .before in
     let h = e .before .before in
     refused-with _ _ _ _ (c .refused2 .ensures)
-    (row-reply _ _ _ (h .before .before .before .before .before .before .before .pre) _ (headed h) (high e) _ (r .read-rows .ensures .0) _ (c .before .if2 .taken))
+    (row-reply _ _ _ (h .before .before .before .pre) _ (h .head-fields .ensures) (high e) _ (r .read-rows .ensures .0) _ (c .before .if2 .taken))
 
 read-values-requires : tie.Need-read-values-requires
 read-values-requires c κs =
@@ -56,17 +44,16 @@ read-values-requires c κs =
     let r = i .before .before .before in
     let e = r .before .before .before .before .before in
     let h = e .before .before in
-    let p = h .before .before .before .before .before .before .before .pre in
+    let p = h .before .before .before .pre in
     let f = r .read-rows .ensures in (
-      spelled _ _ _ p _ (headed h) (high e) _ (f .0) (i .if2 .left) _ refl,
-      found _ _ _ p _ (headed h) (high e) _ (f .0) (i .if2 .left) _ _ (f .1) refl,
+      spelled _ _ _ p _ (h .head-fields .ensures) (high e) _ (f .0) (i .if2 .left) _ refl,
+      found _ _ _ p _ (h .head-fields .ensures) (high e) _ (f .0) (i .if2 .left) _ _ (f .1) refl,
     )
 
 pub read-fields-spec : {M : Type 1} → statement M
 read-fields-spec =
     tie.close
     (tie.spec
-    (λ c κs. search needs) (λ c κs. search needs) (λ c. search needs) (λ c. search needs)
     head-fields-requires
     (λ c κs. search needs)
     returns
