@@ -2,6 +2,7 @@
 ghost use mathlib.Core.Path.{_≡_};
 ghost use Rattle.text_rules.specs.Reading.{lettersRead};
 ghost use Rattle.list_rules.specs.Reading.{nameRead, nameFrom, namePlace, lettersPlace};
+ghost use Rattle.list_rules.specs.Lent.{ColumnsLent, FieldsLent};
 ghost use Rattle.list_shape.specs.Shape.{Rows};
 ghost use Rattle.list_reading.specs.Outcome.{ReadOutcome};
 ghost use Rattle.list_reading.specs.Stages.{Found, Spelled, Ranged, refusedRead};
@@ -11,6 +12,8 @@ use list_rules::ListFields;
 use list_rules::ListRead;
 use list_rules::TextPart;
 use rules::Refusal;
+use text_rules::COLUMN_PARTS;
+use text_rules::FIELD_PARTS;
 use text_rules::MOST_FIELDS;
 
 // A refused reading.
@@ -83,18 +86,25 @@ fn read_values(
 }
 
 // Refusal 19, and what follows. The numbers of the components wait in an array until all is tested.
-fn read_fields(text: &[u8], start: usize, count: usize, run: &mut [u64]) -> ListRead
-    requires { ⌜ Rows (now text) start count ⌝ }
+fn read_fields(
+    fields: &[[usize; FIELD_PARTS]],
+    names: &[u8],
+    columns: &[[usize; COLUMN_PARTS]],
+    text: &[u8],
+    start: usize,
+    count: usize,
+    run: &mut [u64],
+) -> ListRead
+    requires { ⌜ FieldsLent (now fields) (now names) × ColumnsLent (now columns) × Rows (now text) start count ⌝ }
     ensures { λ r. ⌜ ReadOutcome (now (text .entry)) (now (run .entry)) r (now (run .exit)) ⌝ }
 {
-    let head = list_shape::head_fields(text);
+    let head = list_shape::head_fields(fields, names, text);
     if head.wrong < list_rules::FIELD_COUNT {
         return refused(Refusal::TextField(head.place));
     }
-    let columns = list_rules::columns();
     let flags = flags::TABLE;
     let mut numbers = [0u64; layout::BASKET_WIDTH];
-    let rows = list_rows::read_rows(&flags, &columns, text, start, count, &mut numbers);
+    let rows = list_rows::read_rows(&flags, columns, text, start, count, &mut numbers);
     if rows.row < count {
         return refused(Refusal::TextField(rows.place));
     }
@@ -106,11 +116,22 @@ fn read_fields(text: &[u8], start: usize, count: usize, run: &mut [u64]) -> List
 pub fn read(text: &[u8], run: &mut [u64]) -> ListRead
     ensures { λ r. ⌜ ReadOutcome (now (text .entry)) (now (run .entry)) r (now (run .exit)) ⌝ }
 {
-    let shape = list_shape::shape_of(text);
+    let fields = list_rules::field_rows();
+    let names = list_rules::names();
+    let columns = list_rules::columns();
+    let shape = list_shape::shape_of(&fields, &names, &columns, text);
     if shape.wrong {
         return refused(Refusal::TextLine(shape.place));
     }
-    read_fields(text, shape.start, shape.count, run)
+    read_fields(
+        &fields,
+        &names,
+        &columns,
+        text,
+        shape.start,
+        shape.count,
+        run,
+    )
 }
 
 // The letters of a text's first line, as that part of it; an empty part where the line is another.
@@ -141,7 +162,10 @@ pub fn letters_place(text: &[u8]) -> TextPart
 pub fn name(text: &[u8], j: usize) -> &[u8]
     ensures { λ r. ⌜ now r ≡ nameRead (now (text .entry)) j ⌝ }
 {
-    let shape = list_shape::shape_of(text);
+    let fields = list_rules::field_rows();
+    let names = list_rules::names();
+    let columns = list_rules::columns();
+    let shape = list_shape::shape_of(&fields, &names, &columns, text);
     if shape.wrong {
         return &text[..0];
     }

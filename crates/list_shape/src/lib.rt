@@ -8,10 +8,11 @@ ghost use Rattle.text_rules.specs.Reading.{lineStands, wrongLine, bodyStart};
 ghost use Rattle.text_head.specs.Head.{fieldsFound};
 ghost use Rattle.list_rules.specs.Shanghai.{shanghai, shanghaiFields};
 ghost use Rattle.list_rules.specs.Reading.{isCounted};
-ghost use Rattle.list_rules.specs.Lent.{ColumnsLent};
+ghost use Rattle.list_rules.specs.Lent.{ColumnsLent, FieldsLent};
 ghost use Rattle.list_shape.specs.Shape.{Shaped, wrongAt};
 use text_head::HeadFields;
 use text_rules::COLUMN_PARTS;
+use text_rules::FIELD_PARTS;
 
 // What refusal 18's tests find: its place, or where the component lines start and how many there are.
 pub struct Shape {
@@ -68,27 +69,29 @@ fn body_shape(columns: &[[usize; COLUMN_PARTS]], text: &[u8], start: usize) -> S
 }
 
 // Refusal 18.
-pub fn shape_of(text: &[u8]) -> Shape
+pub fn shape_of(
+    fields: &[[usize; FIELD_PARTS]],
+    names: &[u8],
+    columns: &[[usize; COLUMN_PARTS]],
+    text: &[u8],
+) -> Shape
+    requires { ⌜ FieldsLent (now fields) (now names) × ColumnsLent (now columns) ⌝ }
     ensures { λ r. ⌜ Shaped (now (text .entry)) r ⌝ }
 {
-    let fields = list_rules::field_rows();
-    let names = list_rules::names();
-    let head = text_head::head_shape(&fields, &names, text);
+    let head = text_head::head_shape(fields, names, text);
     if head.wrong < list_rules::FIELD_COUNT + 2 {
         return wrong_at(head.place);
     }
-    let columns = list_rules::columns();
-    body_shape(&columns, text, head.place)
+    body_shape(columns, text, head.place)
 }
 
 // Refusal 19 in the head, where its lines stand.
-pub fn head_fields(text: &[u8]) -> HeadFields
+pub fn head_fields(fields: &[[usize; FIELD_PARTS]], names: &[u8], text: &[u8]) -> HeadFields
+    requires { ⌜ FieldsLent (now fields) (now names) ⌝ }
     requires { ⌜ wrongLine shanghaiFields (now text) ≡ headLines shanghaiFields ⌝ }
     ensures { λ r. ⌜ r ≡ fieldsFound shanghaiFields (now (text .entry)) ⌝ }
 {
-    let fields = list_rules::field_rows();
-    let names = list_rules::names();
-    text_head::head_fields(&fields, &names, text)
+    text_head::head_fields(fields, names, text)
 }
 
 // Refusal 20's test.

@@ -16,38 +16,39 @@ high : (c : tie.Else1) → length shanghaiFields ≤ c .before .before .head-fie
 high c = omega (arith, fields-count, c .if1 .left)
 
 head-fields-requires : tie.Need-head-fields-requires
-head-fields-requires c κs = c .before .before .pre .head-stands
+head-fields-requires c κs = let p = c .before .before .before .pre in (p .0, p .2 .head-stands)
 
 returns : tie.Need-returns
 returns c =
     let h = c .before .before .before in
     refused-with _ _ _ _ (c .refused .ensures)
-    (field-reply _ _ _ (h .before .before .before .pre) _ (h .head-fields .ensures) _ (omega (arith, fields-count, c .before .if1 .taken)))
+    (field-reply _ _ _ (h .before .before .before .before .pre .2) _ (h .head-fields .ensures) _ (omega (arith, fields-count, c .before .if1 .taken)))
 
 read-rows-requires : tie.Need-read-rows-requires
 unfolding flagTable
 read-rows-requires c κs =
-    let r = c .before .before .before .before .before .before .before .before .before .pre in
-    ((c .before .before .before .columns .ensures, refl), ((r .start-is, r .count-is), r .room))
+    let p = c .before .before .before .before .before .before .before .before .pre in
+    let r = p .2 in
+    ((p .1, refl), ((r .start-is, r .count-is), r .room))
 
 returns-2 : tie.Need-returns-2
 returns-2 c =
     let r = c .before .before .before .before in
-    let e = r .before .before .before .before .before in
-    let h = e .before .before in
+    let t = r .before .before .before in
+    let h = t .before .before in
     refused-with _ _ _ _ (c .refused2 .ensures)
-    (row-reply _ _ _ (h .before .before .before .pre) _ (h .head-fields .ensures) (high e) _ (r .read-rows .ensures .0) _ (c .before .if2 .taken))
+    (row-reply _ _ _ (h .before .before .before .before .pre .2) _ (h .head-fields .ensures) (high t) _ (r .read-rows .ensures .0) _ (c .before .if2 .taken))
 
 read-values-requires : tie.Need-read-values-requires
 read-values-requires c κs =
     let i = c .before .before .before in
     let r = i .before .before .before in
-    let e = r .before .before .before .before .before in
-    let h = e .before .before in
-    let p = h .before .before .before .pre in
+    let t = r .before .before .before in
+    let h = t .before .before in
+    let p = h .before .before .before .before .pre .2 in
     let f = r .read-rows .ensures in (
-      spelled _ _ _ p _ (h .head-fields .ensures) (high e) _ (f .0) (i .if2 .left) _ refl,
-      found _ _ _ p _ (h .head-fields .ensures) (high e) _ (f .0) (i .if2 .left) _ _ (f .1) refl,
+      spelled _ _ _ p _ (h .head-fields .ensures) (high t) _ (f .0) (i .if2 .left) _ refl,
+      found _ _ _ p _ (h .head-fields .ensures) (high t) _ (f .0) (i .if2 .left) _ _ (f .1) refl,
     )
 
 pub read-fields-spec : {M : Type 1} → statement M
@@ -57,7 +58,7 @@ read-fields-spec =
     head-fields-requires
     (λ c κs. search needs)
     returns
-    (λ c κs. search needs) (λ c. search needs) (λ c. search needs)
+    (λ c. search needs)
     read-rows-requires
     (λ c κs. search needs)
     returns-2
