@@ -20,9 +20,9 @@ use Rattle.text_columns.specs.Read.{rightForm, numberSize, isUsed, cellS
 -- `is_used`: by the flag table, and always.
 
 module _ (flags : List (List Bool)) (used column flag : ℕ) where
-  pub used-by-flag : used ≡ byFlagUse → {b : Bool} → b ≡ entryIn flags flag column → b ≡ isUsed flags used column flag
+  pub used-by-flag : used ≡ byFlagUse → {b : Bool} {digit : ℕ} → digit ≡ flag → b ≡ entryIn flags digit column → b ≡ isUsed flags used column flag
   unfolding isUsed
-  used-by-flag e f = f ∙ rw (eq-eqb used byFlagUse e)
+  used-by-flag e d f = f ∙ rw (d, eq-eqb used byFlagUse e)
 
   pub used-always : (used ≡ byFlagUse → ⊥) → true ≡ isUsed flags used column flag
   unfolding isUsed

@@ -1,7 +1,7 @@
 // One component line, by a table of columns that is lent: its width and bars, and what a column with a number says.
 ghost use mathlib.Core.Path.{_≡_};
 ghost use mathlib.Core.Bool.{true};
-ghost use Prim.Native.Nat.{_≤_, _<_};
+ghost use Prim.Native.Nat.{_-_, _≤_, _<_};
 ghost use lib.ListN.{length};
 ghost use Rattle.digits.specs.Digits.{allBlank, sizeReading};
 ghost use Rattle.text_rules.specs.Tables.{columnsOf};
@@ -57,17 +57,27 @@ pub fn is_row(columns: &[[usize; COLUMN_PARTS]], width: usize, line: &[u8]) -> b
     true
 }
 
-// Whether a column has a number in a line with that flag: always, or as the flag table says.
+// The digit of the flag's byte; 0 where it is none.
+fn flag_digit(b: u8) -> u64
+    ensures { λ r. ⌜ r ≡ b - 48 ⌝ }
+{
+    if b < 48 {
+        return 0;
+    }
+    (b - 48) as u64
+}
+
+// Whether a column has a number in a line with that byte for its flag: always, or as the flag table says.
 pub fn is_used(
     flags: &[[bool; flags::COLUMNS]; flags::FLAGS],
     used: usize,
     column: usize,
-    flag: u64,
+    flag: u8,
 ) -> bool
-    ensures { λ r. ⌜ r ≡ isUsed (now (flags .entry)) used column flag ⌝ }
+    ensures { λ r. ⌜ r ≡ isUsed (now (flags .entry)) used column (flag - 48) ⌝ }
 {
     if used == BY_FLAG {
-        return flags::entry_in(flags, flag, column);
+        return flags::entry_in(flags, flag_digit(flag), column);
     }
     true
 }

@@ -235,9 +235,8 @@ module _ (columns : List (List ℕ)) (flagAt : ℕ) (rows : List ℕ) (pitch str
         slot = omega (arith, v .few, next);
       }
 
-  module _ (flags : List (List Bool)) (words : holdsText (columnsOf columns) k ≡ false) (p j : ℕ) {flag : ℕ} {used : Bool} {size : Size} (line : p ≡ j * pitch)
-      (digit : flag ≡ getD rows (p + start) 0 - 48)
-      (by : used ≡ isUsed flags (getD (getD columns k []) usePart 0) (getD (getD columns k []) flagPart 0) flag)
+  module _ (flags : List (List Bool)) (words : holdsText (columnsOf columns) k ≡ false) (p j : ℕ) {used : Bool} {size : Size} (line : p ≡ j * pitch)
+      (by : used ≡ isUsed flags (getD (getD columns k []) usePart 0) (getD (getD columns k []) flagPart 0) (getD rows (p + start) 0 - 48))
       (reads : size
       ≡ cellSize used (getD (getD columns k []) digitsPart 0) (getD (getD columns k []) decimalsPart 0)
       (take (p + at + getD (getD columns k []) widthPart 0 - (p + at)) (drop (p + at) rows))) where
@@ -247,7 +246,7 @@ module _ (columns : List (List ℕ)) (flagAt : ℕ) (rows : List ℕ) (pitch str
     reads-cell : size ≡ readingAt form (rowIn (columnsOf columns) rows j) k
     reads-cell =
         cell-in flags columns flagAt rows j (lines .well) k (here .there) words (lines .flag)
-        (line ∙ ap (λ (x : ℕ). j * x) (lines .pitched)) (here .starts) flagged digit by refl reads
+        (line ∙ ap (λ (x : ℕ). j * x) (lines .pitched)) (here .starts) flagged refl by refl reads
 
     pub cell-ill : size ≡ Ill → wrongAt form rows k j ≡ true
     unfolding wrongAt

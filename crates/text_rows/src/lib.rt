@@ -48,16 +48,6 @@ fn line_numbers(columns: &[[usize; COLUMN_PARTS]]) -> usize
     n
 }
 
-// The digit of the flag's byte; 0 where it is none.
-fn flag_digit(b: u8) -> u64
-    ensures { λ r. ⌜ r ≡ b - 48 ⌝ }
-{
-    if b < 48 {
-        return 0;
-    }
-    (b - 48) as u64
-}
-
 // Stores a number where the run has room for it.
 fn keep_number(run: &mut [u64], q: usize, v: u64)
     ensures { λ _. ⌜ now (run .exit) ≡ set (now (run .entry)) q v ⌝ }
@@ -115,7 +105,7 @@ fn read_numbers_column(
     let mut q = place;
     let mut j = 0;
     while j < count {
-        let here = text_columns::is_used(flags, used, column, flag_digit(rows[p + flag_start]));
+        let here = text_columns::is_used(flags, used, column, rows[p + flag_start]);
         let a = p + at;
         let size = text_columns::read_cell(here, digits, decimals, &rows[a..a + width]);
         match size {

@@ -23,15 +23,15 @@ loop-holds c =
     let w = cell-room _ _ _ _ _ _ (s .pre .0) _ _ _ (s .pre .1 .0) (c .before .before .before .before .before .column-start .ensures .0) in
     numbers-start-run _ _ _ _ _ _ _ (s .pre .1 .0 .placed) (w .first)
 
-add-flag-digit : tie.Need-add-flag-digit Inv-loop μ-loop
-add-flag-digit c =
+add-is-used : tie.Need-add-is-used Inv-loop μ-loop
+add-is-used c =
     let l = c .before in
     let s = l .before .before .before .before .before .before .before .before .before in
     let w = turn-room _ _ _ _ _ _ (s .pre .0) _ _ _ (s .pre .1 .0) (l .before .before .before .before .before .before .column-start .ensures .0) (l .loop .inv) (c .loop-test .taken) in
     omega arith
 
-shared-slice-read-flag-digit : tie.Need-shared-slice-read-flag-digit Inv-loop μ-loop
-shared-slice-read-flag-digit c =
+shared-slice-read-is-used : tie.Need-shared-slice-read-is-used Inv-loop μ-loop
+shared-slice-read-is-used c =
     let t = c .before in
     let l = t .before in
     let s = l .before .before .before .before .before .before .before .before .before in
@@ -40,7 +40,7 @@ shared-slice-read-flag-digit c =
 
 add-a : tie.Need-add-a Inv-loop μ-loop
 add-a c =
-    let t = c .before .before .before in
+    let t = c .before .before in
     let l = t .before in
     let s = l .before .before .before .before .before .before .before .before .before in
     let w = turn-room _ _ _ _ _ _ (s .pre .0) _ _ _ (s .pre .1 .0) (l .before .before .before .before .before .before .column-start .ensures .0) (l .loop .inv) (t .loop-test .taken) in
@@ -48,7 +48,7 @@ add-a c =
 
 add-read-cell : tie.Need-add-read-cell Inv-loop μ-loop
 add-read-cell c =
-    let t = c .before .before .before in
+    let t = c .before .before in
     let l = t .before in
     let s = l .before .before .before .before .before .before .before .before .before in
     let w = turn-room _ _ _ _ _ _ (s .pre .0) _ _ _ (s .pre .1 .0) (l .before .before .before .before .before .before .column-start .ensures .0) (l .loop .inv) (t .loop-test .taken) in
@@ -56,7 +56,7 @@ add-read-cell c =
 
 part-read-cell-end : tie.Need-part-read-cell-end Inv-loop μ-loop
 part-read-cell-end c =
-    let t = c .before .before .before in
+    let t = c .before .before in
     let l = t .before in
     let s = l .before .before .before .before .before .before .before .before .before in
     let w = turn-room _ _ _ _ _ _ (s .pre .0) _ _ _ (s .pre .1 .0) (l .before .before .before .before .before .before .column-start .ensures .0) (l .loop .inv) (t .loop-test .taken) in
@@ -64,7 +64,7 @@ part-read-cell-end c =
 
 read-cell-requires : tie.Need-read-cell-requires Inv-loop μ-loop
 read-cell-requires c κs =
-    let t = c .before .before .before .before in
+    let t = c .before .before .before in
     let l = t .before in
     let s = l .before .before .before .before .before .before .before .before .before in
     let w = turn-room _ _ _ _ _ _ (s .pre .0) _ _ _ (s .pre .1 .0) (l .before .before .before .before .before .before .column-start .ensures .0) (l .loop .inv) (t .loop-test .taken) in
@@ -74,16 +74,16 @@ returns : tie.Need-returns Inv-loop μ-loop
 returns c =
     let r = c .before .before in
     let u = r .before .before in
-    let t = u .before .before .before in
+    let t = u .before .before in
     let l = t .before in
     let s = l .before .before .before .before .before .before .before .before .before in
     let wrong = cell-ill _ _ _ _ _ _ (s .pre .0) _ _ _ (s .pre .1 .0) (l .before .before .before .before .before .before .column-start .ensures .0) _ (s .pre .1 .1) _ _ (l .loop .inv .line)
-    (u .before .flag-digit .ensures) (u .is-used .ensures) (r .read-cell .ensures) (c .enum-told .given .1) in
+    (u .is-used .ensures) (r .read-cell .ensures) (c .enum-told .given .1) in
     numbers-found _ _ _ _ _ _ _ _ _ _ _ (l .loop .inv) (t .loop-test .taken) wrong
 
 add-p : tie.Need-add-p Inv-loop μ-loop
 add-p c =
-    let t = c .before .before .before .before .before .before .before .before .before .before .before .before in
+    let t = c .before .before .before .before .before .before .before .before .before .before .before in
     let l = t .before in
     let s = l .before .before .before .before .before .before .before .before .before in
     let w = turn-room _ _ _ _ _ _ (s .pre .0) _ _ _ (s .pre .1 .0) (l .before .before .before .before .before .before .column-start .ensures .0) (l .loop .inv) (t .loop-test .taken) in
@@ -91,7 +91,7 @@ add-p c =
 
 add-q : tie.Need-add-q Inv-loop μ-loop
 add-q c =
-    let t = c .before .before .before .before .before .before .before .before .before .before .before .before in
+    let t = c .before .before .before .before .before .before .before .before .before .before .before in
     let l = t .before in
     let s = l .before .before .before .before .before .before .before .before .before in
     let w = turn-room _ _ _ _ _ _ (s .pre .0) _ _ _ (s .pre .1 .0) (l .before .before .before .before .before .before .column-start .ensures .0) (l .loop .inv) (t .loop-test .taken) in
@@ -102,13 +102,13 @@ loop-again c =
     let n = c .before .before in
     let r = n .before .before .before .before .before in
     let u = r .before .before in
-    let t = u .before .before .before in
+    let t = u .before .before in
     let l = t .before in
     let s = l .before .before .before .before .before .before .before .before .before in
     let start = l .before .before .before .before .before .before .column-start .ensures .0 in
     let w = cell-room _ _ _ _ _ _ (s .pre .0) _ _ _ (s .pre .1 .0) start in
     let known = cell-known _ _ _ _ _ _ (s .pre .0) _ _ _ (s .pre .1 .0) start _ (s .pre .1 .1) _ _ (l .loop .inv .line)
-    (u .before .flag-digit .ensures) (u .is-used .ensures) (r .read-cell .ensures) (n .before .before .before .size .given .1) in
+    (u .is-used .ensures) (r .read-cell .ensures) (n .before .before .before .size .given .1) in
     numbers-again _ _ _ _ _ _ _ _ _ _ _ (l .loop .inv) (t .loop-test .taken) (s .pre .0 .strides) (w .apart) (known .0) (known .1) (n .keep-number .ensures)
 
 returns-2 : tie.Need-returns-2 Inv-loop μ-loop
@@ -125,9 +125,9 @@ read-numbers-column-spec =
     (λ c. search needs) (λ c. search needs) (λ c. search needs) (λ c. search needs) (λ c. search needs) (λ c. search needs)
     (λ c. search needs) (λ c. search needs) (λ c. search needs)
     loop-holds
-    add-flag-digit
-    shared-slice-read-flag-digit
-    (λ c κs. search needs) (λ c κs. search needs)
+    add-is-used
+    shared-slice-read-is-used
+    (λ c κs. search needs)
     add-a
     add-read-cell
     (λ c. search needs) (λ c. search needs)
