@@ -1,5 +1,6 @@
-//! The archive's functions over lent runs, as safe functions. All `unsafe` of
-//! this crate is here.
+//! The archive's functions over lent runs, as safe functions: the layout of each
+//! run is that of the C header `include/roffelaine.h`. All `unsafe` of this crate
+//! is here.
 //!
 //! Why the calls are safe: a function of the archive takes a run as a pointer
 //! and a length, and each pointer below goes with the length of the slice that
@@ -8,7 +9,7 @@
 //! every input, to stay within what they are lent and to return; they keep no
 //! pointer, allocate nothing and hold no state.
 
-use crate::model::{Reply, Trade};
+use crate::Refusal;
 
 // Lines, accounts and counts of 64 bits cross as `usize`.
 const _: () = assert!(usize::BITS == 64);
@@ -212,6 +213,28 @@ mod exported {
     }
 }
 
+/// The answer to a call as three numbers. Number 0 is accepted; the value is
+/// the count of records, components or bytes, or the reference value, else 0.
+#[derive(Clone, Copy, Debug, Default, PartialEq, Eq)]
+pub struct Reply {
+    /// The refusal's number, 0 for none.
+    pub number: u64,
+    /// The refusal's place.
+    pub place: u64,
+    /// The value of an accepted call.
+    pub value: u64,
+}
+
+impl Reply {
+    /// The value of an accepted call, or its refusal.
+    pub const fn outcome(&self) -> Result<u64, Refusal> {
+        match Refusal::from_numbers(self.number, self.place) {
+            None => Ok(self.value),
+            Some(refusal) => Err(refusal),
+        }
+    }
+}
+
 /// The reply of a call that puts its place and value where it is told to.
 fn reply(call: impl FnOnce(&mut u64, &mut u64) -> u64) -> Reply {
     let (mut place, mut value) = (0, 0);
@@ -278,7 +301,17 @@ pub fn price(day: &[u64], book: &[u64], prices: &mut [u64], line: u64, price: u6
 }
 
 /// Trades a quantity of a line at a price.
-pub fn trade(day: &[u64], book: &mut [u64], prices: &[u64], trade: &Trade) -> Reply {
+#[allow(clippy::too_many_arguments)]
+pub fn trade(
+    day: &[u64],
+    book: &mut [u64],
+    prices: &[u64],
+    line: u64,
+    quantity: u64,
+    price: u64,
+    seller: u64,
+    buyer: u64,
+) -> Reply {
     // SAFETY: each pointer stands beside the length of its own slice.
     reply(|place, value| unsafe {
         exported::roffelaine_trade(
@@ -288,11 +321,11 @@ pub fn trade(day: &[u64], book: &mut [u64], prices: &[u64], trade: &Trade) -> Re
             book.len(),
             prices.as_ptr(),
             prices.len(),
-            trade.line as usize,
-            trade.quantity,
-            trade.price,
-            trade.seller as usize,
-            trade.buyer as usize,
+            line as usize,
+            quantity,
+            price,
+            seller as usize,
+            buyer as usize,
             place,
             value,
         )

@@ -7,7 +7,7 @@ use std::process::ExitCode;
 /// Names the archive where it does not stand in the repository.
 const VARIABLE: &str = "ROFFELAINE_ARCHIVE";
 /// Where the repository has it, from this crate.
-const IN_REPOSITORY: &str = "../target/staticlib/libc_interface.a";
+const IN_REPOSITORY: &str = "../../target/staticlib/libc_interface.a";
 
 fn main() -> ExitCode {
     println!("cargo:rerun-if-env-changed={VARIABLE}");

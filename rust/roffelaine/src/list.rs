@@ -1,27 +1,33 @@
 //! A list text, read and written.
 
-use super::{lent, Component, Head, Refusal};
-use crate::flat::{field_numbers, fields_of, part_of, FIELD_NUMBERS, PART_NUMBERS};
-use crate::model::list::NAME_BYTES;
-use crate::model::{COMPONENT_NUMBERS, MAX_COMPONENTS};
+use crate::layout::{
+    component_of, component_run, field_numbers, head_of, part_of, COMPONENT_NUMBERS, FIELD_NUMBERS,
+    NAME_BYTES, PART_NUMBERS,
+};
+use crate::{lent, Component, Head, Refusal, MOST_COMPONENTS};
 
 /// More bytes than any list has.
 const LONGEST_TEXT: usize = 20_000;
 
-/// A list; the letters and names are parts of its text.
+/// A list; the letters and names are parts of its text. Every line of the text
+/// ends in CR and LF.
 #[derive(Clone, Debug, PartialEq, Eq)]
 pub struct List<'t> {
+    /// The letters behind `[ETF` in the first line.
     pub letters: &'t [u8],
+    /// The fields before the components.
     pub head: Head,
+    /// The basket.
     pub components: Vec<Component>,
     /// The name of each component.
     pub names: Vec<&'t [u8; NAME_BYTES]>,
 }
 
 impl<'t> List<'t> {
-    /// Reads a text.
+    /// Reads a text. Where it is refused, [`ListFault`](crate::ListFault) says
+    /// what is wrong, and where.
     pub fn read(text: &'t [u8]) -> Result<Self, Refusal> {
-        let mut run = [0; COMPONENT_NUMBERS * MAX_COMPONENTS];
+        let mut run = [0; COMPONENT_NUMBERS * MOST_COMPONENTS];
         let mut fields = [0; FIELD_NUMBERS];
         let mut first_row = 0;
         let count = lent::read(text, &mut run, &mut fields, &mut first_row).outcome()? as usize;
@@ -29,8 +35,8 @@ impl<'t> List<'t> {
         let names = (0..count as u64).filter_map(|at| name(text, first_row, at).first_chunk());
         Ok(List {
             letters: letters(text),
-            head: fields_of(&fields).0,
-            components: components.map(Component::from_numbers).collect(),
+            head: head_of(&fields),
+            components: components.map(component_of).collect(),
             names: names.collect(),
         })
     }
@@ -38,16 +44,22 @@ impl<'t> List<'t> {
     /// The list as text.
     pub fn write(&self) -> Result<Vec<u8>, Refusal> {
         let fields = field_numbers(&self.head, self.components.len() as u64);
-        let components: Vec<u64> = self
-            .components
-            .iter()
-            .flat_map(Component::numbers)
-            .collect();
+        let components = component_run(&self.components);
         let names: Vec<u8> = self.names.iter().copied().flatten().copied().collect();
         let mut text = vec![0; LONGEST_TEXT];
         let reply = lent::write(&fields, &components, &names, self.letters, &mut text);
         text.truncate(reply.outcome()? as usize);
         Ok(text)
+    }
+
+    /// The line of a code: a component's, or the unit's for the fund's first
+    /// code.
+    pub fn line_of(&self, code: u64) -> Option<usize> {
+        let components = &self.components;
+        match components.binary_search_by_key(&code, |component| component.code) {
+            Ok(line) => Some(line),
+            Err(_) => (code == self.head.fund.first_code).then_some(components.len()),
+        }
     }
 }
 

@@ -1,0 +1,43 @@
+//! What is wrong with a list that is refused, and where.
+
+use crate::Refusal;
+
+/// A place in a text as an editor counts it, both from 1; a column counts bytes.
+#[derive(Clone, Copy, Debug, PartialEq, Eq)]
+pub struct Position {
+    /// The line.
+    pub line: usize,
+    /// The column.
+    pub column: usize,
+}
+
+/// Where a byte of a text stands; lines end in LF.
+pub fn position(text: &[u8], place: usize) -> Position {
+    let before = &text[..place.min(text.len())];
+    let line = before.iter().filter(|&&byte| byte == b'\n').count() + 1;
+    let start = before.iter().rposition(|&byte| byte == b'\n');
+    Position {
+        line,
+        column: before.len() - start.map_or(0, |at| at + 1) + 1,
+    }
+}
+
+/// What is wrong with a list text that was refused.
+#[derive(Clone, Debug, PartialEq, Eq)]
+pub struct ListFault {
+    /// Where.
+    pub position: Position,
+    /// The field's or the line's name.
+    pub field: String,
+    /// What stands there.
+    pub found: String,
+    /// What is expected.
+    pub expected: String,
+}
+
+impl ListFault {
+    /// The fault behind a refusal of a text.
+    pub fn of(_text: &[u8], _refusal: Refusal) -> Option<Self> {
+        None
+    }
+}

@@ -1,0 +1,83 @@
+//! The records of an order, read from the run that the archive fills.
+
+use crate::layout::RECORD_NUMBERS;
+use crate::Money;
+
+/// The side of a record, B or S.
+#[derive(Clone, Copy, Debug, PartialEq, Eq, Hash)]
+pub enum Side {
+    /// B.
+    Buy,
+    /// S.
+    Sell,
+}
+
+impl Side {
+    /// Its letter, `B` or `S`.
+    pub const fn letter(self) -> char {
+        match self {
+            Side::Buy => 'B',
+            Side::Sell => 'S',
+        }
+    }
+}
+
+/// A record.
+#[derive(Clone, Copy, Debug, PartialEq, Eq, Hash)]
+pub struct Record {
+    /// The code that is posted.
+    pub code: u64,
+    /// Bought or sold.
+    pub side: Side,
+    /// Units or shares; 1,000,000 or 1 of cash.
+    pub quantity: u64,
+    /// 0 for units and stock.
+    pub price: Money,
+    /// Quantity times price.
+    pub amount: Money,
+}
+
+impl Record {
+    fn from_numbers(numbers: &[u64]) -> Self {
+        let side = match numbers[1] {
+            1 => Side::Buy,
+            _ => Side::Sell,
+        };
+        Record {
+            code: numbers[0],
+            side,
+            quantity: numbers[2],
+            price: Money(numbers[3]),
+            amount: Money(numbers[4]),
+        }
+    }
+}
+
+/// The first `count` records of a run.
+pub(crate) fn records_of(run: &[u64], count: usize) -> Vec<Record> {
+    run.chunks_exact(RECORD_NUMBERS)
+        .take(count)
+        .map(Record::from_numbers)
+        .collect()
+}
+
+/// A list that is lent to orders and takes their records.
+#[derive(Clone, Debug, Default, PartialEq, Eq)]
+pub struct RecordList {
+    pub(crate) run: Vec<u64>,
+}
+
+impl RecordList {
+    /// A list with places for so many records.
+    pub fn with_room(records: usize) -> Self {
+        RecordList {
+            run: vec![0; RECORD_NUMBERS * records],
+        }
+    }
+
+    /// The first `count` records: those of the last order that was lent this
+    /// list, where `count` is what it answered.
+    pub fn records(&self, count: usize) -> Vec<Record> {
+        records_of(&self.run, count)
+    }
+}
