@@ -2,11 +2,15 @@
 //! here its number and place are put in words for people.
 
 mod digits;
+mod ends;
 mod form;
 mod numbers;
+mod text_lines;
 
 use crate::Refusal;
 use std::fmt;
+
+pub use ends::{lf_ends, list_end, with_crlf};
 
 /// A place in a text as an editor counts it, both from 1; a column counts bytes.
 #[derive(Clone, Copy, Debug, PartialEq, Eq)]
