@@ -1,11 +1,14 @@
 //! What is wrong with a list that is refused, and where. The archive decides;
 //! here its number and place are put in words for people.
 
+mod component_line;
 mod digits;
 mod ends;
 mod form;
+mod lines;
 mod numbers;
 mod text_lines;
+mod wanted;
 
 use crate::Refusal;
 use std::fmt;
@@ -39,6 +42,17 @@ pub fn position(text: &[u8], place: usize) -> Position {
 }
 
 /// What is wrong with a list text that was refused.
+///
+/// ```
+/// use roffelaine::{List, ListFault};
+/// let text = b"[ETF300]\r\nFundid=510301\r\n";
+/// let refusal = List::read(text).unwrap_err();
+/// let fault = ListFault::of(text, refusal).expect("reading refused it");
+/// assert_eq!(
+///     fault.to_string(),
+///     "2:1 Fundid1 \"Fundid=510301\": the line Fundid1=.. is expected here"
+/// );
+/// ```
 #[derive(Clone, Debug, PartialEq, Eq)]
 pub struct ListFault {
     /// Where.
@@ -55,8 +69,12 @@ pub struct ListFault {
 impl ListFault {
     /// The fault behind a refusal of this text by [`List::read`](crate::List::read).
     /// None for a refusal that reading it does not give.
-    pub fn of(_text: &[u8], _refusal: Refusal) -> Option<Self> {
-        None
+    pub fn of(text: &[u8], refusal: Refusal) -> Option<Self> {
+        let place = usize::try_from(refusal.place()).ok()?;
+        match refusal {
+            Refusal::TextLine { .. } => lines::fault(text, place),
+            _ => None,
+        }
     }
 
     /// A fault at a place of a text.
