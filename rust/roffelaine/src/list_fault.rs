@@ -4,6 +4,7 @@
 mod component_line;
 mod digits;
 mod ends;
+mod fields;
 mod form;
 mod lines;
 mod numbers;
@@ -73,6 +74,7 @@ impl ListFault {
         let place = usize::try_from(refusal.place()).ok()?;
         match refusal {
             Refusal::TextLine { .. } => lines::fault(text, place),
+            Refusal::TextField { .. } => fields::fault(text, place),
             _ => None,
         }
     }
