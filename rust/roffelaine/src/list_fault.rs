@@ -8,6 +8,7 @@ mod fields;
 mod form;
 mod lines;
 mod numbers;
+mod ranges;
 mod text_lines;
 mod wanted;
 
@@ -75,6 +76,9 @@ impl ListFault {
         match refusal {
             Refusal::TextLine { .. } => lines::fault(text, place),
             Refusal::TextField { .. } => fields::fault(text, place),
+            Refusal::RecordCount => ranges::record_count(text),
+            Refusal::FundField => ranges::fund_field(text),
+            Refusal::Component { .. } => ranges::component(text, place),
             _ => None,
         }
     }
