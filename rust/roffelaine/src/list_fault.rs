@@ -15,7 +15,7 @@ mod wanted;
 use crate::Refusal;
 use std::fmt;
 
-pub use ends::{lf_ends, list_end, with_crlf};
+pub use ends::{lines_in_lf, list_end, with_crlf};
 
 /// A place in a text as an editor counts it, both from 1; a column counts bytes.
 #[derive(Clone, Copy, Debug, PartialEq, Eq)]

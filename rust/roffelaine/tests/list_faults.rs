@@ -2,7 +2,7 @@
 
 mod support;
 
-use roffelaine::{lf_ends, list_end, with_crlf, List, ListFault, Refusal};
+use roffelaine::{lines_in_lf, list_end, with_crlf, List, ListFault, Refusal};
 use support::LIST;
 
 /// The fault of a text that is refused with a number.
@@ -85,7 +85,7 @@ fn lists_that_go_on_with_lf() {
         let column = line.len() - 1;
         let start = format!("{}:{column} line end \"LF\": lines end in CRLF; ", at + 1);
         assert!(found.starts_with(&start), "{found}");
-        assert_eq!(lf_ends(text.as_bytes()), lines.len() - at);
+        assert_eq!(lines_in_lf(text.as_bytes()), lines.len() - at);
     }
 }
 

@@ -5,7 +5,7 @@ use super::ListFault;
 use std::borrow::Cow;
 
 /// How many lines of a text end in LF alone; those of a list end in CR and LF.
-pub fn lf_ends(text: &[u8]) -> usize {
+pub fn lines_in_lf(text: &[u8]) -> usize {
     lf_places(text).count()
 }
 
@@ -15,7 +15,7 @@ pub fn lf_ends(text: &[u8]) -> usize {
 /// assert_eq!(*roffelaine::with_crlf(b"TAGTAG\r\nENDENDEND\n"), *b"TAGTAG\r\nENDENDEND\r\n");
 /// ```
 pub fn with_crlf(text: &[u8]) -> Cow<'_, [u8]> {
-    let count = lf_ends(text);
+    let count = lines_in_lf(text);
     if count == 0 {
         return Cow::Borrowed(text);
     }
@@ -58,7 +58,7 @@ fn lf_places(text: &[u8]) -> impl Iterator<Item = usize> + '_ {
 pub fn end_fault(text: &[u8], place: usize) -> ListFault {
     let found = end_name(&text[place..]);
     let expected = match found.as_str() {
-        "LF" => lf_words(lf_ends(text)),
+        "LF" => lf_words(lines_in_lf(text)),
         "" => "the file ends here; its last line ends in CRLF too".to_owned(),
         _ => "lines end in CRLF".to_owned(),
     };
@@ -98,8 +98,8 @@ mod tests {
             (b"a\n\rb", 1, b"a\r\n\rb"),
         ];
         for (text, count, mended) in rows {
-            assert_eq!((lf_ends(text), &*with_crlf(text)), (count, mended));
-            assert_eq!(lf_ends(mended), 0);
+            assert_eq!((lines_in_lf(text), &*with_crlf(text)), (count, mended));
+            assert_eq!(lines_in_lf(mended), 0);
         }
         assert!(matches!(with_crlf(b"a\r\n"), Cow::Borrowed(_)));
     }
