@@ -30,6 +30,8 @@ struct Opening {
     /// What an account has at a place, and the line that said so.
     given: BTreeMap<(u64, usize), (u64, usize)>,
     faulty: usize,
+    /// Whether a line `open` followed; `accounts` then starts another opening.
+    is_tried: bool,
     /// The line of the opening that was accepted.
     open_since: Option<usize>,
 }
@@ -115,6 +117,7 @@ impl<'l> Session<'l> {
 
     /// Opens the day, unless a line above it is faulty or it is open.
     fn open(&mut self, line: usize) -> Said {
+        self.opening.is_tried = true;
         if let Some(since) = self.opening.open_since {
             return Said::NotMade {
                 why: format!("the day is open since line {since}"),
@@ -382,10 +385,10 @@ fn not_made(why: &str) -> Said {
 const CASH: usize = usize::MAX;
 
 impl Opening {
-    /// Starts an opening with so many accounts; an earlier one is forgotten
-    /// once the day is open.
+    /// Starts an opening with so many accounts; an earlier one that was tried is
+    /// forgotten.
     fn start(&mut self, line: usize, accounts: u64) -> Result<(), Misfit> {
-        if let (Some((_, before)), None) = (self.accounts, self.open_since) {
+        if let (Some((_, before)), false) = (self.accounts, self.is_tried) {
             return Err(misfit(FIRST_WORD, format!("it is given in line {before}")));
         }
         *self = Opening {

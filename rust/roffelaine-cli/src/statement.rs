@@ -192,7 +192,7 @@ fn order(words: &mut Words<'_>) -> Result<Order, Fault> {
     Ok(Order {
         account: words.whole("ACCOUNT")?,
         units: words.amount("UNITS")?,
-        room: words.last_whole()?,
+        room: words.last_whole("ROOM")?,
     })
 }
 
@@ -202,10 +202,10 @@ fn expectation(words: &mut Words<'_>) -> Result<Expectation, Fault> {
     match word {
         "refused" => Ok(Expectation::Refused {
             number: words.whole("NUMBER")?,
-            place: words.last_whole()?,
+            place: words.last_whole("PLACE")?,
         }),
         "ok" => Ok(Expectation::Ok {
-            count: words.last_whole()?,
+            count: words.last_whole("COUNT")?,
         }),
         "value" => words.amount("VALUE").map(Expectation::Value),
         "cash" => cash(words).map(|(account, amount)| Expectation::Cash { account, amount }),
@@ -291,10 +291,10 @@ impl<'l> Words<'l> {
     }
 
     /// A number that may be left out.
-    fn last_whole(&mut self) -> Result<Option<u64>, Fault> {
+    fn last_whole(&mut self, name: &str) -> Result<Option<u64>, Fault> {
         match self.clone().next() {
             None => Ok(None),
-            Some(_) => self.whole("a number").map(Some),
+            Some(_) => self.whole(name).map(Some),
         }
     }
 
