@@ -1,6 +1,7 @@
 //! A file with a list, and perhaps the lines of a day behind it.
 
 use roffelaine::{lines_in_lf, list_end, with_crlf, List, ListFault, Refusal};
+use std::borrow::Cow;
 use std::ffi::OsStr;
 use std::io::Read;
 
@@ -71,6 +72,12 @@ impl Input {
         let first = before.count() + 1;
         let lines = self.bytes[self.list_end..].split(|&byte| byte == b'\n');
         (first..).zip(lines)
+    }
+
+    /// The same as text; bytes that are no UTF-8 are replaced.
+    pub fn texts(&self) -> impl Iterator<Item = (usize, Cow<'_, str>)> {
+        let lines = self.lines();
+        lines.map(|(line, bytes)| (line, String::from_utf8_lossy(bytes)))
     }
 }
 

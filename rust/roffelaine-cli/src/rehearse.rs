@@ -39,11 +39,7 @@ fn rehearse(
     printer: &mut Printer<'_, impl Write>,
 ) -> io::Result<()> {
     printer.start()?;
-    for (line, bytes) in input.lines() {
-        if let Some(entry) = session.line(line, &String::from_utf8_lossy(bytes)) {
-            printer.entry(entry)?;
-        }
-    }
+    session.lines(input.texts(), |entry| printer.entry(entry))?;
     printer.end(session)
 }
 

@@ -1,16 +1,15 @@
 //! A day rehearsed line by line on the day book.
 
+mod expected;
+mod opening;
+mod together;
+
 use crate::posting::{held, Posting};
 use crate::reasons::{self, Situation};
 use crate::report::{Answer, Counts, Entry, Made, Position, Refused, Said, Total};
-use crate::statement::{column_of_word, statement, Call, Expectation, Fault, Order, Statement};
-use roffelaine::{
-    Day, Holdings, List, Money, RecordList, Refusal, Trade, MOST_ACCOUNTS, MOST_COMPONENTS,
-};
-use std::collections::btree_map::{self, BTreeMap};
-
-/// More records than any order makes.
-const AMPLE_ROOM: usize = MOST_COMPONENTS + 6;
+use crate::statement::{column_of_word, statement, Call, Fault, Statement};
+use opening::{Opening, CASH};
+use roffelaine::{Day, List, Refusal};
 
 /// A day that is rehearsed.
 pub struct Session<'l> {
@@ -21,19 +20,6 @@ pub struct Session<'l> {
     /// The last answer, for what is expected of it.
     last: Option<Answer>,
     counts: Counts,
-}
-
-/// What the lines above `open` give.
-#[derive(Default)]
-struct Opening {
-    accounts: Option<(u64, usize)>,
-    /// What an account has at a place, and the line that said so.
-    given: BTreeMap<(u64, usize), (u64, usize)>,
-    faulty: usize,
-    /// Whether a line `open` followed; `accounts` then starts another opening.
-    is_tried: bool,
-    /// The line of the opening that was accepted.
-    open_since: Option<usize>,
 }
 
 impl<'l> Session<'l> {
@@ -108,7 +94,10 @@ impl<'l> Session<'l> {
                 Ok(None)
             }
             Statement::Call(Call::Open) => Ok(Some(self.open(line))),
-            Statement::Call(call) => Ok(Some(self.call(call))),
+            Statement::Call(call) => {
+                let answer = self.answers(&[call]).pop();
+                Ok(answer.map(|answer| self.answer(answer)))
+            }
             Statement::Show { account } => self.show(account).map(Some),
             Statement::Totals => self.totals().map(Some),
             Statement::Expect(expected) => Ok(Some(self.expect(&expected))),
@@ -147,66 +136,14 @@ impl<'l> Session<'l> {
         })
     }
 
-    fn call(&mut self, call: Call) -> Said {
-        let outcome = self.made(&call).map_err(|refusal| {
-            let situation = Situation {
-                list: self.list,
-                day: &self.day,
-                is_open: self.day.components() > 0,
-            };
-            Refused {
-                refusal,
-                reason: situation.reason(&call, refusal),
-            }
-        });
-        let answer = Answer { call, outcome };
-        if answer.outcome.is_ok() {
-            self.posting.post(self.list, &call, answer.records());
-        }
-        self.answer(answer)
-    }
-
-    /// What the day book answers.
-    fn made(&mut self, call: &Call) -> Result<Made, Refusal> {
-        match *call {
-            Call::Price { code, price } => {
-                let line = self.line_of(code);
-                self.day.set_price(line, price).map(|()| Made::Done)
-            }
-            Call::Trade {
-                code,
-                quantity,
-                price,
-                seller,
-                buyer,
-            } => {
-                let trade = Trade {
-                    line: self.line_of(code),
-                    quantity,
-                    price,
-                    seller: seller as usize,
-                    buyer: buyer as usize,
-                };
-                self.day.trade(&trade).map(|()| Made::Done)
-            }
-            Call::Create(order) => self.ordered(&order, Day::create_into),
-            Call::Redeem(order) => self.ordered(&order, Day::redeem_into),
-            Call::Value | Call::Open => self.day.reference_value().map(Made::Value),
-        }
-    }
-
-    fn ordered(
-        &mut self,
-        order: &Order,
-        make: impl Fn(&mut Day, usize, roffelaine::Units, &mut RecordList) -> Result<usize, Refusal>,
-    ) -> Result<Made, Refusal> {
-        let room = order.room.map_or(AMPLE_ROOM, |room| {
-            usize::try_from(room).unwrap_or(AMPLE_ROOM).min(AMPLE_ROOM)
-        });
-        let mut records = RecordList::with_room(room);
-        let account = order.account as usize;
-        let count = make(&mut self.day, account, order.units, &mut records)?;
-        Ok(Made::Records(records.records(count)))
+    /// Why a call is refused on the day as it stands.
+    fn reason(&self, call: &Call, refusal: Refusal) -> String {
+        let situation = Situation {
+            list: self.list,
+            day: &self.day,
+            is_open: self.day.components() > 0,
+        };
+        situation.reason(call, refusal)
     }
 
     /// The line of a code; one that no day has where the list has no such code.
@@ -279,82 +216,6 @@ impl<'l> Session<'l> {
         };
         places.map(total).collect()
     }
-
-    fn expect(&self, expected: &Expectation) -> Said {
-        match self.unexpected(expected) {
-            None => Said::Met,
-            Some(why) => Said::NotMet { why },
-        }
-    }
-
-    /// What there is in place of what is expected.
-    fn unexpected(&self, expected: &Expectation) -> Option<String> {
-        match *expected {
-            Expectation::Refused { number, place } => self.unexpected_answer(|outcome| {
-                let refusal = outcome.as_ref().err()?.refusal;
-                let placed = place.is_none_or(|place| place == refusal.place());
-                (refusal.number() == number && placed).then_some(())
-            }),
-            Expectation::Ok { count } => self.unexpected_answer(|outcome| {
-                let records = match outcome.as_ref().ok()? {
-                    Made::Records(records) => Some(records.len() as u64),
-                    _ => None,
-                };
-                (count.is_none() || count == records).then_some(())
-            }),
-            Expectation::Value(value) => match self.day.reference_value() {
-                Ok(found) if found == value => None,
-                Ok(found) => Some(format!("the value is {found}")),
-                Err(refusal) => Some(format!("value {refusal}")),
-            },
-            Expectation::Cash { account, amount } => self.account_fault(account).or_else(|| {
-                let cash = self.position(account as usize).cash;
-                (cash != amount).then(|| format!("account {account} has {cash} yuan"))
-            }),
-            Expectation::Lots {
-                account,
-                code,
-                old,
-                bought,
-                got,
-            } => self
-                .account_fault(account)
-                .or_else(|| self.unexpected_lots(account as usize, code, [old, bought, got])),
-        }
-    }
-
-    fn unexpected_answer(
-        &self,
-        is_met: impl Fn(&Result<Made, Refused>) -> Option<()>,
-    ) -> Option<String> {
-        let Some(Answer { call, outcome }) = &self.last else {
-            return Some("there is no call before it".to_string());
-        };
-        if is_met(outcome).is_some() {
-            return None;
-        }
-        let word = call.word();
-        Some(match outcome {
-            Ok(Made::Done) => format!("{word} answered ok"),
-            Ok(Made::Value(value)) => format!("{word} answered ok {value}"),
-            Ok(Made::Records(records)) => format!("{word} answered ok {}", records.len()),
-            Err(refused) => {
-                let (number, place) = (refused.refusal.number(), refused.refusal.place());
-                format!("{word} answered refused {number} {place}")
-            }
-        })
-    }
-
-    fn unexpected_lots(&self, account: usize, code: u64, expected: [u64; 3]) -> Option<String> {
-        let Some(line) = self.day.line_of(code) else {
-            return Some(unknown_code(code));
-        };
-        let lots = self.day.book().account(account)?.lots(line);
-        let found = [lots.old, lots.bought, lots.got];
-        let [old, bought, got] = found;
-        (found != expected)
-            .then(|| format!("account {account} has {old} {bought} {got} of {code:06}"))
-    }
 }
 
 /// What a line says that does not fit the day, and which of its words.
@@ -378,70 +239,5 @@ fn unknown_code(code: u64) -> String {
 fn not_made(why: &str) -> Said {
     Said::NotMade {
         why: why.to_string(),
-    }
-}
-
-/// The place of cash among what an opening is given.
-const CASH: usize = usize::MAX;
-
-impl Opening {
-    /// Starts an opening with so many accounts; an earlier one that was tried is
-    /// forgotten.
-    fn start(&mut self, line: usize, accounts: u64) -> Result<(), Misfit> {
-        if let (Some((_, before)), false) = (self.accounts, self.is_tried) {
-            return Err(misfit(FIRST_WORD, format!("it is given in line {before}")));
-        }
-        *self = Opening {
-            accounts: Some((accounts, line)),
-            ..Opening::default()
-        };
-        Ok(())
-    }
-
-    fn give(&mut self, line: usize, account: u64, place: usize, number: u64) -> Result<(), Misfit> {
-        if let Some(since) = self.open_since {
-            let why = format!("the day is open since line {since}: it belongs above `open`");
-            return Err(misfit(FIRST_WORD, why));
-        }
-        let Some((accounts, _)) = self.accounts else {
-            let why = "a line `accounts` comes before it".to_string();
-            return Err(misfit(FIRST_WORD, why));
-        };
-        if account >= accounts {
-            let why = format!("account {account}: `accounts` says {accounts}, they count from 0");
-            return Err(misfit(ACCOUNT_WORD, why));
-        }
-        match self.given.entry((account, place)) {
-            btree_map::Entry::Vacant(vacant) => {
-                vacant.insert((number, line));
-                Ok(())
-            }
-            btree_map::Entry::Occupied(before) => {
-                let why = format!("it is given in line {}", before.get().1);
-                Err(misfit(FIRST_WORD, why))
-            }
-        }
-    }
-
-    /// What each account opens with; one account too many stands for any
-    /// number past the most.
-    fn holdings(&self, lines: usize) -> Vec<Holdings> {
-        let accounts = self.accounts.map_or(0, |(accounts, _)| accounts);
-        let accounts = accounts.min(MOST_ACCOUNTS as u64 + 1) as usize;
-        let blank = Holdings {
-            cash: Money(0),
-            lines: vec![0; lines],
-        };
-        let mut holdings = vec![blank; accounts];
-        for (&(account, place), &(number, _)) in &self.given {
-            let Some(held) = holdings.get_mut(account as usize) else {
-                continue;
-            };
-            match place {
-                CASH => held.cash = Money(number),
-                line => held.lines[line] = number,
-            }
-        }
-        holdings
     }
 }
