@@ -4,12 +4,12 @@
 #[path = "support/rattle.rs"]
 mod rattle;
 
-use host::flat::{DAY_NUMBERS, FIELD_NUMBERS, FUND_NUMBERS, PART_NUMBERS};
-use host::model::list::NAME_BYTES;
-use host::model::{
+use rattle::{block, constants, numbered, variants};
+use roffelaine_check::flat::{DAY_NUMBERS, FIELD_NUMBERS, FUND_NUMBERS, PART_NUMBERS};
+use roffelaine_check::model::list::NAME_BYTES;
+use roffelaine_check::model::{
     stretch_width, ANSWER_NUMBERS, COMPONENT_NUMBERS, MAX_COMPONENTS, RECORD_NUMBERS, ROW_NUMBERS,
 };
-use rattle::{block, constants, numbered, variants};
 use std::collections::{BTreeMap, BTreeSet};
 use std::path::Path;
 
@@ -19,7 +19,7 @@ fn file(path: &str) -> String {
 }
 
 fn header() -> String {
-    file("../include/roffelaine.h")
+    file("../../include/roffelaine.h")
 }
 
 /// What stands between the parentheses after each `roffelaine_` function that
@@ -60,7 +60,7 @@ fn type_in_rust(parameter: &str) -> String {
 
 #[test]
 fn functions_are_declared_as_in_the_header() {
-    let (header, module) = (header(), file("src/archive/lent.rs"));
+    let (header, module) = (header(), file("../roffelaine/src/lent.rs"));
     let in_c = functions(&header, "\nuint64_t ");
     let in_rust = functions(&module, "pub fn roffelaine_");
     assert_eq!(in_c.len(), 14);
@@ -109,7 +109,7 @@ fn widths_are_those_of_the_header() {
 /// The constants of a crate, which may use those of `layout` and `text_rules`.
 fn constants_of(name: &str) -> BTreeMap<String, usize> {
     let read = |name: &str, below: &BTreeMap<String, usize>| {
-        constants(&file(&format!("../crates/{name}/src/lib.rt")), below)
+        constants(&file(&format!("../../crates/{name}/src/lib.rt")), below)
     };
     let mut below = read("layout", &BTreeMap::new());
     if name == "layout" {
@@ -144,9 +144,9 @@ fn refusals(lines: &[&str], start: &str, equals: &str) -> BTreeMap<String, u64> 
 
 #[test]
 fn refusals_are_the_same_everywhere() {
-    let rules = file("../crates/rules/specs/Replies.antt");
+    let rules = file("../../crates/rules/specs/Replies.antt");
     let rules = numbered(&rules, "refusalReply ", " = reply ");
-    let numbers = file("../crates/answers/src/lib.rt");
+    let numbers = file("../../crates/answers/src/lib.rt");
     let numbers = numbered(&numbers, "Refusal::", " => refused_at(");
     assert_eq!(numbers, rules, "crate numbers");
     let places: BTreeMap<_, _> = rules
@@ -154,7 +154,7 @@ fn refusals_are_the_same_everywhere() {
         .map(|(name, of)| (name.clone(), of.1))
         .collect();
     assert_eq!(
-        variants(&file("../crates/rules/src/lib.rt")),
+        variants(&file("../../crates/rules/src/lib.rt")),
         places,
         "crate rules"
     );
