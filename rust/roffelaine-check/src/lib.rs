@@ -5,13 +5,15 @@
 //! the types of `roffelaine`. `engine` names what an engine must offer to be
 //! compared, `archive` is the proved archive as one, `random` makes the cases,
 //! `compare` makes one call on two engines and `differential` plans a whole
-//! test. `timing` measures the rows of the benchmark.
+//! test. `library_types` says the model's values in the library's types.
+//! `timing` measures the rows of the benchmark.
 
 pub mod archive;
 pub mod compare;
 pub mod differential;
 pub mod engine;
 pub mod flat;
+pub mod library_types;
 pub mod model;
 pub mod random;
 pub mod timing;

@@ -1,7 +1,5 @@
 //! The model and the archive against every row of the five vector files.
 
-#[path = "support/library_types.rs"]
-mod library_types;
 mod support;
 
 use roffelaine::List;
@@ -10,6 +8,7 @@ use roffelaine_check::engine::{Engine, Lent, LentList, Model};
 use roffelaine_check::flat::{
     answers_length, field_numbers, part_of, rows_of, FIELD_NUMBERS, PART_NUMBERS,
 };
+use roffelaine_check::library_types;
 use roffelaine_check::model::list::{self, Head, Writing};
 use roffelaine_check::model::{
     book_length, Call, Component, Day, Fund, Opening, Order, Reply, Trade, COMPONENT_NUMBERS,

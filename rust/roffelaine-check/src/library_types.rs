@@ -1,7 +1,10 @@
-//! The model's values in the library's types, where these can say them.
+//! The model's values in the library's types, where these can say them, for
+//! the tests that compare the two. The model itself uses none of this.
 
-use roffelaine::{Cents, Component, Fund, Head, Limits, Money, Rate, Switch, Units};
-use roffelaine_check::model;
+use crate::model::{self, Reply, BUY, SELL};
+use roffelaine::{
+    Cents, Component, Fund, Head, Limits, Money, Rate, Record, Refusal, Side, Switch, Trade, Units,
+};
 
 /// A fund; none where its switch is none of the four.
 pub fn fund(fund: &model::Fund) -> Option<Fund> {
@@ -59,4 +62,43 @@ pub fn head(head: &model::list::Head) -> Option<Head> {
         nav_per_basket: Cents(head.nav_per_basket.try_into().ok()?),
         nav: head.nav,
     })
+}
+
+/// A trade.
+pub fn trade(trade: &model::Trade) -> Trade {
+    Trade {
+        line: trade.line as usize,
+        quantity: trade.quantity,
+        price: Money(trade.price),
+        seller: trade.seller as usize,
+        buyer: trade.buyer as usize,
+    }
+}
+
+/// A record from its numbers; none where its side is neither.
+pub fn record(numbers: &[u64]) -> Option<Record> {
+    let side = match numbers[1] {
+        BUY => Side::Buy,
+        SELL => Side::Sell,
+        _ => return None,
+    };
+    Some(Record {
+        code: numbers[0],
+        side,
+        quantity: numbers[2],
+        price: Money(numbers[3]),
+        amount: Money(numbers[4]),
+    })
+}
+
+/// An answer of the library as the model's reply, with a value of its own.
+pub fn reply<T>(answer: Result<T, Refusal>, value: impl FnOnce(T) -> u64) -> Reply {
+    match answer {
+        Ok(answer) => Reply::accepted(value(answer)),
+        Err(refusal) => Reply {
+            number: refusal.number(),
+            place: refusal.place(),
+            value: 0,
+        },
+    }
 }
