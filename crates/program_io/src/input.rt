@@ -31,13 +31,13 @@ pub struct Item {
 }
 
 // A byte of the input, or PAST_END, and what is still to be taken behind it.
-pub struct Step {
-    pub byte: u64,
-    pub cursor: Cursor,
+struct Step {
+    byte: u64,
+    cursor: Cursor,
 }
 
 // Stands for the end of the input, where a byte was asked for.
-pub const PAST_END: u64 = 256;
+const PAST_END: u64 = 256;
 
 fn wide(b: u8) -> u64 {
     b as u64
@@ -61,7 +61,7 @@ fn refill(buffer: &mut [u8]) -> Step {
 }
 
 // The next byte of the input.
-pub fn next(buffer: &mut [u8], c: Cursor) -> Step {
+fn next(buffer: &mut [u8], c: Cursor) -> Step {
     let at = c.at;
     if at < c.end {
         if at < buffer.len() {

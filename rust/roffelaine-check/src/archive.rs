@@ -1,14 +1,25 @@
 //! The archive as an engine to compare with the model.
 
-use super::lent;
 use crate::engine::{Engine, Lent, LentList};
 use crate::flat::{day_numbers, day_of, field_numbers, fund_numbers};
 use crate::model::list::Writing;
 use crate::model::refusal::NO_SUCH_LINE;
 use crate::model::{Call, Opening, Reply};
+use roffelaine::lent;
 
-/// The proved library.
+/// The proved library, called through the runs that it is lent.
 pub struct Archive;
+
+/// The three numbers of the archive's answer are those of the model's.
+impl From<lent::Reply> for Reply {
+    fn from(reply: lent::Reply) -> Self {
+        Reply {
+            number: reply.number,
+            place: reply.place,
+            value: reply.value,
+        }
+    }
+}
 
 impl Engine for Archive {
     fn open(&self, opening: &Opening<'_>, lent: &mut Lent) -> Reply {
@@ -24,7 +35,7 @@ impl Engine for Archive {
             &mut day,
         );
         lent.day = day_of(&day);
-        reply
+        reply.into()
     }
 
     fn call(&self, call: &Call, lent: &mut Lent) -> Reply {
@@ -34,7 +45,7 @@ impl Engine for Archive {
             prices,
             records,
         } = lent;
-        super::call(&day_numbers(day), book, prices, records, call)
+        self::call(&day_numbers(day), book, prices, records, call)
     }
 
     fn run(&self, rows: &[u64], lent: &mut Lent, answers: &mut [u64]) -> Reply {
@@ -44,7 +55,7 @@ impl Engine for Archive {
             prices,
             records,
         } = lent;
-        lent::run(&day_numbers(day), book, prices, rows, records, answers)
+        lent::run(&day_numbers(day), book, prices, rows, records, answers).into()
     }
 
     fn run_one_by_one(&self, rows: &[u64], lent: &mut Lent, answers: &mut [u64]) -> Reply {
@@ -54,7 +65,7 @@ impl Engine for Archive {
             prices,
             records,
         } = lent;
-        lent::run_one_by_one(&day_numbers(day), book, prices, rows, records, answers)
+        lent::run_one_by_one(&day_numbers(day), book, prices, rows, records, answers).into()
     }
 
     fn read(&self, text: &[u8], lent: &mut LentList) -> Reply {
@@ -63,7 +74,7 @@ impl Engine for Archive {
             fields,
             first_row,
         } = lent;
-        lent::read(text, components, fields, first_row)
+        lent::read(text, components, fields, first_row).into()
     }
 
     fn name(&self, text: &[u8], first_row: u64, component: u64, part: &mut [u64]) -> u64 {
@@ -76,7 +87,7 @@ impl Engine for Archive {
 
     fn write(&self, list: &Writing<'_>, output: &mut [u8]) -> Reply {
         let fields = field_numbers(&list.head, list.count);
-        lent::write(&fields, list.components, list.names, list.letters, output)
+        lent::write(&fields, list.components, list.names, list.letters, output).into()
     }
 }
 
@@ -90,9 +101,18 @@ pub fn call(
     call: &Call,
 ) -> Reply {
     let list = &mut records[..call.room()];
-    match *call {
+    let reply = match *call {
         Call::Price { line, price } => lent::price(day, book, prices, line, price),
-        Call::Trade(ref trade) => lent::trade(day, book, prices, trade),
+        Call::Trade(trade) => lent::trade(
+            day,
+            book,
+            prices,
+            trade.line,
+            trade.quantity,
+            trade.price,
+            trade.seller,
+            trade.buyer,
+        ),
         Call::Create(order) => lent::create(day, book, prices, order.account, order.units, list),
         Call::Redeem(order) => lent::redeem(day, book, prices, order.account, order.units, list),
         Call::Value => lent::reference_value(day, book, prices),
@@ -103,18 +123,19 @@ pub fn call(
         Call::TestRedemption(order) => {
             lent::redemption_test(day, book, prices, order.account, order.units, order.room)
         }
-    }
+    };
+    reply.into()
 }
 
 /// The archive has no call for the test alone: a price for a component that
 /// no day has goes no further than that.
-fn test_day(day: &[u64], book: &[u64], prices: &mut [u64]) -> Reply {
+fn test_day(day: &[u64], book: &[u64], prices: &mut [u64]) -> lent::Reply {
     match lent::price(day, book, prices, u64::MAX, 0) {
-        Reply {
+        lent::Reply {
             number: NO_SUCH_LINE,
             place: 0,
             value: 0,
-        } => Reply::accepted(0),
+        } => lent::Reply::default(),
         other => other,
     }
 }

@@ -1,17 +1,19 @@
-//! The host side of the ETF day book.
+//! What holds the library to the paper from outside.
 //!
-//! `archive` is the proved library for Rust programs, and `flat` the layouts in
-//! which it is lent a day. `model` is an independent implementation of document
-//! 01 over plain slices. `engine` names what an engine must offer to be
-//! compared, `random` makes the cases, `compare` makes one call on two engines
-//! and `differential` plans a whole test. `timing` measures the rows of the
-//! benchmark.
+//! `model` is an independent implementation of document 01 over plain slices,
+//! and `flat` has its own layouts of what crosses to the archive: neither uses
+//! the types of `roffelaine`. `engine` names what an engine must offer to be
+//! compared, `archive` is the proved archive as one, `random` makes the cases,
+//! `compare` makes one call on two engines and `differential` plans a whole
+//! test. `library_types` says the model's values in the library's types.
+//! `timing` measures the rows of the benchmark.
 
 pub mod archive;
 pub mod compare;
 pub mod differential;
 pub mod engine;
 pub mod flat;
+pub mod library_types;
 pub mod model;
 pub mod random;
 pub mod timing;

@@ -1,12 +1,12 @@
 //! The differential test at a smaller count: the archive and the model agree
 //! and every refusal is reached. It finds engines that are wrong.
 
-use host::archive::Archive;
-use host::compare::Comparison;
-use host::differential::Plan;
-use host::engine::{Engine, Lent, LentList, Model};
-use host::model::list::{self, Writing};
-use host::model::{Call, Opening, Reply};
+use roffelaine_check::archive::Archive;
+use roffelaine_check::compare::Comparison;
+use roffelaine_check::differential::Plan;
+use roffelaine_check::engine::{Engine, Lent, LentList, Model};
+use roffelaine_check::model::list::{self, Writing};
+use roffelaine_check::model::{Call, Opening, Reply};
 use std::cell::Cell;
 
 /// Enough cases to reach every refusal.

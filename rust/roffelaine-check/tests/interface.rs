@@ -1,15 +1,16 @@
 //! What the archive does with runs that no safe type would lend it.
 
-use host::archive::{call, lent, Archive};
-use host::engine::{Engine, Lent, LentList, Model};
-use host::flat::{
+use roffelaine::lent;
+use roffelaine_check::archive::{call, Archive};
+use roffelaine_check::engine::{Engine, Lent, LentList, Model};
+use roffelaine_check::flat::{
     answers_length, day_numbers, field_numbers, fund_numbers, rows_of, DAY_NUMBERS, FIELD_NUMBERS,
     FUND_NUMBERS, PART_NUMBERS,
 };
-use host::model::{
+use roffelaine_check::model::{
     book_length, Call, Day, Fund, Opening, Order, Refusal, Reply, Trade, MAX_COMPONENTS,
 };
-use host::random::{OpeningCase, Rng, Scale, Size, TextCase, WritingCase};
+use roffelaine_check::random::{OpeningCase, Rng, Scale, Size, TextCase, WritingCase};
 
 fn refused(number: u64) -> Reply {
     Reply {
@@ -50,7 +51,7 @@ fn calls(room: usize) -> [Call; 8] {
 fn open(case: &OpeningCase, fund: &[u64], day: &mut [u64]) -> Reply {
     let (mut book, mut prices) = (case.book.clone(), case.prices.clone());
     let before = day.to_vec();
-    let reply = lent::open(
+    let reply = Reply::from(lent::open(
         case.accounts,
         case.count,
         fund,
@@ -59,7 +60,7 @@ fn open(case: &OpeningCase, fund: &[u64], day: &mut [u64]) -> Reply {
         &mut book,
         &mut prices,
         day,
-    );
+    ));
     if !reply.is_accepted() {
         assert_eq!((book, prices), (case.book.clone(), case.prices.clone()));
         assert_eq!(day, before);
@@ -150,31 +151,30 @@ fn check_rows_refused(day: &[u64], before: &Lent) {
         let mut answers = vec![7; answers_length(&rows)];
         let (book, prices) = (&mut lent.book, &mut lent.prices);
         let reply = run(day, book, prices, &rows, &mut lent.records, &mut answers);
-        assert_eq!((reply, &lent), (Reply::accepted(0), before));
+        assert_eq!((reply.into(), &lent), (Reply::accepted(0), before));
         assert!(answers.chunks_exact(3).all(|answer| answer == [5, 0, 0]));
     }
 }
 
 #[test]
 fn empty_runs_are_refused() {
-    assert_eq!(
-        lent::open(2, 1, &[], &[], &[], &mut [], &mut [], &mut []),
-        refused(1)
-    );
+    let reply = lent::open(2, 1, &[], &[], &[], &mut [], &mut [], &mut []);
+    assert_eq!(Reply::from(reply), refused(1));
     for asked in calls(0) {
         let reply = call(&[], &mut [], &mut [], &mut [], &asked);
         assert_eq!(reply, refused(5));
     }
     for run in [lent::run, lent::run_one_by_one] {
         let reply = run(&[], &mut [], &mut [], &[], &mut [], &mut []);
-        assert_eq!(reply, Reply::accepted(0));
+        assert_eq!(Reply::from(reply), Reply::accepted(0));
     }
     let mut first_row = 7;
     let reply = lent::read(&[], &mut [], &mut [0; FIELD_NUMBERS], &mut first_row);
-    assert_eq!((reply, first_row), (refused(18), 7));
+    assert_eq!((reply.into(), first_row), (refused(18), 7));
     assert_eq!(lent::name(&[], 0, 0, &mut []), 0);
     assert_eq!(lent::letters(&[], &mut []), 0);
-    assert_eq!(lent::write(&[], &[], &[], &[], &mut []), refused(1));
+    let reply = lent::write(&[], &[], &[], &[], &mut []);
+    assert_eq!(Reply::from(reply), refused(1));
 }
 
 #[test]
@@ -185,7 +185,7 @@ fn fields_of_another_length_are_refused() {
         let (run, fields) = (rng.numbers(text.room), rng.numbers(length));
         let (mut run_left, mut fields_left, mut first_row) = (run.clone(), fields.clone(), 7);
         let reply = lent::read(&text.text, &mut run_left, &mut fields_left, &mut first_row);
-        assert_eq!((reply, first_row), (refused(1), 7));
+        assert_eq!((reply.into(), first_row), (refused(1), 7));
         assert_eq!((run_left, fields_left), (run, fields));
 
         let list = WritingCase::sound(&mut rng);
@@ -194,7 +194,7 @@ fn fields_of_another_length_are_refused() {
         let mut output = list.output.clone();
         let (names, letters) = (&list.names, &list.letters);
         let reply = lent::write(&fields, &list.components, names, letters, &mut output);
-        assert_eq!((reply, output), (refused(1), list.output));
+        assert_eq!((reply.into(), output), (refused(1), list.output));
     }
 }
 

@@ -1,13 +1,13 @@
 //! The paper's day to compare with: cases (a) to (i), by the model.
 
-#[path = "support/paper_list.rs"]
+#[path = "../../roffelaine/tests/support/paper_list.rs"]
 mod paper_list;
 
-use host::model::list::{self, List};
-use host::model::{
+use paper_list::LIST;
+use roffelaine_check::model::list::{self, List};
+use roffelaine_check::model::{
     book_length, call, open, Call, Day, Opening, Order, Reply, BUY, RECORD_NUMBERS, SELL,
 };
-use paper_list::LIST;
 
 const COUNT: usize = 5;
 const AMPLE: u64 = 1_000_000_000_000;

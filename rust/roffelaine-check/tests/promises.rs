@@ -1,10 +1,11 @@
 //! What must hold on random days and lists, whatever the calls.
 
-use host::engine::{Engine, Lent, Model};
-use host::model::list;
-use host::model::{range, stretch_width, Call, Reply, Trade, LOTS, SELL, STRETCH_HEAD};
-use host::random::WritingCase;
-use host::random::{any_call, break_day, price_calls, OpeningCase, Rng, Scale, Size, TextCase};
+use roffelaine_check::engine::{Engine, Lent, Model};
+use roffelaine_check::model::list;
+use roffelaine_check::model::{range, stretch_width, Call, Reply, Trade, LOTS, SELL, STRETCH_HEAD};
+use roffelaine_check::random::{
+    any_call, break_day, price_calls, OpeningCase, Rng, Scale, Size, TextCase, WritingCase,
+};
 
 /// An account's movements of one line, counted from the calls alone.
 #[derive(Clone, Copy, Default)]

@@ -2,11 +2,15 @@
 
 mod support;
 
-use host::archive::{Archive, List};
-use host::engine::{Engine, Lent, LentList, Model};
-use host::flat::{answers_length, field_numbers, part_of, rows_of, FIELD_NUMBERS, PART_NUMBERS};
-use host::model::list::{self, Head, Writing};
-use host::model::{
+use roffelaine::List;
+use roffelaine_check::archive::Archive;
+use roffelaine_check::engine::{Engine, Lent, LentList, Model};
+use roffelaine_check::flat::{
+    answers_length, field_numbers, part_of, rows_of, FIELD_NUMBERS, PART_NUMBERS,
+};
+use roffelaine_check::library_types;
+use roffelaine_check::model::list::{self, Head, Writing};
+use roffelaine_check::model::{
     book_length, Call, Component, Day, Fund, Opening, Order, Reply, Trade, COMPONENT_NUMBERS,
     MAX_COMPONENTS,
 };
@@ -290,14 +294,21 @@ fn check_places(engine: &dyn Engine, row: &Json, text: &[u8], first_row: u64) {
     }
 }
 
-/// The letters and names of an accepted text are parts of it.
+/// The letters and names of an accepted text are parts of it, by the model and
+/// by the library; the head and the components are the row's.
 fn check_parts(row: &Json, text: &[u8]) {
     let mut components = vec![0; COMPONENT_NUMBERS * MAX_COMPONENTS];
     let model = list::read(text, &mut components).expect("the model reads it");
     let library = List::read(text).expect("the library reads it");
     let letters = row.get("letters").text().as_bytes();
     assert_eq!((model.letters, library.letters), (letters, letters));
-    assert_eq!((model.head, library.head), (head(row), head(row)));
+    assert_eq!(model.head, head(row));
+    assert_eq!(Some(library.head), library_types::head(&head(row)));
+    let numbers = row.get("components").run();
+    let expected = numbers.chunks_exact(COMPONENT_NUMBERS);
+    let expected = expected.map(Component::from_numbers);
+    let expected = expected.map(|each| library_types::component(&each));
+    assert!(library.components.iter().copied().eq(expected));
     let places = row.get("name_places").run();
     assert_eq!(library.names.len(), places.len());
     for (component, place) in places.into_iter().enumerate() {

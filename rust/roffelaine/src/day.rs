@@ -192,9 +192,14 @@ impl Day {
         Ok(list.records(count))
     }
 
+    /// The most records that an order of the day makes.
+    pub fn most_records(&self) -> usize {
+        most_records(self.prices.len())
+    }
+
     /// A list that takes the records of any order of the day.
     pub fn ample_list(&self) -> RecordList {
-        RecordList::with_room(most_records(self.prices.len()))
+        RecordList::with_room(self.most_records())
     }
 
     /// Creates units for an account; the records go to the lent list, and their

@@ -1,9 +1,10 @@
 //! Damaged lists, each with the words for its fault.
 
-mod support;
+#[path = "support/paper_list.rs"]
+mod paper_list;
 
+use paper_list::LIST;
 use roffelaine::{lines_in_lf, list_end, with_crlf, List, ListFault, Refusal};
-use support::LIST;
 
 /// The fault of a text that is refused with a number.
 fn fault(text: &[u8], number: u64) -> String {

@@ -1,9 +1,10 @@
 //! Lists with random damage: every refusal has its words, at a place of the text.
 
-mod support;
+#[path = "support/paper_list.rs"]
+mod paper_list;
 
+use paper_list::LIST;
 use roffelaine::{position, List, ListFault, Position, Refusal};
-use support::LIST;
 
 const CASES: u64 = 50_000;
 

@@ -3,15 +3,16 @@
 //! Full size: 64 accounts and 300 components. Archive and model make the same
 //! checks on the same cases, each on the day in its own form.
 
-use host::archive::{self, lent, Archive};
-use host::engine::{Engine, LentList, Model};
-use host::flat::{answers_length, fund_numbers, rows_of, DAY_NUMBERS, FIELD_NUMBERS};
-use host::model::list::{Head, Writing};
-use host::model::{
+use roffelaine::lent;
+use roffelaine_check::archive::{self, Archive};
+use roffelaine_check::engine::{Engine, LentList, Model};
+use roffelaine_check::flat::{answers_length, fund_numbers, rows_of, DAY_NUMBERS, FIELD_NUMBERS};
+use roffelaine_check::model::list::{Head, Writing};
+use roffelaine_check::model::{
     self, book_length, Call, Component, Day, Fund, Opening, Order, Reply, Trade, Work,
     ANSWER_NUMBERS, COMPONENT_NUMBERS, FLAG_TABLE, RECORD_NUMBERS,
 };
-use host::timing::{median_nanos, table_heading, Medians, Timing};
+use roffelaine_check::timing::{median_nanos, table_heading, Medians, Timing};
 use std::hint::black_box;
 
 const ACCOUNTS: usize = 64;
@@ -216,6 +217,7 @@ impl Timed for (Box<[u64; DAY_NUMBERS]>, Runs) {
             &mut runs.prices,
             &mut day[..],
         )
+        .into()
     }
 
     fn call(&mut self, call: &Call) -> Reply {
@@ -235,7 +237,7 @@ impl Timed for (Box<[u64; DAY_NUMBERS]>, Runs) {
             prices,
             records,
         } = runs;
-        lent::run(&day[..], book, prices, rows, records, answers)
+        lent::run(&day[..], book, prices, rows, records, answers).into()
     }
 }
 

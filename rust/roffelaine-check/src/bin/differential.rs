@@ -2,10 +2,10 @@
 //!
 //! Arguments: seed, days, texts. Ends with failure at the first difference.
 
-use host::archive::Archive;
-use host::compare::Comparison;
-use host::differential::Plan;
-use host::engine::Model;
+use roffelaine_check::archive::Archive;
+use roffelaine_check::compare::Comparison;
+use roffelaine_check::differential::Plan;
+use roffelaine_check::engine::Model;
 use std::process::ExitCode;
 
 fn main() -> ExitCode {

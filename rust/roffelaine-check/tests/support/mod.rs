@@ -18,11 +18,11 @@ pub fn rows(file: &str) -> Vec<Json> {
     rows
 }
 
-/// `../vectors` beside the crate, else what the variable VECTORS says.
+/// `vectors` in the root of the repository, else what the variable VECTORS says.
 fn vector_folder() -> PathBuf {
-    let beside = PathBuf::from(env!("CARGO_MANIFEST_DIR")).join("../vectors");
+    let in_root = PathBuf::from(env!("CARGO_MANIFEST_DIR")).join("../../vectors");
     match std::env::var_os("VECTORS") {
-        Some(folder) if !beside.is_dir() => folder.into(),
-        _ => beside,
+        Some(folder) if !in_root.is_dir() => folder.into(),
+        _ => in_root,
     }
 }

@@ -1,0 +1,104 @@
+//! The model's values in the library's types, where these can say them, for
+//! the tests that compare the two. The model itself uses none of this.
+
+use crate::model::{self, Reply, BUY, SELL};
+use roffelaine::{
+    Cents, Component, Fund, Head, Limits, Money, Rate, Record, Refusal, Side, Switch, Trade, Units,
+};
+
+/// A fund; none where its switch is none of the four.
+pub fn fund(fund: &model::Fund) -> Option<Fund> {
+    let switch = match fund.switch {
+        0 => Switch::Neither,
+        1 => Switch::Both,
+        2 => Switch::CreationOnly,
+        3 => Switch::RedemptionOnly,
+        _ => return None,
+    };
+    let limits = fund.limits.map(Units);
+    Some(Fund {
+        first_code: fund.first_code,
+        basket_size: Units(fund.basket_size),
+        max_cash_ratio: Rate(fund.max_cash_ratio),
+        switch,
+        estimated_cash: Cents(fund.estimated_cash),
+        limits: Limits {
+            creation: limits[0],
+            redemption: limits[1],
+            creation_per_account: limits[2],
+            redemption_per_account: limits[3],
+            net_creation: limits[4],
+            net_redemption: limits[5],
+            net_creation_per_account: limits[6],
+            net_redemption_per_account: limits[7],
+        },
+    })
+}
+
+/// A component.
+pub fn component(component: &model::Component) -> Component {
+    Component {
+        code: component.code,
+        quantity: component.quantity,
+        flag: component.flag,
+        rate: Rate(component.rate),
+        amount: Money(component.amount),
+    }
+}
+
+/// A list's head; none where a field has a number that its type has not.
+pub fn head(head: &model::list::Head) -> Option<Head> {
+    let publish = match head.publish {
+        0 => false,
+        1 => true,
+        _ => return None,
+    };
+    Some(Head {
+        fund: fund(&head.fund)?,
+        publish,
+        trading_day: head.trading_day,
+        pre_trading_day: head.pre_trading_day,
+        cash_component: Cents(head.cash_component),
+        nav_per_basket: Cents(head.nav_per_basket.try_into().ok()?),
+        nav: head.nav,
+    })
+}
+
+/// A trade.
+pub fn trade(trade: &model::Trade) -> Trade {
+    Trade {
+        line: trade.line as usize,
+        quantity: trade.quantity,
+        price: Money(trade.price),
+        seller: trade.seller as usize,
+        buyer: trade.buyer as usize,
+    }
+}
+
+/// A record from its numbers; none where its side is neither.
+pub fn record(numbers: &[u64]) -> Option<Record> {
+    let side = match numbers[1] {
+        BUY => Side::Buy,
+        SELL => Side::Sell,
+        _ => return None,
+    };
+    Some(Record {
+        code: numbers[0],
+        side,
+        quantity: numbers[2],
+        price: Money(numbers[3]),
+        amount: Money(numbers[4]),
+    })
+}
+
+/// An answer of the library as the model's reply, with a value of its own.
+pub fn reply<T>(answer: Result<T, Refusal>, value: impl FnOnce(T) -> u64) -> Reply {
+    match answer {
+        Ok(answer) => Reply::accepted(value(answer)),
+        Err(refusal) => Reply {
+            number: refusal.number(),
+            place: refusal.place(),
+            value: 0,
+        },
+    }
+}

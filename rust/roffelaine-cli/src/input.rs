@@ -1,0 +1,91 @@
+//! A file with a list, and perhaps the lines of a day behind it.
+
+use roffelaine::{lines_in_lf, list_end, with_crlf, List, ListFault, Refusal};
+use std::borrow::Cow;
+use std::ffi::OsStr;
+use std::io::Read;
+
+/// A file as it was read.
+pub struct Input {
+    /// Its name, as messages say it.
+    pub name: String,
+    bytes: Vec<u8>,
+    list_end: usize,
+    /// How many lines of the list were mended.
+    pub mended: usize,
+}
+
+/// A list that is refused, and why, with the file's name.
+pub struct RefusedList {
+    pub refusal: Refusal,
+    pub reason: String,
+}
+
+impl Input {
+    /// Reads a file, or standard input for `-`. With `crlf`, lines of the list
+    /// that end in LF alone end in CRLF.
+    pub fn read(file: &OsStr, crlf: bool) -> Result<Self, String> {
+        let name = file.to_string_lossy().into_owned();
+        let mut bytes = read(file).map_err(|error| format!("{name}: {error}"))?;
+        let mut end = list_end(&bytes);
+        let mut mended = 0;
+        if crlf {
+            mended = lines_in_lf(&bytes[..end]);
+            let mut list = with_crlf(&bytes[..end]).into_owned();
+            let length = list.len();
+            list.extend_from_slice(&bytes[end..]);
+            (bytes, end) = (list, length);
+        }
+        Ok(Input {
+            name,
+            bytes,
+            list_end: end,
+            mended,
+        })
+    }
+
+    /// The list's part.
+    fn list_text(&self) -> &[u8] {
+        &self.bytes[..self.list_end]
+    }
+
+    /// The whole file, its list mended where that was asked for.
+    pub fn bytes(&self) -> &[u8] {
+        &self.bytes
+    }
+
+    /// The list, or what is wrong with it.
+    pub fn list(&self) -> Result<List<'_>, RefusedList> {
+        let text = self.list_text();
+        List::read(text).map_err(|refusal| RefusedList {
+            refusal,
+            reason: match ListFault::of(text, refusal) {
+                Some(fault) => format!("{}:{fault}", self.name),
+                None => refusal.words().to_string(),
+            },
+        })
+    }
+
+    /// The lines behind the list, with their numbers in the file.
+    pub fn lines(&self) -> impl Iterator<Item = (usize, &[u8])> {
+        let before = self.list_text().iter().filter(|&&byte| byte == b'\n');
+        let first = before.count() + 1;
+        let lines = self.bytes[self.list_end..].split(|&byte| byte == b'\n');
+        (first..).zip(lines)
+    }
+
+    /// The same as text; bytes that are no UTF-8 are replaced.
+    pub fn texts(&self) -> impl Iterator<Item = (usize, Cow<'_, str>)> {
+        let lines = self.lines();
+        lines.map(|(line, bytes)| (line, String::from_utf8_lossy(bytes)))
+    }
+}
+
+fn read(file: &OsStr) -> std::io::Result<Vec<u8>> {
+    if file != "-" {
+        return std::fs::read(file);
+    }
+    let mut bytes = Vec::new();
+    std::io::stdin().lock().read_to_end(&mut bytes)?;
+    Ok(bytes)
+}

@@ -1,0 +1,82 @@
+//! `roffelaine list`: what a list has, or what is wrong with it and where.
+
+use crate::input::Input;
+use crate::names::text_name;
+use crate::output_error;
+use roffelaine::{Limits, List};
+use std::ffi::OsStr;
+use std::io::{self, Write};
+
+/// Reads a list; whether it was accepted.
+pub fn run(
+    out: &mut impl Write,
+    file: &OsStr,
+    crlf: bool,
+    output: Option<&OsStr>,
+) -> Result<bool, String> {
+    let input = Input::read(file, crlf)?;
+    if input.mended > 0 {
+        let (name, lines) = (&input.name, input.mended);
+        eprintln!("{name}: {lines} lines that end in LF are read as if they ended in CRLF");
+    }
+    if let Some(output) = output {
+        let written = std::fs::write(output, input.bytes());
+        written.map_err(|error| format!("{}: {error}", output.to_string_lossy()))?;
+    }
+    match input.list() {
+        Ok(list) => summary(out, &list).map(|()| true),
+        Err(refused) => {
+            let (number, place) = (refused.refusal.number(), refused.refusal.place());
+            writeln!(out, "list refused {number} {place}: {}", refused.reason).map(|()| false)
+        }
+    }
+    .map_err(output_error)
+}
+
+fn summary(out: &mut impl Write, list: &List<'_>) -> io::Result<()> {
+    let (head, fund) = (&list.head, &list.head.fund);
+    let letters = String::from_utf8_lossy(list.letters);
+    let first = fund.first_code;
+    writeln!(out, "list ETF{letters} of {:08}", head.trading_day)?;
+    writeln!(
+        out,
+        "codes: {first:06} units, {:06} creation and redemption, {:06} Shanghai cash, {:06} other cash",
+        first + 1,
+        first + 2,
+        first + 5
+    )?;
+    writeln!(
+        out,
+        "basket of {} units, estimated cash {}",
+        fund.basket_size, fund.estimated_cash
+    )?;
+    let (switch, ratio) = (fund.switch, fund.max_cash_ratio);
+    writeln!(
+        out,
+        "{} (CreationRedemption {}), MaxCashRatio {ratio}",
+        switch.words(),
+        switch.number()
+    )?;
+    let limits = Limits::NAMES.into_iter().zip(fund.limits.in_order());
+    let mut set = limits.filter(|(_, limit)| limit.0 > 0).peekable();
+    if set.peek().is_none() {
+        writeln!(out, "no limits")?;
+    }
+    for (name, limit) in set {
+        writeln!(out, "{name} {limit}")?;
+    }
+    writeln!(out, "{} components", list.components.len())?;
+    for component in &list.components {
+        let name = text_name(list, component.code);
+        let (code, quantity, flag) = (component.code, component.quantity, component.flag);
+        write!(out, "{code:06} {name:<8} {quantity} flag {flag}")?;
+        if component.rate.0 > 0 {
+            write!(out, " rate {}", component.rate)?;
+        }
+        if component.amount.0 > 0 {
+            write!(out, " amount {}", component.amount)?;
+        }
+        writeln!(out)?;
+    }
+    Ok(())
+}

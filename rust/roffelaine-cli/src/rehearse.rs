@@ -1,0 +1,138 @@
+//! `roffelaine rehearse`: a day, line by line, in the form that is asked for.
+
+use crate::args::Form;
+use crate::input::{Input, RefusedList};
+use crate::output_error;
+use crate::report::Entry;
+use crate::session::Session;
+use crate::{csv, json, text};
+use roffelaine::List;
+use std::ffi::OsStr;
+use std::io::{self, Write};
+
+/// Rehearses a day; whether all was clean.
+pub fn run(
+    out: &mut impl Write,
+    day: &OsStr,
+    form: Form,
+    strict: bool,
+    crlf: bool,
+) -> Result<bool, String> {
+    let input = Input::read(day, crlf)?;
+    match input.list() {
+        Err(refused) => {
+            refused_list(out, form, &input, &refused).map_err(output_error)?;
+            Ok(false)
+        }
+        Ok(list) => {
+            let mut session = Session::new(&list);
+            let mut printer = Printer::new(out, form, &input.name, &list);
+            rehearse(&input, &mut session, &mut printer).map_err(output_error)?;
+            Ok(session.counts().is_clean(strict))
+        }
+    }
+}
+
+fn rehearse(
+    input: &Input,
+    session: &mut Session<'_>,
+    printer: &mut Printer<'_, impl Write>,
+) -> io::Result<()> {
+    printer.start()?;
+    session.lines(input.texts(), |entry| printer.entry(entry))?;
+    printer.end(session)
+}
+
+/// Prints a rehearsal in one of its forms.
+struct Printer<'p, W> {
+    out: &'p mut W,
+    form: Form,
+    file: &'p str,
+    list: &'p List<'p>,
+    printed: usize,
+    /// What a page shows, which is written at the end.
+    kept: Vec<Entry>,
+}
+
+impl<'p, W: Write> Printer<'p, W> {
+    fn new(out: &'p mut W, form: Form, file: &'p str, list: &'p List<'p>) -> Self {
+        Printer {
+            out,
+            form,
+            file,
+            list,
+            printed: 0,
+            kept: Vec::new(),
+        }
+    }
+
+    fn start(&mut self) -> io::Result<()> {
+        match self.form {
+            Form::Text | Form::Html => Ok(()),
+            Form::Csv => csv::header(self.out),
+            Form::Json => json::start(self.out, self.file, self.list),
+        }
+    }
+
+    fn entry(&mut self, entry: Entry) -> io::Result<()> {
+        match self.form {
+            Form::Text => text::entry(self.out, &entry)?,
+            Form::Csv => {
+                csv::entry(self.out, self.list, &entry)?;
+                complain(self.file, &entry);
+            }
+            Form::Json => json::entry(self.out, self.list, &entry, self.printed)?,
+            Form::Html => self.kept.push(entry),
+        }
+        self.printed += 1;
+        Ok(())
+    }
+
+    fn end(&mut self, session: &Session<'_>) -> io::Result<()> {
+        match self.form {
+            Form::Text => text::counts(self.out, session.counts()),
+            Form::Csv => Ok(()),
+            Form::Json => {
+                let accounts = 0..session.day().book().accounts();
+                let positions: Vec<_> = accounts.map(|each| session.position(each)).collect();
+                let totals = session.all_totals();
+                json::end(self.out, &totals, &positions, session.counts())
+            }
+            Form::Html => Ok(()),
+        }
+    }
+}
+
+/// Says on standard error what a table of records does not show: lines that
+/// were not understood or not expected.
+fn complain(file: &str, entry: &Entry) {
+    use crate::report::Said;
+    if let Said::NotUnderstood { .. } | Said::NotMade { .. } | Said::NotMet { .. } = entry.said {
+        let mut line = Vec::new();
+        if text::entry(&mut line, entry).is_ok() {
+            eprint!("{file}: {}", String::from_utf8_lossy(&line));
+        }
+    }
+}
+
+fn refused_list(
+    out: &mut impl Write,
+    form: Form,
+    input: &Input,
+    refused: &RefusedList,
+) -> io::Result<()> {
+    let (refusal, reason) = (refused.refusal, &refused.reason);
+    let line = format!(
+        "list refused {} {}: {reason}",
+        refusal.number(),
+        refusal.place()
+    );
+    match form {
+        Form::Text => writeln!(out, "{line}"),
+        Form::Json => json::refused_list(out, &input.name, refusal, reason),
+        Form::Csv | Form::Html => {
+            eprintln!("{line}");
+            Ok(())
+        }
+    }
+}

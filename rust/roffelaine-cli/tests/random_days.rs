@@ -1,0 +1,229 @@
+//! Random days as files: what the command answers is what the independent model
+//! answers to the same calls, records and positions too.
+
+mod support;
+
+use roffelaine_check::engine::{Engine, Lent, Model};
+use roffelaine_check::model::list::{write, Head, Writing, NAME_BYTES};
+use roffelaine_check::model::{
+    stretch_width, Call, Order, Reply, LOTS, RECORD_NUMBERS, STRETCH_HEAD,
+};
+use roffelaine_check::random::{any_call, price_calls, OpeningCase, Rng, Scale, Size};
+use std::collections::BTreeSet;
+use std::fmt::Write;
+use support::{run, scratch};
+
+/// A file of a day, and the lines that are expected of it; of a refusal the
+/// part before its reason.
+struct Rehearsed {
+    file: Vec<u8>,
+    lines: usize,
+    expected: Vec<String>,
+    refusals: BTreeSet<u64>,
+}
+
+fn money(thousandths: u64) -> String {
+    format!("{}.{:03}", thousandths / 1_000, thousandths % 1_000)
+}
+
+/// The list of an opening as text.
+fn list_text(case: &OpeningCase) -> Vec<u8> {
+    let head = Head {
+        fund: case.fund,
+        publish: 1,
+        trading_day: 20_250_630,
+        pre_trading_day: 20_250_627,
+        ..Head::default()
+    };
+    let names = vec![b'x'; NAME_BYTES * case.count as usize];
+    let list = Writing {
+        head,
+        count: case.count,
+        components: &case.components,
+        names: &names,
+        letters: b"300",
+    };
+    let mut text = vec![0; 20_000];
+    let reply = write(&list, &mut text);
+    assert!(reply.is_accepted(), "{reply:?}");
+    text.truncate(reply.value as usize);
+    text
+}
+
+impl Rehearsed {
+    fn opened(case: &OpeningCase) -> Self {
+        let list = list_text(case);
+        let lines = list.iter().filter(|&&byte| byte == b'\n').count();
+        let mut rehearsed = Rehearsed {
+            file: list,
+            lines,
+            expected: Vec::new(),
+            refusals: BTreeSet::new(),
+        };
+        rehearsed.say(&format!("accounts {}", case.accounts));
+        let codes = codes(case);
+        let accounts = case.holdings.chunks_exact(codes.len() + 1);
+        for (account, held) in accounts.enumerate() {
+            rehearsed.say(&format!("cash {account} {}", money(held[0])));
+            for (code, quantity) in codes.iter().zip(&held[1..]) {
+                if *quantity > 0 {
+                    rehearsed.say(&format!("hold {account} {code:06} {quantity}"));
+                }
+            }
+        }
+        rehearsed.say("open");
+        rehearsed.expect("open ok");
+        rehearsed
+    }
+
+    fn say(&mut self, line: &str) {
+        self.file.extend_from_slice(line.as_bytes());
+        self.file.push(b'\n');
+        self.lines += 1;
+    }
+
+    /// Expects an answer to the line that was said last.
+    fn expect(&mut self, answer: &str) {
+        self.expected.push(format!("{} {answer}", self.lines));
+    }
+
+    fn call(&mut self, codes: &[u64], call: &Call, lent: &mut Lent) {
+        let line = line_of(codes, call);
+        self.say(&line);
+        let word = line.split(' ').next().expect("a word");
+        let reply = Model.call(call, lent);
+        if !reply.is_accepted() {
+            let (number, place) = (reply.number, reply.place);
+            self.refusals.insert(number);
+            self.expect(&format!("{word} refused {number} {place}: "));
+            return;
+        }
+        match call {
+            Call::Create(_) | Call::Redeem(_) => {
+                self.expect(&format!("{word} ok {}", reply.value));
+                self.records(reply, lent);
+            }
+            Call::Value => {
+                let (whole, part) = (reply.value / 10_000, reply.value % 10_000);
+                self.expect(&format!("value ok {whole}.{part:04}"));
+            }
+            _ => self.expect(&format!("{word} ok")),
+        }
+    }
+
+    fn records(&mut self, reply: Reply, lent: &Lent) {
+        let records = lent.records.chunks_exact(RECORD_NUMBERS);
+        for record in records.take(reply.value as usize) {
+            let side = if record[1] == 1 { 'B' } else { 'S' };
+            let (price, amount) = (money(record[3]), money(record[4]));
+            let (code, quantity) = (record[0], record[2]);
+            let line = format!("{code:06} {side} {quantity} {price} {amount}");
+            self.expected.push(line);
+        }
+    }
+
+    /// Shows every account; lines of which it has nothing are left out.
+    fn show(&mut self, codes: &[u64], lent: &Lent) {
+        let stretches = lent.book.chunks_exact(stretch_width(codes.len() - 1));
+        for (account, stretch) in stretches.enumerate() {
+            self.say(&format!("show {account}"));
+            let (cash, created, redeemed) = (money(stretch[0]), stretch[1], stretch[2]);
+            self.expect(&format!(
+                "account {account} cash {cash} created {created} redeemed {redeemed}"
+            ));
+            let lots = stretch[STRETCH_HEAD..].chunks_exact(LOTS);
+            for (code, lots) in codes.iter().zip(lots) {
+                if lots.iter().any(|&lot| lot > 0) {
+                    let (old, bought, got) = (lots[0], lots[1], lots[2]);
+                    self.expected
+                        .push(format!("{code:06} {old} {bought} {got}"));
+                }
+            }
+        }
+    }
+}
+
+/// The code of each line, the unit's last.
+fn codes(case: &OpeningCase) -> Vec<u64> {
+    let components = case.components.chunks_exact(5).map(|each| each[0]);
+    components.chain([case.fund.first_code]).collect()
+}
+
+/// A call as a line of a day. A line that the day has not is said by a code of
+/// the fund's group that no component may have.
+fn line_of(codes: &[u64], call: &Call) -> String {
+    let code = |line: u64| {
+        let unit = codes[codes.len() - 1];
+        let code = usize::try_from(line).ok().and_then(|line| codes.get(line));
+        *code.unwrap_or(&(unit + 3))
+    };
+    let order = |word: &str, order: &Order| {
+        let mut line = format!("{word} {} {}", order.account, order.units);
+        write!(line, " {}", order.room / RECORD_NUMBERS).expect("a string");
+        line
+    };
+    match call {
+        Call::Price { line, price } => format!("price {:06} {}", code(*line), money(*price)),
+        Call::Trade(trade) => {
+            let (code, price) = (code(trade.line), money(trade.price));
+            let (quantity, seller, buyer) = (trade.quantity, trade.seller, trade.buyer);
+            format!("trade {code:06} {quantity} {price} {seller} {buyer}")
+        }
+        Call::Create(each) => order("create", each),
+        Call::Redeem(each) => order("redeem", each),
+        _ => "value".to_string(),
+    }
+}
+
+/// Any call that a line can say: the tests called alone have none.
+fn sayable(rng: &mut Rng, lent: &Lent, scale: Scale) -> Call {
+    match any_call(rng, lent, scale) {
+        Call::TestDay | Call::TestCreation(_) | Call::TestRedemption(_) => Call::Value,
+        call => call,
+    }
+}
+
+fn day(rng: &mut Rng) -> Rehearsed {
+    let (size, scale) = (Size::any(rng), Scale::any(rng));
+    let case = OpeningCase::sound(rng, size, scale);
+    let mut lent = case.lent(rng);
+    let opened = Model.open(&case.opening(), &mut lent);
+    assert!(opened.is_accepted(), "{opened:?}");
+    let codes = codes(&case);
+    let mut rehearsed = Rehearsed::opened(&case);
+    for call in price_calls(rng, &lent, scale) {
+        rehearsed.call(&codes, &call, &mut lent);
+    }
+    for _ in 0..60 {
+        let call = sayable(rng, &lent, scale);
+        rehearsed.call(&codes, &call, &mut lent);
+    }
+    rehearsed.show(&codes, &lent);
+    rehearsed
+}
+
+#[test]
+fn random_days_answer_as_the_model() {
+    let mut rng = Rng::new(12);
+    let mut refusals = BTreeSet::new();
+    for _ in 0..150 {
+        let rehearsed = day(&mut rng);
+        let file = scratch("day.txt", &rehearsed.file);
+        let ran = run(&["rehearse", file.to_str().expect("a path")]);
+        let lines = ran.lines();
+        let (counts, lines) = lines.split_last().expect("the counts");
+        assert!(counts.ends_with(" 0 not understood"), "{counts}");
+        assert_eq!(lines.len(), rehearsed.expected.len(), "{}", file.display());
+        for (line, expected) in lines.iter().zip(&rehearsed.expected) {
+            let fits = match expected.strip_suffix(": ") {
+                Some(_) => line.starts_with(expected.as_str()) && line.len() > expected.len(),
+                None => line == expected,
+            };
+            assert!(fits, "{}: {line:?}, expected {expected:?}", file.display());
+        }
+        refusals.extend(rehearsed.refusals);
+        std::fs::remove_file(&file).expect("removed");
+    }
+    let made: Vec<u64> = refusals.into_iter().collect();
+    assert_eq!(made, Vec::from_iter(6..=17), "refusals that were made");
+}

@@ -1,0 +1,297 @@
+//! The library as its users call it, on the paper's day to compare with.
+
+#[path = "support/paper_list.rs"]
+mod paper_list;
+
+use paper_list::LIST;
+use roffelaine::{
+    Batch, Cents, Component, Day, Fund, Holdings, List, Lots, Money, Record, RecordList,
+    ReferenceValue, Refusal, Side, Trade, Units,
+};
+use Side::{Buy, Sell};
+
+const AMPLE: Money = Money::from_yuan(1_000_000_000);
+const BASKET: Units = Units(1_000_000);
+const UNIT: usize = 5;
+const PRICES: [(usize, Money); 3] = [
+    (0, Money::from_yuan(12)),
+    (2, Money::from_yuan(10)),
+    (3, Money::from_yuan(40)),
+];
+
+fn the_list() -> List<'static> {
+    List::read(LIST.as_bytes()).expect("the list is read")
+}
+
+/// The fund with ample means, and account 1 with this much of 600000 and
+/// 600036, ample cash and a basket of units.
+fn holdings(of_600000: u64, of_600036: u64) -> [Holdings; 2] {
+    let mut fund = vec![1_000_000_000_000; UNIT];
+    fund.push(0);
+    [
+        Holdings {
+            cash: AMPLE,
+            lines: fund,
+        },
+        Holdings {
+            cash: AMPLE,
+            lines: vec![0, 0, of_600000, of_600036, 0, BASKET.0],
+        },
+    ]
+}
+
+/// The day without prices.
+fn opened(of_600000: u64, of_600036: u64) -> Day {
+    let list = the_list();
+    let accounts = holdings(of_600000, of_600036);
+    Day::open(&list.head.fund, &list.components, &accounts).expect("it opens")
+}
+
+fn priced(of_600000: u64, of_600036: u64) -> Day {
+    let mut day = opened(of_600000, of_600036);
+    for (line, price) in PRICES {
+        day.set_price(line, price).expect("a price is set");
+    }
+    day
+}
+
+/// A record of so many at a price in thousandths of a yuan.
+fn record(code: u64, side: Side, quantity: u64, price: u64) -> Record {
+    Record {
+        code,
+        side,
+        quantity,
+        price: Money(price),
+        amount: Money(quantity * price),
+    }
+}
+
+/// Case (e).
+fn the_creation() -> [Record; 8] {
+    [
+        record(510_300, Buy, 1_000_000, 0),
+        record(600_000, Sell, 3_072, 0),
+        record(600_036, Sell, 3_000, 0),
+        record(510_305, Buy, 1_000_000, 113),
+        record(510_305, Buy, 1, 600_000),
+        record(510_302, Buy, 1_000_000, 173),
+        record(510_302, Buy, 1, 408_000),
+        record(510_301, Buy, 1_000_000, 0),
+    ]
+}
+
+/// Case (f).
+fn the_redemption() -> [Record; 8] {
+    [
+        record(510_300, Sell, 1_000_000, 0),
+        record(600_000, Buy, 5_200, 0),
+        record(600_036, Buy, 3_000, 0),
+        record(510_305, Sell, 1_000_000, 94),
+        record(510_305, Sell, 1, 400_000),
+        record(510_302, Sell, 1_000_000, 150),
+        record(510_302, Sell, 1, 0),
+        record(510_301, Sell, 1_000_000, 0),
+    ]
+}
+
+#[test]
+fn the_list_is_read_and_written_back() {
+    let list = the_list();
+    assert_eq!(list.letters, b"300");
+    assert_eq!(list.names[4], b"GZMT    ");
+    assert_eq!((list.head.fund.first_code, list.head.nav), (510_300, 4_257));
+    assert_eq!(list.head.fund.estimated_cash, Cents(-33_122));
+    assert_eq!(list.components[0].amount, Money::from_yuan(96_000));
+    assert_eq!(list.write().as_deref(), Ok(LIST.as_bytes()));
+}
+
+#[test]
+fn a_broken_list_is_refused() {
+    let place = LIST.find("Publish").expect("a field") as u64 + 8;
+    let text = LIST.replace("Publish=1", "Publish=2");
+    assert_eq!(
+        List::read(text.as_bytes()),
+        Err(Refusal::TextField { place })
+    );
+    let mut list = the_list();
+    list.components[2].code = 1;
+    assert_eq!(list.write(), Err(Refusal::Component { place: 2 }));
+    list.names.pop();
+    assert_eq!(list.write(), Err(Refusal::Sizes));
+}
+
+#[test]
+fn codes_have_their_lines() {
+    let (list, day) = (the_list(), opened(0, 0));
+    let codes = [1, 2, 600_000, 600_036, 600_519, 510_300];
+    for (line, code) in codes.into_iter().enumerate() {
+        assert_eq!(list.line_of(code), Some(line));
+        assert_eq!(day.line_of(code), Some(line));
+        assert_eq!(day.code_of(line), Some(code));
+    }
+    for code in [0, 3, 510_301, 999_999] {
+        assert_eq!((list.line_of(code), day.line_of(code)), (None, None));
+    }
+    assert_eq!(day.code_of(UNIT + 1), None);
+}
+
+#[test]
+fn the_day_answers_as_the_paper_says() {
+    let value = priced(3_072, 3_000).reference_value();
+    assert_eq!(value, Ok(ReferenceValue(4_257)));
+    assert!(priced(3_072, 3_000).create(1, BASKET).is_ok());
+    let refusals = [
+        (3_071, 3_000, Refusal::CashRatio),
+        (3_072, 2_999, Refusal::ShortOfStock { place: 3 }),
+    ];
+    for (of_600000, of_600036, refusal) in refusals {
+        let mut day = priced(of_600000, of_600036);
+        let before = day.clone();
+        assert_eq!(day.create(1, BASKET), Err(refusal));
+        assert_eq!(day, before);
+    }
+}
+
+#[test]
+fn a_day_without_prices_has_no_reference_value() {
+    let mut day = opened(3_072, 3_000);
+    assert_eq!(day.reference_value(), Err(Refusal::NoReferenceValue));
+    assert_eq!(day.create(1, BASKET), Err(Refusal::NoReferenceValue));
+    assert_eq!(day.price(2), Some(Money(0)));
+    day.set_price(2, Money(7)).expect("a price is set");
+    assert_eq!((day.price(2), day.price(UNIT)), (Some(Money(7)), None));
+    let unit_price = day.set_price(UNIT, Money(7));
+    assert_eq!(unit_price, Err(Refusal::NoSuchLine));
+    assert_eq!(day.set_price(0, Money(0)), Err(Refusal::QuantityOrPrice));
+}
+
+#[test]
+fn orders_make_their_records_and_move() {
+    let mut day = priced(3_072, 3_000);
+    assert_eq!(day.test_redemption(1, BASKET, 10), Ok(8));
+    let short = day.test_redemption(1, BASKET, 7);
+    assert_eq!(short, Err(Refusal::ListTooShort));
+    assert_eq!(day.redeem(1, BASKET), Ok(the_redemption().to_vec()));
+    assert_eq!(day.test_creation(1, BASKET, 8), Ok(8));
+    assert_eq!(day.create(1, BASKET), Ok(the_creation().to_vec()));
+    let again = day.redeem(1, BASKET);
+    assert_eq!(again, Err(Refusal::ShortOfStock { place: 0 }));
+
+    let account = day.book().account(1).expect("account 1");
+    assert_eq!((account.created(), account.redeemed()), (BASKET, BASKET));
+    let units = Lots {
+        old: 0,
+        bought: 0,
+        got: 1_000_000,
+    };
+    assert_eq!((account.lines(), account.lots(UNIT)), (6, units));
+    let fund = day.book().account(0).expect("the fund");
+    assert_eq!(fund.cash().0 + account.cash().0, 2 * AMPLE.0);
+    assert_eq!(day.book().accounts(), 2);
+    assert!(day.book().account(2).is_none());
+}
+
+#[test]
+fn a_lent_list_takes_the_records() {
+    let mut day = priced(3_072, 3_000);
+    let before = day.clone();
+    let mut short = RecordList::with_room(7);
+    let refused = day.redeem_into(1, BASKET, &mut short);
+    assert_eq!(refused, Err(Refusal::ListTooShort));
+    assert_eq!((&day, short), (&before, RecordList::with_room(7)));
+    let mut list = RecordList::with_room(8);
+    let count = day.redeem_into(1, BASKET, &mut list).expect("it redeems");
+    assert_eq!(list.records(count), the_redemption());
+    let count = day.create_into(1, BASKET, &mut list).expect("it creates");
+    assert_eq!(list.records(count), the_creation());
+}
+
+#[test]
+fn a_trade_moves_lots_and_cash() {
+    let mut accounts = holdings(3_072, 3_000).to_vec();
+    accounts.push(Holdings {
+        cash: Money::from_yuan(100),
+        lines: vec![0; 6],
+    });
+    let list = the_list();
+    let mut day = Day::open(&list.head.fund, &list.components, &accounts).expect("it opens");
+    let trade = Trade {
+        line: 3,
+        quantity: 10,
+        price: Money(9_990),
+        seller: 1,
+        buyer: 2,
+    };
+    assert_eq!(day.trade(&trade), Ok(()));
+    assert_eq!(day.trade(&trade), Err(Refusal::ShortOfCash));
+    let book = day.book();
+    let [seller, buyer] = [1, 2].map(|account| book.account(account).expect("an account"));
+    assert_eq!(seller.cash(), Money(AMPLE.0 + 99_900));
+    assert_eq!(buyer.cash(), Money(100));
+    assert_eq!(seller.lots(3).old, 2_990);
+    let bought = buyer.lots(3);
+    assert_eq!(bought.bought, 10);
+    let sums = (bought.total(), bought.sellable(), bought.handable());
+    assert_eq!(sums, (10, 0, 10));
+}
+
+#[test]
+fn a_batch_does_what_its_calls_do() {
+    let mut day = opened(3_072, 3_000);
+    let mut batch = Batch::default();
+    assert!(batch.is_empty());
+    for (line, price) in PRICES {
+        batch.set_price(line, price);
+    }
+    batch.reference_value();
+    batch.redeem(1, BASKET, 8);
+    batch.create(1, BASKET, 7);
+    batch.create(1, BASKET, 9);
+    let sale = Trade {
+        line: UNIT,
+        quantity: 1,
+        price: Money(4_257),
+        seller: 1,
+        buyer: 2,
+    };
+    batch.trade(&sale);
+    let outcome = day.run(&batch);
+    let expected = [
+        Ok(0),
+        Ok(0),
+        Ok(0),
+        Ok(4_257),
+        Ok(8),
+        Err(Refusal::ListTooShort),
+        Ok(8),
+        Err(Refusal::Account),
+    ];
+    assert_eq!((outcome.answers(), batch.len()), (expected.to_vec(), 8));
+    assert_eq!(outcome.records(4), the_redemption());
+    assert_eq!(outcome.records(6), the_creation());
+    for other in [0, 3, 5, 7] {
+        assert_eq!(outcome.records(other), []);
+    }
+    let mut one_by_one = priced(3_072, 3_000);
+    one_by_one.redeem(1, BASKET).expect("it redeems");
+    one_by_one.create(1, BASKET).expect("it creates");
+    assert_eq!(day, one_by_one);
+}
+
+#[test]
+fn an_opening_of_other_sizes_is_refused() {
+    let list = the_list();
+    let open = |fund: &Fund, components: &[Component], accounts: &[Holdings]| {
+        Day::open(fund, components, accounts).map(drop)
+    };
+    let (fund, refused) = (&list.head.fund, Err(Refusal::Sizes));
+    let mut accounts = holdings(0, 0);
+    assert_eq!(open(fund, &list.components, &accounts), Ok(()));
+    assert_eq!(open(fund, &list.components, &accounts[..1]), refused);
+    assert_eq!(open(fund, &[], &[]), refused);
+    let many = vec![accounts[1].clone(); 65];
+    assert_eq!(open(fund, &list.components, &many), refused);
+    accounts[0].lines.push(0);
+    accounts[1].lines.pop();
+    assert_eq!(open(fund, &list.components, &accounts), refused);
+}
