@@ -113,14 +113,12 @@ fn all_answers_are_in_json() {
         r#"{"line":40,"call":"value","answer":"ok","value":"0.4257"}"#,
         r#"{"line":41,"call":"redeem","account":1,"units":1,"answer":"refused","number":11,"place":0,"reason":"units 1: 1 to 20 whole baskets of 1000000"}"#,
         r#"{"line":42,"answer":"not understood","column":1,"reason":"\"sell\" is no word that a line of a day starts with"}"#,
-        r#"{"code":"600036","old":0,"bought":0,"got":0}"#,
         r#"{"account":1,"cash":"712992.000","created":1000000,"redeemed":0,"lots":[{"code":"510300","old":0,"bought":0,"got":1000000}]}"#,
         r#"{"code":"cash","opened":"2000000.000","in":"287008.000","out":"287008.000","holds":"2000000.000"}"#,
         r#""counts":{"calls":7,"accepted":6,"refused":1,"not_understood":1,"expected":0,"not_expected":0}}"#,
     ];
-    for (at, line) in lines.into_iter().enumerate() {
-        // Account 1 handed in all of 600036, so that no lots of it are there.
-        assert_eq!(ran.out.contains(line), at != 6, "{line}\n{}", ran.out);
+    for line in lines {
+        assert!(ran.out.contains(line), "{line}\n{}", ran.out);
     }
 }
 
