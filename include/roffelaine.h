@@ -1,5 +1,7 @@
 /*
- * Roffelaine, an ETF day book: the calls of the library libc_interface.a (`rt staticlib c_interface`), for C and C++.
+ * Roffelaine, an ETF day book: the calls of the library libroffelaine (`make install`; before that libc_interface.a, which
+ * `rt staticlib c_interface` proves and writes), for C and C++. `roffelaine_util.h` has small helpers over them, and
+ * `examples/day.c` is a whole program.
  *
  * Every call takes numbers and lent runs of numbers and returns on every input. All but `roffelaine_name` and `roffelaine_letters`,
  * which refuse nothing, answer three numbers: such a call returns the refusal's number, ROFFELAINE_ACCEPTED where there is none,
@@ -7,10 +9,25 @@
  * refused call changes nothing lent but these two. What each call answers and leaves is proved, for the same call of the Rattle
  * crates `day`, `driver`, `list_reading` and `list_writing` on the day and the fields that the runs say.
  *
- * A run is a pointer and a count of its numbers (of its bytes for text). The caller sees to it that the pointer is not null, also
- * for a count of 0, that it points to so many numbers, and that a run lent for writing, `place`, `value` and `first_row` overlap
- * no other argument. No call keeps a pointer, allocates, or writes anywhere else, so calls on different runs may go at once. A call
- * takes less than 128 KB of stack (measured, not proved).
+ * A run is a pointer and a count of its numbers (of its bytes for text). The caller sees to it that the pointer points to so many
+ * numbers, and that a run lent for writing, `place`, `value` and `first_row` overlap no other argument. A run with a count of 0 may
+ * have any pointer, also null, as an empty `std::vector` gives: nothing is read or written through it, and it overlaps nothing.
+ * `place`, `value` and `first_row` are never null: every call that takes them writes through them.
+ *
+ * The proof is about runs, not about pointers: that a call reaches no number of a run that is not there is proved, that the pointer
+ * of an empty run may be null is not. It rests on the compiled code, where no pointer is declared to the compiler as not null, and
+ * on a test that passes null for every empty run of every call.
+ *
+ * No call keeps a pointer, allocates, or writes anywhere else, so calls on different runs may go at once. A call takes less than
+ * 128 KB of stack (measured, not proved).
+ *
+ * What a call costs: every call of an open day first tests the whole day (refusal 5), in one pass over the whole book, and that is
+ * most of its time, whatever the call does. With 64 accounts and 300 components it is about 10 microseconds. `roffelaine_run` makes
+ * this pass once for a whole list of calls: a trade in the list then takes about 0.01 microseconds, a creation with 300 components
+ * about 2. So a program that has many calls at hand gives them to `roffelaine_run`; one that needs an answer before it can make the
+ * next call makes single calls, which answer and leave the same. An opening makes a pass over the holdings, about 17 microseconds;
+ * the calls on list texts make none, and take about 9 microseconds to read 300 components and 7 to write them. All times are
+ * measured on one machine.
  *
  * Money counts thousandths of a yuan, a rate hundred-thousandths, a reference value ten-thousandths of a yuan, estimated cash and a
  * cash component hundredths of a yuan. Accounts, lines, components and places count from 0. Account 0 is the fund, and line N,
@@ -50,6 +67,12 @@
 extern "C" {
 #endif
 
+/* The version of this header and of the library that it came with. */
+#define ROFFELAINE_VERSION "0.2.0"
+#define ROFFELAINE_VERSION_MAJOR 0 /* part of the shared library's name */
+#define ROFFELAINE_VERSION_MINOR 2 /* raised where calls or names change */
+#define ROFFELAINE_VERSION_PATCH 0 /* raised where none does */
+
 /* How many numbers each takes. */
 #define ROFFELAINE_FUND_WIDTH 14
 #define ROFFELAINE_DAY_WIDTH 1516
@@ -72,6 +95,14 @@ extern "C" {
 
 /* Bytes of a name. */
 #define ROFFELAINE_NAME_WIDTH 8
+
+/*
+ * Bytes of the longest list text: no text that `roffelaine_read` accepts and none that `roffelaine_write` makes has more, so an
+ * output of so many bytes is never refused with 16. It is the text with 8 letters in its first line, the longest value in every
+ * field and 300 components: 15 for the first line, 535 for the 20 fields, 8 for TAGTAG, 300 times 50 for the component lines and 11
+ * for ENDENDEND, with the two bytes that end each line. It follows from the paper's ranges and is held by a test; it is not proved.
+ */
+#define ROFFELAINE_LONGEST_TEXT 15569 /* bytes */
 
 /* The refusals. Where a place is said, it is the component, line, field or byte that the call names. */
 enum roffelaine_refusal {
@@ -187,8 +218,8 @@ uint64_t roffelaine_redemption_test(
 /*
  * Makes a list of calls, one after the other: each row has six numbers, its kind (enum roffelaine_call), its arguments and zeros,
  * and gets three in the answers: number, place, value. The list of an order is a part of the record run; a part outside the run
- * is the empty list. A row of another kind is answered with 1. The day is tested once, where every call keeps it sound. Refusal 1 of
- * the whole: the rows are not whole, or have not an answer each.
+ * is the empty list. A row of another kind is answered with 1. The day is tested once, where every call keeps it sound, as on each
+ * day that an opening and calls have led to. Refusal 1 of the whole: the rows are not whole, or have not an answer each.
  */
 uint64_t roffelaine_run(
     const uint64_t *day, size_t day_length,
@@ -199,7 +230,7 @@ uint64_t roffelaine_run(
     uint64_t *answers, size_t answers_length,
     uint64_t *place, uint64_t *value);
 
-/* The same, where each call tests the day as the calls above do. It answers and leaves the same. */
+/* The same, where each call tests the day as the calls above do, at their cost. It answers and leaves the same. */
 uint64_t roffelaine_run_public(
     const uint64_t *day, size_t day_length,
     uint64_t *book, size_t book_length,
