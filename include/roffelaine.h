@@ -1,7 +1,7 @@
 /*
- * Roffelaine, an ETF day book: the calls of the library libroffelaine (`make install`; before that libc_interface.a, which
- * `rt staticlib c_interface` proves and writes), for C and C++. `roffelaine_util.h` has small helpers over them, and
- * `examples/day.c` is a whole program.
+ * Roffelaine, an ETF day book: the calls of the library libroffelaine, for C and C++ on x86-64 Linux. `make install` installs it;
+ * its archive is libc_interface.a, which `rt staticlib c_interface` proves and writes. `roffelaine_util.h` has small helpers over
+ * the calls, and `examples/day.c` is a whole program.
  *
  * Every call takes numbers and lent runs of numbers and returns on every input. All but `roffelaine_name` and `roffelaine_letters`,
  * which refuse nothing, answer three numbers: such a call returns the refusal's number, ROFFELAINE_ACCEPTED where there is none,
@@ -12,11 +12,11 @@
  * A run is a pointer and a count of its numbers (of its bytes for text). The caller sees to it that the pointer points to so many
  * numbers, and that a run lent for writing, `place`, `value` and `first_row` overlap no other argument. A run with a count of 0 may
  * have any pointer, also null, as an empty `std::vector` gives: nothing is read or written through it, and it overlaps nothing.
- * `place`, `value` and `first_row` are never null: every call that takes them writes through them.
+ * `place`, `value` and `first_row` must not be null.
  *
  * The proof is about runs, not about pointers: that a call reaches no number of a run that is not there is proved, that the pointer
- * of an empty run may be null is not. It rests on the compiled code, where no pointer is declared to the compiler as not null, and
- * on a test that passes null for every empty run of every call.
+ * of an empty run may be null is not. That rests on how the library is compiled, with no pointer declared to the compiler as not
+ * null, and on a test that passes null for every empty run of every call.
  *
  * No call keeps a pointer, allocates, or writes anywhere else, so calls on different runs may go at once. A call takes less than
  * 128 KB of stack (measured, not proved).
