@@ -8,7 +8,8 @@
 #   make check             runs the tests
 #   make clean             removes what was made here: target/kit
 #
-# The archive of the proved library is built by `rt staticlib c_interface` where it is not there; ROFFELAINE_ARCHIVE names another.
+# The archive of the proved library is proved and built where it is not there (`rt staticlib c_interface`); ROFFELAINE_ARCHIVE names
+# another.
 
 PREFIX ?= /usr/local
 DESTDIR ?=
@@ -20,11 +21,15 @@ CARGO ?= cargo
 INSTALL ?= install
 CARGO_TARGET_DIR ?= rust/target
 
+# Not every shell puts in the home folder behind a "=".
+override PREFIX := $(PREFIX:~/%=$(HOME)/%)
+
 ifeq ($(filter /%,$(PREFIX)),)
 $(error PREFIX has to be an absolute path, and is "$(PREFIX)")
 endif
 
-ARCHIVE := $(or $(ROFFELAINE_ARCHIVE),target/staticlib/libc_interface.a)
+BUILT_ARCHIVE := target/staticlib/libc_interface.a
+ARCHIVE := $(or $(ROFFELAINE_ARCHIVE),$(BUILT_ARCHIVE))
 KIT := target/kit
 VERSION := $(shell sed -n 's/^version = "\(.*\)"$$/\1/p' rust/Cargo.toml)
 
@@ -44,8 +49,8 @@ library: $(KIT)/libroffelaine.a $(KIT)/$(FILE)
 
 command: $(COMMAND)
 
-$(ARCHIVE):
-	rt staticlib c_interface
+$(BUILT_ARCHIVE):
+	scripts/prove c_interface
 
 $(KIT)/libroffelaine.a: $(ARCHIVE)
 	mkdir -p $(KIT)
