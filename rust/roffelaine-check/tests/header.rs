@@ -173,6 +173,7 @@ fn widths_are_those_of_the_header() {
 #[test]
 fn the_longest_text_is_that_of_the_model() {
     assert_eq!(longest_list().len(), LONGEST);
+    assert_eq!(roffelaine::LONGEST_TEXT, LONGEST);
 }
 
 #[test]

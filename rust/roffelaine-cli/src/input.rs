@@ -26,22 +26,19 @@ impl Input {
     /// that end in LF alone end in CRLF.
     pub fn read(file: &OsStr, crlf: bool) -> Result<Self, String> {
         let name = file.to_string_lossy().into_owned();
-        let mut bytes = read(file).map_err(|error| format!("{name}: {error}"))?;
-        let mut end = list_end(&bytes);
-        let mut mended = 0;
-        if crlf {
-            mended = lines_in_lf(&bytes[..end]);
-            let mut list = with_crlf(&bytes[..end]).into_owned();
-            let length = list.len();
-            list.extend_from_slice(&bytes[end..]);
-            (bytes, end) = (list, length);
-        }
-        Ok(Input {
+        let bytes = read(file).map_err(|error| format!("{name}: {error}"))?;
+        let mut input = Input {
             name,
+            list_end: list_end(&bytes),
             bytes,
-            list_end: end,
-            mended,
-        })
+            mended: 0,
+        };
+        if crlf {
+            input.mended = lines_in_lf(input.list_text());
+            input.bytes = input.with_crlf();
+            input.list_end += input.mended;
+        }
+        Ok(input)
     }
 
     /// The list's part.
@@ -49,9 +46,11 @@ impl Input {
         &self.bytes[..self.list_end]
     }
 
-    /// The whole file, its list mended where that was asked for.
-    pub fn bytes(&self) -> &[u8] {
-        &self.bytes
+    /// The whole file, every line of its list ending in CRLF.
+    pub fn with_crlf(&self) -> Vec<u8> {
+        let mut bytes = with_crlf(self.list_text()).into_owned();
+        bytes.extend_from_slice(&self.bytes[self.list_end..]);
+        bytes
     }
 
     /// The list, or what is wrong with it.

@@ -20,7 +20,7 @@ pub fn run(
         eprintln!("{name}: {lines} lines that end in LF are read as if they ended in CRLF");
     }
     if let Some(output) = output {
-        let written = std::fs::write(output, input.bytes());
+        let written = std::fs::write(output, input.with_crlf());
         written.map_err(|error| format!("{}: {error}", output.to_string_lossy()))?;
     }
     match input.list() {

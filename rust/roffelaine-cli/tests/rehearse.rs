@@ -201,6 +201,10 @@ fn a_list_with_lf_is_named_and_mended() {
     assert_eq!(ran.status, 0, "{}", ran.out);
     let expected = format!("{LIST}accounts 2\nopen\n");
     assert_eq!(std::fs::read_to_string(&mended).expect("written"), expected);
+    // Without --crlf the list is refused as it stands, and the mended file is written.
+    let ran = run(&["list", path, "-o", output]);
+    assert_eq!(ran.status, 1, "{}", ran.out);
+    assert_eq!(std::fs::read_to_string(&mended).expect("written"), expected);
     assert_eq!(std::fs::read_to_string(&file).expect("as it was"), day);
 }
 

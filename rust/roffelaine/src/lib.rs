@@ -57,7 +57,7 @@ pub use book::{Account, Book, Lots};
 pub use day::{Day, Holdings, Trade};
 pub use fund::{Component, Fund, Head, Limits, Switch, MOST_ACCOUNTS, MOST_COMPONENTS};
 pub use layout::NAME_BYTES;
-pub use list::List;
+pub use list::{List, LONGEST_TEXT};
 pub use list_fault::{lines_in_lf, list_end, position, with_crlf, ListFault, Position};
 pub use records::{Record, RecordList, Side};
 pub use refusal::{Meaning, Refusal, REFUSALS};
