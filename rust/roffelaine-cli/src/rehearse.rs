@@ -1,6 +1,7 @@
 //! `roffelaine rehearse`: a day, line by line, in the form that is asked for.
 
 use crate::args::Form;
+use crate::html::{self, Kept, Page};
 use crate::input::{Input, RefusedList};
 use crate::output_error;
 use crate::report::Entry;
@@ -40,8 +41,9 @@ fn rehearse(
 ) -> io::Result<()> {
     printer.start()?;
     for (line, bytes) in input.lines() {
-        if let Some(entry) = session.line(line, &String::from_utf8_lossy(bytes)) {
-            printer.entry(entry)?;
+        let text = String::from_utf8_lossy(bytes);
+        if let Some(entry) = session.line(line, &text) {
+            printer.entry(entry, &text, session)?;
         }
     }
     printer.end(session)
@@ -55,7 +57,7 @@ struct Printer<'p, W> {
     list: &'p List<'p>,
     printed: usize,
     /// What a page shows, which is written at the end.
-    kept: Vec<Entry>,
+    kept: Vec<Kept>,
 }
 
 impl<'p, W: Write> Printer<'p, W> {
@@ -78,7 +80,7 @@ impl<'p, W: Write> Printer<'p, W> {
         }
     }
 
-    fn entry(&mut self, entry: Entry) -> io::Result<()> {
+    fn entry(&mut self, entry: Entry, line: &str, session: &Session<'_>) -> io::Result<()> {
         match self.form {
             Form::Text => text::entry(self.out, &entry)?,
             Form::Csv => {
@@ -86,7 +88,7 @@ impl<'p, W: Write> Printer<'p, W> {
                 complain(self.file, &entry);
             }
             Form::Json => json::entry(self.out, self.list, &entry, self.printed)?,
-            Form::Html => self.kept.push(entry),
+            Form::Html => self.kept.push(Kept::of(entry, line, session)),
         }
         self.printed += 1;
         Ok(())
@@ -102,7 +104,15 @@ impl<'p, W: Write> Printer<'p, W> {
                 let totals = session.all_totals();
                 json::end(self.out, &totals, &positions, session.counts())
             }
-            Form::Html => Ok(()),
+            Form::Html => {
+                let (file, kept) = (self.file, &self.kept);
+                let page = Page {
+                    file,
+                    session,
+                    kept,
+                };
+                html::page(self.out, &page)
+            }
         }
     }
 }
