@@ -2,6 +2,7 @@
 
 mod calls;
 mod front;
+mod limits;
 mod looks;
 mod positions;
 mod records;
@@ -74,6 +75,7 @@ pub fn page(out: &mut impl Write, page: &Page<'_>) -> io::Result<()> {
     writeln!(out, "<main>")?;
     calls::section(out, list, page.kept)?;
     positions::section(out, session)?;
+    limits::section(out, session)?;
     totals::section(out, list, &session.all_totals())?;
     writeln!(out, "</main>")?;
     end(out)

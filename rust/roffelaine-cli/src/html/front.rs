@@ -52,7 +52,7 @@ pub fn header(out: &mut impl Write, page: &Page<'_>) -> io::Result<()> {
     writeln!(
         out,
         "<nav aria-label=\"Parts of the page\"><a href=\"#calls\">Calls</a> \
-         <a href=\"#positions\">Positions</a> \
+         <a href=\"#positions\">Positions</a> <a href=\"#limits\">Limits</a> \
          <a href=\"#totals\">Totals</a></nav>\n</header>"
     )
 }
@@ -78,7 +78,7 @@ fn opened(kept: &[Kept]) -> String {
         [line] => format!("in line {line}"),
         [.., last] => {
             let lines = lines.join(", ");
-            format!("in lines {lines}; positions and totals are those since line {last}")
+            format!("in lines {lines}; positions, limits and totals are those since line {last}")
         }
     }
 }
