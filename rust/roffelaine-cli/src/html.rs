@@ -15,6 +15,7 @@ use crate::posting::Posting;
 use crate::report::{Answer, Entry, Said};
 use crate::session::Session;
 use crate::statement::Call;
+use roffelaine::Refusal;
 use std::io::{self, Write};
 use text::Escaped;
 
@@ -78,6 +79,30 @@ pub fn page(out: &mut impl Write, page: &Page<'_>) -> io::Result<()> {
     limits::section(out, session)?;
     totals::section(out, list, &session.all_totals())?;
     writeln!(out, "</main>")?;
+    end(out)
+}
+
+/// Writes the page of a file whose list is refused.
+pub fn refused_list(
+    out: &mut impl Write,
+    file: &str,
+    refusal: Refusal,
+    reason: &str,
+) -> io::Result<()> {
+    let file = front::file_name(file);
+    start(out, &format!("List refused: {file}"))?;
+    let (number, place) = (refusal.number(), refusal.place());
+    writeln!(
+        out,
+        "<main><h1>The list is refused</h1>\n<p>File <code>{}</code></p>\n\
+         <div class=\"banner\"><p><strong>Refused {number}, place {place}:</strong> {}</p>",
+        Escaped(file),
+        Escaped(refusal.words())
+    )?;
+    if reason != refusal.words() {
+        writeln!(out, "<p>{}</p>", Escaped(reason))?;
+    }
+    writeln!(out, "</div>\n<p>No line of the day was read.</p></main>")?;
     end(out)
 }
 

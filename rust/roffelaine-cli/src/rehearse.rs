@@ -144,9 +144,13 @@ fn refused_list(
     match form {
         Form::Text => writeln!(out, "{line}"),
         Form::Json => json::refused_list(out, &input.name, refusal, reason),
-        Form::Csv | Form::Html => {
+        Form::Csv => {
             eprintln!("{line}");
             Ok(())
+        }
+        Form::Html => {
+            eprintln!("{line}");
+            html::refused_list(out, &input.name, refusal, reason)
         }
     }
 }

@@ -16,7 +16,7 @@ pub fn title(list: &List<'_>, file: &str) -> String {
 }
 
 /// A file's name, in words for standard input.
-fn file_name(file: &str) -> &str {
+pub fn file_name(file: &str) -> &str {
     match file {
         "-" => "standard input",
         file => file,
