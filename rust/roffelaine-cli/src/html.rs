@@ -17,11 +17,9 @@ use crate::session::Session;
 use crate::statement::Call;
 use roffelaine::Refusal;
 use std::io::{self, Write};
-use text::Escaped;
+use text::{shortened, Escaped};
 
 const STYLE: &str = include_str!("html/page.css");
-/// How much of a line of the file is shown.
-const SHOWN: usize = 200;
 
 /// What a page is made of.
 pub struct Page<'p> {
@@ -58,13 +56,6 @@ impl Kept {
             text,
             opened: has_opened.then(|| session.posting().clone()),
         }
-    }
-}
-
-fn shortened(text: &str) -> String {
-    match text.char_indices().nth(SHOWN) {
-        Some((end, _)) => format!("{} …", &text[..end]),
-        None => text.to_string(),
     }
 }
 

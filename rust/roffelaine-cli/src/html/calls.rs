@@ -1,7 +1,7 @@
 //! What the lines of a day came to, in order.
 
 use super::looks::How;
-use super::text::{account_name, code, counted, Escaped};
+use super::text::{account_name, code, counted, shortened, Escaped};
 use super::words::arguments;
 use super::{positions, records, runs, totals, Kept};
 use crate::posting::Posting;
@@ -68,7 +68,7 @@ impl<W: Write> Calls<'_, W> {
             Said::Totals(totals) => self.totals(line, totals)?,
             Said::NotUnderstood { column, why } => {
                 self.start(line, How::Odd, &text, "not understood")?;
-                self.why(&format!("column {column}: {why}"))?;
+                self.why(&shortened(&format!("column {column}: {why}")))?;
             }
             Said::NotMade { why } => {
                 self.start(line, How::Odd, &text, "not made")?;

@@ -2,6 +2,9 @@
 
 use std::fmt::{self, Display, Write};
 
+/// How many characters of a line of the file are shown.
+const SHOWN: usize = 300;
+
 /// Text of a file, none of which is taken for markup.
 pub struct Escaped<'t>(pub &'t str);
 
@@ -34,6 +37,14 @@ fn is_hidden(character: char) -> bool {
 /// A line of the file, as it stands there.
 pub fn code(text: &str) -> String {
     format!("<code>{}</code>", Escaped(text))
+}
+
+/// The start of a text that is longer than a page shows.
+pub fn shortened(text: &str) -> String {
+    match text.char_indices().nth(SHOWN) {
+        Some((end, _)) => format!("{} …", &text[..end]),
+        None => text.to_string(),
+    }
 }
 
 /// A number with commas between its thousands.
@@ -75,6 +86,13 @@ mod tests {
         let text = Escaped("<a href=\"x\">&'\u{0}\u{202e}\u{ffff}\t平").to_string();
         let shown = "&lt;a href=&quot;x&quot;&gt;&amp;&#39;\u{fffd}\u{fffd}\u{fffd} 平";
         assert_eq!(text, shown);
+    }
+
+    #[test]
+    fn long_lines_are_cut() {
+        assert_eq!(shortened(&"平".repeat(SHOWN)), "平".repeat(SHOWN));
+        let cut = format!("{} …", "平".repeat(SHOWN));
+        assert_eq!(shortened(&"平".repeat(SHOWN + 1)), cut);
     }
 
     #[test]
