@@ -2,6 +2,7 @@
 
 mod args;
 mod csv;
+mod html;
 mod input;
 mod json;
 mod list_command;

@@ -1,6 +1,7 @@
 //! `roffelaine rehearse`: a day, line by line, in the form that is asked for.
 
 use crate::args::Form;
+use crate::html::{self, Kept, Page};
 use crate::input::{Input, RefusedList};
 use crate::output_error;
 use crate::report::Entry;
@@ -39,7 +40,16 @@ fn rehearse(
     printer: &mut Printer<'_, impl Write>,
 ) -> io::Result<()> {
     printer.start()?;
-    session.lines(input.texts(), |entry| printer.entry(entry))?;
+    if printer.form != Form::Html {
+        session.lines(input.texts(), |entry| printer.entry(&entry))?;
+        return printer.end(session);
+    }
+    // A page looks at the day behind each line.
+    for (line, text) in input.texts() {
+        if let Some(entry) = session.line(line, &text) {
+            printer.kept.push(Kept::of(entry, &text, session));
+        }
+    }
     printer.end(session)
 }
 
@@ -51,7 +61,7 @@ struct Printer<'p, W> {
     list: &'p List<'p>,
     printed: usize,
     /// What a page shows, which is written at the end.
-    kept: Vec<Entry>,
+    kept: Vec<Kept>,
 }
 
 impl<'p, W: Write> Printer<'p, W> {
@@ -74,15 +84,15 @@ impl<'p, W: Write> Printer<'p, W> {
         }
     }
 
-    fn entry(&mut self, entry: Entry) -> io::Result<()> {
+    fn entry(&mut self, entry: &Entry) -> io::Result<()> {
         match self.form {
-            Form::Text => text::entry(self.out, &entry)?,
+            Form::Text => text::entry(self.out, entry)?,
             Form::Csv => {
-                csv::entry(self.out, self.list, &entry)?;
-                complain(self.file, &entry);
+                csv::entry(self.out, self.list, entry)?;
+                complain(self.file, entry);
             }
-            Form::Json => json::entry(self.out, self.list, &entry, self.printed)?,
-            Form::Html => self.kept.push(entry),
+            Form::Json => json::entry(self.out, self.list, entry, self.printed)?,
+            Form::Html => {}
         }
         self.printed += 1;
         Ok(())
@@ -98,7 +108,15 @@ impl<'p, W: Write> Printer<'p, W> {
                 let totals = session.all_totals();
                 json::end(self.out, &totals, &positions, session.counts())
             }
-            Form::Html => Ok(()),
+            Form::Html => {
+                let (file, kept) = (self.file, &self.kept);
+                let page = Page {
+                    file,
+                    session,
+                    kept,
+                };
+                html::page(self.out, &page)
+            }
         }
     }
 }
@@ -130,9 +148,13 @@ fn refused_list(
     match form {
         Form::Text => writeln!(out, "{line}"),
         Form::Json => json::refused_list(out, &input.name, refusal, reason),
-        Form::Csv | Form::Html => {
+        Form::Csv => {
             eprintln!("{line}");
             Ok(())
+        }
+        Form::Html => {
+            eprintln!("{line}");
+            html::refused_list(out, &input.name, refusal, reason)
         }
     }
 }
