@@ -11,6 +11,8 @@ mod posting;
 mod reasons;
 mod rehearse;
 mod report;
+#[cfg(test)]
+mod sample;
 mod session;
 mod statement;
 mod text;

@@ -27,7 +27,7 @@ pub struct Posting {
 }
 
 /// The fund's account.
-const FUND: usize = 0;
+pub const FUND: usize = 0;
 
 impl Posting {
     /// What the accounts open with.
@@ -152,5 +152,167 @@ pub fn held(book: &Book<'_>, account: usize, place: usize) -> i128 {
         account.cash().0.into()
     } else {
         account.lots(place).total().into()
+    }
+}
+
+#[cfg(test)]
+mod tests {
+    use super::*;
+    use crate::sample::{holdings, list, CASH, CMB, SPDB, UNIT};
+    use crate::statement::Order;
+    use roffelaine::{Money, Units};
+
+    fn opening() -> Posting {
+        Posting::of(&holdings())
+    }
+
+    fn record(code: u64, side: Side, quantity: u64, price: u64) -> Record {
+        Record {
+            code,
+            side,
+            quantity,
+            price: Money(price),
+            amount: Money(quantity * price),
+        }
+    }
+
+    fn order(account: u64) -> Order {
+        Order {
+            account,
+            units: Units(1_000_000),
+            room: None,
+        }
+    }
+
+    /// The positions that are not what they opened with, and by how much.
+    fn moved(posting: &Posting) -> Vec<(usize, usize, i128)> {
+        let places = posting.places();
+        let changes = posting
+            .moves
+            .iter()
+            .map(|moves| moves.came_in - moves.went_out);
+        let changed = changes.enumerate().filter(|&(_, change)| change != 0);
+        changed
+            .map(|(at, change)| (at / places, at % places, change))
+            .collect()
+    }
+
+    #[test]
+    fn accounts_open_with_their_holdings() {
+        let posting = opening();
+        assert_eq!((posting.accounts(), posting.places()), (3, 7));
+        assert_eq!(posting.cash(), CASH);
+        assert_eq!(posting.at(0, SPDB).posted(), 20_000);
+        assert_eq!(posting.at(1, CASH).posted(), 500_000_000);
+        assert_eq!(posting.at(2, UNIT).posted(), 2_000_000);
+        assert_eq!(moved(&posting), []);
+    }
+
+    #[test]
+    fn a_trade_moves_stock_or_units_and_cash_the_other_way() {
+        let trade = |code| Call::Trade {
+            code,
+            quantity: 100,
+            price: Money(426),
+            seller: 2,
+            buyer: 1,
+        };
+        for (code, place) in [(600_000, SPDB), (510_300, UNIT)] {
+            let mut posting = opening();
+            posting.post(&list(), &trade(code), &[]);
+            assert_eq!(
+                moved(&posting),
+                [
+                    (1, place, 100),
+                    (1, CASH, -42_600),
+                    (2, place, -100),
+                    (2, CASH, 42_600)
+                ]
+            );
+        }
+    }
+
+    /// A record, the place that it moves, and what the fund and the account
+    /// then have more.
+    #[test]
+    fn every_kind_of_record_is_posted_on_its_side() {
+        let (buy, sell, million) = (Side::Buy, Side::Sell, 1_000_000);
+        let kinds = [
+            (record(510_300, buy, 5, 0), UNIT, 0, 5),
+            (record(510_300, sell, 5, 0), UNIT, 0, -5),
+            (record(510_301, buy, 5, 0), UNIT, 0, 0),
+            (record(510_301, sell, 5, 0), UNIT, 0, 0),
+            (record(600_000, sell, 5, 0), SPDB, 5, -5),
+            (record(600_000, buy, 5, 0), SPDB, -5, 5),
+            (
+                record(510_302, buy, million, 173),
+                CASH,
+                173_000_000,
+                -173_000_000,
+            ),
+            (record(510_302, sell, 1, 408_000), CASH, -408_000, 408_000),
+            (record(510_305, buy, 1, 600_000), CASH, 600_000, -600_000),
+            (
+                record(510_305, sell, million, 113),
+                CASH,
+                -113_000_000,
+                113_000_000,
+            ),
+        ];
+        for (record, place, fund, account) in kinds {
+            for call in [Call::Create(order(1)), Call::Redeem(order(1))] {
+                let mut posting = opening();
+                posting.post(&list(), &call, &[record]);
+                let mut expected = vec![(0, place, fund), (1, place, account)];
+                expected.retain(|&(_, _, change)| change != 0);
+                assert_eq!(moved(&posting), expected, "{record:?}");
+            }
+        }
+    }
+
+    /// The creation of the paper: 113,600.000 and 173,408.000 yuan.
+    #[test]
+    fn the_creation_of_the_paper_is_posted() {
+        let (buy, sell, million) = (Side::Buy, Side::Sell, 1_000_000);
+        let records = [
+            record(510_300, buy, million, 0),
+            record(600_000, sell, 3_072, 0),
+            record(600_036, sell, 3_000, 0),
+            record(510_305, buy, million, 113),
+            record(510_305, buy, 1, 600_000),
+            record(510_302, buy, million, 173),
+            record(510_302, buy, 1, 408_000),
+            record(510_301, buy, million, 0),
+        ];
+        let mut posting = opening();
+        posting.post(&list(), &Call::Create(order(1)), &records);
+        let posted = |account, place| posting.at(account, place).posted();
+        let places = [SPDB, CMB, UNIT, CASH];
+        assert_eq!(
+            places.map(|place| posted(1, place)),
+            [0, 0, 1_000_000, 212_992_000]
+        );
+        assert_eq!(
+            places.map(|place| posted(FUND, place)),
+            [23_072, 13_000, 0, 1_287_008_000]
+        );
+        let total = posting.total(CASH);
+        assert_eq!(total.opened, 1_600_000_000);
+        assert_eq!((total.came_in, total.went_out), (287_008_000, 287_008_000));
+        let units = posting.total(UNIT);
+        assert_eq!((units.opened, units.posted()), (2_000_000, 3_000_000));
+    }
+
+    #[test]
+    fn other_calls_post_nothing() {
+        let price = Call::Price {
+            code: 600_000,
+            price: Money(10_000),
+        };
+        let mut posting = opening();
+        for call in [Call::Open, Call::Value, price] {
+            posting.post(&list(), &call, &[]);
+        }
+        assert_eq!(posting, opening());
     }
 }
