@@ -7,6 +7,7 @@ mod input;
 mod json;
 mod list_command;
 mod names;
+mod positions;
 mod posting;
 mod reasons;
 mod rehearse;
