@@ -10,6 +10,7 @@ mod names;
 mod positions;
 mod posting;
 mod reasons;
+mod reconcile;
 mod rehearse;
 mod report;
 #[cfg(test)]
@@ -67,7 +68,11 @@ fn answer(asked: &Request) -> Result<bool, String> {
         Request::List { file, crlf, output } => {
             list_command::run(&mut out, file, *crlf, output.as_deref())
         }
-        Request::Reconcile { .. } => Err("not there yet".to_string()),
+        Request::Reconcile {
+            day,
+            positions,
+            crlf,
+        } => reconcile::run(&mut out, day, positions, *crlf),
     }?;
     out.flush().map_err(output_error)?;
     Ok(clean)
