@@ -3,6 +3,8 @@
 use roffelaine::{lines_in_lf, list_end, with_crlf, List, ListFault, Refusal};
 use std::borrow::Cow;
 use std::ffi::OsStr;
+use std::fmt;
+use std::fs::File;
 use std::io::Read;
 
 /// A file as it was read.
@@ -21,12 +23,19 @@ pub struct RefusedList {
     pub reason: String,
 }
 
+impl fmt::Display for RefusedList {
+    fn fmt(&self, out: &mut fmt::Formatter<'_>) -> fmt::Result {
+        let (number, place) = (self.refusal.number(), self.refusal.place());
+        write!(out, "list refused {number} {place}: {}", self.reason)
+    }
+}
+
 impl Input {
     /// Reads a file, or standard input for `-`. With `crlf`, lines of the list
     /// that end in LF alone end in CRLF.
     pub fn read(file: &OsStr, crlf: bool) -> Result<Self, String> {
         let name = file.to_string_lossy().into_owned();
-        let bytes = read(file).map_err(|error| format!("{name}: {error}"))?;
+        let bytes = read(file)?;
         let mut input = Input {
             name,
             list_end: list_end(&bytes),
@@ -80,11 +89,15 @@ impl Input {
     }
 }
 
-fn read(file: &OsStr) -> std::io::Result<Vec<u8>> {
-    if file != "-" {
-        return std::fs::read(file);
-    }
+/// The bytes of a file, or of standard input for `-`.
+pub fn read(file: &OsStr) -> Result<Vec<u8>, String> {
     let mut bytes = Vec::new();
-    std::io::stdin().lock().read_to_end(&mut bytes)?;
-    Ok(bytes)
+    let read = match file.to_str() {
+        Some("-") => std::io::stdin().lock().read_to_end(&mut bytes),
+        _ => File::open(file).and_then(|mut opened| opened.read_to_end(&mut bytes)),
+    };
+    match read {
+        Ok(_) => Ok(bytes),
+        Err(error) => Err(format!("{}: {error}", file.to_string_lossy())),
+    }
 }

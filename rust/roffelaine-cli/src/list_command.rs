@@ -25,10 +25,7 @@ pub fn run(
     }
     match input.list() {
         Ok(list) => summary(out, &list).map(|()| true),
-        Err(refused) => {
-            let (number, place) = (refused.refusal.number(), refused.refusal.place());
-            writeln!(out, "list refused {number} {place}: {}", refused.reason).map(|()| false)
-        }
+        Err(refused) => writeln!(out, "{refused}").map(|()| false),
     }
     .map_err(output_error)
 }

@@ -2,14 +2,13 @@
 
 mod fields;
 
+use crate::input;
 use fields::{fields, Fault, Field};
 use roffelaine::{List, Money, Units};
 use std::collections::btree_map::{BTreeMap, Entry};
 use std::collections::BTreeSet;
 use std::ffi::OsStr;
 use std::fmt;
-use std::fs::File;
-use std::io::{self, Read};
 
 /// A file of positions as it was read.
 pub struct GivenFile {
@@ -22,12 +21,7 @@ impl GivenFile {
     /// Reads a file, or standard input for `-`.
     pub fn read(file: &OsStr) -> Result<Self, String> {
         let name = file.to_string_lossy().into_owned();
-        let mut bytes = Vec::new();
-        let read = match file.to_str() {
-            Some("-") => io::stdin().lock().read_to_end(&mut bytes),
-            _ => File::open(file).and_then(|mut opened| opened.read_to_end(&mut bytes)),
-        };
-        read.map_err(|error| format!("{name}: {error}"))?;
+        let bytes = input::read(file)?;
         Ok(GivenFile { name, bytes })
     }
 }

@@ -36,10 +36,7 @@ pub fn run(
     let given = GivenFile::read(positions)?;
     let reconciled = match input.list() {
         Ok(list) => reconcile(out, &input, &list, &given),
-        Err(refused) => {
-            let (number, place) = (refused.refusal.number(), refused.refusal.place());
-            writeln!(out, "list refused {number} {place}: {}", refused.reason).map(|()| false)
-        }
+        Err(refused) => writeln!(out, "{refused}").map(|()| false),
     };
     reconciled.map_err(output_error)
 }

@@ -140,20 +140,15 @@ fn refused_list(
     refused: &RefusedList,
 ) -> io::Result<()> {
     let (refusal, reason) = (refused.refusal, &refused.reason);
-    let line = format!(
-        "list refused {} {}: {reason}",
-        refusal.number(),
-        refusal.place()
-    );
     match form {
-        Form::Text => writeln!(out, "{line}"),
+        Form::Text => writeln!(out, "{refused}"),
         Form::Json => json::refused_list(out, &input.name, refusal, reason),
         Form::Csv => {
-            eprintln!("{line}");
+            eprintln!("{refused}");
             Ok(())
         }
         Form::Html => {
-            eprintln!("{line}");
+            eprintln!("{refused}");
             html::refused_list(out, &input.name, refusal, reason)
         }
     }
