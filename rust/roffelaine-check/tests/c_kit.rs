@@ -315,14 +315,14 @@ fn man_page_has_all_that_the_command_takes(command: &Path) {
 /// Below another folder, as packages are made: the paths in what is installed
 /// are those of the prefix. Then nothing is left of it.
 fn installs_below_and_uninstalls(folder: &Path) {
-    let (staged, prefix) = (folder.join("staged"), "PREFIX=/opt/roffelaine");
+    let (staged, prefix) = (folder.join("staged"), "PREFIX=/srv/roffelaine");
     let below = format!("DESTDIR={}", staged.display());
     make("install", &[prefix, &below]);
-    let installed = staged.join("opt/roffelaine");
+    let installed = staged.join("srv/roffelaine");
     assert_eq!(files(&installed), installed_files());
     let module = std::fs::read_to_string(installed.join("lib/pkgconfig/roffelaine.pc"));
     let module = module.expect("a file");
-    let start = "prefix=/opt/roffelaine\nlibdir=${prefix}/lib\nincludedir=${prefix}/include\n";
+    let start = "prefix=/srv/roffelaine\nlibdir=${prefix}/lib\nincludedir=${prefix}/include\n";
     assert!(module.starts_with(start), "{module}");
     make("uninstall", &[prefix, &below]);
     assert_eq!(files(&staged), BTreeSet::new());

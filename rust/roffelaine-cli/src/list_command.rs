@@ -3,7 +3,7 @@
 use crate::input::Input;
 use crate::names::text_name;
 use crate::output_error;
-use roffelaine::{Limits, List};
+use roffelaine::{Component, Limits, List};
 use std::ffi::OsStr;
 use std::io::{self, Write};
 
@@ -33,27 +33,17 @@ pub fn run(
 fn summary(out: &mut impl Write, list: &List<'_>) -> io::Result<()> {
     let (head, fund) = (&list.head, &list.head.fund);
     let letters = String::from_utf8_lossy(list.letters);
-    let first = fund.first_code;
     writeln!(out, "list ETF{letters} of {:08}", head.trading_day)?;
-    writeln!(
+    let [units, orders, shanghai, other] = [0, 1, 2, 5].map(|step| fund.first_code + step);
+    write!(
         out,
-        "codes: {first:06} units, {:06} creation and redemption, {:06} Shanghai cash, {:06} other cash",
-        first + 1,
-        first + 2,
-        first + 5
+        "codes: {units:06} units, {orders:06} creation and redemption, "
     )?;
-    writeln!(
-        out,
-        "basket of {} units, estimated cash {}",
-        fund.basket_size, fund.estimated_cash
-    )?;
-    let (switch, ratio) = (fund.switch, fund.max_cash_ratio);
-    writeln!(
-        out,
-        "{} (CreationRedemption {}), MaxCashRatio {ratio}",
-        switch.words(),
-        switch.number()
-    )?;
+    writeln!(out, "{shanghai:06} Shanghai cash, {other:06} other cash")?;
+    let (basket, cash) = (fund.basket_size, fund.estimated_cash);
+    writeln!(out, "basket of {basket} units, estimated cash {cash}")?;
+    writeln!(out, "CreationRedemption {}", fund.switch)?;
+    writeln!(out, "MaxCashRatio {}", fund.max_cash_ratio)?;
     let limits = Limits::NAMES.into_iter().zip(fund.limits.in_order());
     let mut set = limits.filter(|(_, limit)| limit.0 > 0).peekable();
     if set.peek().is_none() {
@@ -63,17 +53,19 @@ fn summary(out: &mut impl Write, list: &List<'_>) -> io::Result<()> {
         writeln!(out, "{name} {limit}")?;
     }
     writeln!(out, "{} components", list.components.len())?;
-    for component in &list.components {
-        let name = text_name(list, component.code);
-        let (code, quantity, flag) = (component.code, component.quantity, component.flag);
-        write!(out, "{code:06} {name:<8} {quantity} flag {flag}")?;
-        if component.rate.0 > 0 {
-            write!(out, " rate {}", component.rate)?;
-        }
-        if component.amount.0 > 0 {
-            write!(out, " amount {}", component.amount)?;
-        }
-        writeln!(out)?;
+    let mut components = list.components.iter();
+    components.try_for_each(|each| component(out, list, each))
+}
+
+fn component(out: &mut impl Write, list: &List<'_>, component: &Component) -> io::Result<()> {
+    let name = text_name(list, component.code);
+    let (code, quantity, flag) = (component.code, component.quantity, component.flag);
+    write!(out, "{code:06} {name:<8} {quantity} flag {flag}")?;
+    if component.rate.0 > 0 {
+        write!(out, " rate {}", component.rate)?;
     }
-    Ok(())
+    if component.amount.0 > 0 {
+        write!(out, " amount {}", component.amount)?;
+    }
+    writeln!(out)
 }

@@ -122,12 +122,10 @@ impl Situation<'_> {
             return None;
         };
         match refusal {
-            Refusal::NoSuchLine => {
-                let unit = self.fund().first_code;
-                Some(format!(
-                    "{code:06} is neither a component of the list nor the unit {unit:06}"
-                ))
-            }
+            Refusal::NoSuchLine => Some(format!(
+                "{code:06} is neither a component of the list nor the unit {:06}",
+                self.fund().first_code
+            )),
             Refusal::QuantityOrPrice if !(1..=MOST_QUANTITY).contains(&quantity) => {
                 Some(format!("quantity {quantity}: {QUANTITIES}"))
             }
@@ -140,20 +138,22 @@ impl Situation<'_> {
             Refusal::Account => self
                 .account_reason(seller, "never trades")
                 .or_else(|| self.account_reason(buyer, "never trades")),
-            Refusal::ShortOfStock { .. } => {
-                let lots = self.lots(seller, self.list.line_of(code)?)?;
-                let (has, bought) = (lots.sellable(), lots.bought);
-                let kept = kept(bought, "bought today cannot be sold today");
-                Some(format!(
-                    "account {seller} has {has} of {code:06} to sell, needs {quantity}{kept}"
-                ))
-            }
+            Refusal::ShortOfStock { .. } => self.sale_reason(seller, code, quantity),
             Refusal::ShortOfCash => {
                 let (cash, due) = (self.cash(buyer)?, Money(quantity.checked_mul(price.0)?));
                 Some(format!("account {buyer} has {cash} yuan, needs {due}"))
             }
             _ => None,
         }
+    }
+
+    fn sale_reason(&self, seller: u64, code: u64, quantity: u64) -> Option<String> {
+        let lots = self.lots(seller, self.list.line_of(code)?)?;
+        let (has, bought) = (lots.sellable(), lots.bought);
+        let kept = kept(bought, "bought today cannot be sold today");
+        Some(format!(
+            "account {seller} has {has} of {code:06} to sell, needs {quantity}{kept}"
+        ))
     }
 
     /// What is wrong with an account, where something is.

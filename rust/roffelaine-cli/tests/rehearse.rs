@@ -216,7 +216,8 @@ fn a_list_says_what_it_has() {
 list ETF510300 of 20250630
 codes: 510300 units, 510301 creation and redemption, 510302 Shanghai cash, 510305 other cash
 basket of 1000000 units, estimated cash -331.22
-creation and redemption (CreationRedemption 1), MaxCashRatio 0.05000
+CreationRedemption 1: creation and redemption
+MaxCashRatio 0.05000
 CreationLimitPerUser 2000000
 5 components
 000001 PAB      8000 flag 3 rate 0.10000 amount 96000.000

@@ -1,6 +1,7 @@
 //! The fund, its components and what a list says besides.
 
 use crate::{Cents, Money, Rate, Units};
+use std::fmt;
 
 /// The most components that a basket has.
 pub const MOST_COMPONENTS: usize = 300;
@@ -43,6 +44,13 @@ impl Switch {
             Switch::CreationOnly => "creation only",
             Switch::RedemptionOnly => "redemption only",
         }
+    }
+}
+
+impl fmt::Display for Switch {
+    /// Its number and its words, as `3: redemption only`.
+    fn fmt(&self, out: &mut fmt::Formatter<'_>) -> fmt::Result {
+        write!(out, "{}: {}", self.number(), self.words())
     }
 }
 

@@ -38,11 +38,7 @@ impl Situation<'_> {
                     "units {units}: 1 to {MOST_BASKETS} whole baskets of {size}"
                 ))
             }
-            Refusal::Switch => {
-                let switch = self.fund().switch;
-                let (number, words) = (switch.number(), switch.words());
-                Some(format!("CreationRedemption {number}: {words}"))
-            }
+            Refusal::Switch => Some(format!("CreationRedemption {}", self.fund().switch)),
             Refusal::Limit => self.limit_reason(kind, account, units),
             Refusal::ShortOfStock { place } => self.stock_reason(kind, order, place as usize),
             Refusal::NoReferenceValue => {
@@ -166,52 +162,46 @@ impl Situation<'_> {
     /// on a day on which nobody is short of anything but the stock that is
     /// missing.
     fn cash_of(&self, kind: Kind, order: &Order) -> Option<Money> {
-        let baskets = self.baskets(order.units);
-        let fund = Fund {
-            switch: Switch::Both,
-            limits: Limits::default(),
-            ..*self.fund()
-        };
-        let needed = self.components().iter().map(|each| each.quantity * baskets);
-        let there = (0..self.unit()).map(|line| self.lots(order.account, line));
-        let there = there.map(|lots| lots.unwrap_or_default().handable());
-        let (fund_stock, stock, units, fund_cash, cash) = match kind {
-            Kind::Creation => (
-                vec![0; self.unit()],
-                there.collect(),
-                0,
-                Money(0),
-                MOST_CASH,
-            ),
-            Kind::Redemption => {
-                let units = order.units.0;
-                (
-                    needed.collect(),
-                    vec![0; self.unit()],
-                    units,
-                    MOST_CASH,
-                    Money(0),
-                )
-            }
-        };
-        let holdings = |cash, mut lines: Vec<u64>, units| {
-            lines.push(units);
-            Holdings { cash, lines }
-        };
-        let accounts = [
-            holdings(fund_cash, fund_stock, 0),
-            holdings(cash, stock, units),
-        ];
-        let mut day = Day::open(&fund, self.components(), &accounts).ok()?;
-        for line in 0..self.unit() {
-            let price = self.day.price(line).filter(|price| price.0 > 0);
-            price.map(|price| day.set_price(line, price));
-        }
+        let mut day = self.ample_day(kind, order)?;
         let records = match kind {
             Kind::Creation => day.create(1, order.units),
             Kind::Redemption => day.redeem(1, order.units),
         };
         Some(paid(&records.ok()?))
+    }
+
+    /// A day with the fund and one account, which has the order's stock as it is
+    /// there, or its units.
+    fn ample_day(&self, kind: Kind, order: &Order) -> Option<Day> {
+        let fund = Fund {
+            switch: Switch::Both,
+            limits: Limits::default(),
+            ..*self.fund()
+        };
+        let mut delivered: Vec<u64> = vec![0; self.unit() + 1];
+        let mut handed_in = delivered.clone();
+        let baskets = self.baskets(order.units);
+        for (line, component) in self.components().iter().enumerate() {
+            match kind {
+                Kind::Creation => handed_in[line] = self.lots(order.account, line)?.handable(),
+                Kind::Redemption => delivered[line] = component.quantity * baskets,
+            }
+        }
+        let (fund_cash, cash) = match kind {
+            Kind::Creation => (Money(0), MOST_CASH),
+            Kind::Redemption => (MOST_CASH, Money(0)),
+        };
+        if kind == Kind::Redemption {
+            handed_in[self.unit()] = order.units.0;
+        }
+        let holdings = |cash, lines| Holdings { cash, lines };
+        let accounts = [holdings(fund_cash, delivered), holdings(cash, handed_in)];
+        let mut day = Day::open(&fund, self.components(), &accounts).ok()?;
+        for line in 0..self.unit() {
+            let price = self.day.price(line).filter(|price| price.0 > 0);
+            price.map(|price| day.set_price(line, price));
+        }
+        Some(day)
     }
 }
 
