@@ -47,6 +47,7 @@ struct Given {
     strict: bool,
     crlf: bool,
     output: Option<OsString>,
+    help: bool,
 }
 
 /// What the words behind the command's name ask for, or why they ask for
@@ -57,10 +58,10 @@ pub fn request(words: impl IntoIterator<Item = OsString>) -> Result<Request, Str
         return Err("what is to be done is missing".to_string());
     };
     let command = first.to_string_lossy().into_owned();
-    if matches!(command.as_str(), "--help" | "-h" | "help") {
+    let given = Given::of(words)?;
+    if given.help || matches!(command.as_str(), "--help" | "-h" | "help") {
         return Ok(Request::Help);
     }
-    let given = Given::of(words)?;
     match command.as_str() {
         "--version" | "-V" => given.allow("", &[]).map(|_| Request::Version),
         "refusals" => given.allow("refusals", &[]).map(|_| Request::Refusals),
@@ -81,6 +82,7 @@ impl Given {
                 "--html" => given.form(Form::Html)?,
                 "--strict" => given.strict = true,
                 "--crlf" => given.crlf = true,
+                "--help" | "-h" => given.help = true,
                 "-o" => {
                     let output = words.next().ok_or("-o: a file is missing")?;
                     given.output = Some(output);
@@ -188,7 +190,9 @@ mod tests {
                 output: Some("b".into())
             })
         );
-        assert_eq!(asked("--help"), Ok(Request::Help));
+        for words in ["--help", "-h", "help", "rehearse --help", "list x -h"] {
+            assert_eq!(asked(words), Ok(Request::Help), "{words:?}");
+        }
         assert_eq!(asked("refusals"), Ok(Request::Refusals));
     }
 
