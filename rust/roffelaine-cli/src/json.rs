@@ -138,18 +138,12 @@ fn arguments(call: &Call) -> Members {
     match call {
         Call::Open | Call::Value => Vec::new(),
         Call::Price { code: of, price } => vec![("code", code(*of)), ("price", string(price))],
-        Call::Trade {
-            code: of,
-            quantity,
-            price,
-            seller,
-            buyer,
-        } => vec![
-            ("code", code(*of)),
-            ("quantity", quantity.to_string()),
-            ("price", string(price)),
-            ("seller", seller.to_string()),
-            ("buyer", buyer.to_string()),
+        Call::Trade(trade) => vec![
+            ("code", code(trade.code)),
+            ("quantity", trade.quantity.to_string()),
+            ("price", string(&trade.price)),
+            ("seller", trade.seller.to_string()),
+            ("buyer", trade.buyer.to_string()),
         ],
         Call::Create(order) | Call::Redeem(order) => vec![
             ("account", order.account.to_string()),

@@ -82,18 +82,11 @@ impl Posting {
     /// Posts an accepted call with the records that it made.
     pub fn post(&mut self, list: &List<'_>, call: &Call, records: &[Record]) {
         match *call {
-            Call::Trade {
-                code,
-                quantity,
-                price,
-                seller,
-                buyer,
-            } => {
-                let (seller, buyer) = (seller as usize, buyer as usize);
-                if let Some(line) = list.line_of(code) {
-                    let paid = i128::from(quantity) * i128::from(price.0);
-                    self.carry(seller, buyer, line, quantity.into());
-                    self.carry(buyer, seller, self.cash(), paid);
+            Call::Trade(trade) => {
+                let (seller, buyer) = (trade.seller as usize, trade.buyer as usize);
+                if let Some(line) = list.line_of(trade.code) {
+                    self.carry(seller, buyer, line, trade.quantity.into());
+                    self.carry(buyer, seller, self.cash(), trade.paid());
                 }
             }
             Call::Create(order) | Call::Redeem(order) => {
@@ -159,7 +152,7 @@ pub fn held(book: &Book<'_>, account: usize, place: usize) -> i128 {
 mod tests {
     use super::*;
     use crate::sample::{holdings, list, CASH, CMB, SPDB, UNIT};
-    use crate::statement::Order;
+    use crate::statement::{Order, Trade};
     use roffelaine::{Money, Units};
 
     fn opening() -> Posting {
@@ -210,12 +203,14 @@ mod tests {
 
     #[test]
     fn a_trade_moves_stock_or_units_and_cash_the_other_way() {
-        let trade = |code| Call::Trade {
-            code,
-            quantity: 100,
-            price: Money(426),
-            seller: 2,
-            buyer: 1,
+        let trade = |code| {
+            Call::Trade(Trade {
+                code,
+                quantity: 100,
+                price: Money(426),
+                seller: 2,
+                buyer: 1,
+            })
         };
         for (code, place) in [(600_000, SPDB), (510_300, UNIT)] {
             let mut posting = opening();

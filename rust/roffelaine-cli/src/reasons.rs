@@ -3,7 +3,8 @@
 
 mod orders;
 
-use crate::statement::Call;
+use crate::statement::{Call, Trade};
+use crate::text::yuan;
 use orders::Kind;
 use roffelaine::{Component, Day, Fund, Holdings, List, Lots, Money, Refusal};
 
@@ -69,7 +70,7 @@ impl Situation<'_> {
         }
         let reason = match call {
             Call::Price { code, price } => self.price_reason(*code, *price, refusal),
-            Call::Trade { .. } => self.trade_reason(call, refusal),
+            Call::Trade(trade) => self.trade_reason(trade, refusal),
             Call::Create(order) => self.order_reason(Kind::Creation, order, refusal),
             Call::Redeem(order) => self.order_reason(Kind::Redemption, order, refusal),
             Call::Value => self.value_reason(refusal),
@@ -110,17 +111,14 @@ impl Situation<'_> {
         }
     }
 
-    fn trade_reason(&self, call: &Call, refusal: Refusal) -> Option<String> {
-        let &Call::Trade {
+    fn trade_reason(&self, trade: &Trade, refusal: Refusal) -> Option<String> {
+        let &Trade {
             code,
             quantity,
             price,
             seller,
             buyer,
-        } = call
-        else {
-            return None;
-        };
+        } = trade;
         match refusal {
             Refusal::NoSuchLine => Some(format!(
                 "{code:06} is neither a component of the list nor the unit {:06}",
@@ -140,7 +138,7 @@ impl Situation<'_> {
                 .or_else(|| self.account_reason(buyer, "never trades")),
             Refusal::ShortOfStock { .. } => self.sale_reason(seller, code, quantity),
             Refusal::ShortOfCash => {
-                let (cash, due) = (self.cash(buyer)?, Money(quantity.checked_mul(price.0)?));
+                let (cash, due) = (self.cash(buyer)?, yuan(trade.paid()));
                 Some(format!("account {buyer} has {cash} yuan, needs {due}"))
             }
             _ => None,

@@ -38,20 +38,28 @@ impl Statement {
 #[derive(Clone, Copy, Debug, PartialEq, Eq)]
 pub enum Call {
     Open,
-    Price {
-        code: u64,
-        price: Money,
-    },
-    Trade {
-        code: u64,
-        quantity: u64,
-        price: Money,
-        seller: u64,
-        buyer: u64,
-    },
+    Price { code: u64, price: Money },
+    Trade(Trade),
     Create(Order),
     Redeem(Order),
     Value,
+}
+
+/// A trade of a code's shares or units.
+#[derive(Clone, Copy, Debug, PartialEq, Eq)]
+pub struct Trade {
+    pub code: u64,
+    pub quantity: u64,
+    pub price: Money,
+    pub seller: u64,
+    pub buyer: u64,
+}
+
+impl Trade {
+    /// What the buyer pays, in thousandths of a yuan.
+    pub fn paid(&self) -> i128 {
+        i128::from(self.quantity) * i128::from(self.price.0)
+    }
 }
 
 /// An order; all records that it makes have room where none is said.
@@ -68,7 +76,7 @@ impl Call {
         match self {
             Call::Open => "open",
             Call::Price { .. } => "price",
-            Call::Trade { .. } => "trade",
+            Call::Trade(_) => "trade",
             Call::Create(_) => "create",
             Call::Redeem(_) => "redeem",
             Call::Value => "value",
@@ -179,13 +187,13 @@ fn price(words: &mut Words<'_>) -> Result<Statement, Fault> {
 }
 
 fn trade(words: &mut Words<'_>) -> Result<Statement, Fault> {
-    Ok(Statement::Call(Call::Trade {
+    Ok(Statement::Call(Call::Trade(Trade {
         code: words.code()?,
         quantity: words.whole("QUANTITY")?,
         price: words.amount("YUAN")?,
         seller: words.whole("SELLER")?,
         buyer: words.whole("BUYER")?,
-    }))
+    })))
 }
 
 fn order(words: &mut Words<'_>) -> Result<Order, Fault> {

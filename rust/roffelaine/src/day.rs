@@ -3,7 +3,7 @@
 use crate::layout::{
     component_run, fund_numbers, most_records, stretch_width, DAY_NUMBERS, RECORD_NUMBERS,
 };
-use crate::lent;
+use crate::lent::{self, Reply};
 use crate::{
     Batch, Book, Component, Fund, Money, Outcome, Record, RecordList, ReferenceValue, Refusal,
     Units, MOST_ACCOUNTS, MOST_COMPONENTS,
@@ -38,6 +38,10 @@ pub struct Trade {
     /// The account that buys.
     pub buyer: usize,
 }
+
+/// A creation or a redemption over lent runs, and the test of one.
+type LentOrder = fn(&[u64], &mut [u64], &[u64], u64, u64, &mut [u64]) -> Reply;
+type LentTest = fn(&[u64], &[u64], &[u64], u64, u64, usize) -> Reply;
 
 /// An open day. Lines and accounts count from 0; the line behind the last
 /// component is the unit, and account 0 the fund. A refused call changes
@@ -210,12 +214,7 @@ impl Day {
         units: Units,
         list: &mut RecordList,
     ) -> Result<usize, Refusal> {
-        let Day {
-            day, book, prices, ..
-        } = self;
-        let (account, list) = (account as u64, &mut list.run);
-        let reply = lent::create(&day[..], book, prices, account, units.0, list);
-        reply.outcome().map(|count| count as usize)
+        self.order(lent::create, account, units, list)
     }
 
     /// Redeems units of an account; the records go to the lent list, and their
@@ -226,11 +225,21 @@ impl Day {
         units: Units,
         list: &mut RecordList,
     ) -> Result<usize, Refusal> {
+        self.order(lent::redeem, account, units, list)
+    }
+
+    fn order(
+        &mut self,
+        make: LentOrder,
+        account: usize,
+        units: Units,
+        list: &mut RecordList,
+    ) -> Result<usize, Refusal> {
         let Day {
             day, book, prices, ..
         } = self;
         let (account, list) = (account as u64, &mut list.run);
-        let reply = lent::redeem(&day[..], book, prices, account, units.0, list);
+        let reply = make(&day[..], book, prices, account, units.0, list);
         reply.outcome().map(|count| count as usize)
     }
 
@@ -242,12 +251,7 @@ impl Day {
         units: Units,
         room: usize,
     ) -> Result<usize, Refusal> {
-        let Day {
-            day, book, prices, ..
-        } = self;
-        let length = RECORD_NUMBERS.saturating_mul(room);
-        let reply = lent::creation_test(&day[..], book, prices, account as u64, units.0, length);
-        reply.outcome().map(|count| count as usize)
+        self.test(lent::creation_test, account, units, room)
     }
 
     /// How many records a redemption with room for so many would make, or why
@@ -258,11 +262,19 @@ impl Day {
         units: Units,
         room: usize,
     ) -> Result<usize, Refusal> {
-        let Day {
-            day, book, prices, ..
-        } = self;
+        self.test(lent::redemption_test, account, units, room)
+    }
+
+    fn test(
+        &self,
+        make: LentTest,
+        account: usize,
+        units: Units,
+        room: usize,
+    ) -> Result<usize, Refusal> {
+        let (day, book, prices) = (&self.day[..], &self.book, &self.prices);
         let length = RECORD_NUMBERS.saturating_mul(room);
-        let reply = lent::redemption_test(&day[..], book, prices, account as u64, units.0, length);
+        let reply = make(day, book, prices, account as u64, units.0, length);
         reply.outcome().map(|count| count as usize)
     }
 

@@ -32,7 +32,7 @@ pub fn length(kept: &[Kept]) -> usize {
 fn row_call(kept: &Kept) -> Option<&Call> {
     match &kept.entry.said {
         Said::Answer(Answer {
-            call: call @ (Call::Price { .. } | Call::Trade { .. }),
+            call: call @ (Call::Price { .. } | Call::Trade(_)),
             outcome: Ok(_),
         }) => Some(call),
         _ => None,
@@ -41,7 +41,7 @@ fn row_call(kept: &Kept) -> Option<&Call> {
 
 /// Writes a run as a table; one of prices alone has fewer columns.
 pub fn table(out: &mut impl Write, list: &List<'_>, run: &[Kept]) -> io::Result<()> {
-    let is_trade = |kept: &Kept| matches!(row_call(kept), Some(Call::Trade { .. }));
+    let is_trade = |kept: &Kept| matches!(row_call(kept), Some(Call::Trade(_)));
     let has_trades = run.iter().any(is_trade);
     let columns: &[(&str, &str)] = match has_trades {
         true => &WITH_TRADES,
@@ -100,16 +100,10 @@ fn cells(out: &mut impl Write, list: &List<'_>, call: &Call, has_trades: bool) -
             }
             Ok(())
         }
-        Call::Trade {
-            code,
-            quantity,
-            price,
-            seller,
-            buyer,
-        } => {
-            first_cells(out, list, "trade", code, price)?;
-            let amount = grouped(yuan(i128::from(quantity) * i128::from(price.0)));
-            let quantity = grouped(quantity);
+        Call::Trade(trade) => {
+            first_cells(out, list, "trade", trade.code, trade.price)?;
+            let (quantity, amount) = (grouped(trade.quantity), grouped(yuan(trade.paid())));
+            let (seller, buyer) = (trade.seller, trade.buyer);
             write!(
                 out,
                 "<td>{quantity}</td><td>{amount}</td><td>{seller}</td><td>{buyer}</td>"

@@ -12,16 +12,10 @@ pub fn arguments(list: &List<'_>, call: &Call) -> String {
         Call::Price { code, price } => {
             format!("{}, {} yuan", named_code(list, code), grouped(price))
         }
-        Call::Trade {
-            code,
-            quantity,
-            price,
-            seller,
-            buyer,
-        } => {
-            let (quantity, price) = (grouped(quantity), grouped(price));
-            let (seller, buyer) = (account_name(seller), account_name(buyer));
-            let code = named_code(list, code);
+        Call::Trade(trade) => {
+            let (quantity, price) = (grouped(trade.quantity), grouped(trade.price));
+            let (seller, buyer) = (account_name(trade.seller), account_name(trade.buyer));
+            let code = named_code(list, trade.code);
             format!("{quantity} of {code} at {price} yuan, {seller} sells to {buyer}")
         }
         Call::Create(order) | Call::Redeem(order) => ordered(list, &order),

@@ -45,7 +45,7 @@ impl<'e> Effect<'e> {
         outcome.as_ref().ok()?;
         let mut accounts = match *call {
             Call::Open => return Some(Effect::Opens),
-            Call::Trade { seller, buyer, .. } => [seller as usize, buyer as usize],
+            Call::Trade(trade) => [trade.seller as usize, trade.buyer as usize],
             Call::Create(order) | Call::Redeem(order) => [FUND, order.account as usize],
             Call::Price { .. } | Call::Value => return None,
         };
@@ -87,7 +87,7 @@ pub mod tests {
     use super::*;
     use crate::report::Made;
     use crate::sample;
-    use crate::statement::Order;
+    use crate::statement::{Order, Trade};
     use roffelaine::{Money, Units};
 
     pub fn accepted(line: usize, call: Call, made: Made) -> Entry {
@@ -111,13 +111,13 @@ pub mod tests {
 
     /// 100 units at 0.426 yuan.
     pub fn trade(seller: u64, buyer: u64) -> Call {
-        Call::Trade {
+        Call::Trade(Trade {
             code: 510_300,
             quantity: 100,
             price: Money(426),
             seller,
             buyer,
-        }
+        })
     }
 
     fn moving(entry: &Entry) -> Moving<'_> {

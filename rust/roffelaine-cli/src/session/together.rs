@@ -4,7 +4,7 @@
 use super::Session;
 use crate::report::{Answer, Entry, Made, Refused};
 use crate::statement::{statement, Call, Order, Statement};
-use roffelaine::{Batch, Day, Outcome, Trade};
+use roffelaine::{Batch, Day, Outcome};
 use std::borrow::Cow;
 use std::io;
 
@@ -113,18 +113,12 @@ impl Session<'_> {
         for call in calls {
             match *call {
                 Call::Price { code, price } => batch.set_price(self.line_of(code), price),
-                Call::Trade {
-                    code,
-                    quantity,
-                    price,
-                    seller,
-                    buyer,
-                } => batch.trade(&Trade {
-                    line: self.line_of(code),
-                    quantity,
-                    price,
-                    seller: seller as usize,
-                    buyer: buyer as usize,
+                Call::Trade(trade) => batch.trade(&roffelaine::Trade {
+                    line: self.line_of(trade.code),
+                    quantity: trade.quantity,
+                    price: trade.price,
+                    seller: trade.seller as usize,
+                    buyer: trade.buyer as usize,
                 }),
                 Call::Create(order) => {
                     batch.create(order.account as usize, order.units, room(&order));
@@ -153,6 +147,6 @@ fn answered(
     Ok(match call {
         Call::Create(_) | Call::Redeem(_) => Made::Records(outcome.records(at)),
         Call::Value => Made::Value(roffelaine::ReferenceValue(value)),
-        Call::Price { .. } | Call::Trade { .. } | Call::Open => Made::Done,
+        Call::Price { .. } | Call::Trade(_) | Call::Open => Made::Done,
     })
 }
