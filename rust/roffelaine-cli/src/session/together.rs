@@ -45,6 +45,9 @@ impl Session<'_> {
         waiting: &mut Vec<(usize, Call)>,
         hand_on: &mut impl FnMut(Entry) -> io::Result<()>,
     ) -> io::Result<()> {
+        if waiting.is_empty() {
+            return Ok(());
+        }
         let calls: Vec<Call> = waiting.iter().map(|&(_, call)| call).collect();
         let answers = self.answers(&calls);
         for ((line, _), answer) in waiting.drain(..).zip(answers) {
