@@ -8,8 +8,7 @@
 #   make check             runs the tests
 #   make clean             removes what was made here: target/kit
 #
-# The archive of the proved library is proved and built where it is not there (`rt staticlib c_interface`); ROFFELAINE_ARCHIVE names
-# another.
+# The archive of the proved library is proved and built where that is due (`rt staticlib c_interface`); ROFFELAINE_ARCHIVE names another.
 
 PREFIX ?= /usr/local
 DESTDIR ?=
@@ -27,6 +26,9 @@ override PREFIX := $(PREFIX:~/%=$(HOME)/%)
 ifeq ($(filter /%,$(PREFIX)),)
 $(error PREFIX has to be an absolute path, and is "$(PREFIX)")
 endif
+ifneq ($(words $(PREFIX)),1)
+$(error PREFIX has to be without blanks, and is "$(PREFIX)")
+endif
 
 BUILT_ARCHIVE := target/staticlib/libc_interface.a
 ARCHIVE := $(or $(ROFFELAINE_ARCHIVE),$(BUILT_ARCHIVE))
@@ -35,11 +37,12 @@ VERSION := $(shell sed -n 's/^version = "\(.*\)"$$/\1/p' rust/Cargo.toml)
 
 # The shared library's file, the name by which programs ask for it, and the name by which they are linked.
 FILE := libroffelaine.so.$(VERSION)
-SONAME := libroffelaine.so.$(firstword $(subst ., ,$(VERSION)))
+SONAME := $(basename $(FILE))
 LINKED := libroffelaine.so
 
 HEADERS := roffelaine.h roffelaine_util.h
 
+PROVED := crates.txt $(shell find crates -name '*.rt' -o -name '*.antt')
 COMMAND := $(CARGO_TARGET_DIR)/release/roffelaine
 RUST := $(shell find rust/Cargo.toml rust/Cargo.lock rust/roffelaine rust/roffelaine-cli -type f)
 
@@ -49,15 +52,17 @@ library: $(KIT)/libroffelaine.a $(KIT)/$(FILE)
 
 command: $(COMMAND)
 
-$(BUILT_ARCHIVE):
+# Touched, since what has not changed is not written anew.
+$(BUILT_ARCHIVE): $(PROVED)
 	scripts/prove c_interface
+	touch $@
 
 $(KIT)/libroffelaine.a: $(ARCHIVE)
 	mkdir -p $(KIT)
 	cp $(ARCHIVE) $@
 
 # The archive's code may stand at any address (-z text refuses it where it may not).
-$(KIT)/$(FILE): $(ARCHIVE) packaging/roffelaine.map
+$(KIT)/$(FILE): $(ARCHIVE) packaging/roffelaine.map Makefile
 	mkdir -p $(KIT)
 	$(CC) -shared $(LDFLAGS) -Wl,-soname,$(SONAME) -Wl,--version-script=packaging/roffelaine.map \
 		-Wl,-z,text -Wl,-z,defs -Wl,-z,relro -Wl,-z,now -Wl,-z,noexecstack \

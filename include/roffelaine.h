@@ -69,7 +69,7 @@ extern "C" {
 
 /* The version of this header and of the library that it came with. */
 #define ROFFELAINE_VERSION "0.2.0"
-#define ROFFELAINE_VERSION_MAJOR 0 /* part of the shared library's name */
+#define ROFFELAINE_VERSION_MAJOR 0 /* with the next one, part of the shared library's name */
 #define ROFFELAINE_VERSION_MINOR 2 /* raised where calls or names change */
 #define ROFFELAINE_VERSION_PATCH 0 /* raised where none does */
 

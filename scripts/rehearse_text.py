@@ -62,7 +62,7 @@ class Rehearsal:
     def __init__(self, fund, parts):
         self.fund, self.parts, self.n = fund, parts, len(parts)
         self.codes = [p[0] for p in parts] + [fund["first_code"]]
-        self.accounts, self.held, self.faulty, self.tried = None, {}, 0, False
+        self.accounts, self.held, self.faulty, self.tried, self.waits = None, {}, 0, None, None
         self.day, self.since, self.out, self.last = None, None, [], None
         self.counts = {"accepted": 0, "refused": 0, "not": 0, "met": 0, "unmet": 0}
 
@@ -92,7 +92,7 @@ class Rehearsal:
         return [0, 0, 0], ""
 
     def open(self, k):
-        self.tried = True
+        self.tried, self.waits = self.faulty, None
         if self.since is not None:
             return self.not_made(k, f"the day is open since line {self.since}")
         if self.faulty:
@@ -107,16 +107,18 @@ class Rehearsal:
         self.out.append(f"{k} open not made: {why}")
         return True
 
-    def give(self, account, place, x):
+    def give(self, k, account, place, x):
         if self.since is not None or self.accounts is None or account >= self.accounts or (account, place) in self.held:
             return False
         self.held[account, place] = x
+        self.waits = self.waits or k
         return True
 
-    def start(self, accounts):
-        if self.accounts is not None and not self.tried:
+    def start(self, k, accounts):
+        if self.accounts is not None and self.tried is None:
             return False
-        self.accounts, self.held, self.faulty, self.tried, self.since = accounts, {}, 0, False, None
+        self.faulty -= self.tried or 0
+        self.accounts, self.held, self.tried, self.since, self.waits, self.day = accounts, {}, None, None, k, None
         return True
 
     # Calls
@@ -322,7 +324,9 @@ class Rehearsal:
             found = None if d is None else d.reference()
             if found == words[0]:
                 return None
-            return f"the value is {yuan(found, 4)}" if found is not None else "value refused .."
+            if found is None:
+                return "value refused 5 0: no day is open" if d is None else f"value refused 14 0: {self.value_reason()}"
+            return f"the value is {yuan(found, 4)}"
         if d is None:
             return "no day is open"
         if words[0] >= d.accounts:
@@ -332,7 +336,9 @@ class Rehearsal:
             return None if cash == words[1] else f"account {words[0]} has {yuan(cash)} yuan"
         a, code, *lots = words
         if code not in self.codes:
-            return f"{code:06} is neither a component of the list nor the unit"
+            g = self.codes[-1]
+            return f"{code:06} is a code of the fund; units stand under {g:06}" if g < code <= g + 5 else \
+                f"{code:06} is neither a component of the list nor the unit {g:06}"
         found = d.lots[a][self.line(code)]
         return None if found == lots else f"account {a} has {found[0]} {found[1]} {found[2]} of {code:06}"
 
@@ -350,11 +356,11 @@ class Rehearsal:
         if None in words:
             return False
         if name == "accounts":
-            return self.start(words[0])
+            return self.start(k, words[0])
         if name == "cash":
-            return self.give(words[0], 0, words[1])
+            return self.give(k, words[0], 0, words[1])
         if name == "hold":
-            return words[1] in self.codes and self.give(words[0], 1 + self.line(words[1]), words[2])
+            return words[1] in self.codes and self.give(k, words[0], 1 + self.line(words[1]), words[2])
         if name in ("show", "totals", "open"):
             return getattr(self, name)(k, *words)
         return self.made(k, name, *words)
@@ -364,8 +370,11 @@ class Rehearsal:
             words = re.findall(r"[^ \t\r]+", line.split(b"#")[0].decode("latin-1"))
             if words and not self.understood(k, words):
                 self.counts["not"] += 1
-                self.faulty += words[0] in ("accounts", "cash", "hold") or words[0] not in (*SHAPES, "expect")
+                opens = words[0] in ("accounts", "cash", "hold") or words[0] not in (*SHAPES, "expect")
+                self.faulty += opens and self.since is None
                 self.out.append(f"{k} not understood: column ..")
+        if self.waits is not None:
+            self.not_made(self.waits, "no line `open` follows")
         c = self.counts
         calls = c["accepted"] + c["refused"]
         end = f"{calls} calls, {c['accepted']} accepted, {c['refused']} refused, {c['not']} not understood"

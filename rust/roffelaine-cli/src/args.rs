@@ -141,6 +141,12 @@ impl Given {
 
     fn list(self) -> Result<Request, String> {
         let mut files = self.allow("crlf output", &["FILE"])?;
+        if self.output.is_some() && !self.crlf {
+            return Err("-o writes what --crlf mends; give --crlf too".to_string());
+        }
+        if self.output.as_deref().is_some_and(|output| output == "-") {
+            return Err("-o: a file, not -".to_string());
+        }
         Ok(Request::List {
             file: files.remove(0),
             crlf: self.crlf,
@@ -211,6 +217,11 @@ mod tests {
             ("reconcile a", "POSITIONS.csv is missing"),
             ("reconcile a b --strict", "--strict is no option here"),
             ("list a -o", "-o: a file is missing"),
+            (
+                "list a -o b",
+                "-o writes what --crlf mends; give --crlf too",
+            ),
+            ("list a --crlf -o -", "-o: a file, not -"),
             ("refusals x", "\"x\" is one file too many"),
         ];
         for (words, why) in faults {

@@ -44,7 +44,9 @@ impl Input {
         };
         if crlf {
             input.mended = lines_in_lf(input.list_text());
-            input.bytes = input.with_crlf();
+            let mut bytes = with_crlf(input.list_text()).into_owned();
+            bytes.extend_from_slice(&input.bytes[input.list_end..]);
+            input.bytes = bytes;
             input.list_end += input.mended;
         }
         Ok(input)
@@ -55,11 +57,9 @@ impl Input {
         &self.bytes[..self.list_end]
     }
 
-    /// The whole file, every line of its list ending in CRLF.
-    pub fn with_crlf(&self) -> Vec<u8> {
-        let mut bytes = with_crlf(self.list_text()).into_owned();
-        bytes.extend_from_slice(&self.bytes[self.list_end..]);
-        bytes
+    /// The whole file, its list mended where that was asked for.
+    pub fn bytes(&self) -> &[u8] {
+        &self.bytes
     }
 
     /// The list, or what is wrong with it.

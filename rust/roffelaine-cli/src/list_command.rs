@@ -19,12 +19,14 @@ pub fn run(
         let (name, lines) = (&input.name, input.mended);
         eprintln!("{name}: {lines} lines that end in LF are read as if they ended in CRLF");
     }
-    if let Some(output) = output {
-        let written = std::fs::write(output, input.with_crlf());
-        written.map_err(|error| format!("{}: {error}", output.to_string_lossy()))?;
-    }
     match input.list() {
-        Ok(list) => summary(out, &list).map(|()| true),
+        Ok(list) => {
+            if let Some(output) = output {
+                let written = std::fs::write(output, input.bytes());
+                written.map_err(|error| format!("{}: {error}", output.to_string_lossy()))?;
+            }
+            summary(out, &list).map(|()| true)
+        }
         Err(refused) => writeln!(out, "{refused}").map(|()| false),
     }
     .map_err(output_error)

@@ -77,6 +77,12 @@ impl Positions {
             let read = match fields(text) {
                 Ok(fields) if fields.iter().all(Field::is_empty) => continue,
                 Ok(fields) if is_first && is_header(&fields) => Ok(()),
+                Ok(fields) if fields.len() == 1 => {
+                    Err(fields[0].fault("a row is account,code,quantity, parted by commas"))
+                }
+                Ok(fields) if is_first && has_names(&fields) => {
+                    Err(fields[0].fault("a row of names is account,code,quantity"))
+                }
                 Ok(fields) => positions.row(list, line, &fields),
                 Err(fault) => Err(fault),
             };
@@ -166,6 +172,12 @@ fn named<'f, 'l>(fields: &'f [Field<'l>], at: usize, name: &str) -> Result<&'f F
         Some(empty) => Err(missing(empty.column)),
         None => Err(missing(fields.last().map_or(1, Field::end))),
     }
+}
+
+/// Whether a row has no digit anywhere, as one of names has not.
+fn has_names(fields: &[Field<'_>]) -> bool {
+    let mut bytes = fields.iter().flat_map(|field| field.text.bytes());
+    !bytes.any(|byte| byte.is_ascii_digit())
 }
 
 fn is_header(fields: &[Field<'_>]) -> bool {
@@ -283,11 +295,11 @@ mod tests {
         ),
         (
             "holder,code,quantity",
-            "1:1 \"holder\": a number has digits alone",
+            "1:1 \"holder\": a row of names is account,code,quantity",
         ),
         (
             "1;600036;5",
-            "1:2 \"1;600036;5\": a number has digits alone",
+            "1:1 \"1;600036;5\": a row is account,code,quantity, parted by commas",
         ),
         (
             " \"3\",600036,5",

@@ -87,7 +87,7 @@ fn rehearse<'l>(
             each(session, &entry)?;
         }
     }
-    Ok(())
+    session.end().map_or(Ok(()), |entry| each(session, &entry))
 }
 
 /// Looks for calls that moved as much as a position differs. The day is run

@@ -50,6 +50,9 @@ fn rehearse(
             printer.kept.push(Kept::of(entry, &text, session));
         }
     }
+    if let Some(entry) = session.end() {
+        printer.kept.push(Kept::of(entry, "", session));
+    }
     printer.end(session)
 }
 

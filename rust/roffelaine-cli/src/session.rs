@@ -66,7 +66,9 @@ impl<'l> Session<'l> {
             Err(fault) => Err(fault),
         };
         let said = said.unwrap_or_else(|fault| {
-            self.opening.faulty += usize::from(fault.stops_open);
+            // On an open day a faulty line says nothing of the next opening.
+            let stops_open = fault.stops_open && self.opening.open_since.is_none();
+            self.opening.faulty += usize::from(stops_open);
             Some(Said::NotUnderstood {
                 column: fault.column,
                 why: fault.why,
@@ -76,11 +78,25 @@ impl<'l> Session<'l> {
         Some(Entry { line, said })
     }
 
+    /// What is left to say at the end: that lines give what no day opened with.
+    pub fn end(&mut self) -> Option<Entry> {
+        let line = self.opening.waits_since()?;
+        let said = not_made("no line `open` follows");
+        self.counts.add(&said);
+        Some(Entry { line, said })
+    }
+
     fn statement(&mut self, line: usize, statement: &Statement) -> Result<Option<Said>, Misfit> {
         match *statement {
-            Statement::Accounts(accounts) => self.opening.start(line, accounts).map(|()| None),
+            Statement::Accounts(accounts) => {
+                self.opening.start(line, accounts)?;
+                self.day = Day::closed();
+                self.posting = Posting::default();
+                Ok(None)
+            }
             Statement::Cash { account, amount } => {
-                self.opening.give(line, account, CASH, amount.0)?;
+                let at = (account, CASH);
+                self.opening.give(line, at, amount.0, "cash")?;
                 Ok(None)
             }
             Statement::Hold {
@@ -89,8 +105,9 @@ impl<'l> Session<'l> {
                 quantity,
             } => {
                 let place = self.list.line_of(code);
-                let place = place.ok_or_else(|| misfit(CODE_WORD, unknown_code(code)))?;
-                self.opening.give(line, account, place, quantity)?;
+                let place = place.ok_or_else(|| misfit(CODE_WORD, self.unknown_code(code)))?;
+                let (at, name) = ((account, place), format!("{code:06}"));
+                self.opening.give(line, at, quantity, &name)?;
                 Ok(None)
             }
             Statement::Call(Call::Open) => Ok(Some(self.open(line))),
@@ -106,7 +123,7 @@ impl<'l> Session<'l> {
 
     /// Opens the day, unless a line above it is faulty or it is open.
     fn open(&mut self, line: usize) -> Said {
-        self.opening.is_tried = true;
+        self.opening.is_tried();
         if let Some(since) = self.opening.open_since {
             return Said::NotMade {
                 why: format!("the day is open since line {since}"),
@@ -154,6 +171,15 @@ impl<'l> Session<'l> {
     fn answer(&mut self, answer: Answer) -> Said {
         self.last = Some(answer.clone());
         Said::Answer(answer)
+    }
+
+    /// Why a code has no line.
+    fn unknown_code(&self, code: u64) -> String {
+        let unit = self.list.head.fund.first_code;
+        match code.checked_sub(unit) {
+            Some(1..=5) => format!("{code:06} is a code of the fund; units stand under {unit:06}"),
+            _ => format!("{code:06} is neither a component of the list nor the unit {unit:06}"),
+        }
     }
 
     fn account_fault(&self, account: u64) -> Option<String> {
@@ -231,10 +257,6 @@ fn misfit(word: usize, why: String) -> Misfit {
 const FIRST_WORD: usize = 0;
 const ACCOUNT_WORD: usize = 1;
 const CODE_WORD: usize = 2;
-
-fn unknown_code(code: u64) -> String {
-    format!("{code:06} is neither a component of the list nor the unit")
-}
 
 fn not_made(why: &str) -> Said {
     Said::NotMade {

@@ -148,7 +148,7 @@ pub fn statement(line: &str) -> Result<Option<Statement>, Fault> {
         "expect" => expectation(&mut words).map(Statement::Expect),
         other => Err(Fault {
             column,
-            why: format!("{other:?} is no word that a line of a day starts with"),
+            why: unknown_word(other),
             stops_open: true,
         }),
     };
@@ -158,6 +158,20 @@ pub fn statement(line: &str) -> Result<Option<Statement>, Fault> {
         stops_open: fault.stops_open || opening,
         ..fault
     })
+}
+
+/// The words that a line of a day starts with.
+const FIRST_WORDS: [&str; 12] = [
+    "accounts", "cash", "hold", "open", "price", "trade", "create", "redeem", "value", "show",
+    "totals", "expect",
+];
+
+fn unknown_word(word: &str) -> String {
+    let small = word.to_ascii_lowercase();
+    match FIRST_WORDS.contains(&small.as_str()) {
+        true => format!("{word:?} is written {small}"),
+        false => format!("{word:?} is no word that a line of a day starts with"),
+    }
 }
 
 /// The column at which a word of a line starts; the words count from 0.
@@ -398,12 +412,7 @@ mod tests {
                 "\"csh\" is no word that a line of a day starts with",
                 true,
             ),
-            (
-                "  Open",
-                3,
-                "\"Open\" is no word that a line of a day starts with",
-                true,
-            ),
+            ("  Open", 3, "\"Open\" is written open", true),
             (
                 "expect never",
                 8,

@@ -1,7 +1,6 @@
 //! A rehearsal as plain lines.
 
 use crate::report::{Answer, Counts, Entry, Made, Position, Said, Total};
-use roffelaine::Record;
 use std::io::{self, Write};
 
 /// Writes what a line came to.
@@ -27,7 +26,7 @@ fn answer(out: &mut impl Write, line: usize, answer: &Answer) -> io::Result<()> 
         Ok(Made::Value(value)) => writeln!(out, "{line} {word} ok {value}"),
         Ok(Made::Records(records)) => {
             writeln!(out, "{line} {word} ok {}", records.len())?;
-            records.iter().try_for_each(|each| record(out, each))
+            records.iter().try_for_each(|each| writeln!(out, "{each}"))
         }
         Err(refused) => {
             let (number, place) = (refused.refusal.number(), refused.refusal.place());
@@ -35,18 +34,6 @@ fn answer(out: &mut impl Write, line: usize, answer: &Answer) -> io::Result<()> 
             writeln!(out, "{line} {word} refused {number} {place}: {reason}")
         }
     }
-}
-
-fn record(out: &mut impl Write, record: &Record) -> io::Result<()> {
-    let Record {
-        code,
-        side,
-        quantity,
-        price,
-        amount,
-    } = record;
-    let side = side.letter();
-    writeln!(out, "{code:06} {side} {quantity} {price} {amount}")
 }
 
 fn position(out: &mut impl Write, line: usize, position: &Position) -> io::Result<()> {

@@ -53,7 +53,7 @@ fn cases() -> Vec<(u64, String, String, &'static str)> {
             "accounts 2\ncash 0 4000000000000000.000\ncash 1 0.001\nopen\n".into(),
             "open refused 4 6: cash totals 4000000000000000.001, at most 4000000000000000.000",
         ),
-        (5, same.clone(), "accounts 2\nvalue\n".into(), "value refused 5 0: no day is open"),
+        (5, same.clone(), "value\n".into(), "value refused 5 0: no day is open"),
         (6, same.clone(), day("price 510300 1\n"), "price refused 6 0: 510300 is the unit, which has no price"),
         (6, same.clone(), day("price 600001 1\n"), "price refused 6 0: 600001 is no component of the list"),
         (

@@ -201,10 +201,18 @@ fn a_list_with_lf_is_named_and_mended() {
     assert_eq!(ran.status, 0, "{}", ran.out);
     let expected = format!("{LIST}accounts 2\nopen\n");
     assert_eq!(std::fs::read_to_string(&mended).expect("written"), expected);
-    // Without --crlf the list is refused as it stands, and the mended file is written.
-    let ran = run(&["list", path, "-o", output]);
-    assert_eq!(ran.status, 1, "{}", ran.out);
-    assert_eq!(std::fs::read_to_string(&mended).expect("written"), expected);
+    // What is refused is not written.
+    let broken = scratch("broken.txt", day.replace("Publish", "Publisch").as_bytes());
+    let broken = broken.to_str().expect("a path");
+    let other = file.with_file_name("other.txt");
+    let ran = run(&[
+        "list",
+        broken,
+        "--crlf",
+        "-o",
+        other.to_str().expect("a path"),
+    ]);
+    assert_eq!((ran.status, other.exists()), (1, false), "{}", ran.out);
     assert_eq!(std::fs::read_to_string(&file).expect("as it was"), day);
 }
 

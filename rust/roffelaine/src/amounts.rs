@@ -167,8 +167,15 @@ amount! {
 
 impl Money {
     /// Whole yuan.
+    ///
+    /// # Panics
+    ///
+    /// Where thousandths of so many yuan are more than 64 bits hold.
     pub const fn from_yuan(yuan: u64) -> Self {
-        Money(yuan * 1_000)
+        match yuan.checked_mul(1_000) {
+            Some(thousandths) => Money(thousandths),
+            None => panic!("more yuan than money counts"),
+        }
     }
 }
 

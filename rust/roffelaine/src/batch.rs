@@ -1,8 +1,8 @@
 //! A list of calls for the driver, and what came of them.
 
-use crate::layout::{ANSWER_NUMBERS, RECORD_NUMBERS, ROW_NUMBERS};
+use crate::layout::{ANSWER_NUMBERS, ROW_NUMBERS};
 use crate::lent::Reply;
-use crate::records::records_of;
+use crate::records::{records_of, room_numbers};
 use crate::{Money, Record, Refusal, Trade, Units};
 
 /// The kinds of the driver's rows.
@@ -80,7 +80,7 @@ impl Batch {
     }
 
     fn order(&mut self, kind: u64, account: usize, units: Units, room: usize) {
-        let (start, length) = (self.length, RECORD_NUMBERS * room);
+        let (start, length) = (self.length, room_numbers(room));
         let row = [
             kind,
             account as u64,
@@ -130,7 +130,11 @@ impl Outcome {
             .collect()
     }
 
-    /// The answer to a call, which must be one of the batch.
+    /// The answer to a call.
+    ///
+    /// # Panics
+    ///
+    /// Where the batch has no such call.
     pub fn answer(&self, call: usize) -> Result<u64, Refusal> {
         let numbers = &self.answers[ANSWER_NUMBERS * call..][..ANSWER_NUMBERS];
         let reply = Reply {
@@ -141,8 +145,11 @@ impl Outcome {
         reply.outcome()
     }
 
-    /// The records of a call, which must be one of the batch; none where it
-    /// was refused or is no order.
+    /// The records of a call; none where it was refused or is no order.
+    ///
+    /// # Panics
+    ///
+    /// Where the batch has no such call.
     pub fn records(&self, call: usize) -> Vec<Record> {
         let start = self.starts[call];
         let end = self.starts.get(call + 1).copied();

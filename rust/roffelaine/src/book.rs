@@ -92,8 +92,11 @@ impl Account<'_> {
         (self.stretch.len() - STRETCH_HEAD) / LOTS
     }
 
-    /// The lots of a line, which must be one of the day's; the last one is the
-    /// unit.
+    /// The lots of a line; the last one is the unit.
+    ///
+    /// # Panics
+    ///
+    /// Where the day has no such line.
     pub fn lots(&self, line: usize) -> Lots {
         let lots = &self.stretch[STRETCH_HEAD + LOTS * line..][..LOTS];
         Lots {

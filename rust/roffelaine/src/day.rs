@@ -1,9 +1,8 @@
 //! An open day that owns its book and prices.
 
-use crate::layout::{
-    component_run, fund_numbers, most_records, stretch_width, DAY_NUMBERS, RECORD_NUMBERS,
-};
+use crate::layout::{component_run, fund_numbers, most_records, stretch_width, DAY_NUMBERS};
 use crate::lent::{self, Reply};
+use crate::records::room_numbers;
 use crate::{
     Batch, Book, Component, Fund, Money, Outcome, Record, RecordList, ReferenceValue, Refusal,
     Units, MOST_ACCOUNTS, MOST_COMPONENTS,
@@ -273,7 +272,7 @@ impl Day {
         room: usize,
     ) -> Result<usize, Refusal> {
         let (day, book, prices) = (&self.day[..], &self.book, &self.prices);
-        let length = RECORD_NUMBERS.saturating_mul(room);
+        let length = room_numbers(room);
         let reply = make(day, book, prices, account as u64, units.0, length);
         reply.outcome().map(|count| count as usize)
     }

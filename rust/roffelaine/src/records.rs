@@ -1,7 +1,8 @@
 //! The records of an order, read from the run that the archive fills.
 
-use crate::layout::RECORD_NUMBERS;
-use crate::Money;
+use crate::layout::{most_records, RECORD_NUMBERS};
+use crate::{Money, MOST_COMPONENTS};
+use std::fmt;
 
 /// The side of a record, B or S.
 #[derive(Clone, Copy, Debug, PartialEq, Eq, Hash)]
@@ -53,6 +54,33 @@ impl Record {
     }
 }
 
+/// As the command prints it: code, side, quantity, price, amount.
+///
+/// ```
+/// use roffelaine::{Money, Record, Side};
+/// let record = Record {
+///     code: 510_305,
+///     side: Side::Buy,
+///     quantity: 1_000_000,
+///     price: Money(113),
+///     amount: Money::from_yuan(113_000),
+/// };
+/// assert_eq!(record.to_string(), "510305 B 1000000 0.113 113000.000");
+/// ```
+impl fmt::Display for Record {
+    fn fmt(&self, out: &mut fmt::Formatter<'_>) -> fmt::Result {
+        let (code, side, quantity) = (self.code, self.side.letter(), self.quantity);
+        let (price, amount) = (self.price, self.amount);
+        write!(out, "{code:06} {side} {quantity} {price} {amount}")
+    }
+}
+
+/// The numbers of a list that has room for so many records; past what any order
+/// makes, room makes no difference.
+pub(crate) fn room_numbers(records: usize) -> usize {
+    RECORD_NUMBERS * records.min(most_records(MOST_COMPONENTS))
+}
+
 /// The first `count` records of a run.
 pub(crate) fn records_of(run: &[u64], count: usize) -> Vec<Record> {
     run.chunks_exact(RECORD_NUMBERS)
@@ -68,10 +96,11 @@ pub struct RecordList {
 }
 
 impl RecordList {
-    /// A list with places for so many records.
+    /// A list with places for so many records, and for no more than any order
+    /// makes.
     pub fn with_room(records: usize) -> Self {
         RecordList {
-            run: vec![0; RECORD_NUMBERS * records],
+            run: vec![0; room_numbers(records)],
         }
     }
 

@@ -1,8 +1,8 @@
 //! What a line expects of the call before it, or of the book.
 
-use super::{unknown_code, Session};
+use super::Session;
 use crate::report::{Answer, Made, Refused, Said};
-use crate::statement::Expectation;
+use crate::statement::{Call, Expectation};
 
 impl Session<'_> {
     pub(super) fn expect(&self, expected: &Expectation) -> Said {
@@ -30,7 +30,11 @@ impl Session<'_> {
             Expectation::Value(value) => match self.day.reference_value() {
                 Ok(found) if found == value => None,
                 Ok(found) => Some(format!("the value is {found}")),
-                Err(refusal) => Some(format!("value {refusal}")),
+                Err(refusal) => {
+                    let (number, place) = (refusal.number(), refusal.place());
+                    let reason = self.reason(&Call::Value, refusal);
+                    Some(format!("value refused {number} {place}: {reason}"))
+                }
             },
             Expectation::Cash { account, amount } => self.account_fault(account).or_else(|| {
                 let cash = self.position(account as usize).cash;
@@ -72,7 +76,7 @@ impl Session<'_> {
 
     fn unexpected_lots(&self, account: usize, code: u64, expected: [u64; 3]) -> Option<String> {
         let Some(line) = self.day.line_of(code) else {
-            return Some(unknown_code(code));
+            return Some(self.unknown_code(code));
         };
         let lots = self.day.book().account(account)?.lots(line);
         let found = [lots.old, lots.bought, lots.got];

@@ -10,9 +10,13 @@ pub(super) struct Opening {
     pub(super) accounts: Option<(u64, usize)>,
     /// What an account has at a place, and the line that said so.
     pub(super) given: BTreeMap<(u64, usize), (u64, usize)>,
+    /// How many lines stop `open`.
     pub(super) faulty: usize,
-    /// Whether a line `open` followed; `accounts` then starts another opening.
-    pub(super) is_tried: bool,
+    /// How many of these stand above the last `open`, where there is one;
+    /// `accounts` then starts another opening.
+    tried: Option<usize>,
+    /// The first line that gives something behind the last `open`.
+    waiting: Option<usize>,
     /// The line of the opening that was accepted.
     pub(super) open_since: Option<usize>,
 }
@@ -24,22 +28,37 @@ impl Opening {
     /// Starts an opening with so many accounts; an earlier one that was tried is
     /// forgotten.
     pub(super) fn start(&mut self, line: usize, accounts: u64) -> Result<(), Misfit> {
-        if let (Some((_, before)), false) = (self.accounts, self.is_tried) {
-            return Err(misfit(FIRST_WORD, format!("it is given in line {before}")));
+        if let (Some((_, before)), None) = (self.accounts, self.tried) {
+            let why = format!("`accounts` is given in line {before}");
+            return Err(misfit(FIRST_WORD, why));
         }
         *self = Opening {
             accounts: Some((accounts, line)),
+            faulty: self.faulty - self.tried.unwrap_or(0),
+            waiting: Some(line),
             ..Opening::default()
         };
         Ok(())
     }
 
+    /// A line `open`, whatever comes of it.
+    pub(super) fn is_tried(&mut self) {
+        self.tried = Some(self.faulty);
+        self.waiting = None;
+    }
+
+    /// The first of the lines for which no `open` came.
+    pub(super) fn waits_since(&self) -> Option<usize> {
+        self.waiting
+    }
+
+    /// Gives an account a number of what has this name.
     pub(super) fn give(
         &mut self,
         line: usize,
-        account: u64,
-        place: usize,
+        (account, place): (u64, usize),
         number: u64,
+        name: &str,
     ) -> Result<(), Misfit> {
         if let Some(since) = self.open_since {
             let why = format!("the day is open since line {since}: it belongs above `open`");
@@ -56,10 +75,12 @@ impl Opening {
         match self.given.entry((account, place)) {
             btree_map::Entry::Vacant(vacant) => {
                 vacant.insert((number, line));
+                self.waiting.get_or_insert(line);
                 Ok(())
             }
             btree_map::Entry::Occupied(before) => {
-                let why = format!("it is given in line {}", before.get().1);
+                let before = before.get().1;
+                let why = format!("{name} of account {account} is given in line {before}");
                 Err(misfit(FIRST_WORD, why))
             }
         }

@@ -36,7 +36,8 @@ impl Session<'_> {
                 }
             }
         }
-        self.together(&mut waiting, &mut hand_on)
+        self.together(&mut waiting, &mut hand_on)?;
+        self.end().map_or(Ok(()), hand_on)
     }
 
     /// Makes the calls that wait.

@@ -49,8 +49,15 @@ impl Number {
         )
     }
 
+    /// The number that stands there; in a whole number no comma is a point.
+    fn written(&self, value: &[u8]) -> Option<Written> {
+        Written::of(value, self.decimals > 0)
+    }
+
     fn kind(&self, value: &[u8]) -> String {
-        let is_zero = Written::of(value).is_some_and(|number| number.is_minus_zero());
+        let is_zero = self
+            .written(value)
+            .is_some_and(|number| number.is_minus_zero());
         match self.decimals {
             _ if is_zero => "zero".to_owned(),
             0 => "a whole number".to_owned(),
@@ -61,7 +68,7 @@ impl Number {
     /// What stands in a value that must not.
     fn barred(&self, value: &[u8]) -> Vec<&'static str> {
         let has = |byte| value.contains(&byte);
-        let number = Written::of(value);
+        let number = self.written(value);
         let is_zero = number.as_ref().is_some_and(Written::is_minus_zero);
         let has_decimals = number.is_some_and(|number| !number.fraction.is_empty());
         let things = [
@@ -79,7 +86,9 @@ impl Number {
 
     /// How many decimals stand there, if that is too many.
     fn excess(&self, value: &[u8]) -> String {
-        let count = Written::of(value).map_or(0, |number| number.fraction.len());
+        let count = self
+            .written(value)
+            .map_or(0, |number| number.fraction.len());
         match self.decimals {
             0 => String::new(),
             most if count <= most => String::new(),
@@ -87,11 +96,14 @@ impl Number {
         }
     }
 
-    /// The number that stands there written right in so many bytes. A one where
-    /// no number stands, to show decimals.
+    /// The number that stands there written right in so many bytes. Where no
+    /// number stands, one that shows decimals.
     fn example(&self, value: &[u8], most: usize) -> Option<String> {
-        let one = || Written::of(b"1").filter(|_| self.decimals > 0);
-        let number = Written::of(value).or_else(one)?;
+        let any = || {
+            self.written(&b"0.12345"[..2 + self.decimals])
+                .filter(|_| self.decimals > 0)
+        };
+        let number = self.written(value).or_else(any)?;
         let is_below_zero = number.is_minus && !number.is_minus_zero();
         if number.fraction.len() > self.decimals || (is_below_zero && !self.is_signed) {
             return None;
@@ -136,11 +148,16 @@ struct Written {
 }
 
 impl Written {
-    fn of(value: &[u8]) -> Option<Self> {
+    /// Where commas may be points, one that parts no thousands is one.
+    fn of(value: &[u8], comma_is_point: bool) -> Option<Self> {
         let text = std::str::from_utf8(value.trim_ascii()).ok()?;
         let unsigned = text.strip_prefix(['-', '+']).unwrap_or(text);
         let (whole, fraction) = unsigned.split_once('.').unwrap_or((unsigned, ""));
-        let whole = without_commas(whole)?;
+        let (whole, fraction) = match (without_commas(whole), unsigned.split_once(',')) {
+            (Some(whole), _) => (whole, fraction),
+            (None, Some((whole, part))) if comma_is_point => (whole.to_owned(), part),
+            _ => return None,
+        };
         let mut digits = whole.bytes().chain(fraction.bytes());
         if whole.len() + fraction.len() == 0 || !digits.all(|byte| byte.is_ascii_digit()) {
             return None;
@@ -166,7 +183,8 @@ fn without_commas(digits: &str) -> Option<String> {
     if first.len() == digits.len() {
         return Some(digits.to_owned());
     }
-    let is_right = (1..=3).contains(&first.len()) && groups.all(|group| group.len() == 3);
+    let is_first = (1..=3).contains(&first.len()) && first != "0";
+    let is_right = is_first && groups.all(|group| group.len() == 3);
     is_right.then(|| digits.replace(',', ""))
 }
 
@@ -207,10 +225,11 @@ mod tests {
             (rate, ".5", "five decimals, as 0.50000"),
             (rate, "0.500000", "five decimals, as 0.50000"),
             (rate, "0.123456", "five decimals, not 6"),
-            (rate, "5%", "five decimals, as 1.00000"),
-            (rate, "0,05000", "five decimals without commas, as 1.00000"),
+            (rate, "0,500", "five decimals without commas, as 0.50000"),
+            (rate, "5%", "five decimals, as 0.12345"),
+            (rate, "0,05000", "five decimals without commas, as 0.05000"),
             (rate, "-0.05", "five decimals without \"-\""),
-            (rate, "", "five decimals, as 1.00000"),
+            (rate, "", "five decimals, as 0.12345"),
             (
                 whole,
                 "1,000,000",
@@ -230,7 +249,7 @@ mod tests {
             (cash, "-0.00", "zero without \"-\", as 0.00"),
             (cash, "-331.2", "two decimals, as -331.20"),
             (cash, "+5.00", "two decimals without \"+\", as 5.00"),
-            (cash, "--5.00", "two decimals, as 1.00"),
+            (cash, "--5.00", "two decimals, as 0.12"),
             (cash, "-00.50", "two decimals without spare zeros, as -0.50"),
         ];
         for (number, value, expected) in rows {
