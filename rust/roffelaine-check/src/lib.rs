@@ -7,6 +7,7 @@
 //! `compare` makes one call on two engines and `differential` plans a whole
 //! test. `library_types` says the model's values in the library's types.
 //! `timing` measures the rows of the benchmark.
+#![forbid(unsafe_code)]
 
 pub mod archive;
 pub mod compare;

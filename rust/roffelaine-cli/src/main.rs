@@ -1,4 +1,5 @@
 //! The command `roffelaine`: rehearses an ETF's day on the proved day book.
+#![forbid(unsafe_code)]
 
 mod args;
 mod csv;

@@ -37,7 +37,7 @@
 //! # }
 //! ```
 #![warn(missing_docs)]
-#![deny(unsafe_op_in_unsafe_fn)]
+#![deny(unsafe_code)]
 
 mod amounts;
 mod batch;
@@ -45,6 +45,7 @@ mod book;
 mod day;
 mod fund;
 mod layout;
+#[allow(unsafe_code)]
 pub mod lent;
 mod list;
 mod list_fault;
