@@ -18,6 +18,17 @@ outsideGroup g code = ltb code g || ltb (g + 5) code
 unfoldable pub zeroUnless : Bool → ℕ → Bool
 zeroUnless used x = used || eqb x 0
 
+-- a rate or an amount: at most so much, and 0 where the flag does not use it
+unfoldable pub usedWithin : ℕ → Bool → ℕ → Bool
+usedWithin most used x = every (leb x most ∷ zeroUnless used x ∷ [])
+
+-- the most that either rate may be, and an amount
+abbrev pub mostRate : ℕ
+mostRate = 100_000
+
+abbrev pub mostAmount : ℕ
+mostAmount = 99_999_999_999
+
 -- a component's own ranges and flag use, in a fund with the first code g
 unfoldable pub componentInRange : ℕ → Component → Bool
 componentInRange g c =
@@ -26,10 +37,9 @@ componentInRange g c =
     ∷ outsideGroup g (c .code)
     ∷ leb (c .quantity) 99_999_999
     ∷ ltb (c .flag) 5
-    ∷ leb (c .rate .0) 100_000
-    ∷ leb (c .amount .0) 99_999_999_999
-    ∷ zeroUnless (entry (c .flag) rateUsed) (c .rate .0)
-    ∷ zeroUnless (entry (c .flag) amountUsed) (c .amount .0)
+    ∷ usedWithin mostRate (entry (c .flag) rateUsed) (c .premium .0)
+    ∷ usedWithin mostRate (entry (c .flag) rateUsed) (c .discount .0)
+    ∷ usedWithin mostAmount (entry (c .flag) amountUsed) (c .amount .0)
     ∷ [])
 
 -- the component c as the i-th, behind one with the code previous: in its ranges and, unless it is the first, above

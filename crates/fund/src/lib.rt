@@ -5,7 +5,7 @@ ghost use lib.ListN.{length};
 ghost use Rattle.fund.specs.Fund.{cashInRange, limitInRange, limitsInRange, fundInRange};
 ghost use Rattle.layout.specs.Places.{mostComponents, componentWidth};
 ghost use Rattle.layout.specs.Components.{componentAt, placesOf};
-ghost use Rattle.fund.specs.Components.{outsideGroup, zeroUnless, componentInRange, fits, componentFault};
+ghost use Rattle.fund.specs.Components.{outsideGroup, zeroUnless, usedWithin, componentInRange, fits, componentFault};
 use layout::Component;
 use layout::Fund;
 
@@ -78,14 +78,29 @@ pub fn fund_in_range(f: Fund) -> bool
     limits_in_range(size, limits)
 }
 
+// The most that either rate may be, and an amount.
+const MOST_RATE: u64 = 100_000;
+
+const MOST_AMOUNT: u64 = 99_999_999_999;
+
 // An unused rate or amount is 0.
-pub fn zero_unless(used: bool, x: u64) -> bool
+fn zero_unless(used: bool, x: u64) -> bool
     ensures { λ r. ⌜ r ≡ zeroUnless used x ⌝ }
 {
     if used {
         return true;
     }
     x == 0
+}
+
+// A rate or an amount: at most so much, and 0 where the flag does not use it.
+fn used_within(most: u64, used: bool, x: u64) -> bool
+    ensures { λ r. ⌜ r ≡ usedWithin most used x ⌝ }
+{
+    if most < x {
+        return false;
+    }
+    zero_unless(used, x)
 }
 
 // Whether a code is outside the fund's group of codes, which starts at `first_code`.
@@ -114,16 +129,14 @@ pub fn component_in_range(first_code: u64, c: Component) -> bool
     if 5 <= c.flag {
         return false;
     }
-    if 100_000 < c.rate.0 {
+    let rate_used = flags::entry_of(c.flag, flags::RATE_USED);
+    if !used_within(MOST_RATE, rate_used, c.premium.0) {
         return false;
     }
-    if 99_999_999_999 < c.amount.0 {
+    if !used_within(MOST_RATE, rate_used, c.discount.0) {
         return false;
     }
-    if !zero_unless(flags::entry_of(c.flag, flags::RATE_USED), c.rate.0) {
-        return false;
-    }
-    zero_unless(flags::entry_of(c.flag, flags::AMOUNT_USED), c.amount.0)
+    used_within(MOST_AMOUNT, flags::entry_of(c.flag, flags::AMOUNT_USED), c.amount.0)
 }
 
 // Whether the i-th component is in its ranges and above the previous code.

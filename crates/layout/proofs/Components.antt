@@ -22,14 +22,15 @@ unfolding componentNumbers
 numbers-length c = refl
 
 pub numbers-stored : (run : List ℕ) (p : ℕ) (c : Component)
-    → set (set (set (set (set run p (c .code)) (p + 1) (c .quantity)) (p + 2) (c .flag)) (p + 3) (c .rate .0)) (p + 4) (c .amount .0)
+    → set (set (set (set (set (set run p (c .code)) (p + 1) (c .quantity)) (p + 2) (c .flag)) (p + 3) (c .premium .0)) (p + 4) (c .discount .0)) (p + 5) (c .amount .0)
     ≡ sets run p (componentNumbers c)
 unfolding componentNumbers
 numbers-stored run p c =
     let two : p + 2 ≡ suc (suc p) = omega arith in
     let three : p + 3 ≡ suc (suc (suc p)) = omega arith in
     let four : p + 4 ≡ suc (suc (suc (suc p))) = omega arith in
-    rw (add-one p, two, three, four)
+    let five : p + 5 ≡ suc (suc (suc (suc (suc p)))) = omega arith in
+    rw (add-one p, two, three, four, five)
 
 -- a component of a run, where its numbers are those of c
 module _ (run : List ℕ) (j : ℕ) (c : Component) (e : stretchOf componentWidth run j ≡ componentNumbers c) where
@@ -43,7 +44,7 @@ module _ (run : List ℕ) (j : ℕ) (c : Component) (e : stretchOf componentWidt
   unfolding componentAt componentNumbers
   component-is =
       let code = ap (λ (k : ℕ). getD run k 0) (sym (add-zero (componentWidth * j))) ∙ number-at 0 (omega arith) in
-      rw (code, number-at 1 (omega arith), number-at 2 (omega arith), number-at 3 (omega arith), number-at 4 (omega arith))
+      rw (code, number-at 1 (omega arith), number-at 2 (omega arith), number-at 3 (omega arith), number-at 4 (omega arith), number-at 5 (omega arith))
 
 -- a component's place
 pub places-at : (f : ℕ → Component) (n i : ℕ) → i < n → n ≤ mostComponents → getD (placesOf f n) i blank ≡ f i

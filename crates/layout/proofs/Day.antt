@@ -113,7 +113,7 @@ pub padded-component : (xs : List ℕ) (n i : ℕ) → componentAt (xs ++ replic
 unfolding componentAt
 padded-component xs n i =
     let at = padded-at xs n in
-    rw (at (componentWidth * i), at (componentWidth * i + 1), at (componentWidth * i + 2), at (componentWidth * i + 3), at (componentWidth * i + 4))
+    rw (at (componentWidth * i), at (componentWidth * i + 1), at (componentWidth * i + 2), at (componentWidth * i + 3), at (componentWidth * i + 4), at (componentWidth * i + 5))
 
 -- a component behind the last is blank
 past-component : (xs : List ℕ) (i : ℕ) → length xs ≤ componentWidth * i → componentAt xs i ≡ blank
@@ -121,7 +121,7 @@ unfolding componentAt
 past-component xs i h =
     let none : (k : ℕ) → getD xs (componentWidth * i + k) 0 ≡ 0 = λ k. List·getD-eq-default xs 0 (omega arith) in
     let code = ap (λ (k : ℕ). getD xs k 0) (sym (add-zero (componentWidth * i))) ∙ none 0 in
-    rw (code, none 1, none 2, none 3, none 4)
+    rw (code, none 1, none 2, none 3, none 4, none 5)
 
 -- The day.
 

@@ -10,7 +10,7 @@ use Rattle.layout.specs.Places.{mostComponents, componentWidth}
 
 -- the component that stands where a day has none
 abbrev pub blank : Component
-blank = record { code = 0; quantity = 0; flag = 0; rate = record { 0 = 0 }; amount = record { 0 = 0 } }
+blank = record { code = 0; quantity = 0; flag = 0; premium = record { 0 = 0 }; discount = record { 0 = 0 }; amount = record { 0 = 0 } }
 
 -- the i-th component of a run, and a component's numbers in this order
 unfoldable pub componentAt : List ℕ → ℕ → Component
@@ -19,12 +19,13 @@ componentAt run i =
       code = getD run (componentWidth * i) 0;
       quantity = getD run (componentWidth * i + 1) 0;
       flag = getD run (componentWidth * i + 2) 0;
-      rate = record { 0 = getD run (componentWidth * i + 3) 0 };
-      amount = record { 0 = getD run (componentWidth * i + 4) 0 };
+      premium = record { 0 = getD run (componentWidth * i + 3) 0 };
+      discount = record { 0 = getD run (componentWidth * i + 4) 0 };
+      amount = record { 0 = getD run (componentWidth * i + 5) 0 };
     }
 
 unfoldable pub componentNumbers : Component → List ℕ
-componentNumbers c = c .code ∷ c .quantity ∷ c .flag ∷ c .rate .0 ∷ c .amount .0 ∷ []
+componentNumbers c = c .code ∷ c .quantity ∷ c .flag ∷ c .premium .0 ∷ c .discount .0 ∷ c .amount .0 ∷ []
 
 -- a day's component places: n components, then blank ones
 unfoldable pub placesOf : (ℕ → Component) → ℕ → List Component

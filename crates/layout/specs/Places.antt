@@ -6,7 +6,7 @@ abbrev pub mostComponents : ℕ
 mostComponents = 300
 
 abbrev pub componentWidth : ℕ
-componentWidth = 5
+componentWidth = 6
 
 abbrev pub basketWidth : ℕ
 basketWidth = mostComponents * componentWidth

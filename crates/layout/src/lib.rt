@@ -25,7 +25,9 @@ pub struct Component {
     pub code: u64,
     pub quantity: u64,
     pub flag: u64,
-    pub rate: Rate,
+    // Creation takes the premium, redemption the discount.
+    pub premium: Rate,
+    pub discount: Rate,
     pub amount: Money,
 }
 
@@ -59,7 +61,7 @@ pub struct Record {
 // How many components a day has room for, how many numbers each takes, and all of them, a day's basket.
 pub const MOST_COMPONENTS: usize = 300;
 
-pub const COMPONENT_WIDTH: usize = 5;
+pub const COMPONENT_WIDTH: usize = 6;
 
 pub const BASKET_WIDTH: usize = MOST_COMPONENTS * COMPONENT_WIDTH;
 
@@ -115,7 +117,8 @@ pub fn blank_component() -> Component
         code: 0,
         quantity: 0,
         flag: 0,
-        rate: Rate(0),
+        premium: Rate(0),
+        discount: Rate(0),
         amount: Money(0),
     }
 }
@@ -130,8 +133,9 @@ pub fn component_at(run: &[u64], i: usize) -> Component
         code: run[at],
         quantity: run[at + 1],
         flag: run[at + 2],
-        rate: Rate::new(run[at + 3]),
-        amount: Money::new(run[at + 4]),
+        premium: Rate::new(run[at + 3]),
+        discount: Rate::new(run[at + 4]),
+        amount: Money::new(run[at + 5]),
     }
 }
 
@@ -144,8 +148,9 @@ pub fn put_component(run: &mut [u64], i: usize, c: Component)
     run[at] = c.code;
     run[at + 1] = c.quantity;
     run[at + 2] = c.flag;
-    run[at + 3] = c.rate.0;
-    run[at + 4] = c.amount.0;
+    run[at + 3] = c.premium.0;
+    run[at + 4] = c.discount.0;
+    run[at + 5] = c.amount.0;
 }
 
 // Component i of a basket.

@@ -23,7 +23,9 @@ shanghaiColumns =
     ∷ column 8 0 0 alwaysUsed
     -- flag
     ∷ column 1 1 0 alwaysUsed
-    -- rate
+    -- premium
+    ∷ column 7 0 5 (usedByFlag rateUsed)
+    -- discount
     ∷ column 7 0 5 (usedByFlag rateUsed)
     -- amount
     ∷ column 12 0 3 (usedByFlag amountUsed)

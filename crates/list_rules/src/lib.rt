@@ -49,7 +49,7 @@ pub struct TextPart {
 }
 
 // The columns of a component line, and which of them have the name and the flag.
-pub const COLUMN_COUNT: usize = 6;
+pub const COLUMN_COUNT: usize = 7;
 
 pub const NAME: usize = 1;
 
@@ -65,7 +65,9 @@ const COLUMNS: [[usize; COLUMN_PARTS]; COLUMN_COUNT] = [
     [8, 0, 0, ALWAYS, 0],
     // Flag.
     [1, 1, 0, ALWAYS, 0],
-    // Rate.
+    // Premium.
+    [7, 0, 5, BY_FLAG, flags::RATE_USED],
+    // Discount.
     [7, 0, 5, BY_FLAG, flags::RATE_USED],
     // Amount.
     [12, 0, 3, BY_FLAG, flags::AMOUNT_USED],

@@ -32,7 +32,7 @@ creationLine c have price m =
       short = every (entry (c .flag) stockMoves ∷ not (entry (c .flag) shortageInCash) ∷ ltb have (needOf c m) ∷ []);
       missing = missingOf c have m;
       worth = money (worthOf c have price m);
-      cash = money (premium (cond (entry (c .flag) stockMoves) (worthOf c have price m) (m * c .amount .0)) (c .rate .0));
+      cash = money (premium (cond (entry (c .flag) stockMoves) (worthOf c have price m) (m * c .amount .0)) (c .premium .0));
       shanghai = entry (c .flag) shanghai;
       moved = cond (entry (c .flag) stockMoves) (min (needOf c m) have) 0;
     }
@@ -44,7 +44,7 @@ redemptionLine c have m =
       short = ltb have (cond (entry (c .flag) stockMoves) (needOf c m) 0);
       missing = 0;
       worth = money 0;
-      cash = money (cond (entry (c .flag) stockMoves) 0 (discount (m * c .amount .0) (c .rate .0)));
+      cash = money (cond (entry (c .flag) stockMoves) 0 (discount (m * c .amount .0) (c .discount .0)));
       shanghai = entry (c .flag) shanghai;
       moved = cond (entry (c .flag) stockMoves) (needOf c m) 0;
     }
@@ -57,14 +57,18 @@ orderLine kind c have price m = byKind kind (creationLine c have price m) (redem
 unfoldable pub stockLine : ℕ → Line
 stockLine need = record { short = false; missing = 0; worth = money 0; cash = money 0; shanghai = true; moved = need }
 
--- a component of which no stock moves: its amount in so many baskets, with the premium or less the discount
+-- an amount that stands for a component: with the premium on creation, less the discount on redemption
+unfoldable pub amountDue : ℕ → Component → ℕ → ℕ
+amountDue kind c amount = byKind kind (premium amount (c .premium .0)) (discount amount (c .discount .0))
+
+-- a component of which no stock moves: its amount in so many baskets
 unfoldable pub amountLine : ℕ → Component → ℕ → Line
 amountLine kind c m =
     record {
       short = false;
       missing = 0;
       worth = money 0;
-      cash = money (byKind kind (premium (m * c .amount .0) (c .rate .0)) (discount (m * c .amount .0) (c .rate .0)));
+      cash = money (amountDue kind c (m * c .amount .0));
       shanghai = entry (c .flag) shanghai;
       moved = 0;
     }

@@ -34,12 +34,12 @@ isShanghai d i = column d Table.shanghai i
 abbrev pub isPriced : Day → ℕ → Bool
 isPriced d i = column d Table.priced i
 
--- r, as creation and as redemption take it; an unused one is 0
+-- r: creation takes the premium, redemption the discount; an unused one is 0
 unfoldable pub creationRate : Day → ℕ → ℕ
-creationRate d i = componentOf d i .rate .0
+creationRate d i = componentOf d i .premium .0
 
 unfoldable pub redemptionRate : Day → ℕ → ℕ
-redemptionRate d i = componentOf d i .rate .0
+redemptionRate d i = componentOf d i .discount .0
 
 -- P, as creation and the reference value and as redemption take it; an unused one is 0
 unfoldable pub creationAmount : Day → ℕ → ℕ
