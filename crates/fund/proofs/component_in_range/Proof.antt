@@ -48,7 +48,7 @@ returns-7 c =
     let discounted = c .before .before in
     let premium = discounted .before .before in
     let flagged = premium .before .before in
-    let outside = flagged .before .before .before in
+    let outside = flagged .before .before .before .before .before in
     let premium-in = within-facts mostRate _ _ (sym (of-entry mostRate _ (flagged .entry-of .ensures) (premium .before .used-within .ensures)) ∙ not-false _ (premium .if5 .left)) in
     let discount-in = within-facts mostRate _ _ (sym (of-entry mostRate _ (flagged .entry-of .ensures) (discounted .before .used-within2 .ensures)) ∙ not-false _ (discounted .if6 .left)) in
     same-test _ _
