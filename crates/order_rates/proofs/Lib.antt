@@ -1,1 +1,2 @@
-pub mod Theorems
+pub mod Shared
+pub mod Creation
