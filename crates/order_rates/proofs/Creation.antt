@@ -7,6 +7,7 @@ use lib.Dec.{ltb}
 use Rattle.sequences.specs.Below.{anyBelow}
 use Rattle.flags.specs.Table.{stockMoves, shortageInCash, priced}
 use Rattle.layout.specs.Book.{headTotal, account}
+use Rattle.layout.specs.Records.{roomIn}
 use Rattle.rules.specs.Lines.{creationRate, creationAmount}
 use Rattle.rules.specs.Sound.{isSound}
 use Rattle.rules.specs.Value.{worthAt, lacksPrice, worthBefore, referenceValue, hasValue}
@@ -23,9 +24,6 @@ pub record ForCreation (t : Twins) : Type 0 where
   pub amounts : (i : ℕ) → creationAmount (one t) i ≡ creationAmount (other t) i
 
 module _ (t : Twins) (c : ForCreation t) where
-  columns : (k i : ℕ) → _
-  columns = c .shared .columns
-
   -- the reference value
   same-worth : (ps : List ℕ) → worthBefore (one t) ps ≡ worthBefore (other t) ps
   unfolding worthBefore worthAt
@@ -79,3 +77,36 @@ module _ (t : Twins) (c : ForCreation t) where
     same-due : creationDue (one t) x ps m ≡ creationDue (other t) x ps m
     unfolding creationDue
     same-due = rw (same-other t (c .shared) same-cash, same-shanghai t (c .shared) same-cash)
+
+  module _ (x ps : List ℕ) (units : ℕ) where
+    same-made : creationRecords (one t) x ps units ≡ creationRecords (other t) x ps units
+    unfolding creationRecords baskets
+    same-made =
+        let m = baskets (one t) units in
+        let cash = same-cash x ps m in
+        same-records t (c .shared) sideS sideB units (same-handed x ps m) (same-other t (c .shared) cash) (same-shanghai t (c .shared) cash)
+
+    same-means : (room : ℕ) → creationMeans (one t) x ps units room ≡ creationMeans (other t) x ps units room
+    unfolding creationMeans baskets
+    same-means room =
+        let m = baskets (one t) units in
+        rw (same-first x ps m, same-any x ps m, same-exists ps, same-ratio x ps m, same-due x ps m, same-made)
+
+  module _ (b ps : List ℕ) (first : isSound (one t) b ps ≡ true) (second : isSound (other t) b ps ≡ true) (a units : ℕ) where
+    pub same-answer : (room : ℕ) → creationReply (one t) b ps a units room ≡ creationReply (other t) b ps a units room
+    unfolding creationReply creationChecks formChecks wholeBaskets baskets permissionChecks switchAllows withinLimits fundCount countOf headTotal
+    same-answer room = rw (first, second, same-means (account (one t) b a) ps units room, same-made (account (one t) b a) ps units)
+
+    pub same-list : (list : List ℕ) → createdList (one t) b ps a units list ≡ createdList (other t) b ps a units list
+    unfolding createdList
+    same-list list = rw (same-answer (roomIn list), same-made (account (one t) b a) ps units)
+
+    same-moves : creationMoves (one t) ps a units b ≡ creationMoves (other t) ps a units b
+    unfolding creationMoves baskets
+    same-moves =
+        let m = baskets (one t) units in
+        rw (same-handed (account (one t) b a) ps m, same-due (account (one t) b a) ps m)
+
+    pub same-book : (room : ℕ) → createdBook (one t) b ps a units room ≡ createdBook (other t) b ps a units room
+    unfolding createdBook
+    same-book room = rw (same-answer room, same-moves)
