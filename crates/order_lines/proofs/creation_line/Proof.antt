@@ -1,6 +1,7 @@
 -- `order_lines::creation_line` meets its contract: the ranges bound each product, and each part is the definition's.
 use Prim.Native.Nat.{_*_, _≤_}
 use native.Mathlib.Omega.{arith}
+use borrow.Author.Needs.{needs}
 use Rattle.order_lines.proofs.Laws.{chosen-le, missing-le, need-le, amount-le, worth-le, creation-parts}
 use Rattle.order_lines.proofs.creation_line.Statement.{statement}
 use Rattle.order_lines.proofs.creation_line.Tie as tie
@@ -23,7 +24,7 @@ with-premium-requires : tie.Need-with-premium-requires
 with-premium-requires c κs =
     let start = c .before .before .before .before .before .before .before in
     let moves = c .before .before .before .before .before .entry-of .result in
-    (rw (c .chosen .ensures) (chosen-le moves _ _ _ (worth (c .before .before)) (omega (arith, amount start))), start .pre .0 .premium)
+    (rw (c .chosen .ensures) (chosen-le moves _ _ _ (worth (c .before .before)) (omega (arith, amount start))), search needs)
 
 returns : tie.Need-returns
 returns c =
