@@ -541,11 +541,15 @@ def with_after(v):
 
 
 def is_model_right(vectors):
-    """Whether the model gives every answer of the vectors: days, big days, and the calls on broken days that 5 does not refuse."""
-    big = [unfolded(v) for v in vector_files.rows(vectors / "big_days.jsonl")]
-    days = [played(v) == v for v in vector_files.rows(vectors / "days.jsonl")]
-    calls = [left(v, c["call"]) == c for v in vector_files.rows(vectors / "broken_days.jsonl") for c in v["calls"] if c["reply"][0] != 5]
-    print(f"the model answers {len(big)} big days, {sum(days)} of {len(days)} days and {sum(calls)} of {len(calls)} calls as the vectors")
+    """Whether the model gives every answer of the vectors: days, big days, and what is called on broken days and is not 5."""
+    def rows(file):
+        return vector_files.rows(vectors / f"{file}.jsonl")
+
+    big = [unfolded(v) for v in rows("big_days")]
+    days = [played(v) == v for v in rows("days")]
+    calls = [left(v, c["call"]) == c for v in rows("broken_days") for c in v["calls"] if c["reply"][0] != 5]
+    print(f"the model answers {len(big)} big days, {sum(days)} of {len(days)} days and {sum(calls)} of {len(calls)} calls on "
+          "broken days as the vectors")
     return all(days) and all(calls)
 
 

@@ -115,8 +115,9 @@ def handed_back(v, text):
     start, width, _ = COLUMNS[NAME]
     assert places == [places[0] + (ROW_WIDTH + 2) * i for i in range(v["count"])]
     names = [x for at in places for x in text[at:at + width]]
-    return ["rest same", line("fields", *fields(v)), line("first", places[0] - start), line("components", *numbers(v["components"])),
-            line("letters", *v["letters"]), line("names", *names), *written(v, text, names)]
+    return ["rest same", line("fields", *fields(v)), line("first", places[0] - start),
+            line("components", *numbers(v["components"])), line("letters", *v["letters"]), line("names", *names),
+            *written(v, text, names)]
 
 
 def change(base, text):

@@ -40,6 +40,14 @@ def rows(path):
     return out
 
 
+def is_held(v):
+    """Whether a day's run can hold what a row is about. It has places for all components that a day may have and no length of its
+    own, so a state whose one fault is a component more than its count cannot be told from the sound day."""
+    if "prices" not in v or len(v["components"]) <= v["count"]:
+        return True
+    return len(v["prices"]) != v["count"] or len(v["book"]) != v["accounts"] * (3 * v["count"] + 6)
+
+
 def save(path, rows):
     """Writes rows; a byte string comes out as hex."""
     path.write_text("".join(json.dumps(row, default=bytes.hex) + "\n" for row in rows))

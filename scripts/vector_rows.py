@@ -11,7 +11,7 @@ differs.
 
 --chunk is the most rows of a day's file to a module, --text-chunk of a file of texts: with 1 a refusal names its row. --largest
 leaves out rows whose book or text has more numbers or bytes than that: the checker takes a limited number of steps for each
-theorem.
+theorem. A state that no day's run can hold is left out too (`is_held` in vector_files.py).
 """
 import argparse
 import re
@@ -19,7 +19,7 @@ import shutil
 from pathlib import Path
 
 import vector_files
-from vector_files import numbers, opened_book
+from vector_files import is_held, numbers, opened_book
 
 ORDERS = ("create", "redeem")
 COMPONENT_WIDTH = 6
@@ -338,7 +338,7 @@ def write_crate(name, vectors, scratch, chunk, largest):
     unfolding, modules = unfoldable(scratch / "crates", uses), ["Rows"]
     for file, row in files.items():
         given = vector_files.rows(vectors / f"{file}.jsonl")
-        chosen = [(i, v) for i, v in enumerate(given) if size(v) <= largest]
+        chosen = [(i, v) for i, v in enumerate(given) if size(v) <= largest and is_held(v)]
         for part in (chosen[at:at + chunk] for at in range(0, len(chosen), chunk)):
             first, last = part[0][0], part[-1][0]
             modules.append(f"{file.title().replace('_', '')}{first}")
