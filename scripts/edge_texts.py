@@ -13,8 +13,8 @@ from pathlib import Path
 
 import list_model
 import vector_files
-from list_model import AMOUNT, CODE, COLUMNS, COMPONENT_WIDTH, DISCOUNT, FLAG, HEAD, NAME, PREMIUM, QUANTITY, ROW_WIDTH
-from list_model import lines, text_of
+from list_model import AMOUNT, CODE, COLUMNS, DISCOUNT, FLAG, HEAD, NAME, PREMIUM, QUANTITY, ROW_WIDTH, lines, text_of
+from vector_files import COMPONENT_WIDTH, component_room
 
 NAMES = [name.encode() for name, *_ in HEAD]
 G = 510_300
@@ -745,7 +745,7 @@ def is_model_right(vectors):
     def rows(file):
         return vector_files.rows(vectors / f"{file}.jsonl")
 
-    texts = [list_model.read(v["text"], COMPONENT_WIDTH * v["capacity"]).items() <= v.items() for v in rows("texts")]
+    texts = [list_model.read(v["text"], component_room(v)).items() <= v.items() for v in rows("texts")]
     writings = [list_model.write(v, v["output_length"]).items() <= v.items() for v in rows("writings")]
     print(f"the model answers {sum(texts)} of {len(texts)} texts and {sum(writings)} of {len(writings)} writings as the vectors")
     return all(texts) and all(writings)

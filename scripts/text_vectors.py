@@ -52,8 +52,8 @@ from pathlib import Path
 
 import vector_files
 import vector_text
-from list_model import COLUMNS, COMPONENT_WIDTH, HEAD, NAME, ROW_WIDTH, lines, text_of
-from vector_files import numbers
+from list_model import COLUMNS, HEAD, NAME, ROW_WIDTH, lines, text_of
+from vector_files import component_room, numbers, whole_text
 from vector_text import cut, item, line, save
 
 vector_text.TAGS.update({"text": 1, "changed": 2, "grown": 3, "parts": 4, "list": 5})
@@ -142,13 +142,11 @@ class Texts:
 
     def reading(self, row, v):
         """A text, whole, changed or long: the item, and what is printed."""
-        room = v["room"] if "room" in v else COMPONENT_WIDTH * v["capacity"]
+        room, text = component_room(v), whole_text(v)
         if "times" in v:
             front, part, tail = v["front"], v["part"], v["tail"]
-            text = front + part * v["times"] + tail
             into = item("grown", [row, room, v["times"], len(front), len(part)], *split(front), *split(part), *split(tail))
         else:
-            text = v["text"]
             into = self.text(row, room, text)
         number, place = v["reply"]
         head = [line("row", row), line("read", number, place, 0 if number else v["count"])]

@@ -5,6 +5,9 @@ is an edit of another as the text itself. `save` writes rows with every byte str
 """
 import json
 
+# The numbers of a component.
+COMPONENT_WIDTH = 6
+
 # The fields that are byte strings.
 BYTES = ("text", "letters", "names", "name", "front", "part", "tail")
 
@@ -56,6 +59,16 @@ def save(path, rows):
 def numbers(parts):
     """The parts one after another, as a flat run."""
     return [x for part in parts for x in part]
+
+
+def whole_text(v):
+    """The text of a row, given whole or as a front, a part that stands there many times, and a tail."""
+    return v["text"] if "text" in v else v["front"] + v["part"] * v["times"] + v["tail"]
+
+
+def component_room(v):
+    """The length of the lent component list in numbers."""
+    return v["room"] if "room" in v else COMPONENT_WIDTH * v["capacity"]
 
 
 def opened_book(v):
