@@ -352,7 +352,7 @@ def rates():
     yield orders_for(5, 100_000, 0, 1, 10, 5)
     yield orders_for(5, 0, 100_000, 1, 5, 0)
     yield orders_for(5, 100_000, 100_000, 1, 10, 0)
-    # the baskets together are rounded: 5 x 1 at 1.1 is 5.5, and at 0.9 4.5; each alone would be 1.1 and 0.9, so 5 both ways
+    # the baskets are rounded together: 5 x 1 x 1.1 = 5.5 and 5 x 1 x 0.89999 = 4.49995; each alone would be 1, so 5 both ways
     yield orders_for(1, 10_000, 10_001, 5, 6, 4)
     # one of cash short, in each order: 10 for the account, 17 at N for the fund
     short = orders_for(5, 10_000, 10_001, 1, 6, 4)
