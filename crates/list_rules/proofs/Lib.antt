@@ -1,4 +1,4 @@
 pub mod Fields
 pub mod Ranges
 pub mod Lent
-pub mod Columns
+pub mod ComponentLine
