@@ -6,7 +6,9 @@ use roffelaine_check::compare::Comparison;
 use roffelaine_check::differential::Plan;
 use roffelaine_check::engine::{Engine, Lent, LentList, Model};
 use roffelaine_check::model::list::{self, Writing};
-use roffelaine_check::model::{Call, Opening, Reply};
+use roffelaine_check::model::{
+    range, Call, Component, Opening, Reply, COMPONENT_NUMBERS, RECORD_NUMBERS,
+};
 use std::cell::Cell;
 
 /// Enough cases to reach every refusal.
@@ -83,6 +85,11 @@ enum Fault {
     LettersOfRefusedText,
     LettersTouchPastThePart,
     TouchesUnusedOutput,
+    CreationTakesTheDiscount,
+    RedemptionTakesThePremium,
+    OpensWithAnyDiscount,
+    ReadsTheRatesSwapped,
+    WritesTheRatesSwapped,
 }
 
 /// The model with one fault.
@@ -129,7 +136,8 @@ impl Faulty {
             Fault::ConstantValue if *call == Call::Value => reply.value = 4_257,
             Fault::CountOff if order => reply.value += 1,
             Fault::WritesPastTheLast if order => {
-                if let Some(past) = lent.records[..call.room()].get_mut(5 * reply.value as usize) {
+                let end = RECORD_NUMBERS * reply.value as usize;
+                if let Some(past) = lent.records[..call.room()].get_mut(end) {
                     *past = 0;
                 }
             }
@@ -138,9 +146,33 @@ impl Faulty {
     }
 }
 
+/// Swaps premium and discount of each component of a run.
+fn swap_rates(run: &mut [u64]) {
+    for numbers in run.chunks_exact_mut(COMPONENT_NUMBERS) {
+        numbers.swap(3, 4);
+    }
+}
+
+/// Brings each discount of a run down to where it passes every test.
+fn pass_discounts(run: &mut [u64]) {
+    for numbers in run.chunks_exact_mut(COMPONENT_NUMBERS) {
+        let uses_rates = matches!(numbers[2], 1 | 3);
+        let most = if uses_rates { range::RATE_MAX } else { 0 };
+        numbers[4] = numbers[4].min(most);
+    }
+}
+
 impl Engine for Faulty {
     fn open(&self, opening: &Opening<'_>, lent: &mut Lent) -> Reply {
         let before = lent.prices.clone();
+        let mut components = opening.components.to_vec();
+        if self.fault == Fault::OpensWithAnyDiscount {
+            pass_discounts(&mut components);
+        }
+        let opening = &Opening {
+            components: &components,
+            ..*opening
+        };
         let reply = Model.open(opening, lent);
         if self.fault == Fault::OpensWithOldPrices {
             lent.prices = before;
@@ -150,7 +182,18 @@ impl Engine for Faulty {
 
     fn call(&self, call: &Call, lent: &mut Lent) -> Reply {
         let before = lent.clone();
+        let spoil: fn(&mut Component) = match (self.fault, call) {
+            (Fault::CreationTakesTheDiscount, Call::Create(_)) => {
+                |each| each.premium = each.discount
+            }
+            (Fault::RedemptionTakesThePremium, Call::Redeem(_)) => {
+                |each| each.discount = each.premium
+            }
+            _ => |_| {},
+        };
+        lent.day.components.iter_mut().for_each(spoil);
         let mut reply = Model.call(call, lent);
+        lent.day = before.day.clone();
         self.spoil_call(call, before, lent, &mut reply);
         reply
     }
@@ -185,9 +228,14 @@ impl Engine for Faulty {
         match self.fault {
             Fault::PlaceOff if reply.number == 19 => reply.place += 1,
             Fault::TouchesUnusedComponents if reply.is_accepted() => {
-                if let Some(past) = lent.components.get_mut(5 * reply.value as usize) {
+                let end = COMPONENT_NUMBERS * reply.value as usize;
+                if let Some(past) = lent.components.get_mut(end) {
                     *past = 0;
                 }
+            }
+            Fault::ReadsTheRatesSwapped if reply.is_accepted() => {
+                let end = COMPONENT_NUMBERS * reply.value as usize;
+                swap_rates(&mut lent.components[..end]);
             }
             Fault::FirstRowOff if reply.is_accepted() => lent.first_row += 1,
             Fault::RefusedReadingClears if !reply.is_accepted() => lent.fields = [0; 22],
@@ -218,6 +266,14 @@ impl Engine for Faulty {
     }
 
     fn write(&self, list: &Writing<'_>, output: &mut [u8]) -> Reply {
+        let mut components = list.components.to_vec();
+        if self.fault == Fault::WritesTheRatesSwapped {
+            swap_rates(&mut components);
+        }
+        let list = &Writing {
+            components: &components,
+            ..*list
+        };
         let reply = Model.write(list, output);
         if self.fault == Fault::TouchesUnusedOutput {
             if let Some(past) = output.get_mut(reply.value as usize) {
@@ -258,6 +314,11 @@ fn faulty_engines_are_found() {
         Fault::LettersOfRefusedText,
         Fault::LettersTouchPastThePart,
         Fault::TouchesUnusedOutput,
+        Fault::CreationTakesTheDiscount,
+        Fault::RedemptionTakesThePremium,
+        Fault::OpensWithAnyDiscount,
+        Fault::ReadsTheRatesSwapped,
+        Fault::WritesTheRatesSwapped,
     ];
     for fault in faults {
         assert!(is_found(fault), "{fault:?} is not found");
