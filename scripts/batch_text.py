@@ -9,8 +9,9 @@ comes from the vectors alone; of the few rows that they have not, from what is s
 The input is items, as in vector_text.py: an opening or a state, and behind it a batch, tag 10: the lengths of the record run
 and of the answers, and then the rows of six numbers (1 price, 2 trade, 3 create, 4 redeem, 5 value).
 
-days.jsonl: all calls of a day are one batch. broken_days.jsonl: only the calls that change nothing (the refused ones, and
-values), since each is answered on the state as given and the state behind an accepted one is not in the vectors.
+days.jsonl: all calls of a day are one batch. broken_days.jsonl: each call is answered on the state as given, so the calls that
+change nothing (the refused ones, and values) and behind them the first that does are one batch, and each further one that does
+is a batch of its own, on the state given again.
 
 Each order has a part of the record run of its own, with two numbers before it that are no order's. Before the driver is
 called place k holds k + 1, in the record run and in the answers.
@@ -26,6 +27,7 @@ import argparse
 from pathlib import Path
 
 import vector_text
+from day_model import ORDERS
 from vector_text import cut, item, line, opening, save, state, texts
 
 vector_text.TAGS["batch"] = 10
@@ -38,9 +40,6 @@ UNKNOWN = [0, 6, 7, 2 ** 32 + 1, MOST]
 
 # The numbers between two parts of the record run.
 GAP = 2
-
-# An unsound day refuses every order with 5 before its list is looked at: its part may be shorter than in the vectors.
-UNSOUND_ROOM = 60
 
 
 class Batch:
@@ -92,12 +91,12 @@ def place_outside(batch, row):
             x[3:5] = outside(len(batch.records), x[4], at)
 
 
-def add_call(batch, c, room):
+def add_call(batch, c):
     name, *args = c["call"]
-    if name not in ("create", "redeem"):
+    if name not in ORDERS:
         batch.add([KINDS[name], *args], c["reply"])
         return
-    account, units, _ = args
+    account, units, [room] = args
     batch.order(KINDS[name], account, units, room, c["reply"], c.get("records", []))
 
 
@@ -107,10 +106,11 @@ def day_batch(row, v):
     unknown(batch, row)
     for c in v["calls"]:
         name, *args = c["call"]
-        if name in ("create", "redeem") and c["reply"][0] == 0 and name not in seen:
+        if name in ORDERS and c["reply"][0] == 0 and name not in seen:
             seen.add(name)
-            without_room(batch, KINDS[name], *args)
-        add_call(batch, c, args[-1] if args else 0)
+            account, units, [room] = args
+            without_room(batch, KINDS[name], account, units, room)
+        add_call(batch, c)
     unknown(batch, row + 1)
     # on every second day the last part ends where the record run ends
     batch.stretch(GAP * (row % 2))
@@ -118,15 +118,16 @@ def day_batch(row, v):
     return batch
 
 
-def broken_batch(v):
-    batch = Batch()
-    for c in v["calls"]:
-        name, *args = c["call"]
-        number = c["reply"][0]
-        if number or name == "value":
-            add_call(batch, c, UNSOUND_ROOM if number == 5 else args[-1] if args else 0)
-    batch.stretch(GAP)
-    return batch
+def broken_parts(row, v):
+    """The calls that change nothing and behind them the first that does, then each further one that does, on the state anew."""
+    still, moving = ([c for c in v["calls"] if ("after" in c) == changes] for changes in (False, True))
+    for calls in [still + moving[:1], *([c] for c in moving[1:])]:
+        batch = Batch()
+        for c in calls:
+            add_call(batch, c)
+        batch.stretch(GAP)
+        after = {**v, **calls[-1].get("after", {})}
+        yield from (state(row, v, "state"), played(batch, after["book"], after["prices"]))
 
 
 def played(batch, book, prices):
@@ -153,8 +154,8 @@ def misfits(v):
 def parts(file, row, v):
     """A row's items, each with what is printed for it."""
     if file == "broken_days":
-        return [state(row, v, "state"), played(broken_batch(v), v["book"], v["prices"])]
-    first = opening(row, v, v["opening"], len(v["book"]), len(v["prices"]))
+        return broken_parts(row, v)
+    first = opening(row, v, [*v["opening"], 0], len(v["book"]), len(v["prices"]))
     return [first, played(day_batch(row, v), v["book"], v["prices"]), *(misfits(v) if row == 1 else [])]
 
 

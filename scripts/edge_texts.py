@@ -1,28 +1,35 @@
 #!/usr/bin/env python3
-"""Writes vectors of the list text at the edges of document 01, with answers by hand and by a model.
+"""Writes vectors of the list text at the edges of document 01 and change request 1, with answers by hand and by a model.
 
     edge_texts.py VECTORS OUT
 
 OUT gets texts.jsonl, parts.jsonl and writings.jsonl, in the form of VECTORS (vectors/README.md). Each row's number and place
 stand beside it here, by hand; the place of a line or of a field is counted over the lines that the row was made of. What is
-handed back or written comes from list_model.py, which is written from the paper alone, and which must give the same number and
-place. First it is put against texts.jsonl and writings.jsonl of VECTORS, whose answers another model of the paper gave.
+handed back or written comes from list_model.py, which is written from the papers alone, and which must give the same number and
+place. First it is put against texts.jsonl and writings.jsonl of VECTORS, whose answers another model of the papers gave.
 """
 import argparse
-import json
 from pathlib import Path
 
 import list_model
-from list_model import COLUMNS, HEAD, lines, row, text_of
+import vector_files
+from list_model import AMOUNT, CODE, COLUMNS, COMPONENT_WIDTH, DISCOUNT, FLAG, HEAD, NAME, PREMIUM, QUANTITY, ROW_WIDTH
+from list_model import lines, text_of
 
 NAMES = [name.encode() for name, *_ in HEAD]
 G = 510_300
 CEILING = 999_999_999_999
 MOST = 2 ** 64 - 1
 
-# The components of the paper's day, of all flags.
-PARTS = [[1, 8000, 3, 10_000, 96_000_000], [2, 1000, 4, 0, 8_000_000], [600_000, 5200, 1, 10_000, 0],
-         [600_036, 3000, 0, 0, 0], [600_519, 100, 2, 0, 150_000_000]]
+# The components of the paper's day, of all flags, with unlike rates.
+PARTS = [[1, 8000, 3, 10_000, 5_000, 96_000_000], [2, 1000, 4, 0, 0, 8_000_000], [600_000, 5200, 1, 10_000, 20_000, 0],
+         [600_036, 3000, 0, 0, 0, 0], [600_519, 100, 2, 0, 0, 150_000_000]]
+
+# A component line and its end.
+PITCH = ROW_WIDTH + 2
+
+# Room for the numbers of as many components as a list has at most.
+ROOM = 300 * COMPONENT_WIDTH
 
 # Lines of a text: the head's are 0 to 21, and then the component lines.
 TAG, ROWS = 21, 22
@@ -32,15 +39,15 @@ def listed(parts, **changes):
     """A list; a change is of a fund's field or of another."""
     fund = {"first_code": G, "basket_size": 1_000_000, "max_cash_ratio": 5000, "switch": 1, "estimated_cash": -33_122,
             "limits": [0] * 8}
-    v = {"letters": b"510300".hex(), "fund": fund, "publish": 1, "trading_day": 20_250_630, "pre_trading_day": 20_250_627,
+    v = {"letters": b"510300", "fund": fund, "publish": 1, "trading_day": 20_250_630, "pre_trading_day": 20_250_627,
          "cash_component": -32_958, "nav_per_cu": 42_566_878, "nav": 4257, "count": len(parts), "components": parts,
-         "names": b"".join(b"NAME %03d" % i for i in range(len(parts))).hex()}
+         "names": b"".join(b"NAME %03d" % i for i in range(len(parts)))}
     fund.update({key: changes.pop(key) for key in list(changes) if key in fund})
     return {**v, **changes}
 
 
 DAY = lines(listed(PARTS))
-SINGLE = [[600_000, 5200, 3, 10_000, 96_000_000]]
+SINGLE = [[600_000, 5200, 3, 10_000, 5_000, 96_000_000]]
 ONE = lines(listed(SINGLE))
 
 
@@ -83,20 +90,20 @@ def filled(ls, j, k, new):
     return put(ls, ROWS + j, old[:at] + new.rjust(width) + old[at + width:])
 
 
-def text(cause, given, number, place=0, room=1500, of=None):
+def text(cause, given, number, place=0, room=ROOM, of=None):
     """A row: a text or its lines, its reply, and where it is read the list that it was made of."""
     given = text_of(given) if isinstance(given, list) else given
     got = list_model.read(given, room)
     assert got["reply"] == [number, place], (cause, given, got["reply"], [number, place])
     assert of is None or all(got[key] == of[key] for key in ("fund", "components", *list_model.OTHERS))
-    return {"cause": cause, "text": given.hex(), "room": room, **got}
+    return {"cause": cause, "text": given, "room": room, **got}
 
 
-def grown(cause, front, part, times, tail, number, place=0, room=1500):
+def grown(cause, front, part, times, tail, number, place=0, room=ROOM):
     """A row of a long text, a part of which stands in it many times."""
     got = list_model.read(front + part * times + tail, room)
     assert got["reply"] == [number, place], (cause, got["reply"], [number, place])
-    return {"cause": cause, "front": front.hex(), "part": part.hex(), "times": times, "tail": tail.hex(), "room": room, **got}
+    return {"cause": cause, "front": front, "part": part, "times": times, "tail": tail, "room": room, **got}
 
 
 def read(cause, v, **changes):
@@ -152,7 +159,7 @@ def line_ends():
 def first_lines():
     """Anything in the first line, at 0."""
     for right in (b"0", b"9", b"A", b"Z", b"a", b"z", b"abcdEF12"):
-        yield read("first line", listed(SINGLE, letters=right.hex()))
+        yield read("first line", listed(SINGLE, letters=right))
     for wrong in (b"", b"123456789", b" ", b"51 3", b"a ", b"a-b", b"a_b", b"/", b":", b"@", b"[", b"`", b"{", b"]", b"a]",
                   b"\xe9", b"\0", b"=", b"a\r", b"a\n"):
         yield text("letters", put(ONE, 0, b"[ETF" + wrong + b"]"), 18)
@@ -188,22 +195,46 @@ def names():
 
 
 def widths_and_bars():
-    """A component line has 48 bytes and its six bars."""
-    yield read("the paper's day", listed(PARTS))
+    """A component line has 56 bytes and its seven bars."""
+    yield read("the paper's day, unlike rates", listed(PARTS))
+    same_rates = [[*part[:4], part[3], part[5]] for part in PARTS]
+    yield read("the paper's day", listed(same_rates))
     for j in (0, 4):
         line, at = DAY[ROWS + j], start(DAY, ROWS + j)
-        for bar in (6, 15, 24, 26, 34, 47):
+        for bar in (6, 15, 24, 26, 34, 42, 55):
             assert line[bar:bar + 1] == b"|"
             yield text("bar", put(DAY, ROWS + j, line[:bar] + b" " + line[bar + 1:]), 18, at)
             yield text("bar", put(DAY, ROWS + j, line[:bar] + b"!" + line[bar + 1:]), 18, at)
             yield text("width", put(DAY, ROWS + j, line[:bar] + line[bar + 1:]), 18, at)
             yield text("width", put(DAY, ROWS + j, line[:bar] + b"|" + line[bar:]), 18, at)
-        for wrong in (line[1:], b" " + line, line + b" ", line + b"|", line[:-1], line * 2, b"", b"|" * 47, b"|" * 49,
-                      b" " * 48):
+        for wrong in (line[1:], b" " + line, line + b" ", line + b"|", line[:-1], line * 2, b"", b"|" * 55, b"|" * 57,
+                      b" " * 56):
             yield text("width", put(DAY, ROWS + j, wrong), 18, at)
-    # two of 24 bytes are none; all bars is a line, whose code is wrong
-    yield text("width", put(DAY, ROWS, DAY[ROWS][:24], DAY[ROWS][24:]), 18, start(DAY, ROWS))
-    yield text("bars only", put(DAY, ROWS, b"|" * 48), 19, column(DAY, 0, 0))
+    # two of 28 bytes are none; all bars is a line, whose code is wrong
+    yield text("width", put(DAY, ROWS, DAY[ROWS][:28], DAY[ROWS][28:]), 18, start(DAY, ROWS))
+    yield text("bars only", put(DAY, ROWS, b"|" * 56), 19, column(DAY, 0, 0))
+
+
+def old_width(line, rate):
+    """The 48 bytes of a line with one rate, the premium's or the discount's."""
+    at = COLUMNS[PREMIUM + DISCOUNT - rate][0]
+    return line[:at] + line[at + COLUMNS[rate][1] + 1:]
+
+
+def old_widths():
+    """A line of the old 48 bytes is wrong, wherever it stands."""
+    for rate in (PREMIUM, DISCOUNT):
+        assert len(old_width(DAY[ROWS], rate)) == 48
+        for j in range(5):
+            yield text("48 bytes", put(DAY, ROWS + j, old_width(DAY[ROWS + j], rate)), 18, start(DAY, ROWS + j))
+        whole = [*DAY[:ROWS], *(old_width(line, rate) for line in DAY[ROWS:-1]), DAY[-1]]
+        yield text("48 bytes in all lines", whole, 18, start(DAY, ROWS))
+    # as many bytes at the end as the line lacks, so that its bars stand where they did
+    yield text("48 bytes and 8", put(DAY, ROWS, old_width(DAY[ROWS], PREMIUM) + b"       |"), 18, start(DAY, ROWS))
+    # a bar more or fewer in 56 bytes: a third rate in place of the amount's start, one field of two rates
+    line = DAY[ROWS]
+    yield text("a bar more", put(DAY, ROWS, line[:47] + b"|" + line[48:]), 19, column(DAY, 0, AMOUNT))
+    yield text("a bar fewer", put(DAY, ROWS, line[:34] + b" " + line[35:]), 18, start(DAY, ROWS))
 
 
 # ---- 19, 20 and 2 in the head
@@ -296,10 +327,10 @@ def recordnums():
 
 # ---- 19 and 3 in component lines
 
-CODE, NAME, QUANTITY, FLAG, RATE, AMOUNT = range(6)
-
 # The component of DAY that is changed, by flag.
 OF_FLAG = {flag: j for j, (_, _, flag, *_) in enumerate(PARTS)}
+
+RATES = (PREMIUM, DISCOUNT)
 
 
 def columns():
@@ -312,11 +343,12 @@ def columns():
                      b"5200.", b"52.00", b"5|200", b"|", b"5200a", b"5,200", b"52\r00", b"52\n00")
     for j in range(5):
         yield from wrong(j, FLAG, *[b" ", b"a", b"/", b":", b"-", b"|", b"\xb1", b"\0"][j % 2::2])
-    for flag in (1, 3):
-        yield from wrong(OF_FLAG[flag], RATE, b"", b"0", b"0.", b"0.1000", b"1000000", b".10000", b"00.1000", b"10.0000",
-                         b"0,10000", b"0.1000a", b"00001.0", b"0.1000 ", b"-0.1000", b"+.10000", b"0.10|00", b"1", b"|")
-    for flag in (0, 2, 4):
-        yield from wrong(OF_FLAG[flag], RATE, b"0", b"0.00000", b"0.10000", b"0     ", b"\t", b"|", b"\0")
+    for rate in RATES:
+        for flag in (1, 3):
+            yield from wrong(OF_FLAG[flag], rate, b"", b"0", b"0.", b"0.1000", b"1000000", b".10000", b"00.1000", b"10.0000",
+                             b"0,10000", b"0.1000a", b"00001.0", b"0.1000 ", b"-0.1000", b"+.10000", b"0.10|00", b"1", b"|")
+        for flag in (0, 2, 4):
+            yield from wrong(OF_FLAG[flag], rate, b"0", b"0.00000", b"0.10000", b"0     ", b"\t", b"|", b"\0")
     for flag in (2, 3, 4):
         others = [b"8000.000 ", b"-8000.000", b"+8000.000", b"8,000.000", b"8000.00a", b"80|0.000", b"8000..000", b"- 0.000",
                   b"0000000.000 "]
@@ -334,69 +366,104 @@ def columns():
 def name_bytes():
     """Every byte but 7C, 0D and 0A stands in a name."""
     every = bytes(x for x in range(256) if x not in b"|\r\n") + b"TAG"
-    parts = [[i, 0, 0, 0, 0] for i in range(32)]
-    yield read("name", listed(parts, names=every.hex()))
-    shown = b"ENDENDENTAGTAG\0\0[ETF1]  Fundid1=510301\x7f\x80"[:40].hex()
+    parts = [[i, 0, 0, 0, 0, 0] for i in range(32)]
+    yield read("name", listed(parts, names=every))
+    shown = b"ENDENDENTAGTAG\0\0[ETF1]  Fundid1=510301\x7f\x80"[:40]
     yield read("name", listed(PARTS, names=shown))
 
 
 def flags():
-    """Flags 5 to 9: rate and amount are blank, and then the component is 3."""
+    """Flags 5 to 9: both rates and the amount are blank, and then the component is 3."""
     for flag in (b"5", b"6", b"7", b"8", b"9"):
-        blank = filled(filled(filled(DAY, 3, RATE, b""), 3, AMOUNT, b""), 3, FLAG, flag)
+        blank = filled(DAY, 3, FLAG, flag)
+        assert all(blank[ROWS + 3][COLUMNS[k][0]:][:COLUMNS[k][1]].isspace() for k in (*RATES, AMOUNT))
         yield text("flag", blank, 3, 3)
-        yield text("flag", filled(blank, 3, RATE, b"0.10000"), 19, column(DAY, 3, RATE))
+        for rate in RATES:
+            yield text("flag", filled(blank, 3, rate, b"0.10000"), 19, column(DAY, 3, rate))
+            yield text("flag", filled(filled(blank, 3, AMOUNT, b"0.000"), 3, rate, b"0.00000"), 19, column(DAY, 3, rate))
         yield text("flag", filled(blank, 3, AMOUNT, b"1.000"), 19, column(DAY, 3, AMOUNT))
-        yield text("flag", filled(filled(blank, 3, AMOUNT, b"0.000"), 3, RATE, b"0.00000"), 19, column(DAY, 3, RATE))
+
+
+def two_rates():
+    """The premium stands before the discount, and each is read and written by its own column."""
+    for flag, amount in ((1, 0), (3, 7)):
+        for rates in ((10_000, 5_000), (5_000, 10_000), (0, 100_000), (100_000, 0), (1, 99_999), (0, 1), (100_000, 100_000), (0, 0)):
+            yield read("unlike rates", listed([[1, 1, flag, *rates, amount]]))
+    # the columns swapped are another list
+    line = DAY[ROWS]
+    (p, width, _), (d, *_) = COLUMNS[PREMIUM], COLUMNS[DISCOUNT]
+    swapped = line[:p] + line[d:d + width] + b"|" + line[p:p + width] + line[d + width:]
+    yield text("columns swapped", put(DAY, ROWS, swapped), 0, of=listed([[1, 8000, 3, 5_000, 10_000, 96_000_000], *PARTS[1:]]))
+    # both blank where they are used, both written where they are not: the premium is the first at fault
+    for flag in (1, 3):
+        j = OF_FLAG[flag]
+        yield text("both rates blank", filled(filled(DAY, j, PREMIUM, b""), j, DISCOUNT, b""), 19, column(DAY, j, PREMIUM))
+        yield text("the discount blank", filled(DAY, j, DISCOUNT, b""), 19, column(DAY, j, DISCOUNT))
+    for flag in (0, 2, 4):
+        j = OF_FLAG[flag]
+        written = filled(filled(DAY, j, PREMIUM, b"0.10000"), j, DISCOUNT, b"0.10000")
+        yield text("both rates written", written, 19, column(DAY, j, PREMIUM))
+        yield text("the discount written", filled(DAY, j, DISCOUNT, b"0.00000"), 19, column(DAY, j, DISCOUNT))
+    # a premium past its range is no reason not to look at the discount's characters
+    j = OF_FLAG[1]
+    yield text("rates that meet", filled(filled(DAY, j, PREMIUM, b"1.00001"), j, DISCOUNT, b"0.1"), 19, column(DAY, j, DISCOUNT))
+    yield text("rates that meet", filled(filled(DAY, j, PREMIUM, b"1.00001"), j, DISCOUNT, b"9.99999"), 3, j)
+    # a discount at fault in a lower component than a premium
+    yield text("rates that meet", filled(filled(DAY, 0, DISCOUNT, b"1.00001"), 2, PREMIUM, b"1.00001"), 3, 0)
 
 
 def components():
     # a rate past one; all else that can be written in the columns is in its range
     for flag in (1, 3):
         j = OF_FLAG[flag]
-        for x in (b"1.00001", b"1.99999", b"2.00000", b"9.99999"):
-            yield text("rate", filled(DAY, j, RATE, x), 3, j)
-    ends = [[0, 0, 3, 0, 0], [1, 99_999_999, 3, 100_000, 99_999_999_999], [2, 1, 1, 1, 0], [3, 9, 2, 0, 1], [4, 10, 4, 0, 999],
-            [5, 10_000_000, 4, 0, 1000], [6, 99, 3, 99_999, 99_999_999], [999_999, 0, 0, 0, 0]]
+        for rate in RATES:
+            for x in (b"1.00001", b"1.99999", b"2.00000", b"9.99999"):
+                yield text("rate", filled(DAY, j, rate, x), 3, j)
+    ends = [[0, 0, 3, 0, 1, 0], [1, 99_999_999, 3, 100_000, 99_999, 99_999_999_999], [2, 1, 1, 1, 0, 0], [3, 9, 2, 0, 0, 1],
+            [4, 10, 4, 0, 0, 999], [5, 10_000_000, 4, 0, 0, 1000], [6, 99, 3, 99_999, 100_000, 99_999_999],
+            [7, 1, 1, 0, 100_000, 0], [999_999, 0, 0, 0, 0, 0]]
     yield read("components at the ends", listed(ends))
-    yield read("a code of 0", listed([[0, 0, 0, 0, 0]]))
-    yield read("the last code", listed([[999_999, 0, 0, 0, 0]]))
+    yield read("a code of 0", listed([[0, 0, 0, 0, 0, 0]]))
+    yield read("the last code", listed([[999_999, 0, 0, 0, 0, 0]]))
     # order: equal, falling, both; the lowest is named
     for codes, place in (((1, 1), 1), ((2, 1), 1), ((5, 6, 6), 2), ((5, 4, 4), 1), ((999_999, 0), 1), ((1, 2, 3, 4, 3), 4)):
-        yield text("order", lines(listed([[code, 1, 0, 0, 0] for code in codes])), 3, place)
+        yield text("order", lines(listed([[code, 1, 0, 0, 0, 0] for code in codes])), 3, place)
     # the group is g to g + 5
     for code in range(G - 1, G + 7):
-        v = listed([[7, 1, 0, 0, 0], [code, 1, 0, 0, 0], [999_999, 1, 0, 0, 0]])
+        v = listed([[7, 1, 0, 0, 0, 0], [code, 1, 0, 0, 0, 0], [999_999, 1, 0, 0, 0, 0]])
         is_free = code in (G - 1, G + 6)
         yield text("group", lines(v), 0 if is_free else 3, 0 if is_free else 1, of=v if is_free else None)
     for g, code, number in ((0, 5, 3), (0, 6, 0), (0, 0, 3), (999_994, 999_994, 3), (999_994, 999_999, 3),
                             (999_994, 999_993, 0)):
-        yield text("group", lines(listed([[code, 1, 0, 0, 0]], first_code=g)), number)
+        yield text("group", lines(listed([[code, 1, 0, 0, 0, 0]], first_code=g)), number)
     # behind one at fault the order is still looked at, and the lowest is named
     for codes, place in (((G, G - 1), 0), ((7, G + 2, 8), 1), ((9, 8, G), 1), ((8, 9, G), 2)):
-        yield text("faults that meet", lines(listed([[code, 1, 0, 0, 0] for code in codes])), 3, place)
-    yield text("faults that meet", filled(filled(DAY, 4, FLAG, b"9"), 2, RATE, b"1.00001"), 19, column(DAY, 4, AMOUNT))
-    yield text("faults that meet", filled(filled(filled(DAY, 4, FLAG, b"9"), 4, AMOUNT, b""), 2, RATE, b"1.00001"), 3, 2)
+        yield text("faults that meet", lines(listed([[code, 1, 0, 0, 0, 0] for code in codes])), 3, place)
+    for rate in RATES:
+        yield text("faults that meet", filled(filled(DAY, 4, FLAG, b"9"), 2, rate, b"1.00001"), 19, column(DAY, 4, AMOUNT))
+        yield text("faults that meet", filled(filled(filled(DAY, 4, FLAG, b"9"), 4, AMOUNT, b""), 2, rate, b"1.00001"), 3, 2)
 
 
 # ---- 16, and refusals that meet
 
 
 def rooms():
-    for room, number in ((25, 0), (24, 16), (5, 16), (0, 16), (26, 0), (29, 0), (30, 0)):
+    """Six numbers for each component."""
+    for room, number in ((30, 0), (29, 16), (25, 16), (6, 16), (0, 16), (31, 0), (35, 0), (36, 0)):
         yield text("room", DAY, number, room=room)
-    for room, number in ((5, 0), (4, 16), (0, 16)):
+    for room, number in ((6, 0), (5, 16), (0, 16)):
         yield text("room", ONE, number, room=room)
 
 
 def full_size():
-    """300 components of all flags, each name another; a component run of 1499 is one number too short."""
+    """300 components of all flags, each name another; a component run of 1799 is one number too short."""
     flags = [(0, 1, 2, 3, 4)[i % 5] for i in range(300)]
-    parts = [[3001 * i + 7, 99_999_999 - i, flag, 333 * i if flag in (1, 3) else 0, 333_333_333 * i if flag in (2, 3, 4) else 0]
-             for i, flag in enumerate(flags)]
-    v = listed(parts, letters=b"FULLSIZE".hex(), names=b"".join(b"%-8d" % (7 ** i % 10 ** 8) for i in range(300)).hex())
+    parts = [[3001 * i + 7, 99_999_999 - i, flag, *((333 * i, 100_000 - 331 * i) if flag in (1, 3) else (0, 0)),
+              333_333_333 * i if flag in (2, 3, 4) else 0] for i, flag in enumerate(flags)]
+    v = listed(parts, letters=b"FULLSIZE", names=b"".join(b"%-8d" % (7 ** i % 10 ** 8) for i in range(300)))
     yield read("300 components", v)
-    yield text("300 components", lines(v), 16, room=1499)
+    yield text("300 components", lines(v), 16, room=1799)
+    yield text("300 components", lines(v), 16, room=1500)
 
 
 def meetings():
@@ -423,7 +490,7 @@ def meetings():
     yield text("two fields", said(said(DAY, 12, b"x"), 6, b"y"), 19, value(DAY, 6))
     yield text("two fields", filled(said(DAY, 19, b"x"), 0, CODE, b"y"), 19, value(DAY, 19))
     yield text("two fields", filled(filled(DAY, 4, CODE, b"y"), 1, AMOUNT, b"y"), 19, column(DAY, 1, AMOUNT))
-    for k in range(5):
+    for k in range(AMOUNT):
         both = filled(DAY, 0, AMOUNT, b"|")
         yield text("two fields", filled(both, 0, k, b"|"), 19, column(DAY, 0, k))
     # U of 0 never divides a limit
@@ -442,11 +509,15 @@ def long_texts():
     yield grown("300 component lines", text_of(said(ONE, 5, b"300")[:ROWS]), line, 300, tail, 3, 1)
     bad = text_of([filled(ONE, 0, AMOUNT, b"1.00")[ROWS]])
     yield grown("60,000 component lines", head, line, 60_000, tail, 20)
-    yield grown("a field past the 60,000th", head, line, 60_000, bad + tail, 19, len(head) + 60_000 * 50 + COLUMNS[AMOUNT][0])
-    yield grown("a field past the 300th", head, line, 300, bad + tail, 19, len(head) + 300 * 50 + COLUMNS[AMOUNT][0])
-    yield grown("all fields wrong", head, bad, 3_000, tail, 19, len(head) + COLUMNS[AMOUNT][0])
-    for wrong in (tail[:-2], b"", line[:30] + line[31:] + tail):
-        yield grown("a line past the 3,000th", head, line, 3_000, wrong, 18, len(head) + 3_000 * 50)
+    yield grown("a field past the 60,000th", head, line, 60_000, bad + tail, 19, len(head) + 60_000 * PITCH + COLUMNS[AMOUNT][0])
+    for k in (PREMIUM, DISCOUNT, AMOUNT):
+        bad = text_of([filled(ONE, 0, k, b"1.0")[ROWS]])
+        yield grown("a field past the 300th", head, line, 300, bad + tail, 19, len(head) + 300 * PITCH + COLUMNS[k][0])
+        yield grown("all fields wrong", head, bad, 3_000, tail, 19, len(head) + COLUMNS[k][0])
+    old = text_of([old_width(ONE[ROWS], PREMIUM)])
+    yield grown("lines of 48 bytes", head, old, 3_000, tail, 18, len(head))
+    for wrong in (tail[:-2], b"", line[:30] + line[31:] + tail, old + tail):
+        yield grown("a line past the 3,000th", head, line, 3_000, wrong, 18, len(head) + 3_000 * PITCH)
 
     def digits(k, before, digit, behind, number, is_placed=False):
         given = said(ONE, k, before + b"#" + behind)
@@ -490,14 +561,14 @@ def long_texts():
 def part(cause, given, component, letters, name):
     given = text_of(given) if isinstance(given, list) else given
     assert (list_model.letters(given), list_model.name(given, component)) == (letters, name), cause
-    return {"cause": cause, "text": given.hex(), "component": component, "letters": letters.hex(), "name": name.hex()}
+    return {"cause": cause, "text": given, "component": component, "letters": letters, "name": name}
 
 
 def parts():
     right = b"510300"
     for j in range(5):
         yield part("read", DAY, j, right, b"NAME %03d" % j)
-    for j in (5, 6, 300, 10 ** 9, MOST // 50, MOST // 50 + 1, 2 ** 63, MOST):
+    for j in (5, 6, 300, 10 ** 9, MOST // PITCH, MOST // PITCH + 1, 2 ** 63, MOST):
         yield part("no such component", DAY, j, right, b"")
     # 19, 20, 2 and 3 leave the component lines where they are
     yield part("19", said(DAY, 0, b"x"), 2, right, b"NAME 002")
@@ -526,7 +597,7 @@ def written(cause, v, number=0, place=0, room=None):
     if room is None:
         room = len(text_of(lines(v))) if number == 0 else 20_000
     got = list_model.write(v, room)
-    assert got["reply"] == [number, place], (cause, v, got["reply"], [number, place])
+    assert got["reply"][:2] == [number, place], (cause, v, got["reply"], [number, place])
     return {"cause": cause, **v, "output_length": room, **got}
 
 
@@ -551,10 +622,10 @@ def field_ends():
             yield written("date", listed(SINGLE, **{key: x}), 2)
     yield written("the days are not compared", listed(SINGLE, trading_day=10_101, pre_trading_day=99_991_231))
     for letters in (b"0", b"z", b"Az09Za90"):
-        yield written("letters", listed(SINGLE, letters=letters.hex()))
+        yield written("letters", listed(SINGLE, letters=letters))
     for letters in (b"", b"123456789", b"a b", b" ", b"]", b"a\r", b"\n", b"/", b":", b"@", b"[", b"`", b"{", b"\xff",
                     b"a" * 99):
-        yield written("letters", listed(SINGLE, letters=letters.hex()), 2)
+        yield written("letters", listed(SINGLE, letters=letters), 2)
 
 
 def limit_ends():
@@ -572,70 +643,75 @@ def whole_lists():
     """All fields at their lowest, all at their highest, and 300 components."""
     lowest = {"first_code": 0, "basket_size": 1, "max_cash_ratio": 0, "switch": 0, "estimated_cash": -999_999_999, "publish": 0,
               "trading_day": 10_101, "pre_trading_day": 10_101, "cash_component": -999_999_999, "nav_per_cu": 0, "nav": 0,
-              "letters": b"0".hex()}
+              "letters": b"0"}
     highest = {"first_code": 999_994, "basket_size": 99_999_999, "max_cash_ratio": 100_000, "switch": 3,
                "estimated_cash": 9_999_999_999, "publish": 1, "trading_day": 99_991_231, "pre_trading_day": 99_991_231,
-               "cash_component": 9_999_999_999, "nav_per_cu": 99_999_999_999, "nav": 9_999_999, "letters": b"zzzzzzzz".hex(),
+               "cash_component": 9_999_999_999, "nav_per_cu": 99_999_999_999, "nav": 9_999_999, "letters": b"zzzzzzzz",
                "limits": [999_999_990_000] * 8}
-    yield written("lowest", listed([[6, 0, 0, 0, 0]], **lowest, names=bytes(8).hex()))
-    yield written("highest", listed([[999_993, 99_999_999, 3, 100_000, 99_999_999_999]], **highest, names=(b"\xff" * 8).hex()))
-    ends = [[0, 0, 0, 0, 0], [1, 99_999_999, 1, 100_000, 0], [2, 0, 2, 0, 0], [3, 1, 2, 0, 99_999_999_999], [4, 10, 3, 0, 0],
-            [5, 9, 3, 100_000, 99_999_999_999], [6, 99, 4, 0, 1], [7, 100, 4, 0, 999], [8, 12_345_678, 3, 1, 1000],
-            [999_999, 0, 1, 0, 0]]
+    yield written("lowest", listed([[6, 0, 0, 0, 0, 0]], **lowest, names=bytes(8)))
+    yield written("highest", listed([[999_993, 99_999_999, 3, 100_000, 100_000, 99_999_999_999]], **highest, names=b"\xff" * 8))
+    ends = [[0, 0, 0, 0, 0, 0], [1, 99_999_999, 1, 100_000, 0, 0], [2, 0, 2, 0, 0, 0], [3, 1, 2, 0, 0, 99_999_999_999],
+            [4, 10, 3, 0, 100_000, 0], [5, 9, 3, 100_000, 99_999, 99_999_999_999], [6, 99, 4, 0, 0, 1], [7, 100, 4, 0, 0, 999],
+            [8, 12_345_678, 3, 1, 0, 1000], [9, 1, 1, 0, 100_000, 0], [999_999, 0, 1, 0, 1, 0]]
     yield written("components at the ends", listed(ends))
     flags = [(4, 3, 2, 1, 0)[i % 5] for i in range(300)]
-    parts = [[i + 999_700 if i else 0, i, flag, 334 * i if flag in (1, 3) else 0, 7 ** i % 10 ** 11 if flag in (2, 3, 4) else 0]
-             for i, flag in enumerate(flags)]
-    yield written("300 components", listed(parts, **lowest | {"first_code": G},
-                                           names=bytes(14 + i % 110 for i in range(2400)).hex()))
+    parts = [[i + 999_700 if i else 0, i, flag, *((334 * i, 333 * (299 - i)) if flag in (1, 3) else (0, 0)),
+              7 ** i % 10 ** 11 if flag in (2, 3, 4) else 0] for i, flag in enumerate(flags)]
+    yield written("300 components", listed(parts, **lowest | {"first_code": G}, names=bytes(14 + i % 110 for i in range(2400))))
     every = bytes(x for x in range(256) if x not in b"|\r\n") + b"END"
-    yield written("names", listed([[i, 0, 0, 0, 0] for i in range(32)], names=every.hex()))
+    yield written("names", listed([[i, 0, 0, 0, 0, 0] for i in range(32)], names=every))
+    for rates in ((10_000, 5_000), (5_000, 10_000), (0, 100_000), (100_000, 0)):
+        yield written("unlike rates", listed([[1, 1, 1, *rates, 0], [2, 1, 3, *rates, 7]]))
 
 
 def lengths():
     """1, before all else."""
-    many = [[i, 0, 0, 0, 0] for i in range(301)]
+    many = [[i, 0, 0, 0, 0, 0] for i in range(301)]
     yield written("count 0", listed([]), 1)
     yield written("count 301", listed(many), 1)
     # the names of 2^61 + 5 would be 2^64 + 40 bytes
     for count in (0, 4, 6, 301, 2 ** 32 + 5, 2 ** 61 + 5, 2 ** 63, MOST):
         yield written("count", listed(PARTS, count=count), 1)
-    for wrong in (PARTS[:4], [*PARTS, [999_999, 0, 0, 0, 0]], [*PARTS[:4], PARTS[4][:4]], [*PARTS, [0]], []):
+    # five numbers each are one rate too few
+    for wrong in (PARTS[:4], [*PARTS, [999_999, 0, 0, 0, 0, 0]], [*PARTS[:4], PARTS[4][:5]], [*PARTS, [0]], [],
+                  [[*part[:4], part[5]] for part in PARTS]):
         yield written("components", {**listed(PARTS), "components": wrong}, 1)
     for size in (39, 41, 32, 48, 0, 5):
-        yield written("names", {**listed(PARTS), "names": (b"N" * size).hex()}, 1)
+        yield written("names", {**listed(PARTS), "names": b"N" * size}, 1)
 
 
 def component_faults():
     def written_with(j, part, number=3):
         return written("component", listed([*PARTS[:j], part, *PARTS[j + 1:]]), number, j if number else 0)
-    for j, part in ((0, [1, 10 ** 8, 0, 0, 0]), (1, [2, MOST, 0, 0, 0]), (2, [600_000, 1, 5, 0, 0]), (2, [600_000, 1, 9, 0, 0]),
-                    (2, [600_000, 1, MOST, 0, 0]), (2, [600_000, 1, 1, 100_001, 0]), (2, [600_000, 1, 3, MOST, 0]),
-                    (3, [600_036, 1, 2, 0, 10 ** 11]), (3, [600_036, 1, 4, 0, MOST]), (4, [10 ** 6, 1, 0, 0, 0]),
-                    (4, [MOST, 1, 0, 0, 0]),
+    for j, part in ((0, [1, 10 ** 8, 0, 0, 0, 0]), (1, [2, MOST, 0, 0, 0, 0]), (2, [600_000, 1, 5, 0, 0, 0]),
+                    (2, [600_000, 1, 9, 0, 0, 0]), (2, [600_000, 1, MOST, 0, 0, 0]), (3, [600_036, 1, 2, 0, 0, 10 ** 11]),
+                    (3, [600_036, 1, 4, 0, 0, MOST]), (4, [10 ** 6, 1, 0, 0, 0, 0]), (4, [MOST, 1, 0, 0, 0, 0]),
+                    # each rate past one
+                    *((2, [600_000, 1, flag, *pair, 0]) for flag in (1, 3)
+                      for pair in ((100_001, 0), (0, 100_001), (MOST, 0), (0, MOST), (200_000, 200_000))),
                     # an unused rate or amount
-                    (3, [600_036, 1, 0, 1, 0]), (3, [600_036, 1, 0, 0, 1]), (3, [600_036, 1, 1, 0, 1]),
-                    (3, [600_036, 1, 2, 1, 0]), (3, [600_036, 1, 4, 1, 0]),
+                    *((3, [600_036, 1, flag, *pair, 0]) for flag in (0, 2, 4) for pair in ((1, 0), (0, 1), (100_000, 0), (0, 100_000))),
+                    (3, [600_036, 1, 0, 0, 0, 1]), (3, [600_036, 1, 1, 0, 0, 1]),
                     # order and group
-                    (1, [1, 1, 0, 0, 0]), (1, [0, 1, 0, 0, 0]), (4, [600_036, 1, 0, 0, 0]),
-                    *((2, [G + k, 1, 0, 0, 0]) for k in range(6))):
+                    (1, [1, 1, 0, 0, 0, 0]), (1, [0, 1, 0, 0, 0, 0]), (4, [600_036, 1, 0, 0, 0, 0]),
+                    *((2, [G + k, 1, 0, 0, 0, 0]) for k in range(6))):
         yield written_with(j, part)
-    for part in ([G - 1, 1, 0, 0, 0], [G + 6, 1, 0, 0, 0]):
+    for part in ([G - 1, 1, 0, 0, 0, 0], [G + 6, 1, 0, 0, 0, 0], [600_000, 1, 1, 100_000, 100_000, 0], [600_000, 1, 3, 0, 100_000, 0]):
         yield written_with(2, part, 0)
-    yield written("the last of 300", listed([[i, 0, 0, 0, 0] for i in range(299)] + [[298, 0, 0, 0, 0]]), 3, 299)
+    yield written("the last of 300", listed([[i, 0, 0, 0, 0, 0] for i in range(299)] + [[298, 0, 0, 0, 0, 0]]), 3, 299)
 
 
 def name_faults():
     def named(j, at, byte):
         names = bytearray(b"ABCDEFGH" * 5)
         names[8 * j + at] = byte
-        return bytes(names).hex()
+        return bytes(names)
     for j, at, byte in ((0, 0, 0x7C), (0, 7, 0x7C), (4, 7, 0x7C), (2, 3, 0x0D), (1, 0, 0x0D), (3, 7, 0x0D), (2, 3, 0x0A),
                         (1, 0, 0x0A), (3, 7, 0x0A)):
         yield written("name", listed(PARTS, names=named(j, at, byte)), 3, j)
     # a name's fault and a component's: the lower is named, or the one that has both
     for j in range(5):
-        faulty = [*PARTS[:2], [600_000, 1, 7, 0, 0], *PARTS[3:]]
+        faulty = [*PARTS[:2], [600_000, 1, 7, 0, 0, 0], *PARTS[3:]]
         yield written("faults that meet", listed(faulty, names=named(j, 5, 0x7C)), 3, min(j, 2))
 
 
@@ -649,14 +725,14 @@ def outputs():
 
 def writings_that_meet():
     """1, 2, 3, 16 in this order."""
-    three = listed([*PARTS[:4], [1, 0, 0, 0, 0]])
+    three = listed([*PARTS[:4], [1, 0, 0, 0, 0, 0]])
     two = {**three, "publish": 2}
     one = {**two, "count": 4}
     for v, number, place in ((listed(PARTS), 16, 0), (three, 3, 4), (two, 2, 0), (one, 1, 0)):
         yield written("refusals that meet", v, number, place, room=0)
     yield written("refusals that meet", {**listed(PARTS), "publish": 2}, 2, room=0)
     yield written("refusals that meet", {**listed(PARTS), "count": 4}, 1, room=0)
-    yield written("refusals that meet", {**listed(PARTS), "letters": b"".hex(), "names": (b"|" * 40).hex()}, 2)
+    yield written("refusals that meet", {**listed(PARTS), "letters": b"", "names": b"|" * 40}, 2)
 
 
 # ---- the model against the vectors
@@ -664,17 +740,16 @@ def writings_that_meet():
 
 def is_model_right(vectors):
     """Whether the model gives every answer of the vectors."""
-    def rows(file):
-        return [json.loads(text) for text in (vectors / f"{file}.jsonl").read_text().splitlines()]
-    texts = [list_model.read(bytes.fromhex(v["text"]), 5 * v["capacity"]).items() <= v.items() for v in rows("texts")]
-    writings = [list_model.write(v, v["output_length"]).items() <= v.items() for v in rows("writings")]
+    texts = [list_model.read(v["text"], COMPONENT_WIDTH * v["capacity"]).items() <= v.items()
+             for v in vector_files.rows(vectors / "texts.jsonl")]
+    writings = [list_model.write(v, v["output_length"]).items() <= v.items() for v in vector_files.rows(vectors / "writings.jsonl")]
     print(f"the model answers {sum(texts)} of {len(texts)} texts and {sum(writings)} of {len(writings)} writings as the vectors")
     return all(texts) and all(writings)
 
 
 def is_covered(files):
     """Every refusal of reading and of writing, with a place above 0 for each that has places."""
-    replies = {name: {tuple(v["reply"]) for v in rows if "reply" in v} for name, rows in files.items()}
+    replies = {name: {tuple(v["reply"][:2]) for v in rows if "reply" in v} for name, rows in files.items()}
     def numbers(name, is_placed):
         return {n for n, place in replies[name] if place > 0 or not is_placed}
     return (numbers("texts", False) == {0, 2, 3, 16, 18, 19, 20} and numbers("texts", True) == {3, 18, 19}
@@ -687,8 +762,8 @@ def main():
     parser.add_argument("out", type=Path)
     args = parser.parse_args()
     assert is_model_right(args.vectors)
-    kinds = {"texts": (moved_lines, line_ends, first_lines, names, widths_and_bars, head_values, dates, recordnums, columns,
-                       name_bytes, flags, components, rooms, full_size, meetings, long_texts),
+    kinds = {"texts": (moved_lines, line_ends, first_lines, names, widths_and_bars, old_widths, head_values, dates, recordnums,
+                       columns, name_bytes, flags, two_rates, components, rooms, full_size, meetings, long_texts),
              "parts": (parts,),
              "writings": (field_ends, limit_ends, whole_lists, lengths, component_faults, name_faults, outputs,
                           writings_that_meet)}
@@ -696,7 +771,7 @@ def main():
     assert is_covered(files)
     args.out.mkdir(parents=True, exist_ok=True)
     for file, rows in files.items():
-        (args.out / f"{file}.jsonl").write_text("".join(json.dumps(v) + "\n" for v in rows))
+        vector_files.save(args.out / f"{file}.jsonl", rows)
         print(f"{file}: {len(rows)} rows")
 
 

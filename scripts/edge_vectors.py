@@ -1,23 +1,23 @@
 #!/usr/bin/env python3
-"""Writes test vectors at the edges of document 01, with answers worked out from the paper.
+"""Writes test vectors at the edges of document 01 and change request 1, with answers worked out from the papers.
 
-    edge_vectors.py OUT
+    edge_vectors.py VECTORS OUT
 
-OUT gets openings.jsonl, days.jsonl, broken_days.jsonl and chains.jsonl, in the form that vector_text.py reads. The small
-rows have answers by hand, with the arithmetic beside them. The day of full size is worked out by `Model` below, which is
-written from the paper alone and shares nothing with the day book.
+OUT gets openings.jsonl, days.jsonl, broken_days.jsonl and chains.jsonl, in the form of VECTORS (vectors/README.md). The small
+rows have their replies and records by hand, with the arithmetic beside them. What an accepted call of these leaves, and the day
+of full size, are worked out by day_model.py, which must give the same replies and records. First that model is put against the
+days, the big days and the broken days of VECTORS, whose answers another model of the papers gave.
 """
 import argparse
-import json
 from pathlib import Path
 
-B, S = 1, 2  # the sides of a record
-CEILING = 999_999_999_999
-E18 = 10**18
+import vector_files
+from day_model import B, CEILING, E18, ORDERS, S, Model, played, unfolded
+from vector_files import numbers
 
 # ---- rows by hand: one component, code 1, one share to a basket, stock moves (flag 0); baskets of one unit
 
-ONE = [[1, 1, 0, 0, 0]]
+ONE = [[1, 1, 0, 0, 0, 0]]
 
 
 def fund(**fields):
@@ -28,13 +28,18 @@ def fund(**fields):
 def made(call, reply, records=None):
     """A call, its reply, and the numbers that an accepted order writes."""
     c = {"call": call, "reply": reply}
-    return c if records is None else {**c, "records": [x for r in records for x in r]}
+    return c if records is None else {**c, "records": numbers(records)}
+
+
+def order(name, account, units, room, reply, records=None):
+    """An order whose list has room for so many numbers."""
+    return made([name, account, units, [room]], reply, records)
 
 
 def state(accounts, calls, components=ONE, prices=(1,), **fields):
     """accounts: for each its cash, created, redeemed, then old, bought, got of each line."""
     return {"accounts": len(accounts), "count": len(components), "fund": fund(**fields), "components": components,
-            "book": [x for a in accounts for x in a], "prices": list(prices), "calls": calls}
+            "book": numbers(accounts), "prices": list(prices), "calls": calls}
 
 
 # the fund has 50 of the component
@@ -49,7 +54,7 @@ def holder(cash=100, created=0, redeemed=0, stock=(5, 0, 0), units=(5, 0, 0)):
 CREATED = [[500_000, B, 1, 0, 0], [1, S, 1, 0, 0], [500_001, B, 1, 0, 0]]
 REDEEMED = [[500_000, S, 1, 0, 0], [1, B, 1, 0, 0], [500_001, S, 1, 0, 0]]
 VALUE, PRICE, TRADE = ["value"], ["price", 0, 5], ["trade", 0, 1, 1, 1, 2]
-CREATE, REDEEM = ["create", 1, 1, 20], ["redeem", 1, 1, 20]
+CREATE, REDEEM = ["create", 1, 1, [20]], ["redeem", 1, 1, [20]]
 CREATES, REDEEMS = made(CREATE, [0, 0, 3], CREATED), made(REDEEM, [0, 0, 3], REDEEMED)
 SOUND = [made(VALUE, [0, 0, 10]), CREATES, REDEEMS, made(PRICE, [0, 0, 0])]
 BROKEN = [made(c, [5, 0, 0]) for c in (VALUE, CREATE, REDEEM, PRICE, TRADE)]
@@ -111,10 +116,10 @@ def sound_ends():
     yield {**sound, "count": 0, "components": [], "book": [0] * 12, "prices": []}
     yield {**sound, "count": 301, "book": [0] * 2 * (3 + 3 * 302), "prices": [1] * 301}
     yield state([FUND, holder()], BROKEN, basket_size=0)
-    yield state([FUND, holder()], BROKEN, components=[[500_003, 1, 0, 0, 0]])
+    yield state([FUND, holder()], BROKEN, components=[[500_003, 1, 0, 0, 0, 0]])
     # not tested: a counter above a limit, a counter that is no multiple of U, a price on an unpriced flag
     yield state([FUND, holder(created=9)], [made(PRICE, [0, 0, 0])], limits=[4] * 8, basket_size=2)
-    yield state([[0] * 9, [0] * 9], [made(PRICE, [0, 0, 0])], components=[[1, 7, 2, 0, 5]], prices=(3,))
+    yield state([[0] * 9, [0] * 9], [made(PRICE, [0, 0, 0])], components=[[1, 7, 2, 0, 0, 5]], prices=(3,))
 
 
 def trades():
@@ -161,7 +166,7 @@ def switches_and_baskets():
         yield state([FUND, holder()], orders(creation, redemption), switch=switch)
     # U = 2: 0 units, 3 and 42 (21 baskets) are 11; 40 are 20 baskets and take 20 shares
     full = [[500_000, B, 40, 0, 0], [1, S, 20, 0, 0], [500_001, B, 40, 0, 0]]
-    calls = [made(["create", 1, u, 20], [11, 0, 0]) for u in (0, 3, 42, 2**64 - 2)] + [made(["create", 1, 40, 20], [0, 0, 3], full)]
+    calls = [order("create", 1, u, 20, [11, 0, 0]) for u in (0, 3, 42, 2**64 - 2)] + [order("create", 1, 40, 20, [0, 0, 3], full)]
     yield state([FUND, holder(stock=(999, 0, 0), units=(999, 0, 0))], calls, basket_size=2)
 
 
@@ -174,21 +179,21 @@ def values():
                         (10, -1, [0, 0, 0]),                 # the sum is 0
                         (11, -1, [0, 0, 1]),                 # 0.5
                         (0, 1, [0, 0, 5])):
-        yield state([[0] * 9, [0] * 9], [made(VALUE, reply)], components=[[1, 7, 4, 0, p]], prices=(0,), basket_size=20,
+        yield state([[0] * 9, [0] * 9], [made(VALUE, reply)], components=[[1, 7, 4, 0, 0, p]], prices=(0,), basket_size=20,
                     estimated_cash=e)
     # a priced component with Q = 0 needs no price; with Q above 0 it does
     for q, reply in ((0, [0, 0, 0]), (1, [14, 0, 0])):
-        yield state([[0] * 9, [0] * 9], [made(VALUE, reply)], components=[[1, q, 0, 0, 0]], prices=(0,))
+        yield state([[0] * 9, [0] * 9], [made(VALUE, reply)], components=[[1, q, 0, 0, 0, 0]], prices=(0,))
 
 
 def ratios():
     """One basket needs 10 of component 1 (flag 1); component 2 (flag 4) has P 99,990,000; U 1,000,000; X 1.
     At a price of 1,000 the sum is 100,000,000 and the value 1,000, so missing stock may cost
     1 x 1,000,000 x 1,000 x 1 / 1,000,000 = 1,000. Other cash is 99 x 1,000,000 + 990,000."""
-    def row(stock, price, reply, records=None):
+    def row(stock, price, reply, records=None, rates=(0, 70_000)):
         accounts = [[0] * 12, [10**12, 0, 0, *stock, 0, 0, 0, 0, 0, 0]]
-        return state(accounts, [made(["create", 1, 1_000_000, 30], reply, records)], prices=(price, 0),
-                     components=[[1, 10, 1, 0, 0], [2, 0, 4, 0, 99_990_000]], basket_size=1_000_000, max_cash_ratio=1)
+        return state(accounts, [order("create", 1, 1_000_000, 30, reply, records)], prices=(price, 0),
+                     components=[[1, 10, 1, *rates, 0], [2, 0, 4, 0, 0, 99_990_000]], basket_size=1_000_000, max_cash_ratio=1)
 
     def records(handed_in, *shanghai):
         return [[500_000, B, 1_000_000, 0, 0], [1, S, handed_in, 0, 0], [500_005, B, 1_000_000, 99, 99_000_000],
@@ -199,46 +204,50 @@ def ratios():
     yield row((4, 5, 99), 1001, [15, 0, 0])  # the got lot does not count
     yield row((9, 1, 0), 0, [0, 0, 5], records(10))  # nothing missing: no value needed
     yield row((9, 0, 0), 0, [14, 0, 0])
+    # neither rate counts: one missing is 1,000 still, though with the premium it costs 1,000 x 1.5 = 1,500, or 2,000
+    yield row((9, 0, 0), 1000, [0, 0, 6], records(9, [500_002, B, 1, 1500, 1500]), rates=(50_000, 0))
+    yield row((9, 0, 0), 1000, [0, 0, 6], records(9, [500_002, B, 1, 2000, 2000]), rates=(100_000, 100_000))
+    yield row((9, 0, 0), 1001, [15, 0, 0], rates=(0, 100_000))
 
 
 def places():
     """17 at a component and at cash (place N), 16 at one number too few, redemption's 9 without the got lot."""
-    two = [[1, 1, 0, 0, 0], [2, 3, 4, 0, 6]]
+    two = [[1, 1, 0, 0, 0, 0], [2, 3, 4, 0, 0, 6]]
     units = [0, 0, 0, 0, 0, 0, 0, 0, 0, 2, 3, 4]  # 5 may be handed in
 
     def row(cash, stock, calls):
         return state([[cash, 0, 0, stock, 0, 0, 0, 0, 0, 0, 0, 0], units], calls, components=two, prices=(0, 0))
 
     def redeem(u, room, *reply):
-        return made(["redeem", 1, u, room], list(reply))
+        return order("redeem", 1, u, room, list(reply))
 
     written = [[500_000, S, 1, 0, 0], [1, B, 1, 0, 0], [500_005, S, 1, 6, 6], [500_001, S, 1, 0, 0]]
     yield row(5, 50, [redeem(1, 99, 17, 2, 0)])  # 6 of cash due
-    yield row(6, 50, [made(["redeem", 1, 1, 20], [0, 0, 4], written), redeem(1, 19, 16, 0, 0), redeem(6, 99, 9, 0, 0),
+    yield row(6, 50, [order("redeem", 1, 1, 20, [0, 0, 4], written), redeem(1, 19, 16, 0, 0), redeem(6, 99, 9, 0, 0),
                       redeem(5, 99, 17, 2, 0)])
     yield row(6, 0, [redeem(1, 99, 17, 0, 0)])
     # places in the middle: 9 and 17 at component 2
-    three = [[1, 1, 0, 0, 0], [2, 1, 1, 0, 0], [3, 1, 0, 0, 0]]
+    three = [[1, 1, 0, 0, 0, 0], [2, 1, 1, 7, 100_000, 0], [3, 1, 0, 0, 0, 0]]
     have = [0, 0, 0, 5, 0, 0, 5, 0, 0, 0, 0, 0, 5, 0, 0]
     fund_has = [0, 0, 0, 5, 0, 0, 5, 0, 0, 0, 0, 0, 0, 0, 0]
-    yield state([fund_has, have], [made(["create", 1, 1, 99], [9, 2, 0]), made(["redeem", 1, 1, 99], [17, 2, 0])],
+    yield state([fund_has, have], [order("create", 1, 1, 99, [9, 2, 0]), order("redeem", 1, 1, 99, [17, 2, 0])],
                 components=three, prices=(1, 1, 1))
 
 
 def meetings():
     """Calls that two or more refusals would turn back: the one that stands first in the paper's order is given.
     Flag 0 needs 1 of component 1, flag 1 needs 10 of component 2, at a price of 1."""
-    parts = [[1, 1, 0, 0, 0], [2, 10, 1, 0, 0]]
+    parts = [[1, 1, 0, 0, 0, 0], [2, 10, 1, 0, 100_000, 0]]
 
     def row(account, calls, prices=(0, 1), fund_stock=(50, 50), fund_cash=0, **fields):
         first = [fund_cash, 0, 0, fund_stock[0], 0, 0, fund_stock[1], 0, 0, 0, 0, 0]
         return state([first, account], calls, components=parts, prices=prices, **fields)
 
     def create(a, u, room, number, place=0):
-        return made(["create", a, u, room], [number, place, 0])
+        return order("create", a, u, room, [number, place, 0])
 
     def redeem(a, u, room, number, place=0):
-        return made(["redeem", a, u, room], [number, place, 0])
+        return order("redeem", a, u, room, [number, place, 0])
 
     poor = [0] * 12
     counted = [0, 5, 5, *[0] * 9]
@@ -273,45 +282,109 @@ def meetings():
 
 
 def paper_cases():
-    """The paper's day to compare with, (a) to (i)."""
-    parts = [[1, 8000, 3, 10_000, 96_000_000], [2, 1000, 4, 0, 8_000_000], [600_000, 5200, 1, 10_000, 0],
-             [600_036, 3000, 0, 0, 0], [600_519, 100, 2, 0, 150_000_000]]
+    """The paper's day to compare with, (a) to (i), with both rates its r and with one of them another."""
     fields = {"first_code": 510_300, "basket_size": 1_000_000, "max_cash_ratio": 5000, "estimated_cash": -33_122}
 
-    def row(stock_1, stock_0, calls):
+    def row(stock_1, stock_0, calls, rates=(10_000, 10_000)):
+        parts = [[1, 8000, 3, *rates, 96_000_000], [2, 1000, 4, 0, 0, 8_000_000], [600_000, 5200, 1, 10_000, 10_000, 0],
+                 [600_036, 3000, 0, 0, 0, 0], [600_519, 100, 2, 0, 0, 150_000_000]]
         rich = [10**12, 0, 0, *[10**6, 0, 0] * 5, 0, 0, 0]
         one = [10**12, 0, 0, *[0] * 6, stock_1, 0, 0, stock_0, 0, 0, 0, 0, 0, 10**7, 0, 0]
         return state([rich, one], calls, components=parts, prices=(12_000, 0, 10_000, 40_000, 0), **fields)
 
-    def order(name, reply, records=None):
-        return made([name, 1, 1_000_000, 40], reply, records)
+    def basket(name, reply, records=None):
+        return order(name, 1, 1_000_000, 40, reply, records)
+
+    def other(side, thousands, rest):
+        """Other cash in two records."""
+        return [[510_305, side, 1_000_000, thousands, 1_000_000 * thousands], [510_305, side, 1, rest, rest]]
+
+    def creation(*cash):
+        return [[510_300, B, 1_000_000, 0, 0], [600_000, S, 3072, 0, 0], [600_036, S, 3000, 0, 0], *other(B, *cash),
+                [510_302, B, 1_000_000, 173, 173_000_000], [510_302, B, 1, 408_000, 408_000], [510_301, B, 1_000_000, 0, 0]]
+
+    def redemption(*cash):
+        return [[510_300, S, 1_000_000, 0, 0], [600_000, B, 5200, 0, 0], [600_036, B, 3000, 0, 0], *other(S, *cash),
+                [510_302, S, 1_000_000, 150, 150_000_000], [510_302, S, 1, 0, 0], [510_301, S, 1_000_000, 0, 0]]
+
+    def both(e, f):
+        return [made(VALUE, [0, 0, 4257]), basket("create", [0, 0, 8], creation(*e)), basket("redeem", [0, 0, 8], redemption(*f))]
 
     # (e) other cash 96,000,000 x 1.1 + 8,000,000 = 113,600,000; Shanghai 21,280,000 x 1.1 + 150,000,000 = 173,408,000
-    e = [[510_300, B, 1_000_000, 0, 0], [600_000, S, 3072, 0, 0], [600_036, S, 3000, 0, 0],
-         [510_305, B, 1_000_000, 113, 113_000_000], [510_305, B, 1, 600_000, 600_000],
-         [510_302, B, 1_000_000, 173, 173_000_000], [510_302, B, 1, 408_000, 408_000], [510_301, B, 1_000_000, 0, 0]]
     # (f) other cash 96,000,000 x 0.9 + 8,000,000 = 94,400,000; Shanghai 150,000,000
-    f = [[510_300, S, 1_000_000, 0, 0], [600_000, B, 5200, 0, 0], [600_036, B, 3000, 0, 0],
-         [510_305, S, 1_000_000, 94, 94_000_000], [510_305, S, 1, 400_000, 400_000],
-         [510_302, S, 1_000_000, 150, 150_000_000], [510_302, S, 1, 0, 0], [510_301, S, 1_000_000, 0, 0]]
-    yield row(3072, 3000, [made(VALUE, [0, 0, 4257]), order("create", [0, 0, 8], e), order("redeem", [0, 0, 8], f)])
-    yield row(3071, 3000, [order("create", [15, 0, 0])])
-    yield row(3072, 2999, [order("create", [9, 3, 0])])
+    yield row(3072, 3000, both((113, 600_000), (94, 400_000)))
+    # the discount of 000001 at 5,000: 96,000,000 x 0.95 + 8,000,000 = 99,200,000; its premium: x 1.05, 108,800,000
+    yield row(3072, 3000, both((113, 600_000), (99, 200_000)), rates=(10_000, 5_000))
+    yield row(3072, 3000, both((108, 800_000), (94, 400_000)), rates=(5_000, 10_000))
+    yield row(3071, 3000, [basket("create", [15, 0, 0])])
+    yield row(3072, 2999, [basket("create", [9, 3, 0])])
     # (g) cash 999.999 is one record, 1,000.000 two
     for cash, split in ((999_999, [[1, 999_999]]), (1_000_000, [[1_000_000, 1], [1, 0]])):
         records = [[500_000, B, 1, 0, 0], *([500_005, B, q, p, q * p] for q, p in split), [500_001, B, 1, 0, 0]]
-        yield state([[0] * 9, [10**6, *[0] * 8]], [made(["create", 1, 1, 20], [0, 0, len(records)], records)],
-                    components=[[1, 0, 4, 0, cash]], prices=(0,))
-    # (h), (i) v = 5: 5.5 is 6, 5.49995 is 5. Value 50, bound 50 x 100,000 / 1,000,000 = 5.
-    for rate, cash in ((10_000, 6), (9_999, 5)):
+        yield state([[0] * 9, [10**6, *[0] * 8]], [order("create", 1, 1, 20, [0, 0, len(records)], records)],
+                    components=[[1, 0, 4, 0, 0, cash]], prices=(0,))
+    # (h), (i) v = 5: 5.5 is 6, 5.49995 is 5, whatever the discount. Value 50, bound 50 x 100,000 / 1,000,000 = 5.
+    for premium, discount, cash in ((10_000, 10_000, 6), (9_999, 9_999, 5), (10_000, 0, 6), (9_999, 100_000, 5), (100_000, 1, 10),
+                                    (0, 50_000, 5)):
         records = [[500_000, B, 1, 0, 0], [500_002, B, 1, cash, cash], [500_001, B, 1, 0, 0]]
-        yield state([[0] * 9, [cash, *[0] * 8]], [made(["create", 1, 1, 15], [0, 0, 3], records)],
-                    components=[[1, 1, 1, rate, 0]], prices=(5,), max_cash_ratio=100_000)
+        yield state([[0] * 9, [cash, *[0] * 8]], [order("create", 1, 1, 15, [0, 0, 3], records)],
+                    components=[[1, 1, 1, premium, discount, 0]], prices=(5,), max_cash_ratio=100_000)
+
+
+def rates():
+    """Creation takes the premium, redemption the discount, and 5 looks at both."""
+    def paid(side, units, cash):
+        return [[500_000, side, units, 0, 0], *([[500_005, side, 1, cash, cash]] if cash else []), [500_001, side, units, 0, 0]]
+
+    def orders_for(amount, premium, discount, baskets, due, back):
+        """Both orders on one component of flag 3, the account and the fund with just the cash that they take."""
+        accounts = [[back, *[0] * 8], [due, *[0] * 5, 20, 0, 0]]
+        records = paid(B, baskets, due), paid(S, baskets, back)
+        return state(accounts, [order(name, 1, baskets, 5 * len(r), [0, 0, len(r)], r) for name, r in zip(ORDERS, records)],
+                     components=[[1, 0, 3, premium, discount, amount]], prices=(0,))
+
+    # 5 x 1.1 = 5.5 is 6, 5 x 1.09999 = 5.49995 is 5; 5 x 0.9 = 4.5 is 5, 5 x 0.89999 = 4.49995 is 4
+    yield orders_for(5, 10_000, 10_000, 1, 6, 5)
+    yield orders_for(5, 9_999, 10_001, 1, 5, 4)
+    yield orders_for(5, 10_000, 10_001, 1, 6, 4)
+    yield orders_for(5, 9_999, 10_000, 1, 5, 5)
+    # all of it and none of it, in each place: cash of 0 makes no record
+    yield orders_for(5, 100_000, 0, 1, 10, 5)
+    yield orders_for(5, 0, 100_000, 1, 5, 0)
+    yield orders_for(5, 100_000, 100_000, 1, 10, 0)
+    # the baskets together are rounded: 5 x 1 at 1.1 is 5.5, and at 0.9 4.5; each alone would be 1.1 and 0.9, so 5 both ways
+    yield orders_for(1, 10_000, 10_001, 5, 6, 4)
+    # one of cash short, in each order: 10 for the account, 17 at N for the fund
+    short = orders_for(5, 10_000, 10_001, 1, 6, 4)
+    for at, name, reply in ((9, "create", [10, 0, 0]), (0, "redeem", [17, 1, 0])):
+        book = [x - (i == at) for i, x in enumerate(short["book"])]
+        yield {**short, "book": book, "calls": [order(name, 1, 1, 20, reply)]}
+    # flags 2 and 4 have no rates: M times P both ways
+    for flag, code in ((2, 500_002), (4, 500_005)):
+        records = [[[500_000, side, 3, 0, 0], [code, side, 1, 15, 15], [500_001, side, 3, 0, 0]] for side in (B, S)]
+        yield state([[15, *[0] * 8], [15, *[0] * 5, 3, 0, 0]],
+                    [order(name, 1, 3, 15, [0, 0, 3], r) for name, r in zip(ORDERS, records)],
+                    components=[[1, 9, flag, 0, 0, 5]], prices=(0,))
+    # flag 1 delivers its stock in full on redemption, at any discount: 2 baskets of 4, and no cash
+    delivered = [[500_000, S, 2, 0, 0], [1, B, 8, 0, 0], [500_001, S, 2, 0, 0]]
+    for discount in (0, 1, 50_000, 100_000):
+        yield state([[0, 0, 0, 8, 0, 0, 0, 0, 0], [0] * 6 + [2, 0, 0]], [order("redeem", 1, 2, 15, [0, 0, 3], delivered)],
+                    components=[[1, 4, 1, 100_000 - discount, discount, 0]], prices=(7,))
+    # 5: each rate to 100,000 where the flag uses it, and 0 where it does not
+    still = [[0] * 9, [0] * 9]
+    for flag in (1, 3):
+        for pair in ((100_000, 0), (0, 100_000), (100_000, 100_000)):
+            yield state(still, [made(PRICE, [0, 0, 0])], components=[[1, 1, flag, *pair, 0]])
+        for pair in ((100_001, 0), (0, 100_001), (2**64 - 1, 0), (0, 2**64 - 1), (100_001, 100_001)):
+            yield state(still, BROKEN, components=[[1, 1, flag, *pair, 0]])
+    for flag in (0, 2, 4):
+        for pair in ((1, 0), (0, 1), (100_000, 0), (0, 100_000)):
+            yield state(still, BROKEN, components=[[1, 1, flag, *pair, 0]])
 
 
 def full_states():
     """64 accounts and 300 components, all empty but for the last account's units: 2 x 10^18, then one more."""
-    parts = [[i, 1, 0, 0, 0] for i in range(300)]
+    parts = [[i, 1, 0, 0, 0, 0] for i in range(300)]
     for over, reply in ((0, [0, 0, 0]), (1, [5, 0, 0])):
         accounts = [[0] * 906 for _ in range(64)]
         accounts[63][905] = 2 * E18 + over  # the got lot of the unit
@@ -324,7 +397,7 @@ def full_states():
 
 def opening(accounts, count, reply, **changed):
     held = [1] * (count + 1) + [0] + [1] * ((accounts - 1) * (count + 2)) if accounts else []
-    return {"accounts": accounts, "count": count, "fund": fund(), "components": [[i, 1, 0, 0, 0] for i in range(count)],
+    return {"accounts": accounts, "count": count, "fund": fund(), "components": [[i, 1, 0, 0, 0, 0] for i in range(count)],
             "holdings": held, "book_length": accounts * (3 + 3 * (count + 1)), "prices_length": count, "reply": reply, **changed}
 
 
@@ -341,7 +414,10 @@ def openings():
     yield {**v, "holdings": v["holdings"][:-1]}
     yield {**v, "holdings": v["holdings"] + [0]}
     yield {**v, "components": v["components"][:-1]}
-    yield {**v, "components": v["components"] + [[9, 1, 0, 0, 0]]}
+    yield {**v, "components": v["components"] + [[9, 1, 0, 0, 0, 0]]}
+    # components of five numbers, one rate too few, and one number too many
+    yield {**v, "components": [[0, 1, 0, 0, 0], [1, 1, 0, 0, 0]]}
+    yield {**v, "components": v["components"] + [[0]]}
     # fund fields at and past their ends
     for fields in ({"first_code": 999_994}, {"basket_size": 99_999_999}, {"max_cash_ratio": 100_000}, {"switch": 3},
                    {"estimated_cash": -999_999_999}, {"estimated_cash": 9_999_999_999}, {"limits": [CEILING] * 8}):
@@ -352,16 +428,22 @@ def openings():
                    {"estimated_cash": -(2**63 - 1)}, {"first_code": 2**64 - 1}, {"limits": [2**64 - 1] * 8}):
         yield opening(2, 1, [2, 0], fund=fund(**fields))
     # a component at and past its ends; the group is 500,000 to 500,005
-    for part, number in (([499_999, 99_999_999, 4, 0, 99_999_999_999], 0), ([500_000, 1, 0, 0, 0], 3), ([500_005, 1, 0, 0, 0], 3),
-                         ([500_006, 1, 3, 100_000, 5], 0), ([999_999, 1, 1, 5, 0], 0), ([10**6, 1, 1, 5, 0], 3),
-                         ([1, 10**8, 1, 5, 0], 3), ([1, 1, 5, 0, 0], 3), ([1, 1, 1, 100_001, 0], 3), ([1, 1, 2, 0, 10**11], 3),
-                         ([1, 1, 0, 1, 0], 3), ([1, 1, 2, 1, 0], 3), ([1, 1, 1, 0, 1], 3), ([1, 1, 0, 0, 1], 3),
-                         ([1, 1, 4, 1, 0], 3)):
+    for part, number in (([499_999, 99_999_999, 4, 0, 0, 99_999_999_999], 0), ([500_000, 1, 0, 0, 0, 0], 3),
+                         ([500_005, 1, 0, 0, 0, 0], 3), ([500_006, 1, 3, 100_000, 7, 5], 0), ([999_999, 1, 1, 5, 6, 0], 0),
+                         ([10**6, 1, 1, 5, 6, 0], 3), ([1, 10**8, 1, 5, 6, 0], 3), ([1, 1, 5, 0, 0, 0], 3),
+                         ([1, 1, 2, 0, 0, 10**11], 3), ([1, 1, 1, 0, 0, 1], 3), ([1, 1, 0, 0, 0, 1], 3),
+                         # each rate at and past its end, of the two flags that use it
+                         ([1, 1, 1, 100_000, 0, 0], 0), ([1, 1, 1, 0, 100_000, 0], 0), ([1, 1, 3, 0, 100_000, 0], 0),
+                         ([1, 1, 3, 100_000, 100_000, 5], 0), ([1, 1, 1, 100_001, 0, 0], 3), ([1, 1, 1, 0, 100_001, 0], 3),
+                         ([1, 1, 3, 100_001, 0, 5], 3), ([1, 1, 3, 0, 100_001, 5], 3), ([1, 1, 3, 2**64 - 1, 0, 5], 3),
+                         ([1, 1, 3, 0, 2**64 - 1, 5], 3),
+                         # and above 0, of the three that do not
+                         *(([1, 1, flag, *pair, 0], 3) for flag in (0, 2, 4) for pair in ((1, 0), (0, 1)))):
         yield opening(2, 1, [number, 0], components=[part])
     # order: equal codes are at fault at the second, whatever the first is; the last of 300
-    yield opening(2, 3, [3, 2], components=[[1, 1, 0, 0, 0], [2, 1, 0, 0, 0], [2, 1, 0, 0, 0]])
-    yield opening(2, 2, [3, 1], components=[[7, 1, 0, 0, 0], [6, 1, 0, 0, 0]])
-    yield opening(2, 300, [3, 299], components=[[i, 1, 0, 0, 0] for i in range(299)] + [[298, 1, 0, 0, 0]])
+    yield opening(2, 3, [3, 2], components=[[1, 1, 0, 0, 0, 0], [2, 1, 0, 0, 0, 0], [2, 1, 0, 0, 0, 0]])
+    yield opening(2, 2, [3, 1], components=[[7, 1, 0, 0, 0, 0], [6, 1, 0, 0, 0, 0]])
+    yield opening(2, 300, [3, 299], components=[[i, 1, 0, 0, 0, 0] for i in range(299)] + [[298, 1, 0, 0, 0, 0]])
     # totals: a line, the unit (N), cash (N + 1), at their ends and one past; sums past 64 bits
     for held, reply in (([0, E18 - 1, 0, 0, 1, 0], [0, 0]), ([0, E18, 0, 0, 1, 0], [4, 0]), ([0, 0, 0, 0, 0, E18], [0, 0]),
                         ([0, 0, 0, 0, 0, E18 + 1], [4, 1]), ([0, 0, 1, 0, 0, 0], [4, 1]), ([2 * E18, 0, 0, 2 * E18, 0, 0], [0, 0]),
@@ -369,13 +451,16 @@ def openings():
                         ([0, 2**63, 0, 0, 2**63, 0], [4, 0]), ([2**64 - 1, 0, 0, 1, 0, 0], [4, 2])):
         yield opening(2, 1, reply, holdings=held)
     # refusals that meet: 1 before 2, 2 before 3, 3 before 4, the lower place first
-    bad_part, bad_held = [[500_000, 1, 0, 0, 0]], [5 * E18, 2 * E18, 1, 0, 0, 0]
+    bad_part, bad_held = [[500_000, 1, 0, 0, 0, 0]], [5 * E18, 2 * E18, 1, 0, 0, 0]
     yield opening(2, 1, [1, 0], fund=fund(basket_size=0), components=bad_part, holdings=bad_held, prices_length=2)
     yield opening(2, 1, [2, 0], fund=fund(basket_size=0), components=bad_part, holdings=bad_held)
     yield opening(2, 1, [3, 0], components=bad_part, holdings=bad_held)
     yield opening(2, 1, [4, 0], holdings=bad_held)
     yield opening(2, 1, [4, 1], holdings=[5 * E18, 0, 1, 0, 0, 0])
-    yield opening(2, 3, [3, 1], components=[[1, 1, 0, 0, 0], [0, 1, 0, 0, 0], [3, 1, 9, 0, 0]])
+    yield opening(2, 3, [3, 1], components=[[1, 1, 0, 0, 0, 0], [0, 1, 0, 0, 0, 0], [3, 1, 9, 0, 0, 0]])
+    # a rate at fault before and behind another fault: the lower is named
+    yield opening(2, 3, [3, 1], components=[[1, 1, 0, 0, 0, 0], [2, 1, 3, 0, 100_001, 0], [3, 1, 9, 0, 0, 0]])
+    yield opening(2, 3, [3, 0], components=[[1, 1, 0, 0, 1, 0], [2, 1, 3, 0, 100_001, 0], [3, 1, 0, 0, 0, 0]])
 
 
 # ---- calls in order on a state that no opening leaves
@@ -397,193 +482,14 @@ def chains():
 # ---- the day of full size
 
 
-def rounded(x, by):
-    """To the nearest whole, halves up."""
-    return (2 * x + by) // (2 * by)
-
-
-# the columns of the flag table: stock moves, shortage in cash, r used, P used, Shanghai, priced
-MOVES, IN_CASH, SHANGHAI, PRICED = {0, 1}, {1}, {0, 1, 2}, {0, 1, 3}
-
-
-class Model:
-    """The day after an accepted opening, by the paper. Python's numbers have no upper end."""
-
-    def __init__(self, accounts, fund, parts, holdings):
-        width = len(parts) + 2
-        rows = [holdings[a * width:(a + 1) * width] for a in range(accounts)]
-        self.fund, self.parts, self.accounts, self.n = fund, parts, accounts, len(parts)
-        self.cash = [r[0] for r in rows]
-        self.created, self.redeemed = [0] * accounts, [0] * accounts
-        self.lots = [[[h, 0, 0] for h in r[1:]] for r in rows]
-        self.prices = [0] * self.n
-
-    def book(self):
-        return [x for a in range(self.accounts)
-                for x in [self.cash[a], self.created[a], self.redeemed[a], *(y for lots in self.lots[a] for y in lots)]]
-
-    def price(self, line, p):
-        if line >= self.n:
-            return [6, 0, 0]
-        if not 1 <= p <= 9_999_999:
-            return [7, 0, 0]
-        self.prices[line] = p
-        return [0, 0, 0]
-
-    def trade(self, line, q, p, seller, buyer):
-        if line > self.n:
-            return [6, 0, 0]
-        if not (1 <= q <= 999_999_999 and 1 <= p <= 9_999_999):
-            return [7, 0, 0]
-        if not (1 <= seller < self.accounts and 1 <= buyer < self.accounts) or seller == buyer:
-            return [8, 0, 0]
-        lots = self.lots[seller][line]
-        if q > lots[2] + lots[0]:
-            return [9, 0, 0]
-        if self.cash[buyer] < q * p:
-            return [10, 0, 0]
-        from_got = min(q, lots[2])
-        lots[2] -= from_got
-        lots[0] -= q - from_got
-        self.lots[buyer][line][1] += q
-        self.cash[buyer] -= q * p
-        self.cash[seller] += q * p
-        return [0, 0, 0]
-
-    def reference(self):
-        """The reference value, None where it doesn't exist."""
-        total = 10 * self.fund["estimated_cash"]
-        for (_, q, flag, _, amount), p in zip(self.parts, self.prices):
-            if flag in PRICED and q > 0 and p == 0:
-                return None
-            total += q * p if flag in PRICED else amount
-        if total < 0:
-            return None
-        value = rounded(total * 10, self.fund["basket_size"])
-        return value if value <= 9_999_999 else None
-
-    def value(self):
-        value = self.reference()
-        return [14, 0, 0] if value is None else [0, 0, value]
-
-    def stopped(self, a, units, creates):
-        """8, 11, 12, 13."""
-        size = self.fund["basket_size"]
-        if not 1 <= a < self.accounts:
-            return 8
-        if units % size or not 1 <= units // size <= 20:
-            return 11
-        if self.fund["switch"] not in ((1, 2) if creates else (1, 3)):
-            return 12
-        counts, others = (self.created, self.redeemed) if creates else (self.redeemed, self.created)
-        wide, own = sum(counts) + units, counts[a] + units
-        after = [wide, own, wide - sum(others), own - others[a]]
-        limit = self.fund["limits"][0 if creates else 1::2]
-        if wide > CEILING or any(x > top > 0 for x, top in zip(after, limit)):
-            return 13
-        return 0
-
-    def records(self, units, moved, cash, creates):
-        """moved: the stock of each component; cash: Shanghai and other."""
-        g, stock, rest = self.fund["first_code"], S if creates else B, B if creates else S
-        out = [[g, rest, units, 0, 0]]
-        out += [[part[0], stock, q, 0, 0] for part, q in zip(self.parts, moved) if q > 0]
-        for code, c in ((g + 5, cash[False]), (g + 2, cash[True])):
-            split = [] if c == 0 else [[1, c]] if c < 10**6 else [[10**6, c // 10**6], [1, c % 10**6]]
-            out += [[code, rest, q, p, q * p] for q, p in split]
-        return out + [[g + 1, rest, units, 0, 0]]
-
-    def create(self, a, units, room):
-        if number := self.stopped(a, units, True):
-            return [number, 0, 0], []
-        m = units // self.fund["basket_size"]
-        moved, cash, missing = [0] * self.n, {True: 0, False: 0}, 0
-        short = [max(0, m * q - self.lots[a][i][0] - self.lots[a][i][1]) for i, (_, q, *_) in enumerate(self.parts)]
-        for i, (_, q, flag, rate, amount) in enumerate(self.parts):
-            if flag in MOVES and flag not in IN_CASH and short[i]:
-                return [9, i, 0], []
-        for i, (_, q, flag, rate, amount) in enumerate(self.parts):
-            if flag in MOVES:
-                moved[i] = m * q - short[i]
-                missing += short[i] * self.prices[i]
-                amount = short[i] * self.prices[i]
-            else:
-                amount *= m
-            cash[flag in SHANGHAI] += rounded(amount * (100_000 + rate), 100_000)
-        if any(short[i] for i, part in enumerate(self.parts) if part[2] in IN_CASH):
-            value = self.reference()
-            if value is None:
-                return [14, 0, 0], []
-            if missing * 10**6 > units * value * self.fund["max_cash_ratio"]:
-                return [15, 0, 0], []
-        due = cash[True] + cash[False]
-        if self.cash[a] < due:
-            return [10, 0, 0], []
-        records = self.records(units, moved, cash, True)
-        if room < 5 * len(records):
-            return [16, 0, 0], []
-        for i, q in enumerate(moved):
-            lots = self.lots[a][i]
-            from_bought = min(q, lots[1])
-            lots[1] -= from_bought
-            lots[0] -= q - from_bought
-            self.lots[0][i][0] += q
-        self.cash[a] -= due
-        self.cash[0] += due
-        self.created[a] += units
-        self.lots[a][self.n][2] += units
-        return [0, 0, len(records)], records
-
-    def redeem(self, a, units, room):
-        if number := self.stopped(a, units, False):
-            return [number, 0, 0], []
-        m = units // self.fund["basket_size"]
-        lots = self.lots[a][self.n]
-        if units > lots[0] + lots[1]:
-            return [9, 0, 0], []
-        moved, cash = [0] * self.n, {True: 0, False: 0}
-        for i, (_, q, flag, rate, amount) in enumerate(self.parts):
-            if flag in MOVES:
-                moved[i] = m * q
-            else:
-                cash[flag in SHANGHAI] += rounded(m * amount * (100_000 - rate), 100_000)
-        for i, q in enumerate(moved):
-            if self.lots[0][i][0] < q:
-                return [17, i, 0], []
-        paid = cash[True] + cash[False]
-        if self.cash[0] < paid:
-            return [17, self.n, 0], []
-        records = self.records(units, moved, cash, False)
-        if room < 5 * len(records):
-            return [16, 0, 0], []
-        for i, q in enumerate(moved):
-            self.lots[0][i][0] -= q
-            self.lots[a][i][2] += q
-        self.cash[0] -= paid
-        self.cash[a] += paid
-        from_bought = min(units, lots[1])
-        lots[1] -= from_bought
-        lots[0] -= units - from_bought
-        self.redeemed[a] += units
-        return [0, 0, len(records)], records
-
-
-def played(model, calls):
-    """The calls with the model's replies."""
-    for name, *args in calls:
-        answer = getattr(model, name)(*args)
-        reply, records = answer if name in ("create", "redeem") else (answer, None)
-        yield made([name, *args], reply, records or None)
-
-
 def full_day():
     """64 accounts, 300 components of all flags, orders of 20 baskets."""
     n, size = 300, 900_000
     f = fund(first_code=700_000, basket_size=size, max_cash_ratio=60_000, estimated_cash=-12_345,
              limits=[60 * size, 50 * size, 40 * size, 0, 0, 0, 0, 20 * size])
-    # codes rise by 3,001 and pass over the group; quantities 40 to 139; rates and amounts where the flag uses them
+    # codes rise by 3,001 and pass over the group; quantities 40 to 139; unlike rates, and amounts, where the flag uses them
     flags = [(0, 1, 1, 3, 0, 2, 1, 4)[i % 8] for i in range(n)]
-    parts = [[3001 * i + 11, 40 + 37 * i % 100, flag, 997 * i % 100_001 if flag in (1, 3) else 0,
+    parts = [[3001 * i + 11, 40 + 37 * i % 100, flag, *((997 * i % 100_001, 641 * i % 100_001) if flag in (1, 3) else (0, 0)),
               1_000_003 * (i + 1) if flag in (2, 3, 4) else 0] for i, flag in enumerate(flags)]
     # stock for 20 baskets and a little more, but account 3 lacks all of one flag 1 line in six, and account 4 one share of
     # component 297 (flag 1) and of 296 (flag 0). Account 3's creation makes 181 records, 905 numbers.
@@ -597,18 +503,50 @@ def full_day():
             return need - 1
         return 3 * need + i if a == 0 else need + (17 * a + i) % 90
     holdings = [x for a in range(64) for x in [10**14 + a, *(held(a, i) for i in range(n + 1))]]
-    calls = [["value"], ["create", 3, 20 * size, 1600]]
+    def create(a, units, room=1600):
+        return ["create", a, units, [room]]
+
+    def redeem(a, units, room=1600):
+        return ["redeem", a, units, [room]]
+
+    calls = [["value"], create(3, 20 * size)]
     calls += [["price", i, 5000 + 61 * i % 20_000] for i in range(n)]
     calls += [["value"], ["trade", 2, 30, 5000, 9, 3], ["trade", n, 7, 900_000, 63, 1], ["trade", n, 26 * size, 1, 63, 1]]
-    calls += [["create", 4, 20 * size, 1600], ["trade", 296, 1, 1, 63, 4], ["create", 4, 20 * size, 1600]]
-    calls += [["create", 3, 20 * size, 904], ["create", 3, 20 * size, 905], ["create", 3, size, 1600]]
-    calls += [["redeem", 63, 20 * size, 1600], ["redeem", 63, 20 * size, 1600], ["redeem", 62, 20 * size, 1600]]
-    calls += [["redeem", 61, 20 * size, 1600], ["create", 63, size, 1600], ["create", 62, 20 * size, 1600]]
+    calls += [create(4, 20 * size), ["trade", 296, 1, 1, 63, 4], create(4, 20 * size), create(3, 20 * size, 904)]
+    calls += [create(3, 20 * size, 905), create(3, size), redeem(63, 20 * size), redeem(63, 20 * size), redeem(62, 20 * size)]
+    calls += [redeem(61, 20 * size), create(63, size), create(62, 20 * size)]
     calls += [["trade", 0, 5, 77, 62, 61], ["trade", n, 100, 77, 4, 61], ["value"]]
-    model = Model(64, f, parts, holdings)
-    done = list(played(model, calls))
-    return {"accounts": 64, "count": n, "fund": f, "components": parts, "holdings": holdings, "opening": [0, 0, 0],
-            "calls": done, "book": model.book(), "prices": model.prices}
+    return played({"accounts": 64, "count": n, "fund": f, "components": parts, "holdings": holdings, "opening": [0, 0],
+                   "calls": [{"call": c} for c in calls]})
+
+
+# ---- the model
+
+
+def left(v, call):
+    """What the model makes of a call on a state: the reply, the records, and the runs that are other than before."""
+    model = Model.on_state(v)
+    [made] = model.played([call])
+    after = {"book": model.book(), "prices": model.prices}
+    changed = {name: run for name, run in after.items() if run != v[name]}
+    return {**made, "after": changed} if changed else made
+
+
+def with_after(v):
+    """A state whose accepted calls have what they leave. But for 5 the model must give what is said by hand."""
+    calls = [c if c["reply"][0] == 5 else left(v, c["call"]) for c in v["calls"]]
+    for c, found in zip(v["calls"], calls):
+        assert {key: found.get(key) for key in c} == c and ("records" in c) == ("records" in found), (v, c, found)
+    return {**v, "calls": calls}
+
+
+def is_model_right(vectors):
+    """Whether the model gives every answer of the vectors: days, big days, and the calls on broken days that 5 does not refuse."""
+    big = [unfolded(v) for v in vector_files.rows(vectors / "big_days.jsonl")]
+    days = [played(v) == v for v in vector_files.rows(vectors / "days.jsonl")]
+    calls = [left(v, c["call"]) == c for v in vector_files.rows(vectors / "broken_days.jsonl") for c in v["calls"] if c["reply"][0] != 5]
+    print(f"the model answers {len(big)} big days, {sum(days)} of {len(days)} days and {sum(calls)} of {len(calls)} calls as the vectors")
+    return all(days) and all(calls)
 
 
 def is_covered(files):
@@ -621,15 +559,17 @@ def is_covered(files):
 
 def main():
     parser = argparse.ArgumentParser()
+    parser.add_argument("vectors", type=Path)
     parser.add_argument("out", type=Path)
     args = parser.parse_args()
-    states = (sound_ends, trades, limits, switches_and_baskets, values, ratios, places, meetings, paper_cases, full_states)
-    files = {"openings": list(openings()), "days": [full_day()], "broken_days": [v for rows in states for v in rows()],
-             "chains": list(chains())}
+    assert is_model_right(args.vectors)
+    states = (sound_ends, trades, limits, switches_and_baskets, values, ratios, places, meetings, paper_cases, rates, full_states)
+    files = {"openings": list(openings()), "days": [full_day()],
+             "broken_days": [with_after(v) for rows in states for v in rows()], "chains": list(chains())}
     assert is_covered(files)
     args.out.mkdir(parents=True, exist_ok=True)
     for name, rows in files.items():
-        (args.out / f"{name}.jsonl").write_text("".join(json.dumps(v) + "\n" for v in rows))
+        vector_files.save(args.out / f"{name}.jsonl", rows)
         print(f"{name}: {len(rows)} rows, {sum(len(v.get('calls', [])) for v in rows)} calls")
 
 

@@ -1,11 +1,13 @@
-"""A model of the list text, written from document 01 alone; it shares nothing with the day book.
+"""A model of the list text, written from document 01 and change request 1 alone; it shares nothing with the day book.
 
 `read` answers a text and a lent component run of so many numbers, `write` a list and a lent output of so many bytes. A list
-is a dict in the form of the vectors (vectors/README.md): money counts its last decimal, names and a list's letters are
-hexadecimal. Python's numbers have no upper end.
+is a dict in the form of the vectors (vectors/README.md): money counts its last decimal; a component is code, quantity, flag,
+premium, discount, amount. Python's numbers have no upper end.
 """
 import datetime
 import re
+
+from vector_files import numbers
 
 WHOLE = rb"(?:0|[1-9][0-9]*)"
 CASH = range(-999_999_999, 9_999_999_999 + 1)
@@ -36,18 +38,24 @@ HEAD = [
 ]
 
 # A component's fields: start and width in its line, and the form of its characters.
+CODE, NAME, QUANTITY, FLAG, PREMIUM, DISCOUNT, AMOUNT = range(7)
 COLUMNS = [
     (0, 6, rb"[0-9]{6}"),
     (7, 8, rb"[^|\r\n]{8}"),
     (16, 8, rb" *" + WHOLE),
     (25, 1, rb"[0-9]"),
     (27, 7, rb" *" + WHOLE + rb"\.[0-9]{5}"),
-    (35, 12, rb" *" + WHOLE + rb"\.[0-9]{3}"),
+    (35, 7, rb" *" + WHOLE + rb"\.[0-9]{5}"),
+    (43, 12, rb" *" + WHOLE + rb"\.[0-9]{3}"),
 ]
-ROW = re.compile(rb"(?s).{6}\|.{8}\|.{8}\|.\|.{7}\|.{12}\|")
+ROW_WIDTH = 56
+ROW = re.compile(rb"(?s).{6}\|.{8}\|.{8}\|.\|.{7}\|.{7}\|.{12}\|")
 
-# The flags that use a rate, and those that use an amount.
-USES = {4: (1, 3), 5: (2, 3, 4)}
+# The flags that use a rate, the premium and the discount alike, and those that use an amount.
+USES = {PREMIUM: (1, 3), DISCOUNT: (1, 3), AMOUNT: (2, 3, 4)}
+
+# The numbers of a component.
+COMPONENT_WIDTH = 6
 
 FUND = ["first_code", "basket_size", "max_cash_ratio", "switch", "estimated_cash"]
 OTHERS = ["publish", "trading_day", "pre_trading_day", "cash_component", "nav_per_cu", "nav", "count"]
@@ -86,11 +94,14 @@ def others_fit(v):
 
 
 def component_fits(g, parts, i):
-    code, quantity, flag, rate, amount = parts[i]
+    code, quantity, flag, premium, discount, amount = parts[i]
+
+    def fits(x, most, k):
+        return x in range(most + 1) if flag in USES[k] else x == 0
+
     return (code in range(1_000_000) and code not in range(g, g + 6) and (i == 0 or parts[i - 1][0] < code)
-            and quantity in range(100_000_000) and flag in range(5)
-            and (rate in range(100_001) if flag in USES[4] else rate == 0)
-            and (amount in range(100_000_000_000) if flag in USES[5] else amount == 0))
+            and quantity in range(100_000_000) and flag in range(5) and fits(premium, 100_000, PREMIUM)
+            and fits(discount, 100_000, DISCOUNT) and fits(amount, 99_999_999_999, AMOUNT))
 
 
 # ---- reading
@@ -138,12 +149,12 @@ def head_value(k, value, place):
 
 def component(line, place):
     """A component line's numbers."""
-    flag, out = line[25:26], []
+    flag, out = line[COLUMNS[FLAG][0]:][:1], []
     for k, (start, width, form) in enumerate(COLUMNS):
         field = line[start:start + width]
         is_blank = k in USES and flag not in [b"%d" % x for x in USES[k]]
         refuse(not re.fullmatch(rb" *" if is_blank else form, field), 19, place + start)
-        if k != 1:
+        if k != NAME:
             out.append(0 if is_blank else number(field.strip()))
     return out
 
@@ -160,14 +171,14 @@ def read_list(text, room):
     for k, (name, key, *_) in enumerate(HEAD):
         at, line = starts[k + 1], line_at(text, starts[k + 1])
         values[key] = head_value(k, line[len(name) + 1:], at + len(name) + 1)
-    parts = [component(text[at:at + 48], at) for at in starts[22:]]
+    parts = [component(text[at:at + ROW_WIDTH], at) for at in starts[22:]]
     v = listing(values, parts)
     refuse(v["count"] not in range(1, 301) or v["count"] != len(parts), 20)
     refuse(values["fundid"] == 0 or not fund_fits(v) or not others_fit(v), 2)
     for i in range(len(parts)):
         refuse(not component_fits(v["fund"]["first_code"], parts, i), 3, i)
-    refuse(room < 5 * len(parts), 16)
-    return {"letters": letters(text).decode(), **v, "name_places": [at + 7 for at in starts[22:]]}
+    refuse(room < COMPONENT_WIDTH * len(parts), 16)
+    return {"letters": letters(text), **v, "name_places": [at + COLUMNS[NAME][0] for at in starts[22:]]}
 
 
 def read(text, room):
@@ -190,7 +201,8 @@ def name(text, j):
         rows = lines_of(text)[22:]
     except Refused:
         return b""
-    return text[rows[j] + 7:rows[j] + 15] if j < len(rows) else b""
+    start, width, _ = COLUMNS[NAME]
+    return text[rows[j] + start:][:width] if j < len(rows) else b""
 
 
 # ---- writing
@@ -214,20 +226,23 @@ def head_text(v, key, decimals):
 
 def head_lines(v):
     """The first line, the lines name=value, and TAGTAG."""
-    return [b"[ETF" + bytes.fromhex(v["letters"]) + b"]",
+    return [b"[ETF" + v["letters"] + b"]",
             *(f"{name}={head_text(v, key, decimals)}".encode() for name, key, decimals, _ in HEAD), b"TAGTAG"]
 
 
 def row(part, name):
-    code, quantity, flag, rate, amount = part
-    used = pointed(rate, 5) if flag in USES[4] else "", pointed(amount, 3) if flag in USES[5] else ""
-    return b"%06d|%s|%8d|%d|%7s|%12s|" % (code, name, quantity, flag, *(x.encode() for x in used))
+    code, quantity, flag, premium, discount, amount = part
+
+    def cell(x, decimals, k):
+        return pointed(x, decimals).encode() if flag in USES[k] else b""
+
+    return b"%06d|%s|%8d|%d|%7s|%7s|%12s|" % (code, name, quantity, flag, cell(premium, 5, PREMIUM), cell(discount, 5, DISCOUNT),
+                                              cell(amount, 3, AMOUNT))
 
 
 def lines(v):
     """All lines of a list's text."""
-    names = bytes.fromhex(v["names"])
-    rows = [row(part, names[8 * i:8 * i + 8]) for i, part in enumerate(v["components"])]
+    rows = [row(part, v["names"][8 * i:8 * i + 8]) for i, part in enumerate(v["components"])]
     return [*head_lines(v), *rows, b"ENDENDEND"]
 
 
@@ -236,13 +251,12 @@ def text_of(lines):
 
 
 def write_list(v, room):
-    n, names = v["count"], bytes.fromhex(v["names"])
-    numbers = [x for part in v["components"] for x in part]
-    refuse(n not in range(1, 301) or len(numbers) != 5 * n or len(names) != 8 * n, 1)
-    is_right = re.fullmatch(rb"[0-9A-Za-z]{1,8}", bytes.fromhex(v["letters"]))
+    n, names = v["count"], v["names"]
+    refuse(n not in range(1, 301) or len(numbers(v["components"])) != COMPONENT_WIDTH * n or len(names) != 8 * n, 1)
+    is_right = re.fullmatch(rb"[0-9A-Za-z]{1,8}", v["letters"])
     refuse(not fund_fits(v) or not others_fit(v) or not is_right, 2)
     for i in range(n):
-        is_name = re.fullmatch(COLUMNS[1][2], names[8 * i:8 * i + 8])
+        is_name = re.fullmatch(COLUMNS[NAME][2], names[8 * i:8 * i + 8])
         refuse(not is_name or not component_fits(v["fund"]["first_code"], v["components"], i), 3, i)
     text = text_of(lines(v))
     refuse(room < len(text), 16)
@@ -250,9 +264,9 @@ def write_list(v, room):
 
 
 def write(v, room):
-    """The reply, and where it is written the text."""
+    """The reply, and where it is written the count of its bytes and the text."""
     try:
         text = write_list(v, room)
     except Refused as why:
         return {"reply": list(why.args)}
-    return {"reply": [0, 0], "text": text.hex()}
+    return {"reply": [0, 0, len(text)], "text": text}

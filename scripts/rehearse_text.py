@@ -3,23 +3,22 @@
 
     rehearse_text.py examples/day.txt > rust/roffelaine-cli/tests/days/example.out
 
-Answers come from `Model` of edge_vectors.py, which is written from the paper alone and shares nothing with the day book; words
+Answers come from `Model` of day_model.py, which is written from the papers alone and shares nothing with the day book; words
 and figures of refusals are computed here from that model. The list is taken as well written. Of a line that is not understood
 only the start is written, and ` ..` for the rest.
 """
+import copy
 import re
 import sys
 
-from edge_vectors import E18, Model
+from day_model import CEILING, E18, ORDERS, PRICED, Model
 
 HEAD = ("Fundid1 CreationRedemptionUnit MaxCashRatio Publish CreationRedemption Recordnum EstimateCashComponent TradingDay "
         "PreTradingDay CashComponent NAVperCU NAV CreationLimit RedemptionLimit CreationLimitPerUser RedemptionLimitPerUser "
         "NetCreationLimit NetRedemptionLimit NetCreationLimitPerUser NetRedemptionLimitPerUser").split()
 END = b"ENDENDEND\r\n"
 MOST = 2**64 - 1
-ALL = 1600  # the numbers of a list that takes the records of any order
-CEILING = 999_999_999_999
-PRICED = (0, 1, 3)
+ALL = [1600]  # the rooms of lists that take the records of any order, in numbers
 SWITCHES = ("neither creation nor redemption", "creation and redemption", "creation only", "redemption only")
 SHAPES = {
     "accounts": "n", "cash": "nm", "hold": "ncn", "open": "", "price": "cm", "trade": "cnmnn",
@@ -37,8 +36,8 @@ def read_list(text):
             "estimated_cash": whole["EstimateCashComponent"], "limits": [whole[k] for k in HEAD[12:]]}
     parts = []
     for line in lines[22:-2]:
-        code, _, q, flag, rate, amount, _ = line.split("|")
-        parts.append([int(code), int(q), int(flag), *(int(x.replace(".", "").strip() or 0) for x in (rate, amount))])
+        code, _, q, flag, *used, _ = line.split("|")
+        parts.append([int(code), int(q), int(flag), *(int(x.replace(".", "").strip() or 0) for x in used)])
     return fund, parts
 
 
@@ -132,7 +131,7 @@ class Rehearsal:
         if name == "value":
             return self.day.value(), []
         account, units, *room = words
-        return getattr(self.day, name)(account, units, 5 * room[0] if room else ALL)
+        return getattr(self.day, name)(account, units, [5 * room[0]] if room else ALL)
 
     def answered(self, k, name, reply, records, why):
         self.last = (name, reply)
@@ -206,7 +205,7 @@ class Rehearsal:
         for (code, q, flag, *_), price in zip(self.parts, self.day.prices):
             if flag in PRICED and q and not price:
                 return f"{code:06} has no price"
-        worth = sum(q * p if flag in PRICED else x for (_, q, flag, _, x), p in zip(self.parts, self.day.prices))
+        worth = sum(q * p if flag in PRICED else x for (_, q, flag, _, _, x), p in zip(self.parts, self.day.prices))
         return "the basket is worth less than 0" if worth + 10 * self.fund["estimated_cash"] < 0 \
             else "the value would be above 999.9999"
 
@@ -260,7 +259,6 @@ class Rehearsal:
 
     def scratch(self, a, units, creates, ample=None):
         """How many records the order makes, and its cash, on a copy of the day; with ample cash where it is short."""
-        import copy
         d = copy.deepcopy(self.day)
         if ample is not None:
             d.cash[a] = d.cash[0] = ample
@@ -315,7 +313,7 @@ class Rehearsal:
             name, reply = self.last
             if kind == "refused" and reply[0] and reply[:len(words)] == words:
                 return None
-            count = [reply[2]] if name in ("create", "redeem") else []
+            count = [reply[2]] if name in ORDERS else []
             if kind == "ok" and not reply[0] and words in ([], count):
                 return None
             end = f"refused {reply[0]} {reply[1]}" if reply[0] else " ".join(["ok", *map(str, count)])
@@ -350,7 +348,7 @@ class Rehearsal:
         if name == "expect":
             return self.expect(k, texts)
         shape = SHAPES.get(name)
-        if shape is None or not (len(texts) == len(shape) or name in ("create", "redeem") and len(texts) == 3):
+        if shape is None or not (len(texts) == len(shape) or name in ORDERS and len(texts) == 3):
             return False
         words = [word(kind, t) for kind, t in zip(shape + "n", texts)]
         if None in words:

@@ -3,9 +3,9 @@
 
     text_vectors.py TEXTS LISTS VECTORS..
 
-Each folder VECTORS has texts.jsonl, parts.jsonl and writings.jsonl, or some of them, one JSON object to a line
-(vectors/README.md says what is in them). The script writes stdin and stdout to the folders TEXTS and LISTS. What is expected
-comes from the vectors, and the text of a list that was read from list_model.py.
+Each folder VECTORS has texts.jsonl, parts.jsonl and writings.jsonl, or some of them (vectors/README.md says what is in them).
+The script writes stdin and stdout to the folders TEXTS and LISTS. What is expected comes from the vectors, and the text of a list
+that was read from list_model.py.
 
 The input is items, as in vector_text.py; the library crate `program_texts` reads them. Bytes are numbers.
 
@@ -48,11 +48,12 @@ and for a list
 A list that was read is written with the names of its head as they are listed; nothing else of its text may change.
 """
 import argparse
-import json
 from pathlib import Path
 
+import vector_files
 import vector_text
-from list_model import HEAD, lines, text_of
+from list_model import COLUMNS, COMPONENT_WIDTH, HEAD, NAME, ROW_WIDTH, lines, text_of
+from vector_files import numbers
 from vector_text import cut, item, line, save
 
 vector_text.TAGS.update({"text": 1, "changed": 2, "grown": 3, "parts": 4, "list": 5})
@@ -80,10 +81,6 @@ def fields(v):
             v["count"]]
 
 
-def numbers(v):
-    return [x for part in v["components"] for x in part]
-
-
 def canonical(text):
     """The text with the names of its head as they are listed."""
     head, *rest = text.split(b"\r\n")
@@ -106,7 +103,7 @@ def byte_sum(text):
 
 def written(v, text, names):
     """What is printed of the list written again: the model's text of it, which must be the text that was read."""
-    new = text_of(lines({**v, "letters": v["letters"].encode().hex(), "names": bytes(names).hex()}))
+    new = text_of(lines({**v, "names": bytes(names)}))
     assert new == canonical(text)
     shown = line("text", *new) if len(new) <= SHOWN else line("alike", alike(text, new))
     return [line("written", 0, 0, len(new)), shown, line("sum", byte_sum(new))]
@@ -115,10 +112,11 @@ def written(v, text, names):
 def handed_back(v, text):
     """What is printed of a list that was read."""
     places = v["name_places"]
-    assert places == [places[0] + 50 * i for i in range(v["count"])]
-    names = [x for at in places for x in text[at:at + 8]]
-    return ["rest same", line("fields", *fields(v)), line("first", places[0] - 7), line("components", *numbers(v)),
-            line("letters", *v["letters"].encode()), line("names", *names), *written(v, text, names)]
+    start, width, _ = COLUMNS[NAME]
+    assert places == [places[0] + (ROW_WIDTH + 2) * i for i in range(v["count"])]
+    names = [x for at in places for x in text[at:at + width]]
+    return ["rest same", line("fields", *fields(v)), line("first", places[0] - start), line("components", *numbers(v["components"])),
+            line("letters", *v["letters"]), line("names", *names), *written(v, text, names)]
 
 
 def change(base, text):
@@ -143,33 +141,33 @@ class Texts:
 
     def reading(self, row, v):
         """A text, whole, changed or long: the item, and what is printed."""
-        room = v["room"] if "room" in v else 5 * v["capacity"]
+        room = v["room"] if "room" in v else COMPONENT_WIDTH * v["capacity"]
         if "times" in v:
-            front, part, tail = (bytes.fromhex(v[key]) for key in ("front", "part", "tail"))
+            front, part, tail = v["front"], v["part"], v["tail"]
             text = front + part * v["times"] + tail
             into = item("grown", [row, room, v["times"], len(front), len(part)], *split(front), *split(part), *split(tail))
         else:
-            text = bytes.fromhex(v["text"])
+            text = v["text"]
             into = self.text(row, room, text)
         number, place = v["reply"]
         head = [line("row", row), line("read", number, place, 0 if number else v["count"])]
         return into, [*head, *(["same"] if number else handed_back(v, text))]
 
     def asking(self, row, v):
-        place, gone, come = change(self.base, bytes.fromhex(v["text"]))
+        place, gone, come = change(self.base, v["text"])
         into = item("parts", [row, v["component"], place, gone], *split(come))
-        return into, [line("row", row), line("letters", *bytes.fromhex(v["letters"])), line("name", *bytes.fromhex(v["name"]))]
+        return into, [line("row", row), line("letters", *v["letters"]), line("name", *v["name"])]
 
 
 def writing(row, v):
-    names, letters = bytes.fromhex(v["names"]), bytes.fromhex(v["letters"])
-    head = [row, v["output_length"], len(numbers(v)), len(names)]
-    into = item("list", head, fields(v), *v["components"], *cut(names, 8), letters)
-    number, place = v["reply"]
+    names, text = v["names"], v.get("text", b"")
+    head = [row, v["output_length"], len(numbers(v["components"])), len(names)]
+    into = item("list", head, fields(v), *v["components"], *cut(names, 8), v["letters"])
+    number, place, *size = v["reply"]
     if number:
         return into, [line("row", row), line("write", number, place, 0), "same"]
-    text = bytes.fromhex(v["text"])
-    return into, [line("row", row), line("write", 0, 0, len(text)), line("text", *text), "rest same",
+    assert size == [len(text)]
+    return into, [line("row", row), line("write", *v["reply"]), line("text", *text), "rest same",
                   line("read", 0, 0, v["count"]), "back same"]
 
 
@@ -179,7 +177,7 @@ def played(folders, kinds):
     for folder in folders:
         for file, made in kinds.items():
             path = folder / f"{file}.jsonl"
-            vectors = [json.loads(text) for text in path.read_text().splitlines()] if path.exists() else []
+            vectors = vector_files.rows(path)
             for row, v in enumerate(vectors, row + 1):
                 given, printed = made(row, v)
                 into += given

@@ -1,44 +1,33 @@
 #!/usr/bin/env python3
 """Writes test vectors as rows that the proof checker computes.
 
-    vector_rows.py VECTORS SCRATCH [--chunk ROWS] [--largest NUMBERS]
+    vector_rows.py VECTORS SCRATCH [--chunk ROWS] [--text-chunk ROWS] [--largest NUMBERS]
 
-SCRATCH is a copy of the repository (crates.txt and crates/). The script adds the crate `rows` to it: the lines of
-openings.jsonl, days.jsonl and broken_days.jsonl of VECTORS as rows in SCRATCH/crates/rows/specs, and in each file one
-theorem, `rows-right : all right rows ≡ true`, by `refl`. `rt check rows` in SCRATCH then computes the definitions on
-every row, and refuses each file that has a row which differs.
+SCRATCH is a copy of the repository (crates.txt and crates/). The script adds two crates to it: `rows`, the lines of
+openings.jsonl, days.jsonl and broken_days.jsonl of VECTORS, and `rows_of_texts`, those of texts.jsonl and writings.jsonl. Each
+has its lines as rows in specs/, and in each file one theorem, `rows-right : all right rows ≡ true`, by `refl`. `rt check rows`
+and `rt check rows_of_texts` in SCRATCH then compute the definitions on every row, and refuse each file that has a row which
+differs.
 
---chunk is the most rows to a file: with 1 a refusal names its row. --largest leaves out days whose book has more
-numbers than that: the checker takes a limited number of steps for each theorem.
+--chunk is the most rows of a day's file to a module, --text-chunk of a file of texts: with 1 a refusal names its row. --largest
+leaves out rows whose book or text has more numbers or bytes than that: the checker takes a limited number of steps for each
+theorem.
 """
 import argparse
-import json
 import re
 import shutil
 from pathlib import Path
 
-# The crates whose definitions are computed: what `rows` may use.
-CRATES = ["sequences", "units", "lots", "flags", "digits", "layout", "fund", "rules", "balance"]
+import vector_files
+from vector_files import numbers, opened_book
 
-FILES = ["openings", "days", "broken_days"]
+ORDERS = ("create", "redeem")
+COMPONENT_WIDTH = 6
+NAME_AT = 7  # where the name starts in a component line
 
-# What a row is, and when it is right.
-ROWS = """\
--- Rows of test vectors, and when a row is right.
-use Prim.Native.Nat.{ℕ, zero, suc, _+_}
-use mathlib.Core.Bool.{Bool, true, false, _||_}
-use mathlib.Core.List.{List, [], _∷_, _++_}
-use lib.Dec.{eqb}
-use lib.IntN.{ℤ}
-use lib.ListN.{length, take, drop, replicate}
-use Rattle.sequences.specs.Checks.{Reply}
-use Rattle.layout.specs.declared.Fund.{Fund}
-use Rattle.layout.specs.declared.Component.{Component}
-use Rattle.layout.specs.Places.{dayWidth}
-use Rattle.layout.specs.Day.{Day}
-use Rattle.rules.specs.Opening.{Opening, openingReply, openedDay, openedBook, openedPrices}
-use Rattle.balance.specs.Calls.{State, Call, Result, step}
+# ---- what a row is, and when it is right
 
+SHARED = """\
 abbrev pub both : Bool → Bool → Bool
 both true b = b
 both false b = false
@@ -57,13 +46,44 @@ abbrev pub fund : ℕ → ℕ → ℕ → ℕ → ℤ → List ℕ → Fund
 fund g u x w e ls =
     record { «first_code» = g; «basket_size» = u; «max_cash_ratio» = record { 0 = x }; switch = w; «estimated_cash» = e; limits = ls }
 
-abbrev pub component : ℕ → ℕ → ℕ → ℕ → ℕ → Component
-component code q flag r p = record { code = code; quantity = q; flag = flag; rate = record { 0 = r }; amount = record { 0 = p } }
+-- what a lent run of so many places has before a call, no two alike
+abbrev pub lent : ℕ → List ℕ
+lent zero = []
+lent (suc room) = (900_000_001 + room) ∷ lent room
+
+-- such a run after a call: what was written, and then what was there
+abbrev pub lentRight : List ℕ → ℕ → List ℕ → Bool
+lentRight after room written = same after (written ++ drop (length written) (lent room))
+
+abbrev pub replyRight : Reply → List ℕ → Bool
+replyRight r want = same (r .number ∷ r .place ∷ r .value ∷ []) want
+"""
+
+DAY_ROWS = """\
+-- Rows of test vectors, and when a row is right.
+use Prim.Native.Nat.{ℕ, zero, suc, _+_}
+use mathlib.Core.Bool.{Bool, true, false}
+use mathlib.Core.List.{List, [], _∷_, _++_}
+use lib.Dec.{eqb}
+use lib.IntN.{ℤ}
+use lib.ListN.{length, drop, replicate}
+use Rattle.sequences.specs.Checks.{Reply}
+use Rattle.layout.specs.declared.Fund.{Fund}
+use Rattle.layout.specs.declared.Component.{Component}
+use Rattle.layout.specs.Places.{dayWidth}
+use Rattle.layout.specs.Day.{Day}
+use Rattle.rules.specs.Opening.{Opening, openingReply, openedDay, openedBook, openedPrices}
+use Rattle.balance.specs.Calls.{State, Call, step}
+
+""" + SHARED + """
+abbrev pub component : ℕ → ℕ → ℕ → ℕ → ℕ → ℕ → Component
+component code q flag premium discount amount =
+    record { code = code; quantity = q; flag = flag; premium = record { 0 = premium }; discount = record { 0 = discount }; amount = record { 0 = amount } }
 
 -- accounts, count, fund, components, holdings, and the lengths of the lent book and prices
 abbrev pub opening : ℕ → ℕ → Fund → List ℕ → List ℕ → ℕ → ℕ → Opening
 opening a n f cs hs b ps =
-    record { accounts = a; count = n; fund = f; components = cs; holdings = hs; book = replicate b 7; prices = replicate ps 7; day = replicate dayWidth 7 }
+    record { accounts = a; count = n; fund = f; components = cs; holdings = hs; book = lent b; prices = lent ps; day = replicate dayWidth 7 }
 
 abbrev pub state : Day → List ℕ → List ℕ → State
 state d b ps = record { day = d; book = b; prices = ps }
@@ -72,65 +92,123 @@ state d b ps = record { day = d; book = b; prices = ps }
 pub data Made : Type 0 where
   made : Call → ℕ → List ℕ → List ℕ → Made
 
+-- what a call leaves in a run: what was there, or these numbers
+pub data Left : Type 0 where
+  kept : Left
+  holds : List ℕ → Left
+
+-- a call, and what it leaves in the book and the prices
+pub data Met : Type 0 where
+  met : Made → Left → Left → Met
+
 pub data Row : Type 0 where
-  -- an opening and its reply
-  opens : Opening → List ℕ → Row
+  -- an opening, its reply, and what it leaves in the book and the prices
+  opens : Opening → List ℕ → Left → Left → Row
   -- an opening, its reply, the calls of the day in order, and the book and the prices at the end
   plays : Opening → List ℕ → List Made → List ℕ → List ℕ → Row
   -- a state, and calls that are each made on it anew
-  meets : State → List Made → Row
+  meets : State → List Met → Row
 
--- what a lent record list of so many numbers has before a call, no two alike
-abbrev pub lent : ℕ → List ℕ
-lent zero = []
-lent (suc room) = (900_000_001 + room) ∷ lent room
+abbrev pub leftRight : List ℕ → List ℕ → Left → Bool
+leftRight before after kept = same after before
+leftRight before after (holds want) = same after want
 
-abbrev pub replyRight : Reply → List ℕ → Bool
-replyRight r want = same (r .number ∷ r .place ∷ r .value ∷ []) want
-
--- the whole list after a call: what was written, and then what was there
-abbrev pub listRight : Result → ℕ → List ℕ → Bool
-listRight r room written = same (r .lent .records) (written ++ drop (length written) (lent room))
-
-abbrev pub stateRight : State → List ℕ → List ℕ → Bool
-stateRight s book prices = both (same (s .book) book) (same (s .prices) prices)
+abbrev pub openingRight : Opening → List ℕ → Left → Left → Bool
+openingRight o want book prices =
+    both (replyRight (openingReply o) want)
+    (both (leftRight (o .book) (openedBook o) book) (leftRight (o .prices) (openedPrices o) prices))
 
 abbrev pub dayRight : State → List Made → List ℕ → List ℕ → Bool
-dayRight s [] book prices = stateRight s book prices
+dayRight s [] book prices = both (same (s .book) book) (same (s .prices) prices)
 dayRight s (made c room want written ∷ ms) book prices =
     let r = step s c (record { records = lent room }) in
-    both (both (replyRight (r .reply) want) (listRight r room written)) (dayRight (r .after) ms book prices)
+    both (both (replyRight (r .reply) want) (lentRight (r .lent .records) room written)) (dayRight (r .after) ms book prices)
 
--- b where the reply is a refusal
-abbrev pub whereRefused : List ℕ → Bool → Bool
-whereRefused want b = same (take 1 want) (0 ∷ []) || b
-
--- a refusal leaves what was there; of an accepted call the vectors have only the reply
-abbrev pub callRight : State → Made → Bool
-callRight s (made c room want written) =
+abbrev pub callRight : State → Met → Bool
+callRight s (met (made c room want written) book prices) =
     let r = step s c (record { records = lent room }) in
-    both (replyRight (r .reply) want) (whereRefused want (both (listRight r room []) (stateRight (r .after) (s .book) (s .prices))))
-
-abbrev pub openingRight : Opening → List ℕ → Bool
-openingRight o want =
-    both (replyRight (openingReply o) want) (whereRefused want (both (same (openedBook o) (o .book)) (same (openedPrices o) (o .prices))))
+    both (both (replyRight (r .reply) want) (lentRight (r .lent .records) room written))
+    (both (leftRight (s .book) (r .after .book) book) (leftRight (s .prices) (r .after .prices) prices))
 
 abbrev pub right : Row → Bool
-right (opens o want) = openingRight o want
+right (opens o want book prices) = openingRight o want book prices
 right (plays o want ms book prices) =
-    both (openingRight o want) (dayRight (state (openedDay o) (openedBook o) (openedPrices o)) ms book prices)
+    both (replyRight (openingReply o) want) (dayRight (state (openedDay o) (openedBook o) (openedPrices o)) ms book prices)
 right (meets s ms) = all (callRight s) ms
 """
 
-# A file of rows.
-FILE = """\
+TEXT_ROWS = """\
+-- Rows of test vectors of the list text, and when a row is right.
+use Prim.Native.Nat.{ℕ, zero, suc, _+_}
+use mathlib.Core.Bool.{Bool, true, false}
+use mathlib.Core.List.{List, [], _∷_, _++_}
+use lib.Dec.{eqb}
+use lib.IntN.{ℤ, pos, negsuc}
+use lib.ListN.{length, drop}
+use Rattle.sequences.specs.Checks.{Reply}
+use Rattle.layout.specs.declared.Fund.{Fund}
+use Rattle.text_rules.specs.Reading.{lettersRead}
+use Rattle.list_rules.specs.declared.ListFields.{ListFields}
+use Rattle.list_rules.specs.Reading.{readReply, fieldsHanded, firstHanded, runAfter, nameRead, nameFrom}
+use Rattle.list_rules.specs.Writing.{listing, writeReply, outputAfter}
+
+""" + SHARED + """
+-- fund, publish, trading day, previous trading day, cash component, NAV per CU, NAV, count
+abbrev pub fields : Fund → ℕ → ℕ → ℕ → ℤ → ℕ → ℕ → ℕ → ListFields
+fields f publish day before cash basket unit count =
+    record { fund = f; publish = publish; «trading_day» = day; «pre_trading_day» = before; «cash_component» = cash; «nav_per_cu» = basket; nav = unit; count = count }
+
+abbrev signed : ℤ → List ℕ
+signed (pos n) = 0 ∷ n ∷ []
+signed (negsuc n) = 1 ∷ n ∷ []
+
+abbrev flat : ListFields → List ℕ
+flat l =
+    l .fund .«first_code» ∷ l .fund .«basket_size» ∷ l .fund .«max_cash_ratio» .0 ∷ l .fund .switch
+    ∷ l .publish ∷ l .«trading_day» ∷ l .«pre_trading_day» ∷ l .«nav_per_cu» ∷ l .nav ∷ l .count
+    ∷ (signed (l .fund .«estimated_cash») ++ (signed (l .«cash_component») ++ l .fund .limits))
+
+pub data Row : Type 0 where
+  -- a text, the length of the lent component run, and the reply: refused
+  fails : List ℕ → ℕ → List ℕ → Row
+  -- the same: read, with the fields, the place of the first component line, the components, the letters, and the names
+  reads : List ℕ → ℕ → List ℕ → ListFields → ℕ → List ℕ → List ℕ → List (List ℕ) → Row
+  -- a list's fields, components, names and letters, the length of the lent output, the reply, and the text that is written
+  writes : ListFields → List ℕ → List ℕ → List ℕ → ℕ → List ℕ → List ℕ → Row
+
+-- what a text hands back besides its components: fields, and the place of the first component line
+abbrev headRight : List ℕ → ℕ → ListFields → ℕ → Bool
+headRight text room f first =
+    both (same (flat (fieldsHanded text room)) (flat f)) (same (firstHanded text room ∷ []) (first ∷ []))
+
+-- the names from the j-th on, asked for in both ways
+abbrev namesRight : List ℕ → ℕ → ℕ → List (List ℕ) → Bool
+namesRight text first j [] = both (same (nameRead text j) []) true
+namesRight text first j (name ∷ names) =
+    both (both (same (nameRead text j) name) (same (nameFrom text first j) name)) (namesRight text first (suc j) names)
+
+abbrev none : ListFields
+none = fields (fund 0 0 0 0 (pos 0) (0 ∷ 0 ∷ 0 ∷ 0 ∷ 0 ∷ 0 ∷ 0 ∷ 0 ∷ [])) 0 0 0 (pos 0) 0 0 0
+
+abbrev pub right : Row → Bool
+right (fails text room want) =
+    both (both (replyRight (readReply text room) want) (lentRight (runAfter text (lent room)) room [])) (headRight text room none 0)
+right (reads text room want f first run letters names) =
+    both (both (replyRight (readReply text room) want) (lentRight (runAfter text (lent room)) room run))
+    (both (headRight text room f first) (both (same (lettersRead text) letters) (namesRight text first 0 names)))
+right (writes f run names letters room want text) =
+    let l = listing f run names letters in
+    both (replyRight (writeReply l room) want) (lentRight (outputAfter l (lent room)) room text)
+"""
+
+# A module of rows.
+MODULE = """\
 -- {title}
 use mathlib.Core.Bool.{{true}}
 use mathlib.Core.Path.{{_≡_, refl}}
 use mathlib.Core.List.{{List, [], _∷_}}
 use lib.IntN.{{pos, negsuc}}
-use Rattle.balance.specs.Calls.{{price, trade, create, redeem, value}}
-use Rattle.rows.specs.Rows.{{all, fund, component, opening, state, Made, made, Row, opens, plays, meets, right}}
+{uses}
 
 abbrev rows : List Row
 rows =
@@ -142,47 +220,137 @@ unfolding {unfolding}
 rows-right = refl
 """
 
+DAY_USES = """\
+use Rattle.balance.specs.Calls.{price, trade, create, redeem, value}
+use Rattle.rows.specs.Rows.{all, fund, component, opening, state, made, kept, holds, met, Row, opens, plays, meets, right}"""
+
+TEXT_USES = "use Rattle.rows_of_texts.specs.Rows.{all, fund, fields, Row, fails, reads, writes, right}"
+
+# ---- rows
+
 
 def listed(items, sep=" "):
     return "(" + "".join(f"{x} ∷{sep}" for x in items) + "[])"
 
 
+def signed(x):
+    return f"(pos {x})" if x >= 0 else f"(negsuc {-x - 1})"
+
+
 def fund(f):
-    e = f["estimated_cash"]
-    cash = f"(pos {e})" if e >= 0 else f"(negsuc {-e - 1})"
-    return f"(fund {f['first_code']} {f['basket_size']} {f['max_cash_ratio']} {f['switch']} {cash} {listed(f['limits'])})"
+    return (f"(fund {f['first_code']} {f['basket_size']} {f['max_cash_ratio']} {f['switch']} {signed(f['estimated_cash'])} "
+            f"{listed(f['limits'])})")
+
+
+def opening(v, book, prices):
+    return (f"(opening {v['accounts']} {v['count']} {fund(v['fund'])} {listed(numbers(v['components']))} "
+            f"{listed(v['holdings'])} {book} {prices})")
 
 
 def made(c):
-    """A call; an order's last number is the length of the list that it is lent."""
+    """A call; an order's last argument is the length of the list that it is lent."""
     kind, *args = c["call"]
-    room = args.pop() if kind in ("create", "redeem") else 0
-    return f"made ({' '.join(map(str, [kind, *args]))}) {room} {listed(c['reply'])} {listed(c.get('records', []))}"
+    [room] = args.pop() if kind in ORDERS else [0]
+    records = c["records"] if kind in ORDERS and c["reply"][0] == 0 else []
+    return f"(made ({' '.join(map(str, [kind, *args]))}) {room} {listed(c['reply'])} {listed(records)})"
 
 
-def row(v):
-    """A line of any of the three files, told apart by what it has."""
-    calls = listed(map(made, v.get("calls", [])), "\n      ")
-    if "holdings" not in v:
-        parts = listed("component " + " ".join(map(str, c)) for c in v["components"])
-        day = f"record {{ accounts = {v['accounts']}; count = {v['count']}; fund = {fund(v['fund'])}; components = {parts} }}"
-        return f"meets (state ({day}) {listed(v['book'])} {listed(v['prices'])})\n      {calls}"
-    book = v.get("book_length", len(v.get("book", [])))
-    prices = v.get("prices_length", len(v.get("prices", [])))
-    flat = listed(x for c in v["components"] for x in c)
-    given = f"(opening {v['accounts']} {v['count']} {fund(v['fund'])} {flat} {listed(v['holdings'])} {book} {prices})"
-    if "calls" not in v:
-        return f"opens {given} {listed([*v['reply'], 0])}"
-    return f"plays {given} {listed(v['opening'])}\n      {calls}\n      {listed(v['book'])} {listed(v['prices'])}"
+def left(after, name):
+    return f"(holds {listed(after[name])})" if name in after else "kept"
 
 
-def unfoldable(crates):
+def opening_row(v):
+    given = opening(v, v["book_length"], v["prices_length"])
+    after = {} if v["reply"][0] else {"book": opened_book(v), "prices": [0] * v["count"]}
+    return f"opens {given} {listed([*v['reply'], 0])} {left(after, 'book')} {left(after, 'prices')}"
+
+
+def day_row(v):
+    given = opening(v, len(v["book"]), len(v["prices"]))
+    calls = listed(map(made, v["calls"]), "\n      ")
+    return f"plays {given} {listed([*v['opening'], 0])}\n      {calls}\n      {listed(v['book'])} {listed(v['prices'])}"
+
+
+def broken_row(v):
+    parts = listed("component " + " ".join(map(str, c)) for c in v["components"])
+    day = f"record {{ accounts = {v['accounts']}; count = {v['count']}; fund = {fund(v['fund'])}; components = {parts} }}"
+    calls = listed((f"met {made(c)} {left(c.get('after', {}), 'book')} {left(c.get('after', {}), 'prices')}" for c in v["calls"]),
+                   "\n      ")
+    return f"meets (state ({day}) {listed(v['book'])} {listed(v['prices'])})\n      {calls}"
+
+
+def fields(v):
+    return (f"(fields {fund(v['fund'])} {v['publish']} {v['trading_day']} {v['pre_trading_day']} {signed(v['cash_component'])} "
+            f"{v['nav_per_cu']} {v['nav']} {v['count']})")
+
+
+def text_row(v):
+    given = f"{listed(v['text'])} {COMPONENT_WIDTH * v['capacity']}"
+    if v["reply"][0]:
+        return f"fails {given} {listed([*v['reply'], 0])}"
+    places = v["name_places"]
+    names = listed(listed(v["text"][at:at + 8]) for at in places)
+    return (f"reads {given} {listed([*v['reply'], v['count']])}\n      {fields(v)} {places[0] - NAME_AT} "
+            f"{listed(numbers(v['components']))}\n      {listed(v['letters'])} {names}")
+
+
+def writing_row(v):
+    refused = v["reply"][0] != 0
+    lists = " ".join(map(listed, (numbers(v["components"]), v["names"], v["letters"])))
+    reply, text = ([*v["reply"], 0], b"") if refused else (v["reply"], v["text"])
+    return f"writes {fields(v)} {lists}\n      {v['output_length']} {listed(reply)}\n      {listed(text)}"
+
+
+# ---- crates
+
+# Each crate: what it may use, what a row is, what a module of rows uses, and how a line of each file becomes a row.
+CRATES = {
+    "rows": ("sequences units lots flags digits layout fund rules balance", DAY_ROWS, DAY_USES,
+             {"openings": opening_row, "days": day_row, "broken_days": broken_row}),
+    "rows_of_texts": ("sequences units lots flags digits layout fund rules lines text_rules list_rules", TEXT_ROWS, TEXT_USES,
+                      {"texts": text_row, "writings": writing_row}),
+}
+
+
+def unfoldable(crates, names):
     """Every unfoldable definition of the crates by its whole path: `refl` computes through all of them."""
     return "\n    ".join(
         f"Rattle.{crate}.specs.{path.stem}.{name}"
-        for crate in CRATES
+        for crate in names.split()
         for path in sorted((crates / crate / "specs").glob("*.antt"))
         for name in re.findall(r"^\s*unfoldable pub (\S+) :", path.read_text(), re.M))
+
+
+def size(v):
+    """How long a row's longest run is."""
+    return max(len(v.get("book", [])), len(v.get("text", b"")))
+
+
+def write_crate(name, vectors, scratch, chunk, largest):
+    """Writes a crate of rows, and how many rows and calls it has."""
+    uses, meaning, module_uses, files = CRATES[name]
+    crate = scratch / "crates" / name
+    shutil.rmtree(crate, ignore_errors=True)
+    (crate / "src").mkdir(parents=True)
+    (crate / "specs").mkdir()
+    (crate / "src" / "lib.rt").write_text("// Rows of test vectors, computed in specs/. There is no code here.\n")
+    (crate / "specs" / "Rows.antt").write_text(meaning)
+    unfolding, modules = unfoldable(scratch / "crates", uses), ["Rows"]
+    for file, row in files.items():
+        given = vector_files.rows(vectors / f"{file}.jsonl")
+        chosen = [(i, v) for i, v in enumerate(given) if size(v) <= largest]
+        for part in (chosen[at:at + chunk] for at in range(0, len(chosen), chunk)):
+            first, last = part[0][0], part[-1][0]
+            modules.append(f"{file.title().replace('_', '')}{first}")
+            text = MODULE.format(title=f"{file}.jsonl, lines {first} to {last}, counted from 0.", uses=module_uses,
+                                 rows="\n    ∷ ".join(row(v) for _, v in part), unfolding=unfolding)
+            (crate / "specs" / f"{modules[-1]}.antt").write_text(text)
+        calls = sum(len(v.get("calls", [])) for _, v in chosen)
+        print(f"{name}: {file}, {len(chosen)} of {len(given)} rows, {calls} calls")
+    (crate / "specs" / "Lib.antt").write_text("".join(f"pub mod {m}\n" for m in modules))
+    listing = scratch / "crates.txt"
+    if not re.search(rf"^{name}:", listing.read_text(), re.M):
+        listing.write_text(listing.read_text().rstrip("\n") + f"\n{name}: {uses}\n")
 
 
 def main():
@@ -190,32 +358,11 @@ def main():
     parser.add_argument("vectors", type=Path)
     parser.add_argument("scratch", type=Path)
     parser.add_argument("--chunk", type=int, default=20)
-    parser.add_argument("--largest", type=int, default=1000)
+    parser.add_argument("--text-chunk", type=int, default=1)
+    parser.add_argument("--largest", type=int, default=1200)
     args = parser.parse_args()
-    crate = args.scratch / "crates" / "rows"
-    shutil.rmtree(crate, ignore_errors=True)
-    (crate / "src").mkdir(parents=True)
-    (crate / "specs").mkdir()
-    (crate / "src" / "lib.rt").write_text("// Rows of test vectors, computed in specs/. There is no code here.\n")
-    (crate / "specs" / "Rows.antt").write_text(ROWS)
-    unfolding = unfoldable(args.scratch / "crates")
-    modules = ["Rows"]
-    for file in FILES:
-        vectors = [json.loads(line) for line in (args.vectors / f"{file}.jsonl").read_text().splitlines()]
-        chosen = [(i, v) for i, v in enumerate(vectors) if len(v.get("book", [])) <= args.largest]
-        for start in range(0, len(chosen), args.chunk):
-            part = chosen[start:start + args.chunk]
-            first, last = part[0][0], part[-1][0]
-            name = f"{file.title().replace('_', '')}{first}"
-            text = FILE.format(title=f"{file}.jsonl, lines {first} to {last}, counted from 0.",
-                               rows="\n    ∷ ".join(row(v) for _, v in part), unfolding=unfolding)
-            (crate / "specs" / f"{name}.antt").write_text(text)
-            modules.append(name)
-            print(f"{name}: {len(part)} rows, {sum(len(v.get('calls', [])) for _, v in part)} calls")
-    (crate / "specs" / "Lib.antt").write_text("".join(f"pub mod {m}\n" for m in modules))
-    listing = args.scratch / "crates.txt"
-    if not re.search(r"^rows:", listing.read_text(), re.M):
-        listing.write_text(listing.read_text().rstrip("\n") + "\nrows: " + " ".join(CRATES) + "\n")
+    write_crate("rows", args.vectors, args.scratch, args.chunk, args.largest)
+    write_crate("rows_of_texts", args.vectors, args.scratch, args.text_chunk, args.largest)
 
 
 if __name__ == "__main__":

@@ -3,16 +3,17 @@
 
     vector_text.py VECTORS OUT [--bad-end]
 
-VECTORS has openings.jsonl, days.jsonl, broken_days.jsonl and chains.jsonl, or some of them, one JSON object to a line.
-The script writes OUT/stdin and OUT/stdout. What is expected comes from the vectors alone.
+VECTORS has openings.jsonl, days.jsonl, big_days.jsonl, broken_days.jsonl and chains.jsonl, or some of them (vectors/README.md).
+The script writes OUT/stdin and OUT/stdout. What is expected comes from the vectors alone; of a big day, of which they have only
+hashes and sums, from day_model.py, which must meet them.
 
 The input is items of unsigned numbers: a tag, how many numbers follow, and these (the library crate `program_replay` reads
 them). An opening and a state start with a head: row, accounts, count, first code, basket size, maximum cash ratio,
 switch, estimated cash as sign (1 is minus) and size, eight limits, and the lengths of components, book and prices.
 
 A row is an opening with what it is answered (openings.jsonl); an opening, its calls in order, the book and the prices at
-the end (days.jsonl); a state and calls that are each made on it anew (broken_days.jsonl); or a state, its calls in order,
-and `after`, the book and the prices at the end (chains.jsonl).
+the end (days.jsonl, big_days.jsonl); a state and calls that are each made on it anew (broken_days.jsonl); or a state, its
+calls in order, and `after`, the book and the prices at the end (chains.jsonl).
 
 Printed is, for each row, its number and then
 
@@ -22,17 +23,21 @@ Printed is, for each row, its number and then
     create or redeem ..             the reply of the order
     list ..                         the whole lent list after the order, or `list same` where it is a long one, unchanged
     same                            where the call is refused: the book and the prices are what they were
-    book .., prices ..              both, whole: behind an accepted opening with no calls, and at the end of a row in order
+    book .., prices ..              both, whole: behind an accepted opening with no calls, and at the end of a row in order;
+                                    behind an accepted call that is made on a state anew, those that are other than before
 
 --bad-end adds a malformed item, for which `bad input` is printed, and one more item, which is then not read.
 """
 import argparse
-import json
 from pathlib import Path
+
+import vector_files
+from day_model import ORDERS, unfolded
+from vector_files import numbers, opened_book
 
 TAGS = {"opening": 1, "anew": 2, "state": 3, "price": 4, "trade": 5, "create": 6, "redeem": 7, "value": 8, "show": 9}
 
-FILES = ["openings", "days", "broken_days", "chains"]
+FILES = ["openings", "days", "big_days", "broken_days", "chains"]
 
 # A refused order's list is printed whole up to this length.
 WHOLE = 100
@@ -57,19 +62,13 @@ def head(row, v, book, prices):
     f = v["fund"]
     e = f["estimated_cash"]
     return [row, v["accounts"], v["count"], f["first_code"], f["basket_size"], f["max_cash_ratio"], f["switch"],
-            int(e < 0), abs(e), *f["limits"], 5 * len(v["components"]), book, prices]
+            int(e < 0), abs(e), *f["limits"], len(numbers(v["components"])), book, prices]
 
 
 def opening(row, v, reply, book, prices):
     """An opening on lent runs of two lengths: the item, and what is printed."""
     into = item("opening", head(row, v, book, prices), *v["components"], *cut(v["holdings"], v["count"] + 2))
     return into, [line("row", row), line("opening", *reply), *(["same"] if reply[0] else [])]
-
-
-def opened(v):
-    """The book that an accepted opening leaves: the cash, no counters, and each line's holding in old."""
-    stretches = cut(v["holdings"], v["count"] + 2)
-    return [x for cash, *held in stretches for x in [cash, 0, 0, *(y for h in held for y in (h, 0, 0))]]
 
 
 def state(row, v, name):
@@ -80,24 +79,23 @@ def state(row, v, name):
 
 def order_list(c, room):
     """Whether the list is printed whole, and what is printed of it. Place k holds k + 1 before the call."""
-    accepted = c["reply"][0] == 0
-    if accepted and "records" not in c:
-        return 0, []
-    if not accepted and room > WHOLE:
+    is_refused = c["reply"][0] != 0
+    if is_refused and room > WHOLE:
         return 0, ["list same"]
-    records = c.get("records", [])
-    assert len(records) == 5 * c["reply"][2] <= room or not accepted
+    records = [] if is_refused else c["records"]
+    assert len(records) == 5 * c["reply"][2] <= room or is_refused
     return 1, [line("list", *records, *range(len(records) + 1, room + 1))]
 
 
 def call(c):
     name, *args = c["call"]
     reply = c["reply"]
-    same = ["same"] if reply[0] else []
-    if name not in ("create", "redeem"):
-        return item(name, args), [line(name, *reply), *same]
-    shown, listed = order_list(c, args[-1])
-    return item(name, [*args, shown]), [line("test", *reply), line(name, *reply), *listed, *same]
+    behind = ["same"] if reply[0] else [line(run, *c["after"][run]) for run in ("book", "prices") if run in c.get("after", {})]
+    if name not in ORDERS:
+        return item(name, args), [line(name, *reply), *behind]
+    [room] = args.pop()
+    shown, listed = order_list(c, room)
+    return item(name, [*args, room, shown]), [line("test", *reply), line(name, *reply), *listed, *behind]
 
 
 def show(book, prices):
@@ -106,13 +104,15 @@ def show(book, prices):
 
 def parts(file, row, v):
     """A row's items, each with what is printed for it."""
+    if file == "big_days":
+        return parts("days", row, unfolded(v))
     calls = [call(c) for c in v.get("calls", [])]
     if file == "openings":
         reply = [*v["reply"], 0]
         first = opening(row, v, reply, v["book_length"], v["prices_length"])
-        return [first] if reply[0] else [first, show(opened(v), [0] * v["count"])]
+        return [first] if reply[0] else [first, show(opened_book(v), [0] * v["count"])]
     if file == "days":
-        return [opening(row, v, v["opening"], len(v["book"]), len(v["prices"])), *calls, show(v["book"], v["prices"])]
+        return [opening(row, v, [*v["opening"], 0], len(v["book"]), len(v["prices"])), *calls, show(v["book"], v["prices"])]
     if file == "broken_days":
         return [state(row, v, "anew"), *calls]
     return [state(row, v, "state"), *calls, show(v["after"]["book"], v["after"]["prices"])]
@@ -122,8 +122,7 @@ def texts(folder, files, parts):
     """The lines of standard input and output of all rows of the files that the folder has."""
     into, out, row = [], [], 0
     for file in files:
-        path = folder / f"{file}.jsonl"
-        vectors = [json.loads(text) for text in path.read_text().splitlines()] if path.exists() else []
+        vectors = vector_files.rows(folder / f"{file}.jsonl")
         for row, v in enumerate(vectors, row + 1):
             for given, printed in parts(file, row, v):
                 into += given

@@ -194,12 +194,27 @@ fn print_kept(book: &[u64], prices: &[u64], kept: &[u64]) {
     output::text(b"same\n");
 }
 
-// What is left of a call: printed where it was refused, and put back where calls are made on the state anew.
+// A run, whole, where it is other than it was.
+fn print_changed(word: &[u8], run: &[u64], kept: &[u64]) {
+    if runs::first_difference(run, kept) < run.len() {
+        output::run(word, run);
+    }
+}
+
+// What a call made of the book and the prices.
+fn print_after(book: &[u64], prices: &[u64], kept: &[u64]) {
+    let from = runs::cut(book.len(), kept);
+    print_changed(b"book", book, kept);
+    print_changed(b"prices", prices, &kept[from..]);
+}
+
+// What is left of a call: compared where it was refused; printed and put back where calls are made on the state anew.
 fn after_call(number: u64, is_anew: bool, book: &mut [u64], prices: &mut [u64], kept: &[u64]) {
     if number != 0 {
         print_kept(book, prices, kept);
     }
     if is_anew {
+        print_after(book, prices, kept);
         put_back(book, prices, kept);
     }
 }

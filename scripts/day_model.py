@@ -1,0 +1,251 @@
+"""A model of a day after an accepted opening, written from document 01 and change request 1 alone; it shares nothing with the day
+book. Python's numbers have no upper end.
+
+A component is code, quantity, flag, premium, discount, amount, and a fund a dict in the form of the vectors (vectors/README.md).
+"""
+import hashlib
+
+from vector_files import numbers
+
+B, S = 1, 2  # the sides of a record
+CEILING = 999_999_999_999
+E18 = 10**18
+
+ORDERS = ("create", "redeem")
+RECORD_WIDTH = 5
+
+# The columns of the flag table: the flags of which stock moves, a shortage is paid in cash, cash is Shanghai's, and a price counts.
+MOVES, IN_CASH, SHANGHAI, PRICED = {0, 1}, {1}, {0, 1, 2}, {0, 1, 3}
+
+
+def rounded(x, by):
+    """To the nearest whole, halves up."""
+    return (2 * x + by) // (2 * by)
+
+
+def with_premium(x, rate):
+    return rounded(x * (100_000 + rate), 100_000)
+
+
+def less_discount(x, rate):
+    return rounded(x * (100_000 - rate), 100_000)
+
+
+class Model:
+    """A day, its book and its prices. A call gives its reply, an order also its records."""
+
+    def __init__(self, accounts, fund, parts, holdings):
+        width = len(parts) + 2
+        rows = [holdings[a * width:(a + 1) * width] for a in range(accounts)]
+        self.fund, self.parts, self.accounts, self.n = fund, parts, accounts, len(parts)
+        self.cash = [r[0] for r in rows]
+        self.created, self.redeemed = [0] * accounts, [0] * accounts
+        self.lots = [[[h, 0, 0] for h in r[1:]] for r in rows]
+        self.prices = [0] * self.n
+
+    @classmethod
+    def on_state(cls, v):
+        """On a state of the vectors that is sound: a day, its book and its prices."""
+        width = 3 * v["count"] + 6
+        day = cls(v["accounts"], v["fund"], v["components"], [0] * v["accounts"] * (v["count"] + 2))
+        for a in range(v["accounts"]):
+            day.cash[a], day.created[a], day.redeemed[a], *lots = v["book"][a * width:(a + 1) * width]
+            day.lots[a] = [lots[i:i + 3] for i in range(0, len(lots), 3)]
+        day.prices = list(v["prices"])
+        return day
+
+    def book(self):
+        return [x for a in range(self.accounts)
+                for x in [self.cash[a], self.created[a], self.redeemed[a], *(y for lots in self.lots[a] for y in lots)]]
+
+    def price(self, line, p):
+        if line >= self.n:
+            return [6, 0, 0]
+        if not 1 <= p <= 9_999_999:
+            return [7, 0, 0]
+        self.prices[line] = p
+        return [0, 0, 0]
+
+    def trade(self, line, q, p, seller, buyer):
+        if line > self.n:
+            return [6, 0, 0]
+        if not (1 <= q <= 999_999_999 and 1 <= p <= 9_999_999):
+            return [7, 0, 0]
+        if not (1 <= seller < self.accounts and 1 <= buyer < self.accounts) or seller == buyer:
+            return [8, 0, 0]
+        lots = self.lots[seller][line]
+        if q > lots[2] + lots[0]:
+            return [9, 0, 0]
+        if self.cash[buyer] < q * p:
+            return [10, 0, 0]
+        from_got = min(q, lots[2])
+        lots[2] -= from_got
+        lots[0] -= q - from_got
+        self.lots[buyer][line][1] += q
+        self.cash[buyer] -= q * p
+        self.cash[seller] += q * p
+        return [0, 0, 0]
+
+    def reference(self):
+        """The reference value, None where it doesn't exist."""
+        total = 10 * self.fund["estimated_cash"]
+        for (_, q, flag, _, _, amount), p in zip(self.parts, self.prices):
+            if flag in PRICED and q > 0 and p == 0:
+                return None
+            total += q * p if flag in PRICED else amount
+        if total < 0:
+            return None
+        value = rounded(total * 10, self.fund["basket_size"])
+        return value if value <= 9_999_999 else None
+
+    def value(self):
+        value = self.reference()
+        return [14, 0, 0] if value is None else [0, 0, value]
+
+    def stopped(self, a, units, creates):
+        """8, 11, 12, 13."""
+        size = self.fund["basket_size"]
+        if not 1 <= a < self.accounts:
+            return 8
+        if units % size or not 1 <= units // size <= 20:
+            return 11
+        if self.fund["switch"] not in ((1, 2) if creates else (1, 3)):
+            return 12
+        counts, others = (self.created, self.redeemed) if creates else (self.redeemed, self.created)
+        wide, own = sum(counts) + units, counts[a] + units
+        after = [wide, own, wide - sum(others), own - others[a]]
+        limit = self.fund["limits"][0 if creates else 1::2]
+        if wide > CEILING or any(x > top > 0 for x, top in zip(after, limit)):
+            return 13
+        return 0
+
+    def records(self, units, moved, cash, creates):
+        """moved: the stock of each component; cash: Shanghai and other."""
+        g, stock, rest = self.fund["first_code"], S if creates else B, B if creates else S
+        out = [[g, rest, units, 0, 0]]
+        out += [[part[0], stock, q, 0, 0] for part, q in zip(self.parts, moved) if q > 0]
+        for code, c in ((g + 5, cash[False]), (g + 2, cash[True])):
+            split = [] if c == 0 else [[1, c]] if c < 10**6 else [[10**6, c // 10**6], [1, c % 10**6]]
+            out += [[code, rest, q, p, q * p] for q, p in split]
+        return out + [[g + 1, rest, units, 0, 0]]
+
+    def create(self, a, units, rooms):
+        if number := self.stopped(a, units, True):
+            return [number, 0, 0], []
+        m = units // self.fund["basket_size"]
+        moved, cash, missing = [0] * self.n, {True: 0, False: 0}, 0
+        short = [max(0, m * q - self.lots[a][i][0] - self.lots[a][i][1]) for i, (_, q, *_) in enumerate(self.parts)]
+        for i, (_, _, flag, *_) in enumerate(self.parts):
+            if flag in MOVES and flag not in IN_CASH and short[i]:
+                return [9, i, 0], []
+        for i, (_, q, flag, premium, _, amount) in enumerate(self.parts):
+            if flag in MOVES:
+                moved[i] = m * q - short[i]
+                missing += short[i] * self.prices[i]
+                amount = short[i] * self.prices[i]
+            else:
+                amount *= m
+            cash[flag in SHANGHAI] += with_premium(amount, premium)
+        if any(short[i] for i, part in enumerate(self.parts) if part[2] in IN_CASH):
+            value = self.reference()
+            if value is None:
+                return [14, 0, 0], []
+            if missing * 10**6 > units * value * self.fund["max_cash_ratio"]:
+                return [15, 0, 0], []
+        due = cash[True] + cash[False]
+        if self.cash[a] < due:
+            return [10, 0, 0], []
+        records = self.records(units, moved, cash, True)
+        if rooms[0] < RECORD_WIDTH * len(records):
+            return [16, 0, 0], []
+        for i, q in enumerate(moved):
+            lots = self.lots[a][i]
+            from_bought = min(q, lots[1])
+            lots[1] -= from_bought
+            lots[0] -= q - from_bought
+            self.lots[0][i][0] += q
+        self.cash[a] -= due
+        self.cash[0] += due
+        self.created[a] += units
+        self.lots[a][self.n][2] += units
+        return [0, 0, len(records)], records
+
+    def redeem(self, a, units, rooms):
+        if number := self.stopped(a, units, False):
+            return [number, 0, 0], []
+        m = units // self.fund["basket_size"]
+        lots = self.lots[a][self.n]
+        if units > lots[0] + lots[1]:
+            return [9, 0, 0], []
+        moved, cash = [0] * self.n, {True: 0, False: 0}
+        for i, (_, q, flag, _, discount, amount) in enumerate(self.parts):
+            if flag in MOVES:
+                moved[i] = m * q
+            else:
+                cash[flag in SHANGHAI] += less_discount(m * amount, discount)
+        for i, q in enumerate(moved):
+            if self.lots[0][i][0] < q:
+                return [17, i, 0], []
+        paid = cash[True] + cash[False]
+        if self.cash[0] < paid:
+            return [17, self.n, 0], []
+        records = self.records(units, moved, cash, False)
+        if rooms[0] < RECORD_WIDTH * len(records):
+            return [16, 0, 0], []
+        for i, q in enumerate(moved):
+            self.lots[0][i][0] -= q
+            self.lots[a][i][2] += q
+        self.cash[0] -= paid
+        self.cash[a] += paid
+        from_bought = min(units, lots[1])
+        lots[1] -= from_bought
+        lots[0] -= units - from_bought
+        self.redeemed[a] += units
+        return [0, 0, len(records)], records
+
+    def played(self, calls):
+        """The calls in order, each with its reply and, of an accepted order, the numbers of its records."""
+        for call in calls:
+            name, *args = call
+            answer = getattr(self, name)(*args)
+            reply, records = answer if name in ORDERS else (answer, [])
+            yield {"call": call, "reply": reply, **({"records": numbers(records)} if records else {})}
+
+
+def played(v):
+    """A day of the vectors, opened and played: its calls with their replies and records, and the book and the prices at the end."""
+    model = Model(v["accounts"], v["fund"], v["components"], v["holdings"])
+    calls = list(model.played([c["call"] for c in v["calls"]]))
+    return {**v, "calls": calls, "book": model.book(), "prices": model.prices}
+
+
+# ---- big days
+
+
+def unfolded(v):
+    """A big day in the form of the others: what the vectors have in short is the model's."""
+    kept = {key: v[key] for key in ("cause", "accounts", "count", "fund", "components", "opening", "calls")}
+    day = played({**kept, "holdings": numbers(v["holdings_rows"][i] for i in v["holdings_of"])})
+    assert is_short_form(day, v)
+    return day
+
+
+def sha256(run):
+    return hashlib.sha256(",".join(map(str, run)).encode()).hexdigest()
+
+
+def is_short_form(day, v):
+    """Whether a day is what the vectors have in short: every reply, hash, sum and number of it."""
+    width, book = 3 * v["count"] + 6, day["book"]
+    stretches = [book[i:i + width] for i in range(0, len(book), width)]
+    cash, created, redeemed = (sum(s[k] for s in stretches) for k in range(3))
+    short = {"book_sha256": sha256(book), "prices_sha256": sha256(day["prices"]), "cash_total": cash, "created_total": created,
+             "redeemed_total": redeemed, "units_total": sum(sum(s[-3:]) for s in stretches),
+             "last_account": stretches[-1][:9] + stretches[-1][-6:]}
+    return all(v[key] == x for key, x in short.items()) and all(map(is_short_call, v["calls"], day["calls"]))
+
+
+def is_short_call(c, found):
+    """Whether a call has the same reply, and an accepted order the same records or their hash."""
+    records = {"records": found["records"], "records_sha256": sha256(found["records"])} if "records" in found else {}
+    return c.items() <= {**found, **records}.items() and len(c) == len(found)
