@@ -10,14 +10,15 @@ use roffelaine_check::model::{
     range, Call, Component, Opening, Reply, COMPONENT_NUMBERS, RECORD_NUMBERS,
 };
 use std::cell::Cell;
+use std::ops::Range;
 
-/// Enough cases to reach every refusal.
+/// Enough cases to reach every refusal, and to find faults that few cases show.
 const FULL: Plan = Plan {
     seed: 5,
     days: 250,
     texts: 4_000,
 };
-/// Enough cases to find every fault below.
+/// Enough cases to find most faults below.
 const SHORT: Plan = Plan {
     seed: 6,
     days: 30,
@@ -90,6 +91,10 @@ enum Fault {
     OpensWithAnyDiscount,
     ReadsTheRatesSwapped,
     WritesTheRatesSwapped,
+    SoundWithAnyDiscount,
+    ReadsLinesWithoutDiscount,
+    ReadsUnusedDiscounts,
+    ReadsDiscountsAboveOne,
 }
 
 /// The model with one fault.
@@ -153,12 +158,58 @@ fn swap_rates(run: &mut [u64]) {
     }
 }
 
-/// Brings each discount of a run down to where it passes every test.
+/// Brings a discount down to where it passes every test.
+fn pass_discount(component: &mut Component) {
+    let uses_rates = matches!(component.flag, 1 | 3);
+    let most = if uses_rates { range::RATE_MAX } else { 0 };
+    component.discount = component.discount.min(most);
+}
+
+/// The same in each component of a run.
 fn pass_discounts(run: &mut [u64]) {
     for numbers in run.chunks_exact_mut(COMPONENT_NUMBERS) {
-        let uses_rates = matches!(numbers[2], 1 | 3);
-        let most = if uses_rates { range::RATE_MAX } else { 0 };
-        numbers[4] = numbers[4].min(most);
+        let mut component = Component::from_numbers(numbers);
+        pass_discount(&mut component);
+        numbers.copy_from_slice(&component.numbers());
+    }
+}
+
+/// The text with each line that ends in CR LF changed.
+fn with_lines(text: &[u8], change: fn(&mut Vec<u8>)) -> Vec<u8> {
+    let lines = text.split_inclusive(|&byte| byte == b'\n');
+    let lines = lines.map(|line| match line.strip_suffix(b"\r\n") {
+        Some(bytes) => {
+            let mut bytes = bytes.to_vec();
+            change(&mut bytes);
+            [&bytes[..], b"\r\n"].concat()
+        }
+        None => line.to_vec(),
+    });
+    lines.collect::<Vec<_>>().concat()
+}
+
+/// The flag and the discount of a component line.
+const FLAG: usize = 25;
+const DISCOUNT: Range<usize> = 35..42;
+
+/// A blank discount in a line of 48 bytes.
+fn put_discount(line: &mut Vec<u8>) {
+    if line.len() == 48 {
+        line.splice(DISCOUNT.start..DISCOUNT.start, *b"       |");
+    }
+}
+
+/// A blank in place of a discount that the flag does not use.
+fn blank_unused_discount(line: &mut Vec<u8>) {
+    if line.len() == 56 && !matches!(line[FLAG], b'1' | b'3') {
+        line[DISCOUNT].fill(b' ');
+    }
+}
+
+/// A discount of 1 in place of one above it.
+fn lower_discount(line: &mut Vec<u8>) {
+    if line.len() == 56 && matches!(line[DISCOUNT], [b'1'..=b'9', b'.', ..]) {
+        line[DISCOUNT].copy_from_slice(b"1.00000");
     }
 }
 
@@ -186,6 +237,7 @@ impl Engine for Faulty {
             (Fault::CreationTakesTheDiscount, Call::Create(_)) => {
                 |each| each.premium = each.discount
             }
+            (Fault::SoundWithAnyDiscount, _) => pass_discount,
             (Fault::RedemptionTakesThePremium, Call::Redeem(_)) => {
                 |each| each.discount = each.premium
             }
@@ -224,7 +276,13 @@ impl Engine for Faulty {
     }
 
     fn read(&self, text: &[u8], lent: &mut LentList) -> Reply {
-        let mut reply = Model.read(text, lent);
+        let change: fn(&mut Vec<u8>) = match self.fault {
+            Fault::ReadsLinesWithoutDiscount => put_discount,
+            Fault::ReadsUnusedDiscounts => blank_unused_discount,
+            Fault::ReadsDiscountsAboveOne => lower_discount,
+            _ => |_| {},
+        };
+        let mut reply = Model.read(&with_lines(text, change), lent);
         match self.fault {
             Fault::PlaceOff if reply.number == 19 => reply.place += 1,
             Fault::TouchesUnusedComponents if reply.is_accepted() => {
@@ -284,14 +342,14 @@ impl Engine for Faulty {
     }
 }
 
-fn is_found(fault: Fault) -> bool {
+fn is_found(fault: Fault, plan: Plan) -> bool {
     let engine = Faulty::new(fault);
-    SHORT.run(&mut Comparison::new(&Model, &engine)).is_err()
+    plan.run(&mut Comparison::new(&Model, &engine)).is_err()
 }
 
 #[test]
 fn faulty_engines_are_found() {
-    assert!(!is_found(Fault::None));
+    assert!(!is_found(Fault::None, SHORT));
     let faults = [
         Fault::AnswersShort,
         Fault::RefusesAll,
@@ -316,11 +374,24 @@ fn faulty_engines_are_found() {
         Fault::TouchesUnusedOutput,
         Fault::CreationTakesTheDiscount,
         Fault::RedemptionTakesThePremium,
-        Fault::OpensWithAnyDiscount,
         Fault::ReadsTheRatesSwapped,
         Fault::WritesTheRatesSwapped,
     ];
     for fault in faults {
-        assert!(is_found(fault), "{fault:?} is not found");
+        assert!(is_found(fault, SHORT), "{fault:?} is not found");
+    }
+}
+
+#[test]
+fn engines_that_let_a_discount_pass_are_found() {
+    let faults = [
+        Fault::OpensWithAnyDiscount,
+        Fault::SoundWithAnyDiscount,
+        Fault::ReadsLinesWithoutDiscount,
+        Fault::ReadsUnusedDiscounts,
+        Fault::ReadsDiscountsAboveOne,
+    ];
+    for fault in faults {
+        assert!(is_found(fault, FULL), "{fault:?} is not found");
     }
 }

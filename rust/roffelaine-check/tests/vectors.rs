@@ -24,11 +24,12 @@ const FILLER_BYTE: u8 = 0x5A;
 /// Room for the records of any order in the vectors.
 const RECORD_ROOM: usize = 4096;
 
-/// Both engines with a row of a vector file. What is printed last, where one
-/// fails, is the row's cause.
-fn each_row(file: &str, check: impl Fn(&dyn Engine, &Json)) {
+/// Both engines with a row of a vector file, which has these fields besides its
+/// cause. What is printed last, where one fails, is the cause.
+fn each_row(file: &str, fields: &[&str], check: impl Fn(&dyn Engine, &Json)) {
     for (number, row) in rows(file).iter().enumerate() {
         let cause = row.get("cause").text();
+        assert_known(row, &[&["cause"], fields].concat());
         for (name, engine) in [("model", &Model as &dyn Engine), ("archive", &Archive)] {
             println!("{file} row {number}, {name}: {cause}");
             check(engine, row);
@@ -36,12 +37,29 @@ fn each_row(file: &str, check: impl Fn(&dyn Engine, &Json)) {
     }
 }
 
+/// No field of a row is passed over: the object has no others than these.
+fn assert_known(object: &Json, fields: &[&str]) {
+    for name in object.names() {
+        assert!(fields.contains(&name), "{name} is not compared");
+    }
+}
+
+const FUND_FIELDS: [&str; 6] = [
+    "first_code",
+    "basket_size",
+    "max_cash_ratio",
+    "switch",
+    "estimated_cash",
+    "limits",
+];
+
 fn is_filler(numbers: &[u64]) -> bool {
     numbers.iter().all(|&number| number == FILLER)
 }
 
 fn fund(row: &Json) -> Fund {
     let fund = row.get("fund");
+    assert_known(fund, &FUND_FIELDS);
     let limits = fund.get("limits").run();
     Fund {
         first_code: fund.get("first_code").number(),
@@ -162,9 +180,20 @@ fn opened_book(holdings: &[u64], count: usize) -> Vec<u64> {
     stretches.collect()
 }
 
+const OPENING_FIELDS: [&str; 8] = [
+    "accounts",
+    "count",
+    "fund",
+    "components",
+    "holdings",
+    "book_length",
+    "prices_length",
+    "reply",
+];
+
 #[test]
 fn openings() {
-    each_row("openings.jsonl", |engine, row| {
+    each_row("openings.jsonl", &OPENING_FIELDS, |engine, row| {
         let holdings = row.get("holdings").run();
         check_opening(engine, row, &holdings, reply(row.get("reply")));
     });
@@ -201,9 +230,12 @@ fn check_test_alone(engine: &dyn Engine, made: &Call, before: &Lent, expected: R
     assert_eq!(lent, *before, "{alone:?}");
 }
 
+const CALL_FIELDS: [&str; 5] = ["call", "reply", "records", "records_sha256", "after"];
+
 /// Makes a call, and compares its reply, its records, and that it changes no
 /// more than a call of its kind may.
 fn check_call(engine: &dyn Engine, made: &Json, lent: &mut Lent) -> Reply {
+    assert_known(made, &CALL_FIELDS);
     let (call, expected) = (call_of(made.get("call")), reply(made.get("reply")));
     lent.records.fill(FILLER);
     check_test_alone(engine, &call, lent, expected);
@@ -221,9 +253,21 @@ fn check_call(engine: &dyn Engine, made: &Json, lent: &mut Lent) -> Reply {
     found
 }
 
+const DAY_FIELDS: [&str; 9] = [
+    "accounts",
+    "count",
+    "fund",
+    "components",
+    "holdings",
+    "opening",
+    "calls",
+    "book",
+    "prices",
+];
+
 #[test]
 fn days() {
-    each_row("days.jsonl", |engine, row| {
+    each_row("days.jsonl", &DAY_FIELDS, |engine, row| {
         let holdings = row.get("holdings").run();
         let mut lent = check_opening(engine, row, &holdings, reply(row.get("opening")));
         for made in row.get("calls").list() {
@@ -273,7 +317,7 @@ fn run_in_the_driver(engine: &dyn Engine, row: &Json, holdings: &[u64]) -> Lent 
 
 #[test]
 fn days_in_the_driver() {
-    each_row("days.jsonl", |engine, row| {
+    each_row("days.jsonl", &DAY_FIELDS, |engine, row| {
         let lent = run_in_the_driver(engine, row, &row.get("holdings").run());
         assert_eq!(lent.book, row.get("book").run());
         assert_eq!(lent.prices, row.get("prices").run());
@@ -314,9 +358,27 @@ fn check_big_end(row: &Json, lent: &Lent) {
     assert_eq!(shown, row.get("last_account").run());
 }
 
+const BIG_DAY_FIELDS: [&str; 15] = [
+    "accounts",
+    "count",
+    "fund",
+    "components",
+    "holdings_rows",
+    "holdings_of",
+    "opening",
+    "calls",
+    "book_sha256",
+    "prices_sha256",
+    "cash_total",
+    "units_total",
+    "created_total",
+    "redeemed_total",
+    "last_account",
+];
+
 #[test]
 fn big_days() {
-    each_row("big_days.jsonl", |engine, row| {
+    each_row("big_days.jsonl", &BIG_DAY_FIELDS, |engine, row| {
         let holdings = big_holdings(row);
         let mut lent = check_opening(engine, row, &holdings, reply(row.get("opening")));
         for made in row.get("calls").list() {
@@ -331,9 +393,19 @@ fn big_days() {
 /// count says.
 const NO_RUN: &str = "day: one component more";
 
+const BROKEN_DAY_FIELDS: [&str; 7] = [
+    "accounts",
+    "count",
+    "fund",
+    "components",
+    "book",
+    "prices",
+    "calls",
+];
+
 #[test]
 fn broken_days() {
-    each_row("broken_days.jsonl", |engine, row| {
+    each_row("broken_days.jsonl", &BROKEN_DAY_FIELDS, |engine, row| {
         if row.get("cause").text() == NO_RUN {
             return;
         }
@@ -348,6 +420,7 @@ fn broken_days() {
             let found = check_call(engine, made, &mut lent);
             let after = made.find("after");
             assert!(after.is_none() || found.is_accepted());
+            after.inspect(|after| assert_known(after, &["book", "prices"]));
             let left = |name, before: &[u64]| {
                 let changed = after.and_then(|after| after.find(name));
                 changed.map_or_else(|| before.to_vec(), Json::run)
@@ -370,9 +443,25 @@ fn head(row: &Json) -> Head {
     }
 }
 
+/// The fields of a list, besides those of its text or of its names.
+const LIST_FIELDS: [&str; 11] = [
+    "letters",
+    "fund",
+    "publish",
+    "trading_day",
+    "pre_trading_day",
+    "cash_component",
+    "nav_per_cu",
+    "nav",
+    "count",
+    "components",
+    "reply",
+];
+
 #[test]
 fn texts() {
-    each_row("texts.jsonl", |engine, row| {
+    let fields = [&LIST_FIELDS[..], &["text", "capacity", "name_places"]].concat();
+    each_row("texts.jsonl", &fields, |engine, row| {
         let text = row.get("text").bytes();
         let capacity: usize = row.get("capacity").number();
         let before = LentList {
@@ -463,7 +552,8 @@ fn check_parts(row: &Json, text: &[u8]) {
 
 #[test]
 fn writings() {
-    each_row("writings.jsonl", |engine, row| {
+    let fields = [&LIST_FIELDS[..], &["text", "names", "output_length"]].concat();
+    each_row("writings.jsonl", &fields, |engine, row| {
         let components = row.get("components").run();
         let writing = Writing {
             letters: row.get("letters").bytes(),

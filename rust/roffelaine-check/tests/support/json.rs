@@ -40,6 +40,14 @@ impl Json {
             .unwrap_or_else(|| panic!("no {name:?} in a vector row"))
     }
 
+    /// The names that an object has.
+    pub fn names(&self) -> Vec<&str> {
+        match self {
+            Json::Object(pairs) => pairs.iter().map(|(name, _)| &name[..]).collect(),
+            other => panic!("{other:?} is no object"),
+        }
+    }
+
     pub fn list(&self) -> &[Json] {
         match self {
             Json::List(values) => values,
