@@ -77,20 +77,20 @@ fn put_in_group(rng: &mut Rng, first_code: u64, components: &mut [Component]) {
 /// Gives the component a premium, a discount or an amount that its flag does
 /// not use, and no other of them.
 fn set_unused(rng: &mut Rng, component: &mut Component) {
-    let used = [
+    let numbers = [
         &mut component.premium,
         &mut component.discount,
         &mut component.amount,
     ];
-    let at = rng.index(used.len());
+    let at = rng.index(numbers.len());
     let (flags, most): (&[u64], u64) = match at {
         2 => (&[0, 1], range::AMOUNT_MAX),
         _ => (&[0, 2, 4], range::RATE_MAX),
     };
     component.flag = rng.pick(flags);
-    let number = rng.pick(&[1, most]);
-    for (place, each) in used.into_iter().enumerate() {
-        *each = if place == at { number } else { 0 };
+    let unused = rng.pick(&[1, most]);
+    for (place, each) in numbers.into_iter().enumerate() {
+        *each = if place == at { unused } else { 0 };
     }
 }
 
