@@ -14,7 +14,7 @@ E18 = 10**18
 ORDERS = ("create", "redeem")
 RECORD_WIDTH = 5
 
-# The columns of the flag table: the flags of which stock moves, a shortage is paid in cash, cash is Shanghai's, and a price counts.
+# The flag table: the flags whose stock moves, whose shortage is paid in cash, whose cash is Shanghai's, and that are priced.
 MOVES, IN_CASH, SHANGHAI, PRICED = {0, 1}, {1}, {0, 1, 2}, {0, 1, 3}
 
 
@@ -213,7 +213,7 @@ class Model:
 
 
 def played(v):
-    """A day of the vectors, opened and played: its calls with their replies and records, and the book and the prices at the end."""
+    """A day of the vectors, opened and played: its calls with replies and records, and the book and the prices at the end."""
     model = Model(v["accounts"], v["fund"], v["components"], v["holdings"])
     calls = list(model.played([c["call"] for c in v["calls"]]))
     return {**v, "calls": calls, "book": model.book(), "prices": model.prices}

@@ -13,8 +13,8 @@ from pathlib import Path
 
 import list_model
 import vector_files
-from list_model import AMOUNT, CODE, COLUMNS, COMPONENT_WIDTH, DISCOUNT, FLAG, HEAD, NAME, PREMIUM, QUANTITY, ROW_WIDTH
-from list_model import lines, text_of
+from list_model import AMOUNT, CODE, COLUMNS, DISCOUNT, FLAG, HEAD, NAME, PREMIUM, QUANTITY, ROW_WIDTH, lines, text_of
+from vector_files import COMPONENT_WIDTH, component_room
 
 NAMES = [name.encode() for name, *_ in HEAD]
 G = 510_300
@@ -387,8 +387,8 @@ def flags():
 def two_rates():
     """The premium stands before the discount, and each is read and written by its own column."""
     for flag, amount in ((1, 0), (3, 7)):
-        for rates in ((10_000, 5_000), (5_000, 10_000), (0, 100_000), (100_000, 0), (1, 99_999), (0, 1), (100_000, 100_000), (0, 0)):
-            yield read("unlike rates", listed([[1, 1, flag, *rates, amount]]))
+        for rates in ((10_000, 5_000), (5_000, 10_000), (0, 100_000), (100_000, 0), (1, 99_999), (0, 1), (100_000, 100_000)):
+            yield read("two rates", listed([[1, 1, flag, *rates, amount]]))
     # the columns swapped are another list
     line = DAY[ROWS]
     (p, width, _), (d, *_) = COLUMNS[PREMIUM], COLUMNS[DISCOUNT]
@@ -690,13 +690,15 @@ def component_faults():
                     *((2, [600_000, 1, flag, *pair, 0]) for flag in (1, 3)
                       for pair in ((100_001, 0), (0, 100_001), (MOST, 0), (0, MOST), (200_000, 200_000))),
                     # an unused rate or amount
-                    *((3, [600_036, 1, flag, *pair, 0]) for flag in (0, 2, 4) for pair in ((1, 0), (0, 1), (100_000, 0), (0, 100_000))),
+                    *((3, [600_036, 1, flag, *pair, 0]) for flag in (0, 2, 4)
+                      for pair in ((1, 0), (0, 1), (100_000, 0), (0, 100_000))),
                     (3, [600_036, 1, 0, 0, 0, 1]), (3, [600_036, 1, 1, 0, 0, 1]),
                     # order and group
                     (1, [1, 1, 0, 0, 0, 0]), (1, [0, 1, 0, 0, 0, 0]), (4, [600_036, 1, 0, 0, 0, 0]),
                     *((2, [G + k, 1, 0, 0, 0, 0]) for k in range(6))):
         yield written_with(j, part)
-    for part in ([G - 1, 1, 0, 0, 0, 0], [G + 6, 1, 0, 0, 0, 0], [600_000, 1, 1, 100_000, 100_000, 0], [600_000, 1, 3, 0, 100_000, 0]):
+    for part in ([G - 1, 1, 0, 0, 0, 0], [G + 6, 1, 0, 0, 0, 0], [600_000, 1, 1, 100_000, 100_000, 0],
+                 [600_000, 1, 3, 0, 100_000, 0]):
         yield written_with(2, part, 0)
     yield written("the last of 300", listed([[i, 0, 0, 0, 0, 0] for i in range(299)] + [[298, 0, 0, 0, 0, 0]]), 3, 299)
 
@@ -740,9 +742,11 @@ def writings_that_meet():
 
 def is_model_right(vectors):
     """Whether the model gives every answer of the vectors."""
-    texts = [list_model.read(v["text"], COMPONENT_WIDTH * v["capacity"]).items() <= v.items()
-             for v in vector_files.rows(vectors / "texts.jsonl")]
-    writings = [list_model.write(v, v["output_length"]).items() <= v.items() for v in vector_files.rows(vectors / "writings.jsonl")]
+    def rows(file):
+        return vector_files.rows(vectors / f"{file}.jsonl")
+
+    texts = [list_model.read(v["text"], component_room(v)).items() <= v.items() for v in rows("texts")]
+    writings = [list_model.write(v, v["output_length"]).items() <= v.items() for v in rows("writings")]
     print(f"the model answers {sum(texts)} of {len(texts)} texts and {sum(writings)} of {len(writings)} writings as the vectors")
     return all(texts) and all(writings)
 

@@ -352,7 +352,7 @@ def rates():
     yield orders_for(5, 100_000, 0, 1, 10, 5)
     yield orders_for(5, 0, 100_000, 1, 5, 0)
     yield orders_for(5, 100_000, 100_000, 1, 10, 0)
-    # the baskets together are rounded: 5 x 1 at 1.1 is 5.5, and at 0.9 4.5; each alone would be 1.1 and 0.9, so 5 both ways
+    # the baskets are rounded together: 5 x 1 x 1.1 = 5.5 and 5 x 1 x 0.89999 = 4.49995; each alone would be 1, so 5 both ways
     yield orders_for(1, 10_000, 10_001, 5, 6, 4)
     # one of cash short, in each order: 10 for the account, 17 at N for the fund
     short = orders_for(5, 10_000, 10_001, 1, 6, 4)
@@ -541,11 +541,15 @@ def with_after(v):
 
 
 def is_model_right(vectors):
-    """Whether the model gives every answer of the vectors: days, big days, and the calls on broken days that 5 does not refuse."""
-    big = [unfolded(v) for v in vector_files.rows(vectors / "big_days.jsonl")]
-    days = [played(v) == v for v in vector_files.rows(vectors / "days.jsonl")]
-    calls = [left(v, c["call"]) == c for v in vector_files.rows(vectors / "broken_days.jsonl") for c in v["calls"] if c["reply"][0] != 5]
-    print(f"the model answers {len(big)} big days, {sum(days)} of {len(days)} days and {sum(calls)} of {len(calls)} calls as the vectors")
+    """Whether the model gives every answer of the vectors: days, big days, and what is called on broken days and is not 5."""
+    def rows(file):
+        return vector_files.rows(vectors / f"{file}.jsonl")
+
+    big = [unfolded(v) for v in rows("big_days")]
+    days = [played(v) == v for v in rows("days")]
+    calls = [left(v, c["call"]) == c for v in rows("broken_days") for c in v["calls"] if c["reply"][0] != 5]
+    print(f"the model answers {len(big)} big days, {sum(days)} of {len(days)} days and {sum(calls)} of {len(calls)} calls on "
+          "broken days as the vectors")
     return all(days) and all(calls)
 
 

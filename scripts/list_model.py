@@ -7,7 +7,7 @@ premium, discount, amount. Python's numbers have no upper end.
 import datetime
 import re
 
-from vector_files import numbers
+from vector_files import COMPONENT_WIDTH, numbers
 
 WHOLE = rb"(?:0|[1-9][0-9]*)"
 CASH = range(-999_999_999, 9_999_999_999 + 1)
@@ -53,9 +53,6 @@ ROW = re.compile(rb"(?s).{6}\|.{8}\|.{8}\|.\|.{7}\|.{7}\|.{12}\|")
 
 # The flags that use a rate, the premium and the discount alike, and those that use an amount.
 USES = {PREMIUM: (1, 3), DISCOUNT: (1, 3), AMOUNT: (2, 3, 4)}
-
-# The numbers of a component.
-COMPONENT_WIDTH = 6
 
 FUND = ["first_code", "basket_size", "max_cash_ratio", "switch", "estimated_cash"]
 OTHERS = ["publish", "trading_day", "pre_trading_day", "cash_component", "nav_per_cu", "nav", "count"]

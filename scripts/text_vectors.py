@@ -52,8 +52,8 @@ from pathlib import Path
 
 import vector_files
 import vector_text
-from list_model import COLUMNS, COMPONENT_WIDTH, HEAD, NAME, ROW_WIDTH, lines, text_of
-from vector_files import numbers
+from list_model import COLUMNS, HEAD, NAME, ROW_WIDTH, lines, text_of
+from vector_files import component_room, numbers, whole_text
 from vector_text import cut, item, line, save
 
 vector_text.TAGS.update({"text": 1, "changed": 2, "grown": 3, "parts": 4, "list": 5})
@@ -115,8 +115,9 @@ def handed_back(v, text):
     start, width, _ = COLUMNS[NAME]
     assert places == [places[0] + (ROW_WIDTH + 2) * i for i in range(v["count"])]
     names = [x for at in places for x in text[at:at + width]]
-    return ["rest same", line("fields", *fields(v)), line("first", places[0] - start), line("components", *numbers(v["components"])),
-            line("letters", *v["letters"]), line("names", *names), *written(v, text, names)]
+    return ["rest same", line("fields", *fields(v)), line("first", places[0] - start),
+            line("components", *numbers(v["components"])), line("letters", *v["letters"]), line("names", *names),
+            *written(v, text, names)]
 
 
 def change(base, text):
@@ -141,13 +142,11 @@ class Texts:
 
     def reading(self, row, v):
         """A text, whole, changed or long: the item, and what is printed."""
-        room = v["room"] if "room" in v else COMPONENT_WIDTH * v["capacity"]
+        room, text = component_room(v), whole_text(v)
         if "times" in v:
             front, part, tail = v["front"], v["part"], v["tail"]
-            text = front + part * v["times"] + tail
             into = item("grown", [row, room, v["times"], len(front), len(part)], *split(front), *split(part), *split(tail))
         else:
-            text = v["text"]
             into = self.text(row, room, text)
         number, place = v["reply"]
         head = [line("row", row), line("read", number, place, 0 if number else v["count"])]

@@ -5,6 +5,9 @@ is an edit of another as the text itself. `save` writes rows with every byte str
 """
 import json
 
+# The numbers of a component.
+COMPONENT_WIDTH = 6
+
 # The fields that are byte strings.
 BYTES = ("text", "letters", "names", "name", "front", "part", "tail")
 
@@ -40,6 +43,14 @@ def rows(path):
     return out
 
 
+def is_held(v):
+    """Whether a day's run can hold what a row is about. It has places for all components that a day may have and no length of its
+    own, so a state whose one fault is a component more than its count cannot be told from the sound day."""
+    if "prices" not in v or len(v["components"]) <= v["count"]:
+        return True
+    return len(v["prices"]) != v["count"] or len(v["book"]) != v["accounts"] * (3 * v["count"] + 6)
+
+
 def save(path, rows):
     """Writes rows; a byte string comes out as hex."""
     path.write_text("".join(json.dumps(row, default=bytes.hex) + "\n" for row in rows))
@@ -48,6 +59,16 @@ def save(path, rows):
 def numbers(parts):
     """The parts one after another, as a flat run."""
     return [x for part in parts for x in part]
+
+
+def whole_text(v):
+    """The text of a row, given whole or as a front, a part that stands there many times, and a tail."""
+    return v["text"] if "text" in v else v["front"] + v["part"] * v["times"] + v["tail"]
+
+
+def component_room(v):
+    """The length of the lent component list in numbers."""
+    return v["room"] if "room" in v else COMPONENT_WIDTH * v["capacity"]
 
 
 def opened_book(v):

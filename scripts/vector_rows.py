@@ -1,7 +1,7 @@
 #!/usr/bin/env python3
 """Writes test vectors as rows that the proof checker computes.
 
-    vector_rows.py VECTORS SCRATCH [--chunk ROWS] [--text-chunk ROWS] [--largest NUMBERS]
+    vector_rows.py VECTORS SCRATCH [--chunk ROWS] [--largest NUMBERS]
 
 SCRATCH is a copy of the repository (crates.txt and crates/). The script adds two crates to it: `rows`, the lines of
 openings.jsonl, days.jsonl and broken_days.jsonl of VECTORS, and `rows_of_texts`, those of texts.jsonl and writings.jsonl. Each
@@ -9,9 +9,9 @@ has its lines as rows in specs/, and in each file one theorem, `rows-right : all
 and `rt check rows_of_texts` in SCRATCH then compute the definitions on every row, and refuse each file that has a row which
 differs.
 
---chunk is the most rows of a day's file to a module, --text-chunk of a file of texts: with 1 a refusal names its row. --largest
-leaves out rows whose book or text has more numbers or bytes than that: the checker takes a limited number of steps for each
-theorem.
+--chunk is the most rows to a module: with 1 a refusal names its row. --largest leaves out rows whose book or text has more
+numbers or bytes than that: the checker takes a limited number of steps for each theorem. A state that no day's run can hold is
+left out too (`is_held` in vector_files.py).
 """
 import argparse
 import re
@@ -19,11 +19,9 @@ import shutil
 from pathlib import Path
 
 import vector_files
-from vector_files import numbers, opened_book
-
-ORDERS = ("create", "redeem")
-COMPONENT_WIDTH = 6
-NAME_AT = 7  # where the name starts in a component line
+from day_model import ORDERS
+from list_model import COLUMNS, NAME
+from vector_files import component_room, is_held, numbers, opened_book, whole_text
 
 # ---- what a row is, and when it is right
 
@@ -285,12 +283,14 @@ def fields(v):
 
 
 def text_row(v):
-    given = f"{listed(v['text'])} {COMPONENT_WIDTH * v['capacity']}"
+    text = whole_text(v)
+    given = f"{listed(text)} {component_room(v)}"
     if v["reply"][0]:
         return f"fails {given} {listed([*v['reply'], 0])}"
+    start, width, _ = COLUMNS[NAME]
     places = v["name_places"]
-    names = listed(listed(v["text"][at:at + 8]) for at in places)
-    return (f"reads {given} {listed([*v['reply'], v['count']])}\n      {fields(v)} {places[0] - NAME_AT} "
+    names = listed(listed(text[at:at + width]) for at in places)
+    return (f"reads {given} {listed([*v['reply'], v['count']])}\n      {fields(v)} {places[0] - start} "
             f"{listed(numbers(v['components']))}\n      {listed(v['letters'])} {names}")
 
 
@@ -323,11 +323,11 @@ def unfoldable(crates, names):
 
 def size(v):
     """How long a row's longest run is."""
-    return max(len(v.get("book", [])), len(v.get("text", b"")))
+    return max(len(v.get("book", [])), len(whole_text(v)) if "text" in v or "times" in v else 0)
 
 
 def write_crate(name, vectors, scratch, chunk, largest):
-    """Writes a crate of rows, and how many rows and calls it has."""
+    """Writes a crate of rows, and prints how many rows and calls it has."""
     uses, meaning, module_uses, files = CRATES[name]
     crate = scratch / "crates" / name
     shutil.rmtree(crate, ignore_errors=True)
@@ -338,7 +338,7 @@ def write_crate(name, vectors, scratch, chunk, largest):
     unfolding, modules = unfoldable(scratch / "crates", uses), ["Rows"]
     for file, row in files.items():
         given = vector_files.rows(vectors / f"{file}.jsonl")
-        chosen = [(i, v) for i, v in enumerate(given) if size(v) <= largest]
+        chosen = [(i, v) for i, v in enumerate(given) if size(v) <= largest and is_held(v)]
         for part in (chosen[at:at + chunk] for at in range(0, len(chosen), chunk)):
             first, last = part[0][0], part[-1][0]
             modules.append(f"{file.title().replace('_', '')}{first}")
@@ -358,11 +358,10 @@ def main():
     parser.add_argument("vectors", type=Path)
     parser.add_argument("scratch", type=Path)
     parser.add_argument("--chunk", type=int, default=20)
-    parser.add_argument("--text-chunk", type=int, default=1)
     parser.add_argument("--largest", type=int, default=1200)
     args = parser.parse_args()
-    write_crate("rows", args.vectors, args.scratch, args.chunk, args.largest)
-    write_crate("rows_of_texts", args.vectors, args.scratch, args.text_chunk, args.largest)
+    for name in CRATES:
+        write_crate(name, args.vectors, args.scratch, args.chunk, args.largest)
 
 
 if __name__ == "__main__":

@@ -5,7 +5,8 @@
 
 VECTORS has openings.jsonl, days.jsonl, big_days.jsonl, broken_days.jsonl and chains.jsonl, or some of them (vectors/README.md).
 The script writes OUT/stdin and OUT/stdout. What is expected comes from the vectors alone; of a big day, of which they have only
-hashes and sums, from day_model.py, which must meet them.
+hashes and sums, from day_model.py, which must meet them. A state that no day's run can hold is left out (`is_held` in
+vector_files.py).
 
 The input is items of unsigned numbers: a tag, how many numbers follow, and these (the library crate `program_replay` reads
 them). An opening and a state start with a head: row, accounts, count, first code, basket size, maximum cash ratio,
@@ -33,7 +34,7 @@ from pathlib import Path
 
 import vector_files
 from day_model import ORDERS, unfolded
-from vector_files import numbers, opened_book
+from vector_files import is_held, numbers, opened_book
 
 TAGS = {"opening": 1, "anew": 2, "state": 3, "price": 4, "trade": 5, "create": 6, "redeem": 7, "value": 8, "show": 9}
 
@@ -122,7 +123,7 @@ def texts(folder, files, parts):
     """The lines of standard input and output of all rows of the files that the folder has."""
     into, out, row = [], [], 0
     for file in files:
-        vectors = vector_files.rows(folder / f"{file}.jsonl")
+        vectors = [v for v in vector_files.rows(folder / f"{file}.jsonl") if is_held(v)]
         for row, v in enumerate(vectors, row + 1):
             for given, printed in parts(file, row, v):
                 into += given

@@ -23,7 +23,7 @@ use Rattle.layout.specs.declared.Fund.{Fund}
 use Rattle.layout.specs.declared.Component.{Component}
 use Rattle.fund.specs.Fund.{ceiling, cashInRange, limitInRange, limitsInRange, fundInRange}
 use Rattle.layout.specs.Components.{blank}
-use Rattle.fund.specs.Components.{outsideGroup, zeroUnless, componentInRange, fits, faultAt, componentFault}
+use Rattle.fund.specs.Components.{outsideGroup, zeroUnless, usedWithin, mostRate, mostAmount, componentInRange, fits, faultAt, componentFault}
 
 -- Estimated cash.
 
@@ -118,14 +118,27 @@ unfolding zeroUnless
 unused-zero true x e u = absurd (true≢false u)
 unused-zero false x e u = eqb-true x 0 e
 
+-- a rate or an amount: at most so much, and its use
+pub within-true : (most : ℕ) (used : Bool) (x : ℕ) → x ≤ most → zeroUnless used x ≡ true → usedWithin most used x ≡ true
+unfolding usedWithin
+within-true most used x h u = every-more _ _ (le-leb _ _ h) (every-more _ _ u every-none)
+
+pub within-facts : (most : ℕ) (used : Bool) (x : ℕ) → usedWithin most used x ≡ true → (x ≤ most) × (zeroUnless used x ≡ true)
+unfolding usedWithin
+within-facts most used x e =
+    let at = every-at _ e in
+    (leb-true _ _ (at 0), at 1)
+
 pub record ComponentRanges (g : ℕ) (c : Component) : Type 0 where
   pub code : c .code ≤ 999_999
   pub outside : outsideGroup g (c .code) ≡ true
   pub quantity : c .quantity ≤ 99_999_999
   pub flag : c .flag < 5
-  pub rate : c .rate .0 ≤ 100_000
-  pub amount : c .amount .0 ≤ 99_999_999_999
-  pub rate-use : zeroUnless (entry (c .flag) rateUsed) (c .rate .0) ≡ true
+  pub premium : c .premium .0 ≤ mostRate
+  pub discount : c .discount .0 ≤ mostRate
+  pub amount : c .amount .0 ≤ mostAmount
+  pub premium-use : zeroUnless (entry (c .flag) rateUsed) (c .premium .0) ≡ true
+  pub discount-use : zeroUnless (entry (c .flag) rateUsed) (c .discount .0) ≡ true
   pub amount-use : zeroUnless (entry (c .flag) amountUsed) (c .amount .0) ≡ true
 
 module _ (g : ℕ) (c : Component) where
@@ -136,23 +149,28 @@ module _ (g : ℕ) (c : Component) where
       (every-more _ _ (r .outside)
       (every-more _ _ (le-leb _ _ (r .quantity))
       (every-more _ _ (lt-ltb _ _ (r .flag))
-      (every-more _ _ (le-leb _ _ (r .rate))
-      (every-more _ _ (le-leb _ _ (r .amount))
-      (every-more _ _ (r .rate-use) (every-more _ _ (r .amount-use) every-none)))))))
+      (every-more _ _ (within-true _ _ _ (r .premium) (r .premium-use))
+      (every-more _ _ (within-true _ _ _ (r .discount) (r .discount-use))
+      (every-more _ _ (within-true _ _ _ (r .amount) (r .amount-use)) every-none))))))
 
   pub component-sound : componentInRange g c ≡ true → ComponentRanges g c
   unfolding componentInRange
   component-sound e =
       let at = every-at _ e in
+      let premium = within-facts mostRate _ _ (at 4) in
+      let discount = within-facts mostRate _ _ (at 5) in
+      let amount = within-facts mostAmount _ _ (at 6) in
       record {
         code = leb-true _ _ (at 0);
         outside = at 1;
         quantity = leb-true _ _ (at 2);
         flag = ltb-true _ _ (at 3);
-        rate = leb-true _ _ (at 4);
-        amount = leb-true _ _ (at 5);
-        rate-use = at 6;
-        amount-use = at 7;
+        premium = premium .0;
+        discount = discount .0;
+        amount = amount .0;
+        premium-use = premium .1;
+        discount-use = discount .1;
+        amount-use = amount .1;
       }
 
   pub component-false : (ComponentRanges g c → ⊥) → componentInRange g c ≡ false

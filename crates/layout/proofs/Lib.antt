@@ -1,5 +1,4 @@
 pub mod Components
-pub mod Runs
 pub mod Account
 pub mod Records
 pub mod Stored

@@ -10,7 +10,7 @@ ghost use Rattle.sequences.specs.Below.{tabulate};
 ghost use Rattle.sequences.specs.Checks.{reply};
 ghost use Rattle.digits.specs.Digits.{cap, capped};
 ghost use Rattle.layout.specs.Places.{mostComponents, componentWidth, basketWidth, limitCount, fundWidth, dayWidth, recordWidth, answerWidth};
-ghost use Rattle.layout.specs.Components.{blank, componentAt, componentNumbers, placesOf};
+ghost use Rattle.layout.specs.Components.{blank, componentAt, placesOf};
 ghost use Rattle.layout.specs.Fund.{signedAt, signedNumbers, fundAt, fundNumbers};
 ghost use Rattle.layout.specs.Day.{dayHeadAt, basketAt, dayNumbers};
 ghost use Rattle.layout.specs.Book.{widthOf, behindLine, lotsAt, putLots};
@@ -137,20 +137,6 @@ pub fn component_at(run: &[u64], i: usize) -> Component
         discount: Rate::new(run[at + 4]),
         amount: Money::new(run[at + 5]),
     }
-}
-
-// Stores a component as the i-th of a run.
-pub fn put_component(run: &mut [u64], i: usize, c: Component)
-    requires { ⌜ componentWidth * i + componentWidth ≤ length (now run) ⌝ }
-    ensures { λ _. ⌜ now (run .exit) ≡ sets (now (run .entry)) (componentWidth * i) (componentNumbers c) ⌝ }
-{
-    let at = COMPONENT_WIDTH * i;
-    run[at] = c.code;
-    run[at + 1] = c.quantity;
-    run[at + 2] = c.flag;
-    run[at + 3] = c.premium.0;
-    run[at + 4] = c.discount.0;
-    run[at + 5] = c.amount.0;
 }
 
 // Component i of a basket.

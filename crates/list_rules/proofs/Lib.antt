@@ -1,3 +1,4 @@
 pub mod Fields
 pub mod Ranges
 pub mod Lent
+pub mod ComponentLine

@@ -8,14 +8,16 @@ use Rattle.sequences.specs.Every.{inside}
 use Rattle.sequences.specs.Checks.{Check, check, Reply, answered, passes}
 use Rattle.fund.specs.Components.{componentFault}
 use Rattle.layout.specs.Places.{componentWidth, mostComponents}
+use Rattle.layout.specs.declared.Component.{Component}
 use Rattle.layout.specs.Components.{componentAt, placesOf}
 use Rattle.rules.specs.Replies.{ifAccepted}
-use Rattle.text_rules.specs.Columns.{columnStart, linePitch, partOf}
+use Rattle.text_rules.specs.Columns.{columnStart, linePitch, partOf, cellRead}
 use Rattle.text_rules.specs.Head.{isOpening, lettersStart}
 use Rattle.text_rules.specs.Reading.{lineStands, lettersRead, bodyStart, rowCount, rowOf, shapeChecks, fieldChecks, figureRead, runRead}
 use Rattle.list_rules.specs.declared.ListFields.{ListFields}
 use Rattle.list_rules.specs.declared.TextPart.{TextPart}
-use Rattle.list_rules.specs.Shanghai.{shanghai, shanghaiColumns, shanghaiFields, nameColumn, nameWidth, creationCodeField}
+use Rattle.list_rules.specs.Shanghai.{shanghai, shanghaiColumns, shanghaiFields, nameWidth, creationCodeField}
+use Rattle.list_rules.specs.Shanghai.{codeColumn, nameColumn, quantityColumn, flagColumn, premiumColumn, discountColumn, amountColumn}
 use Rattle.list_rules.specs.Fields.{fieldsFrom, fieldsInRange, blankFields}
 
 -- ---- what the text says: the fields, and the numbers of its components
@@ -24,6 +26,18 @@ fieldsRead text = fieldsFrom (figureRead shanghaiFields text)
 
 unfoldable pub componentsRun : List ℕ → List ℕ
 componentsRun text = runRead shanghai text
+
+-- the component of one line, by the columns' names
+unfoldable pub lineComponent : List ℕ → Component
+lineComponent l =
+    record {
+      code = cellRead shanghai l codeColumn;
+      quantity = cellRead shanghai l quantityColumn;
+      flag = cellRead shanghai l flagColumn;
+      premium = record { 0 = cellRead shanghai l premiumColumn };
+      discount = record { 0 = cellRead shanghai l discountColumn };
+      amount = record { 0 = cellRead shanghai l amountColumn };
+    }
 
 -- 20, and then 2 and 3
 unfoldable pub isCounted : ℕ → ℕ → Bool

@@ -31,11 +31,27 @@ shanghaiColumns =
     ∷ column 12 0 3 (usedByFlag amountUsed)
     ∷ []
 
+-- which is which
+abbrev pub codeColumn : ℕ
+codeColumn = 0
+
 abbrev pub nameColumn : ℕ
 nameColumn = 1
 
+abbrev pub quantityColumn : ℕ
+quantityColumn = 2
+
 abbrev pub flagColumn : ℕ
 flagColumn = 3
+
+abbrev pub premiumColumn : ℕ
+premiumColumn = 4
+
+abbrev pub discountColumn : ℕ
+discountColumn = 5
+
+abbrev pub amountColumn : ℕ
+amountColumn = 6
 
 -- a name's bytes
 abbrev pub nameWidth : ℕ

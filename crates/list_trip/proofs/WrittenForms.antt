@@ -16,7 +16,7 @@ use Rattle.flags.proofs.Laws.{entry-ours}
 use Rattle.layout.specs.Places.{componentWidth}
 use Rattle.layout.specs.declared.Component.{Component}
 use Rattle.layout.specs.Components.{componentAt, componentNumbers}
-use Rattle.fund.specs.Components.{zeroUnless}
+use Rattle.fund.specs.Components.{zeroUnless, mostRate}
 use Rattle.fund.proofs.Laws.{ComponentRanges, unused-zero}
 use Rattle.digits.specs.declared.Form.{Form}
 use Rattle.digits.specs.Digits.{plain, cap, wholeText, plainText, signedText}
@@ -27,7 +27,7 @@ use Rattle.lines.specs.Lines.{nameByte, allBytes}
 use Rattle.text_rules.specs.Tables.{Column, columnAt}
 use Rattle.text_rules.specs.Columns.{isText, holdsText, numbersBefore, numberCell, blankCell, contentBy, numberForm, cellAt, partAt, contentAt}
 use Rattle.text_trip.specs.Trips.{CellFits, RowFits}
-use Rattle.list_rules.specs.Shanghai.{shanghai, shanghaiColumns, nameColumn}
+use Rattle.list_rules.specs.Shanghai.{shanghai, shanghaiColumns, nameColumn, premiumColumn}
 
 -- the a-th stretch of a run is the numbers of its a-th component
 pub run-stretch : (run : List ℕ) (n a : ℕ) → length run ≡ componentWidth * n → a < n → stretchOf componentWidth run a ≡ componentNumbers (componentAt run a)
@@ -82,21 +82,27 @@ flag-fits : (flag column : ℕ) (c : Column) (n : ℕ) (s : List ℕ) → Fits (
 flag-fits flag column c n s f z = use-fits (entryIn flagTable flag column) c n s f (λ e. unused-zero _ n z (sym (entry-ours flag column) ∙ e))
 
 module _ (g : ℕ) (c : Component) (r : ComponentRanges g c) where
-  rate-low : c .rate .0 / 100_000 < 10
-  rate-low = div-lt-iff-lt-mul {k = 100_000} {x = c .rate .0} {y = 10} (omega arith) .1 (omega (arith, r .rate))
+  -- either rate
+  rate-low : (rate : ℕ) → rate ≤ mostRate → rate / 100_000 < 10
+  rate-low rate h = div-lt-iff-lt-mul {k = 100_000} {x = rate} {y = 10} (omega arith) .1 (omega (arith, h))
+
+  rate-fits : (rate : ℕ) (words : List ℕ) → rate ≤ mostRate → zeroUnless (entry (c .flag) rateUsed) rate ≡ true
+      → CellFits (cond (entryIn flagTable (c .flag) rateUsed) numberCell blankCell) (columnAt (shanghai .columns) premiumColumn) rate words
+  unfolding shanghai shanghaiColumns columnAt numberForm
+  rate-fits rate words h use = flag-fits (c .flag) rateUsed _ rate words (point-fits _ _ rate (λ e. omega arith) (omega arith) (rate-low rate h) (omega arith) (omega arith)) use
 
   amount-low : c .amount .0 / 1_000 < 100_000_000
   amount-low = div-lt-iff-lt-mul {k = 1_000} {x = c .amount .0} {y = 100_000_000} (omega arith) .1 (omega (arith, r .amount))
 
-  -- code, name, quantity, flag, rate and amount
+  -- code, name, quantity, flag, premium, discount and amount
   pub component-fits : (words : List ℕ) → allBytes nameByte (partAt (shanghai .columns) words nameColumn) ≡ true → RowFits shanghai (componentNumbers c) words
   unfolding shanghai shanghaiColumns componentNumbers contentAt contentBy cellAt numbersBefore holdsText isText columnAt sumBelow numberForm
   component-fits words name zero h = fixed-fits _ (c .code) (omega (arith, r .code)) (omega (arith, r .code))
   component-fits words name (suc zero) h = name
   component-fits words name (suc (suc zero)) h = whole-fits _ (c .quantity) (omega (arith, r .quantity)) (omega (arith, r .quantity)) (omega arith) (omega arith)
   component-fits words name (suc (suc (suc zero))) h = fixed-fits _ (c .flag) (omega (arith, r .flag)) (omega (arith, r .flag))
-  component-fits words name (suc (suc (suc (suc zero)))) h =
-      flag-fits (c .flag) rateUsed _ (c .rate .0) _ (point-fits _ _ (c .rate .0) (λ e. omega arith) (omega (arith, r .rate)) rate-low (omega arith) (omega arith)) (r .rate-use)
-  component-fits words name (suc (suc (suc (suc (suc zero))))) h =
+  component-fits words name (suc (suc (suc (suc zero)))) h = rate-fits (c .premium .0) _ (r .premium) (r .premium-use)
+  component-fits words name (suc (suc (suc (suc (suc zero))))) h = rate-fits (c .discount .0) _ (r .discount) (r .discount-use)
+  component-fits words name (suc (suc (suc (suc (suc (suc zero)))))) h =
       flag-fits (c .flag) amountUsed _ (c .amount .0) _ (point-fits _ _ (c .amount .0) (λ e. omega arith) (omega (arith, r .amount)) amount-low (omega arith) (omega arith)) (r .amount-use)
-  component-fits words name (suc (suc (suc (suc (suc (suc k)))))) h = absurd (omega arith)
+  component-fits words name (suc (suc (suc (suc (suc (suc (suc k))))))) h = absurd (omega arith)

@@ -21,7 +21,7 @@ use Rattle.rules.specs.Orders.{creation, mostBaskets}
 use Rattle.rules.specs.Kinds.{byKind}
 use Rattle.rules.proofs.Asked.{either-kind}
 use Rattle.order_lines.specs.declared.Line.{Line}
-use Rattle.order_lines.specs.Lines.{money, missingOf, worthOf, creationLine, redemptionLine, amountLine, orderLine, stockLine}
+use Rattle.order_lines.specs.Lines.{money, missingOf, worthOf, creationLine, redemptionLine, amountDue, amountLine, orderLine, stockLine}
 use Rattle.order_lines.specs.Ready.{Ranged}
 
 -- Bounds.
@@ -60,7 +60,7 @@ module _ (c : Component) (m : ℕ) (r : Ranged c) (few : m ≤ mostBaskets) wher
       cond-le (entry (c .flag) stockMoves) (creation-worth-le have price p) (le-trans amount-le (lit≤ tt)) in
       record {
         worth = creation-worth-le have price p;
-        cash = omega (arith, premium-le (cond (entry (c .flag) stockMoves) (worthOf c have price m) (m * c .amount .0)) (c .rate .0) (r .rate));
+        cash = omega (arith, premium-le (cond (entry (c .flag) stockMoves) (worthOf c have price m) (m * c .amount .0)) (c .premium .0) (r .premium));
       }
 
   pub redemption-small : (have : ℕ) → Small (redemptionLine c have m)
@@ -68,7 +68,7 @@ module _ (c : Component) (m : ℕ) (r : Ranged c) (few : m ≤ mostBaskets) wher
   redemption-small have =
       record {
         worth = zero-le;
-        cash = cond-le (entry (c .flag) stockMoves) zero-le (omega (arith, amount-le, discount-le (m * c .amount .0) (c .rate .0)));
+        cash = cond-le (entry (c .flag) stockMoves) zero-le (omega (arith, amount-le, discount-le (m * c .amount .0) (c .discount .0)));
       }
 
   pub order-small : (kind have price : ℕ) → price ≤ mostPrice → Small (orderLine kind c have price m)
@@ -94,7 +94,7 @@ pub creation-parts : (c : Component) (have price m : ℕ) (moves in-cash inside 
     → moves ≡ entry (c .flag) stockMoves → in-cash ≡ entry (c .flag) shortageInCash → inside ≡ entry (c .flag) shanghai
     → missing ≡ cond in-cash (m * c .quantity - have) 0
     → base ≡ cond moves (money (missing * price)) (money (m * c .amount .0))
-    → cash .0 ≡ premium (base .0) (c .rate .0)
+    → cash .0 ≡ premium (base .0) (c .premium .0)
     → short ≡ every (moves ∷ not in-cash ∷ ltb have (m * c .quantity) ∷ [])
     → moved ≡ cond moves (min (m * c .quantity) have) 0
     → line short missing (missing * price) (cash .0) inside moved ≡ creationLine c have price m
@@ -117,7 +117,7 @@ min-self x = omega arith
 pub redemption-parts : (c : Component) (have m : ℕ) (moves inside : Bool) (moved : ℕ) (paid cash : Money)
     → moves ≡ entry (c .flag) stockMoves → inside ≡ entry (c .flag) shanghai
     → moved ≡ cond moves (min (m * c .quantity) (m * c .quantity)) 0
-    → paid .0 ≡ discount (m * c .amount .0) (c .rate .0)
+    → paid .0 ≡ discount (m * c .amount .0) (c .discount .0)
     → cash ≡ cond moves (money 0) paid
     → line (ltb have moved) 0 0 (cash .0) inside moved ≡ redemptionLine c have m
 unfolding redemptionLine
@@ -162,7 +162,7 @@ module _ (c : Component) (have price m : ℕ) (covered : every (leb (m * c .quan
       (rw (moves, le-ltb have (m * c .quantity) enough) (covered-short (entry (c .flag) shortageInCash)))
       missing
       (rw missing (zero-mul price))
-      (rw (moves, missing, zero-mul price) (premium-zero (c .rate .0)))
+      (rw (moves, missing, zero-mul price) (premium-zero (c .premium .0)))
       (moves-rules (c .flag) moves .0)
       (rw moves (omega (arith, enough)))
 
@@ -180,25 +180,25 @@ module _ (c : Component) (have price m : ℕ) (stays : entry (c .flag) stockMove
   abbrev paid : ℕ → Line
   paid cash = line false 0 0 cash (entry (c .flag) shanghai) 0
 
-  amount-creation : creationLine c have price m ≡ paid (premium (m * c .amount .0) (c .rate .0))
+  amount-creation : creationLine c have price m ≡ paid (premium (m * c .amount .0) (c .premium .0))
   unfolding creationLine worthOf missingOf every
   amount-creation = rw (stays, shortage-rule (c .flag) stays, zero-mul price)
 
-  amount-redemption : redemptionLine c have m ≡ paid (discount (m * c .amount .0) (c .rate .0))
+  amount-redemption : redemptionLine c have m ≡ paid (discount (m * c .amount .0) (c .discount .0))
   unfolding redemptionLine
   amount-redemption = rw (stays, le-ltb have 0 zero-le)
 
   pub amount-is : (kind : ℕ) → orderLine kind c have price m ≡ amountLine kind c m
-  unfolding orderLine amountLine
+  unfolding orderLine amountLine amountDue
   amount-is kind = go (eqb kind creation)
     where
-      go : (b : Bool) → cond b (creationLine c have price m) (redemptionLine c have m) ≡ paid (cond b (premium (m * c .amount .0) (c .rate .0)) (discount (m * c .amount .0) (c .rate .0)))
+      go : (b : Bool) → cond b (creationLine c have price m) (redemptionLine c have m) ≡ paid (cond b (premium (m * c .amount .0) (c .premium .0)) (discount (m * c .amount .0) (c .discount .0)))
       go true = amount-creation
       go false = amount-redemption
 
 -- from its parts
 pub amount-parts : (kind : ℕ) (c : Component) (m cash : ℕ) (inside : Bool)
-    → cash ≡ byKind kind (premium (m * c .amount .0) (c .rate .0)) (discount (m * c .amount .0) (c .rate .0)) → inside ≡ entry (c .flag) shanghai
+    → cash ≡ amountDue kind c (m * c .amount .0) → inside ≡ entry (c .flag) shanghai
     → line false 0 0 cash inside 0 ≡ amountLine kind c m
 unfolding amountLine
 amount-parts kind c m cash inside ec ei = line-eq refl refl refl ec ei refl

@@ -5,16 +5,13 @@ ghost use mathlib.Core.Path.{_≡_};
 ghost use Prim.Native.Nat.{_-_, _≤_, min};
 ghost use lib.Dec.{leb, ltb};
 ghost use Rattle.sequences.specs.Every.{every};
-ghost use Rattle.units.specs.Units.{premium, discount};
 ghost use Rattle.flags.specs.Table.{entry, stockMoves};
 ghost use Rattle.rules.specs.Sound.{mostPrice};
 ghost use Rattle.rules.specs.Orders.{mostBaskets};
-ghost use Rattle.rules.specs.Kinds.{byKind};
-ghost use Rattle.order_lines.specs.Lines.{creationLine, redemptionLine, amountLine, orderLine};
+ghost use Rattle.order_lines.specs.Lines.{creationLine, redemptionLine, amountDue, amountLine, orderLine};
 ghost use Rattle.order_lines.specs.Ready.{Ranged};
 use layout::Component;
 use units::Money;
-use units::Rate;
 
 // One component in an order of so many baskets.
 pub struct Line {
@@ -87,7 +84,7 @@ fn creation_line(c: Component, have: u64, price: u64, m: u64) -> Line
     let missing = missing_of(in_cash, need, have);
     let worth = Money(missing * price);
     let amount = Money(m * c.amount.0);
-    let cash = chosen(moves, worth, amount).with_premium(c.rate);
+    let cash = chosen(moves, worth, amount).with_premium(c.premium);
     Line {
         short: is_short(moves, in_cash, need, have),
         missing: missing,
@@ -107,7 +104,7 @@ fn redemption_line(c: Component, have: u64, m: u64) -> Line
     let moves = flags::entry_of(c.flag, flags::STOCK_MOVES);
     let shanghai = flags::entry_of(c.flag, flags::SHANGHAI);
     let moved = moved_of(moves, need, need);
-    let paid = Money(m * c.amount.0).with_discount(c.rate);
+    let paid = Money(m * c.amount.0).with_discount(c.discount);
     Line {
         short: have < moved,
         missing: 0,
@@ -118,15 +115,15 @@ fn redemption_line(c: Component, have: u64, m: u64) -> Line
     }
 }
 
-// An amount with the premium on creation, and less the discount on redemption.
-fn amount_due(kind: usize, amount: Money, rate: Rate) -> Money
-    requires { ⌜ (amount .0 ≤ 1_999_999_999_980) × (rate .0 ≤ 100_000) ⌝ }
-    ensures { λ r. ⌜ r .0 ≡ byKind kind (premium (amount .0) (rate .0)) (discount (amount .0) (rate .0)) ⌝ }
+// An amount that stands for a component: with the premium on creation, less the discount on redemption.
+fn amount_due(kind: usize, c: Component, amount: Money) -> Money
+    requires { ⌜ Ranged c × (amount .0 ≤ 1_999_999_999_980) ⌝ }
+    ensures { λ r. ⌜ r .0 ≡ amountDue kind c (amount .0) ⌝ }
 {
     if kind == rules::CREATION {
-        return amount.with_premium(rate);
+        return amount.with_premium(c.premium);
     }
-    amount.with_discount(rate)
+    amount.with_discount(c.discount)
 }
 
 // A component of which no stock moves, in an order of m baskets: its amount alone.
@@ -138,7 +135,7 @@ pub fn amount_line(kind: usize, c: Component, m: u64) -> Line
         short: false,
         missing: 0,
         worth: Money(0),
-        cash: amount_due(kind, Money(m * c.amount.0), c.rate),
+        cash: amount_due(kind, c, Money(m * c.amount.0)),
         shanghai: flags::entry_of(c.flag, flags::SHANGHAI),
         moved: 0,
     }

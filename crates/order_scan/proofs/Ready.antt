@@ -30,7 +30,7 @@ module _ (d : Day) (b ps : List ℕ) (s : SoundDay d b ps) (m : ℕ) (few : m �
   ranged : (k : ℕ) → k < d .count → Ranged (componentOf d k)
   ranged k h =
       let c = components-fine (d .fund .«first_code») (d .components) (d .count) (s .own .components) k h in
-      record { quantity = c .quantity; rate = c .rate; amount = c .amount }
+      record { quantity = c .quantity; premium = c .premium; discount = c .discount; amount = c .amount }
 
   wide : (a : ℕ) → a < d .accounts → length (account d b a) ≡ width d
   wide a h = stretch-length (width d) b a (omega (arith, within (width d) a (d .accounts) h, s .book .book-size))

@@ -1,11 +1,12 @@
--- "A day to compare with": its cases (a) to (i), computed from the definitions as the rows of one check.
-use Prim.Native.Nat.{ℕ}
+-- "A day to compare with": its cases (a) to (i), and the same day with unlike rates, computed from the definitions as the rows of one
+-- check.
+use Prim.Native.Nat.{ℕ, _*_}
 use mathlib.Core.Path.{_≡_, refl}
 use mathlib.Core.Bool.{Bool, true, false}
 use mathlib.Core.List.{List, [], _∷_, _++_}
 use lib.Dec.{eqb}
 use lib.IntN.{negsuc}
-use lib.ListN.{replicate}
+use lib.ListN.{take, drop, replicate}
 use Rattle.sequences.specs.Below.{sumBelow, anyBelow, allBelow, firstBelow, joinBelow, tabulate}
 use Rattle.sequences.specs.Every.{every, inside}
 use Rattle.sequences.specs.Checks.{Reply, answered, passes, isAccepted}
@@ -13,8 +14,8 @@ use Rattle.sequences.specs.Stretch.{stretchOf, over}
 use Rattle.units.specs.Units.{rounded, premium, discount, ratioBound}
 use Rattle.flags.specs.Table.{flagTable, entry}
 use Rattle.fund.specs.Fund.{cashInRange, limitInRange, limitsInRange, fundInRange, limitOf}
-use Rattle.fund.specs.Components.{outsideGroup, zeroUnless, componentInRange, fits, faultAt, componentFault}
-use Rattle.layout.specs.Places.{dayWidth}
+use Rattle.fund.specs.Components.{outsideGroup, zeroUnless, usedWithin, componentInRange, fits, faultAt, componentFault}
+use Rattle.layout.specs.Places.{recordWidth, dayWidth}
 use Rattle.layout.specs.Components.{componentAt, placesOf}
 use Rattle.layout.specs.Book.{headAt, lotsAt, account, headTotal, lineTotal}
 use Rattle.rules.specs.Lines.{codeOf, quantity, column, creationRate, redemptionRate, creationAmount, redemptionAmount, priceOf}
@@ -53,13 +54,13 @@ abbrev all : (Row → Bool) → List Row → Bool
 all f [] = true
 all f (r ∷ rs) = both (f r) (all f rs)
 
--- The day: the fund has ample stock and cash; account 1 has old 600000 and 600036 as given, ample cash, and the
--- units of one basket.
+-- The day, with a premium and a discount of 000001: the fund has ample stock and cash; account 1 has old 600000 and
+-- 600036 as given, ample cash, and the units of one basket.
 abbrev basket : ℕ
 basket = 1_000_000
 
-abbrev compared : ℕ → ℕ → Opening
-compared of600000 of600036 =
+abbrev comparedAt : ℕ → ℕ → ℕ → ℕ → Opening
+comparedAt premiumOf000001 discountOf000001 of600000 of600036 =
     record {
       accounts = 2;
       count = 5;
@@ -73,11 +74,11 @@ compared of600000 of600036 =
             limits = replicate 8 0;
           };
       components =
-          1 ∷ 8_000 ∷ 3 ∷ 10_000 ∷ 96_000_000
-          ∷ 2 ∷ 1_000 ∷ 4 ∷ 0 ∷ 8_000_000
-          ∷ 600_000 ∷ 5_200 ∷ 1 ∷ 10_000 ∷ 0
-          ∷ 600_036 ∷ 3_000 ∷ 0 ∷ 0 ∷ 0
-          ∷ 600_519 ∷ 100 ∷ 2 ∷ 0 ∷ 150_000_000
+          1 ∷ 8_000 ∷ 3 ∷ premiumOf000001 ∷ discountOf000001 ∷ 96_000_000
+          ∷ 2 ∷ 1_000 ∷ 4 ∷ 0 ∷ 0 ∷ 8_000_000
+          ∷ 600_000 ∷ 5_200 ∷ 1 ∷ 10_000 ∷ 10_000 ∷ 0
+          ∷ 600_036 ∷ 3_000 ∷ 0 ∷ 0 ∷ 0 ∷ 0
+          ∷ 600_519 ∷ 100 ∷ 2 ∷ 0 ∷ 0 ∷ 150_000_000
           ∷ [];
       holdings =
           1_000_000_000_000 ∷ 1_000_000 ∷ 1_000_000 ∷ 1_000_000 ∷ 1_000_000 ∷ 1_000_000 ∷ 0
@@ -87,6 +88,10 @@ compared of600000 of600036 =
       prices = replicate 5 0;
       day = replicate dayWidth 0;
     }
+
+-- the paper's own, where both rates are its r
+abbrev compared : ℕ → ℕ → Opening
+compared of600000 of600036 = comparedAt 10_000 10_000 of600000 of600036
 
 -- yuan 12.000, none, 10.000, 40.000, none
 abbrev prices : List ℕ
@@ -121,6 +126,36 @@ valueOf o = three (valueReply (openedDay o) (openedBook o) prices)
 abbrev cashOf : ℕ → List ℕ
 cashOf c = flatten (cashRecords 510_302 sideB c)
 
+-- the records of (e), and the reply and the records of (f)
+abbrev created : List ℕ
+created =
+    510_300 ∷ 1 ∷ 1_000_000 ∷ 0 ∷ 0
+    ∷ 600_000 ∷ 2 ∷ 3_072 ∷ 0 ∷ 0
+    ∷ 600_036 ∷ 2 ∷ 3_000 ∷ 0 ∷ 0
+    ∷ 510_305 ∷ 1 ∷ 1_000_000 ∷ 113 ∷ 113_000_000
+    ∷ 510_305 ∷ 1 ∷ 1 ∷ 600_000 ∷ 600_000
+    ∷ 510_302 ∷ 1 ∷ 1_000_000 ∷ 173 ∷ 173_000_000
+    ∷ 510_302 ∷ 1 ∷ 1 ∷ 408_000 ∷ 408_000
+    ∷ 510_301 ∷ 1 ∷ 1_000_000 ∷ 0 ∷ 0
+    ∷ []
+
+abbrev redeemed : List ℕ
+redeemed =
+    0 ∷ 0 ∷ 8
+    ∷ 510_300 ∷ 2 ∷ 1_000_000 ∷ 0 ∷ 0
+    ∷ 600_000 ∷ 1 ∷ 5_200 ∷ 0 ∷ 0
+    ∷ 600_036 ∷ 1 ∷ 3_000 ∷ 0 ∷ 0
+    ∷ 510_305 ∷ 2 ∷ 1_000_000 ∷ 94 ∷ 94_000_000
+    ∷ 510_305 ∷ 2 ∷ 1 ∷ 400_000 ∷ 400_000
+    ∷ 510_302 ∷ 2 ∷ 1_000_000 ∷ 150 ∷ 150_000_000
+    ∷ 510_302 ∷ 2 ∷ 1 ∷ 0 ∷ 0
+    ∷ 510_301 ∷ 2 ∷ 1_000_000 ∷ 0 ∷ 0
+    ∷ []
+
+-- the two records of other cash, which stand behind the unit and two of stock
+abbrev otherPart : List ℕ → List ℕ
+otherPart list = take (2 * recordWidth) (drop (3 * recordWidth) list)
+
 abbrev rows : List Row
 rows =
     -- (a) value 4257
@@ -132,34 +167,9 @@ rows =
     -- (d) 600036 at 2999 gives 9, place 3
     ∷ record { got = createReply (compared 3_072 2_999); want = 9 ∷ 3 ∷ 0 ∷ [] }
     -- (e) the creation's records
-    ∷ record {
-      got = createList (compared 3_072 3_000);
-      want =
-          510_300 ∷ 1 ∷ 1_000_000 ∷ 0 ∷ 0
-          ∷ 600_000 ∷ 2 ∷ 3_072 ∷ 0 ∷ 0
-          ∷ 600_036 ∷ 2 ∷ 3_000 ∷ 0 ∷ 0
-          ∷ 510_305 ∷ 1 ∷ 1_000_000 ∷ 113 ∷ 113_000_000
-          ∷ 510_305 ∷ 1 ∷ 1 ∷ 600_000 ∷ 600_000
-          ∷ 510_302 ∷ 1 ∷ 1_000_000 ∷ 173 ∷ 173_000_000
-          ∷ 510_302 ∷ 1 ∷ 1 ∷ 408_000 ∷ 408_000
-          ∷ 510_301 ∷ 1 ∷ 1_000_000 ∷ 0 ∷ 0
-          ∷ [];
-    }
+    ∷ record { got = createList (compared 3_072 3_000); want = created }
     -- (f) one basket redeemed: other cash 94,400.000, Shanghai 150,000.000 in two records, the second 0
-    ∷ record {
-      got = redeemReply (compared 3_072 3_000) ++ redeemList (compared 3_072 3_000);
-      want =
-          0 ∷ 0 ∷ 8
-          ∷ 510_300 ∷ 2 ∷ 1_000_000 ∷ 0 ∷ 0
-          ∷ 600_000 ∷ 1 ∷ 5_200 ∷ 0 ∷ 0
-          ∷ 600_036 ∷ 1 ∷ 3_000 ∷ 0 ∷ 0
-          ∷ 510_305 ∷ 2 ∷ 1_000_000 ∷ 94 ∷ 94_000_000
-          ∷ 510_305 ∷ 2 ∷ 1 ∷ 400_000 ∷ 400_000
-          ∷ 510_302 ∷ 2 ∷ 1_000_000 ∷ 150 ∷ 150_000_000
-          ∷ 510_302 ∷ 2 ∷ 1 ∷ 0 ∷ 0
-          ∷ 510_301 ∷ 2 ∷ 1_000_000 ∷ 0 ∷ 0
-          ∷ [];
-    }
+    ∷ record { got = redeemReply (compared 3_072 3_000) ++ redeemList (compared 3_072 3_000); want = redeemed }
     -- (g) cash 999.999 is one record, 1,000.000 two
     ∷ record {
       got = cashOf 999_999 ++ cashOf 1_000_000;
@@ -173,12 +183,26 @@ rows =
     ∷ record { got = premium 5 10_000 ∷ []; want = 6 ∷ [] }
     -- (i) r = 9,999 gives 5
     ∷ record { got = premium 5 9_999 ∷ []; want = 5 ∷ [] }
+    -- the discount of 000001 at 5,000: (e) stays as it is, and (f) pays other cash 99,200.000
+    ∷ record { got = createList (comparedAt 10_000 5_000 3_072 3_000); want = created }
+    ∷ record {
+      got = otherPart (redeemList (comparedAt 10_000 5_000 3_072 3_000));
+      want = 510_305 ∷ 2 ∷ 1_000_000 ∷ 99 ∷ 99_000_000 ∷ 510_305 ∷ 2 ∷ 1 ∷ 200_000 ∷ 200_000 ∷ [];
+    }
+    -- its premium at 5,000: (e) takes other cash 108,800.000, and (f) stays as it is
+    ∷ record {
+      got = otherPart (createList (comparedAt 5_000 10_000 3_072 3_000));
+      want = 510_305 ∷ 1 ∷ 1_000_000 ∷ 108 ∷ 108_000_000 ∷ 510_305 ∷ 1 ∷ 1 ∷ 800_000 ∷ 800_000 ∷ [];
+    }
+    ∷ record { got = redeemReply (comparedAt 5_000 10_000 3_072 3_000) ++ redeemList (comparedAt 5_000 10_000 3_072 3_000); want = redeemed }
+    -- 5 less a discount of 10,000 is 5, of 10,001 is 4
+    ∷ record { got = discount 5 10_000 ∷ discount 5 10_001 ∷ []; want = 5 ∷ 4 ∷ [] }
     ∷ []
 
 pub cases : all right rows ≡ true
 unfolding sumBelow anyBelow allBelow firstBelow joinBelow tabulate every inside answered passes isAccepted stretchOf over
     rounded premium discount ratioBound flagTable entry cashInRange limitInRange limitsInRange fundInRange limitOf
-    outsideGroup zeroUnless componentInRange fits faultAt componentFault componentAt headAt lotsAt headTotal lineTotal
+    outsideGroup zeroUnless usedWithin componentInRange fits faultAt componentFault componentAt headAt lotsAt headTotal lineTotal
     codeOf quantity column creationRate redemptionRate creationAmount redemptionAmount priceOf
     cashOpened heldOpened openedTotal openedCash daySizesFit sizeChecks fundChecks overAt totalFault totalChecks dayChecks
     componentsOpened placesOf lentSizesFit openingReply openedDay openedStretch openedBook

@@ -1,4 +1,4 @@
--- `layout::component_at` meets its contract: the five numbers are read in the definition's order.
+-- `layout::component_at` meets its contract: the six numbers are read in the definition's order.
 use native.Mathlib.Omega.{arith}
 use Rattle.layout.specs.Components.{componentAt}
 use Rattle.layout.proofs.component_at.Statement.{statement}
@@ -6,7 +6,7 @@ use Rattle.layout.proofs.component_at.Tie as tie
 
 returns : tie.Need-returns
 unfolding componentAt
-returns c = rw (c .new2 .ensures, c .before .before .new .ensures)
+returns c = rw (c .new3 .ensures, c .before .before .new2 .ensures, c .before .before .before .before .new .ensures)
 
 pub component-at-spec : {M : Type 1} → statement M
 component-at-spec =
@@ -14,6 +14,8 @@ component-at-spec =
     (tie.spec
     (λ c. omega arith) (λ c. omega arith) (λ c. omega arith) (λ c. omega arith) (λ c. omega arith) (λ c. omega arith) (λ c. omega arith) (λ c. omega arith)
     (λ c. omega arith) (λ c. omega arith) (λ c. omega arith) (λ c. omega arith)
+    (λ c κs. tt)
+    (λ c. omega arith) (λ c. omega arith) (λ c. omega arith)
     (λ c κs. tt)
     (λ c. omega arith) (λ c. omega arith) (λ c. omega arith)
     (λ c κs. tt)

@@ -9,7 +9,7 @@ amount : (c : tie.Start) → c .args .m * c .args .c .amount .0 ≤ 1_999_999_99
 amount c = amount-le _ _ (c .pre .0) (c .pre .1)
 
 amount-due-requires : tie.Need-amount-due-requires
-amount-due-requires c κs = (amount (c .before), c .before .pre .0 .rate)
+amount-due-requires c κs = (c .before .pre .0, amount (c .before))
 
 returns : tie.Need-returns
 returns c = amount-parts _ _ _ _ _ (c .before .amount-due .ensures) (c .entry-of .ensures)

@@ -23,7 +23,7 @@ with-premium-requires : tie.Need-with-premium-requires
 with-premium-requires c κs =
     let start = c .before .before .before .before .before .before .before in
     let moves = c .before .before .before .before .before .entry-of .result in
-    (rw (c .chosen .ensures) (chosen-le moves _ _ _ (worth (c .before .before)) (omega (arith, amount start))), start .pre .0 .rate)
+    (rw (c .chosen .ensures) (chosen-le moves _ _ _ (worth (c .before .before)) (omega (arith, amount start))), start .pre .0 .premium)
 
 returns : tie.Need-returns
 returns c =

@@ -9,7 +9,7 @@ amount : (c : tie.Start) → c .args .m * c .args .c .amount .0 ≤ 1_999_999_99
 amount c = amount-le _ _ (c .pre .0) (c .pre .1)
 
 with-discount-requires : tie.Need-with-discount-requires
-with-discount-requires c κs = (omega (arith, amount (c .before .before .before .before .before)), c .before .before .before .before .before .pre .0 .rate)
+with-discount-requires c κs = (omega (arith, amount (c .before .before .before .before .before)), c .before .before .before .before .before .pre .0 .discount)
 
 returns : tie.Need-returns
 returns c =

@@ -1,0 +1,4 @@
+pub mod Shared
+pub mod Creation
+pub mod Redemption
+pub mod Theorems

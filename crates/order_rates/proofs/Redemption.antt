@@ -1,0 +1,75 @@
+-- A redemption on two days whose components agree on all but the premium.
+use Prim.Native.Nat.{ℕ}
+use mathlib.Core.Path.{_≡_, ap, fun-ext}
+use mathlib.Core.Bool.{true}
+use mathlib.Core.List.{List}
+use Rattle.flags.specs.Table.{stockMoves}
+use Rattle.layout.specs.Book.{headTotal}
+use Rattle.layout.specs.Records.{roomIn}
+use Rattle.rules.specs.Lines.{redemptionRate, redemptionAmount}
+use Rattle.rules.specs.Sound.{isSound}
+use Rattle.rules.specs.Records.{sideB, sideS}
+use Rattle.rules.specs.Orders.{baskets, wholeBaskets, formChecks, switchAllows, countOf, fundCount, withinLimits, permissionChecks}
+use Rattle.rules.specs.Redemption.{delivered, redemptionCash, redemptionPaid, unitsAvailable, fundLacks, firstLacking}
+use Rattle.rules.specs.Redemption.{redemptionRecords, redemptionMeans, redemptionChecks, redemptionReply, redemptionMoves, redeemedBook, redeemedList}
+use Rattle.order_rates.proofs.Shared.{Twins, one, other, Shared, same-need, same-shanghai, same-other, same-records}
+
+-- what a redemption takes besides
+pub record ForRedemption (t : Twins) : Type 0 where
+  pub shared : Shared t
+  pub rates : (i : ℕ) → redemptionRate (one t) i ≡ redemptionRate (other t) i
+  pub amounts : (i : ℕ) → redemptionAmount (one t) i ≡ redemptionAmount (other t) i
+
+module _ (t : Twins) (c : ForRedemption t) where
+  -- in m baskets
+  module _ (m : ℕ) where
+    same-delivered : delivered (one t) m ≡ delivered (other t) m
+    unfolding delivered
+    same-delivered = fun-ext (λ i. rw (c .shared .columns stockMoves i, same-need t (c .shared) m i))
+
+    same-lacking : (f : List ℕ) → firstLacking (one t) f m ≡ firstLacking (other t) f m
+    unfolding firstLacking fundLacks
+    same-lacking f =
+        let lacks : fundLacks (one t) f m ≡ fundLacks (other t) f m = fun-ext (λ i. rw (ap (λ (g : ℕ → ℕ). g i) same-delivered)) in
+        rw lacks
+
+    same-cash : redemptionCash (one t) m ≡ redemptionCash (other t) m
+    unfolding redemptionCash
+    same-cash = fun-ext (λ i. rw (c .shared .columns stockMoves i, c .amounts i, c .rates i))
+
+    same-paid : redemptionPaid (one t) m ≡ redemptionPaid (other t) m
+    unfolding redemptionPaid
+    same-paid = rw (same-other t (c .shared) same-cash, same-shanghai t (c .shared) same-cash)
+
+  module _ (units : ℕ) where
+    same-made : redemptionRecords (one t) units ≡ redemptionRecords (other t) units
+    unfolding redemptionRecords baskets
+    same-made =
+        let m = baskets (one t) units in
+        let cash = same-cash m in
+        same-records t (c .shared) sideB sideS units (same-delivered m) (same-other t (c .shared) cash) (same-shanghai t (c .shared) cash)
+
+    same-means : (x f : List ℕ) (room : ℕ) → redemptionMeans (one t) x f units room ≡ redemptionMeans (other t) x f units room
+    unfolding redemptionMeans unitsAvailable baskets
+    same-means x f room =
+        let m = baskets (one t) units in
+        rw (same-lacking m f, same-paid m, same-made)
+
+  module _ (b ps : List ℕ) (first : isSound (one t) b ps ≡ true) (second : isSound (other t) b ps ≡ true) (a units : ℕ) where
+    pub same-answer : (room : ℕ) → redemptionReply (one t) b ps a units room ≡ redemptionReply (other t) b ps a units room
+    unfolding redemptionReply redemptionChecks formChecks wholeBaskets baskets permissionChecks switchAllows withinLimits fundCount countOf headTotal
+    same-answer room = rw (first, second, same-means units _ _ room, same-made units)
+
+    pub same-list : (list : List ℕ) → redeemedList (one t) b ps a units list ≡ redeemedList (other t) b ps a units list
+    unfolding redeemedList
+    same-list list = rw (same-answer (roomIn list), same-made units)
+
+    same-moves : redemptionMoves (one t) a units b ≡ redemptionMoves (other t) a units b
+    unfolding redemptionMoves baskets
+    same-moves =
+        let m = baskets (one t) units in
+        rw (same-delivered m, same-paid m)
+
+    pub same-book : (room : ℕ) → redeemedBook (one t) b ps a units room ≡ redeemedBook (other t) b ps a units room
+    unfolding redeemedBook
+    same-book room = rw (same-answer room, same-moves)
