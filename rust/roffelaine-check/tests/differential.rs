@@ -200,14 +200,14 @@ fn put_discount(line: &mut Vec<u8>) {
 }
 
 /// A blank in place of a discount that the flag does not use.
-fn blank_unused_discount(line: &mut Vec<u8>) {
+fn blank_unused_discount(line: &mut [u8]) {
     if line.len() == 56 && !matches!(line[FLAG], b'1' | b'3') {
         line[DISCOUNT].fill(b' ');
     }
 }
 
 /// A discount of 1 in place of one above it.
-fn lower_discount(line: &mut Vec<u8>) {
+fn lower_discount(line: &mut [u8]) {
     if line.len() == 56 && matches!(line[DISCOUNT], [b'1'..=b'9', b'.', ..]) {
         line[DISCOUNT].copy_from_slice(b"1.00000");
     }
@@ -278,8 +278,8 @@ impl Engine for Faulty {
     fn read(&self, text: &[u8], lent: &mut LentList) -> Reply {
         let change: fn(&mut Vec<u8>) = match self.fault {
             Fault::ReadsLinesWithoutDiscount => put_discount,
-            Fault::ReadsUnusedDiscounts => blank_unused_discount,
-            Fault::ReadsDiscountsAboveOne => lower_discount,
+            Fault::ReadsUnusedDiscounts => |line| blank_unused_discount(line),
+            Fault::ReadsDiscountsAboveOne => |line| lower_discount(line),
             _ => |_| {},
         };
         let mut reply = Model.read(&with_lines(text, change), lent);
