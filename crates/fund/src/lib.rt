@@ -136,7 +136,11 @@ pub fn component_in_range(first_code: u64, c: Component) -> bool
     if !used_within(MOST_RATE, rate_used, c.discount.0) {
         return false;
     }
-    used_within(MOST_AMOUNT, flags::entry_of(c.flag, flags::AMOUNT_USED), c.amount.0)
+    used_within(
+        MOST_AMOUNT,
+        flags::entry_of(c.flag, flags::AMOUNT_USED),
+        c.amount.0,
+    )
 }
 
 // Whether the i-th component is in its ranges and above the previous code.

@@ -1,6 +1,7 @@
 pub mod Tables
 pub mod Form
 pub mod Names
+pub mod ComponentsRead
 pub mod WrittenPassing
 pub mod WrittenForms
 pub mod WrittenFields

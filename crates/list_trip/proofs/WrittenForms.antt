@@ -89,7 +89,7 @@ module _ (g : ℕ) (c : Component) (r : ComponentRanges g c) where
   rate-fits : (rate : ℕ) (words : List ℕ) → rate ≤ mostRate → zeroUnless (entry (c .flag) rateUsed) rate ≡ true
       → CellFits (cond (entryIn flagTable (c .flag) rateUsed) numberCell blankCell) (columnAt (shanghai .columns) premiumColumn) rate words
   unfolding shanghai shanghaiColumns columnAt numberForm
-  rate-fits rate words h use = flag-fits (c .flag) rateUsed _ rate words (point-fits _ _ rate (λ e. omega arith) (omega arith) (rate-low rate h) (omega arith) (omega arith)) use
+  rate-fits rate words h used = flag-fits (c .flag) rateUsed _ rate words (point-fits _ _ rate (λ e. omega arith) (omega arith) (rate-low rate h) (omega arith) (omega arith)) used
 
   amount-low : c .amount .0 / 1_000 < 100_000_000
   amount-low = div-lt-iff-lt-mul {k = 1_000} {x = c .amount .0} {y = 100_000_000} (omega arith) .1 (omega (arith, r .amount))

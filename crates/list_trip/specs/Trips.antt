@@ -1,6 +1,6 @@
 -- The round trips of the list text: a list that is written reads back as itself, and a text that is read is written again but for
 -- the case of the names of its fields.
-use Prim.Native.Nat.{ℕ, _*_, _≤_}
+use Prim.Native.Nat.{ℕ, _*_, _≤_, _<_}
 use mathlib.Core.Path.{_≡_}
 use mathlib.Core.Bool.{true}
 use mathlib.Core.List.{List}
@@ -8,10 +8,11 @@ use lib.ListN.{length, take}
 use Rattle.sequences.specs.Below.{joinBelow}
 use Rattle.sequences.specs.Checks.{reply, isAccepted, passes}
 use Rattle.layout.specs.Places.{componentWidth, limitCount}
-use Rattle.text_rules.specs.Reading.{rowCount, lettersRead}
+use Rattle.layout.specs.Components.{componentAt}
+use Rattle.text_rules.specs.Reading.{rowCount, rowOf, lettersRead}
 use Rattle.text_trip.specs.Trips.{renamed}
 use Rattle.list_rules.specs.Shanghai.{shanghai}
-use Rattle.list_rules.specs.Reading.{fieldsRead, componentsRun, readReply, firstHanded, nameRead, nameFrom}
+use Rattle.list_rules.specs.Reading.{fieldsRead, componentsRun, lineComponent, readReply, firstHanded, nameRead, nameFrom}
 use Rattle.list_rules.specs.Writing.{Listing, listing, listChecks, textOf, writeReply, outputAfter}
 
 -- the names of a text's components, joined from the parts that are handed back
@@ -21,6 +22,10 @@ namesRead text = joinBelow (nameRead text) (rowCount shanghai text)
 -- the list that a text says
 unfoldable pub listRead : List ℕ → Listing
 listRead text = listing (fieldsRead text) (componentsRun text) (namesRead text) (lettersRead text)
+
+-- each component that is read is what its line says, column by column
+abbrev pub ComponentsRead : Type 0
+ComponentsRead = (text : List ℕ) (j : ℕ) → j < rowCount shanghai text → componentAt (componentsRun text) j ≡ lineComponent (rowOf shanghai text j)
 
 -- a list that no test of writing refuses (its fund has all its limits) reads back as itself, where there is room for its run
 abbrev pub WrittenReads : Type 0
