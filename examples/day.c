@@ -36,11 +36,11 @@ static const char LIST[] =
     "NetCreationLimitPerUser=0\r\n"
     "NetRedemptionLimitPerUser=0\r\n"
     "TAGTAG\r\n"
-    "000001|PAB     |    8000|3|0.10000|   96000.000|\r\n"
-    "000002|VANKE   |    1000|4|       |    8000.000|\r\n"
-    "600000|SPDB    |    5200|1|0.10000|            |\r\n"
-    "600036|CMB     |    3000|0|       |            |\r\n"
-    "600519|MOUTAI  |     100|2|       |  150000.000|\r\n"
+    "000001|PAB     |    8000|3|0.10000|0.10000|   96000.000|\r\n"
+    "000002|VANKE   |    1000|4|       |       |    8000.000|\r\n"
+    "600000|SPDB    |    5200|1|0.10000|0.10000|            |\r\n"
+    "600036|CMB     |    3000|0|       |       |            |\r\n"
+    "600519|MOUTAI  |     100|2|       |       |  150000.000|\r\n"
     "ENDENDEND\r\n";
 
 /* Account 0 is the fund, account 1 creates and redeems. */

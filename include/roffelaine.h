@@ -40,8 +40,10 @@
  *    0 first code   1 basket size   2 maximum cash ratio   3 switch   4, 5 estimated cash, signed
  *    6 to 13 the limits in the list text's order, creation and redemption by turns: cumulative for the fund, cumulative per
  *    account, net for the fund, net per account; 0 is no limit
- * A component, 5 numbers: code, quantity, flag, rate, amount; a run of components has 5 for each.
- * A day, 1,516 numbers, filled by an accepted opening and lent to every later call of the day:
+ * A component, 6 numbers: code, quantity, flag, premium, discount, amount; a run of components has 6 for each. Premium and discount
+ * are rates: creation takes the premium, redemption the discount. Flags other than 1 and 3 use neither, and both are 0. The discount
+ * of flag 1 enters no sum, since its redemption delivers stock.
+ * A day, 1,816 numbers, filled by an accepted opening and lent to every later call of the day:
  *    0 accounts   1 components, N   2 to 15 the fund   16 on 300 components, those behind the N-th all 0
  *    A run of another length, or of other numbers than an opening leaves, is a day too: the calls then answer
  *    ROFFELAINE_UNSOUND_DAY where it breaks a test.
@@ -68,16 +70,16 @@ extern "C" {
 #endif
 
 /* The version of this header and of the library that it came with. */
-#define ROFFELAINE_VERSION "0.2.0"
+#define ROFFELAINE_VERSION "0.3.0"
 #define ROFFELAINE_VERSION_MAJOR 0 /* with the next one, part of the shared library's name */
-#define ROFFELAINE_VERSION_MINOR 2 /* raised where calls or names change */
+#define ROFFELAINE_VERSION_MINOR 3 /* raised where calls, names or widths change */
 #define ROFFELAINE_VERSION_PATCH 0 /* raised where none does */
 
 /* How many numbers each takes. */
 #define ROFFELAINE_FUND_WIDTH 14
-#define ROFFELAINE_DAY_WIDTH 1516
+#define ROFFELAINE_DAY_WIDTH 1816
 #define ROFFELAINE_FIELDS_WIDTH 22
-#define ROFFELAINE_COMPONENT_WIDTH 5
+#define ROFFELAINE_COMPONENT_WIDTH 6
 #define ROFFELAINE_RECORD_WIDTH 5
 #define ROFFELAINE_ROW_WIDTH 6
 #define ROFFELAINE_ANSWER_WIDTH 3
@@ -99,10 +101,10 @@ extern "C" {
 /*
  * Bytes of the longest list text: no text that `roffelaine_read` accepts and none that `roffelaine_write` makes has more, so an
  * output of so many bytes is never refused with 16. It is the text with 8 letters in its first line, the longest value in every
- * field and 300 components: 15 for the first line, 535 for the 20 fields, 8 for TAGTAG, 300 times 50 for the component lines and 11
+ * field and 300 components: 15 for the first line, 535 for the 20 fields, 8 for TAGTAG, 300 times 58 for the component lines and 11
  * for ENDENDEND, with the two bytes that end each line. It follows from the paper's ranges and is held by a test; it is not proved.
  */
-#define ROFFELAINE_LONGEST_TEXT 15569 /* bytes */
+#define ROFFELAINE_LONGEST_TEXT 17969 /* bytes */
 
 /* The refusals. Where a place is said, it is the component, line, field or byte that the call names. */
 enum roffelaine_refusal {
@@ -272,7 +274,7 @@ uint64_t roffelaine_letters(
     uint64_t *part, size_t part_length);
 
 /*
- * Writes a list at the front of the output, and at `value` how many bytes it takes; what is past them stays. The run has 5 numbers
+ * Writes a list at the front of the output, and at `value` how many bytes it takes; what is past them stays. The run has 6 numbers
  * and the names 8 bytes for each of the fields' N components. Refusals: 1, also for fields of another width, 2, 3, 16.
  */
 uint64_t roffelaine_write(

@@ -121,7 +121,8 @@ struct roffelaine_component {
     uint64_t code;
     uint64_t quantity;
     uint64_t flag;
-    uint64_t rate;
+    uint64_t premium;  /* of creation */
+    uint64_t discount; /* of redemption */
     uint64_t amount;
 };
 
@@ -133,8 +134,9 @@ static inline struct roffelaine_component roffelaine_component_at(const uint64_t
     component.code = numbers[0];
     component.quantity = numbers[1];
     component.flag = numbers[2];
-    component.rate = numbers[3];
-    component.amount = numbers[4];
+    component.premium = numbers[3];
+    component.discount = numbers[4];
+    component.amount = numbers[5];
     return component;
 }
 

@@ -23,7 +23,7 @@ const FUND_FROM: usize = 2;
 const COMPONENTS_FROM: usize = FUND_FROM + FUND_NUMBERS;
 const LIMITS_FROM: usize = 6;
 
-const _: () = assert!(DAY_NUMBERS == 1_516 && FIELD_NUMBERS == 22);
+const _: () = assert!(DAY_NUMBERS == 1_816 && FIELD_NUMBERS == 22);
 
 /// A number that may be below zero: 1 where it is, and its size.
 fn signed_numbers(number: i64) -> [u64; 2] {
@@ -185,7 +185,12 @@ mod tests {
                 if below_zero == 1 { -7 } else { 7 }
             );
             assert_eq!(day.fund.limits[7], 15);
-            assert_eq!(day.components[299].amount, DAY_NUMBERS as u64 - 1);
+            let last = &day.components[299];
+            let rates_and_amount = [last.premium, last.discount, last.amount];
+            assert_eq!(
+                rates_and_amount,
+                [3, 2, 1].map(|back| DAY_NUMBERS as u64 - back)
+            );
             assert_eq!(day_numbers(&day), numbers);
         }
     }

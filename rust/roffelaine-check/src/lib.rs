@@ -1,7 +1,7 @@
 //! What holds the library to the paper from outside.
 //!
-//! `model` is an independent implementation of document 01 over plain slices,
-//! and `flat` has its own layouts of what crosses to the archive: neither uses
+//! `model` is an independent implementation of the paper over plain slices, and
+//! `flat` has its own layouts of what crosses to the archive: neither uses
 //! the types of `roffelaine`. `engine` names what an engine must offer to be
 //! compared, `archive` is the proved archive as one, `random` makes the cases,
 //! `compare` makes one call on two engines and `differential` plans a whole

@@ -41,7 +41,8 @@ pub fn component(component: &model::Component) -> Component {
         code: component.code,
         quantity: component.quantity,
         flag: component.flag,
-        rate: Rate(component.rate),
+        premium: Rate(component.premium),
+        discount: Rate(component.discount),
         amount: Money(component.amount),
     }
 }

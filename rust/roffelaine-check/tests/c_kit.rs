@@ -80,7 +80,7 @@ const LONGEST_FIELDS: [(&str, &str); 20] = [
 fn the_longest_text_follows_from_the_paper() {
     let line = |text: &str| text.len() + "\r\n".len();
     let fields = LONGEST_FIELDS.map(|(name, value)| line(&format!("{name}={value}")));
-    let component = "000001|ABCDEFGH|99999999|3|1.00000|99999999.999|";
+    let component = "000001|ABCDEFGH|99999999|3|1.00000|1.00000|99999999.999|";
     let length = line("[ETFABCDEFGH]")
         + fields.iter().sum::<usize>()
         + line("TAGTAG")
@@ -199,7 +199,7 @@ fn installed_files() -> BTreeSet<String> {
         "include/roffelaine_util.h",
         "lib/libroffelaine.a",
         "lib/libroffelaine.so",
-        "lib/libroffelaine.so.0.2",
+        "lib/libroffelaine.so.0.3",
         &shared,
         "lib/pkgconfig/roffelaine.pc",
         "share/man/man1/roffelaine.1",
@@ -260,8 +260,8 @@ fn functions() -> BTreeSet<String> {
 fn shows_the_calls_alone(prefix: &Path) {
     let link = |name: &str| std::fs::read_link(prefix.join("lib").join(name)).expect("a link");
     let file = format!("libroffelaine.so.{}", version());
-    assert_eq!(link("libroffelaine.so"), Path::new("libroffelaine.so.0.2"));
-    assert_eq!(link("libroffelaine.so.0.2"), Path::new(&file));
+    assert_eq!(link("libroffelaine.so"), Path::new("libroffelaine.so.0.3"));
+    assert_eq!(link("libroffelaine.so.0.3"), Path::new(&file));
     let library = prefix.join("lib").join(file);
     if is_there("nm", "the names of the shared library") {
         let mut command = Command::new("nm");
@@ -275,7 +275,7 @@ fn shows_the_calls_alone(prefix: &Path) {
     }
     if is_there("readelf", "the soname of the shared library") {
         let said = run(Command::new("readelf").arg("-d").arg(&library));
-        assert!(said.contains("soname: [libroffelaine.so.0.2]"), "{said}");
+        assert!(said.contains("soname: [libroffelaine.so.0.3]"), "{said}");
         assert!(!said.contains("TEXTREL"), "{said}");
     }
 }

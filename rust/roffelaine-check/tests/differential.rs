@@ -6,16 +6,19 @@ use roffelaine_check::compare::Comparison;
 use roffelaine_check::differential::Plan;
 use roffelaine_check::engine::{Engine, Lent, LentList, Model};
 use roffelaine_check::model::list::{self, Writing};
-use roffelaine_check::model::{Call, Opening, Reply};
+use roffelaine_check::model::{
+    range, Call, Component, Opening, Reply, COMPONENT_NUMBERS, RECORD_NUMBERS,
+};
 use std::cell::Cell;
+use std::ops::Range;
 
-/// Enough cases to reach every refusal.
+/// Enough cases to reach every refusal, and to find faults that few cases show.
 const FULL: Plan = Plan {
     seed: 5,
     days: 250,
     texts: 4_000,
 };
-/// Enough cases to find every fault below.
+/// Enough cases to find most faults below.
 const SHORT: Plan = Plan {
     seed: 6,
     days: 30,
@@ -83,6 +86,15 @@ enum Fault {
     LettersOfRefusedText,
     LettersTouchPastThePart,
     TouchesUnusedOutput,
+    CreationTakesTheDiscount,
+    RedemptionTakesThePremium,
+    OpensWithAnyDiscount,
+    ReadsTheRatesSwapped,
+    WritesTheRatesSwapped,
+    SoundWithAnyDiscount,
+    ReadsLinesWithoutDiscount,
+    ReadsUnusedDiscounts,
+    ReadsDiscountsAboveOne,
 }
 
 /// The model with one fault.
@@ -129,7 +141,8 @@ impl Faulty {
             Fault::ConstantValue if *call == Call::Value => reply.value = 4_257,
             Fault::CountOff if order => reply.value += 1,
             Fault::WritesPastTheLast if order => {
-                if let Some(past) = lent.records[..call.room()].get_mut(5 * reply.value as usize) {
+                let end = RECORD_NUMBERS * reply.value as usize;
+                if let Some(past) = lent.records[..call.room()].get_mut(end) {
                     *past = 0;
                 }
             }
@@ -138,9 +151,79 @@ impl Faulty {
     }
 }
 
+/// Swaps premium and discount of each component of a run.
+fn swap_rates(run: &mut [u64]) {
+    for numbers in run.chunks_exact_mut(COMPONENT_NUMBERS) {
+        numbers.swap(3, 4);
+    }
+}
+
+/// Brings a discount down to where it passes every test.
+fn pass_discount(component: &mut Component) {
+    let uses_rates = matches!(component.flag, 1 | 3);
+    let most = if uses_rates { range::RATE_MAX } else { 0 };
+    component.discount = component.discount.min(most);
+}
+
+/// The same in each component of a run.
+fn pass_discounts(run: &mut [u64]) {
+    for numbers in run.chunks_exact_mut(COMPONENT_NUMBERS) {
+        let mut component = Component::from_numbers(numbers);
+        pass_discount(&mut component);
+        numbers.copy_from_slice(&component.numbers());
+    }
+}
+
+/// The text with each line that ends in CR LF changed.
+fn with_lines(text: &[u8], change: fn(&mut Vec<u8>)) -> Vec<u8> {
+    let lines = text.split_inclusive(|&byte| byte == b'\n');
+    let lines = lines.map(|line| match line.strip_suffix(b"\r\n") {
+        Some(bytes) => {
+            let mut bytes = bytes.to_vec();
+            change(&mut bytes);
+            [&bytes[..], b"\r\n"].concat()
+        }
+        None => line.to_vec(),
+    });
+    lines.collect::<Vec<_>>().concat()
+}
+
+/// The flag and the discount of a component line.
+const FLAG: usize = 25;
+const DISCOUNT: Range<usize> = 35..42;
+
+/// A blank discount in a line of 48 bytes.
+fn put_discount(line: &mut Vec<u8>) {
+    if line.len() == 48 {
+        line.splice(DISCOUNT.start..DISCOUNT.start, *b"       |");
+    }
+}
+
+/// A blank in place of a discount that the flag does not use.
+fn blank_unused_discount(line: &mut [u8]) {
+    if line.len() == 56 && !matches!(line[FLAG], b'1' | b'3') {
+        line[DISCOUNT].fill(b' ');
+    }
+}
+
+/// A discount of 1 in place of one above it.
+fn lower_discount(line: &mut [u8]) {
+    if line.len() == 56 && matches!(line[DISCOUNT], [b'1'..=b'9', b'.', ..]) {
+        line[DISCOUNT].copy_from_slice(b"1.00000");
+    }
+}
+
 impl Engine for Faulty {
     fn open(&self, opening: &Opening<'_>, lent: &mut Lent) -> Reply {
         let before = lent.prices.clone();
+        let mut components = opening.components.to_vec();
+        if self.fault == Fault::OpensWithAnyDiscount {
+            pass_discounts(&mut components);
+        }
+        let opening = &Opening {
+            components: &components,
+            ..*opening
+        };
         let reply = Model.open(opening, lent);
         if self.fault == Fault::OpensWithOldPrices {
             lent.prices = before;
@@ -150,7 +233,19 @@ impl Engine for Faulty {
 
     fn call(&self, call: &Call, lent: &mut Lent) -> Reply {
         let before = lent.clone();
+        let spoil: fn(&mut Component) = match (self.fault, call) {
+            (Fault::CreationTakesTheDiscount, Call::Create(_)) => {
+                |each| each.premium = each.discount
+            }
+            (Fault::SoundWithAnyDiscount, _) => pass_discount,
+            (Fault::RedemptionTakesThePremium, Call::Redeem(_)) => {
+                |each| each.discount = each.premium
+            }
+            _ => |_| {},
+        };
+        lent.day.components.iter_mut().for_each(spoil);
         let mut reply = Model.call(call, lent);
+        lent.day = before.day.clone();
         self.spoil_call(call, before, lent, &mut reply);
         reply
     }
@@ -181,13 +276,24 @@ impl Engine for Faulty {
     }
 
     fn read(&self, text: &[u8], lent: &mut LentList) -> Reply {
-        let mut reply = Model.read(text, lent);
+        let change: fn(&mut Vec<u8>) = match self.fault {
+            Fault::ReadsLinesWithoutDiscount => put_discount,
+            Fault::ReadsUnusedDiscounts => |line| blank_unused_discount(line),
+            Fault::ReadsDiscountsAboveOne => |line| lower_discount(line),
+            _ => |_| {},
+        };
+        let mut reply = Model.read(&with_lines(text, change), lent);
         match self.fault {
             Fault::PlaceOff if reply.number == 19 => reply.place += 1,
             Fault::TouchesUnusedComponents if reply.is_accepted() => {
-                if let Some(past) = lent.components.get_mut(5 * reply.value as usize) {
+                let end = COMPONENT_NUMBERS * reply.value as usize;
+                if let Some(past) = lent.components.get_mut(end) {
                     *past = 0;
                 }
+            }
+            Fault::ReadsTheRatesSwapped if reply.is_accepted() => {
+                let end = COMPONENT_NUMBERS * reply.value as usize;
+                swap_rates(&mut lent.components[..end]);
             }
             Fault::FirstRowOff if reply.is_accepted() => lent.first_row += 1,
             Fault::RefusedReadingClears if !reply.is_accepted() => lent.fields = [0; 22],
@@ -218,6 +324,14 @@ impl Engine for Faulty {
     }
 
     fn write(&self, list: &Writing<'_>, output: &mut [u8]) -> Reply {
+        let mut components = list.components.to_vec();
+        if self.fault == Fault::WritesTheRatesSwapped {
+            swap_rates(&mut components);
+        }
+        let list = &Writing {
+            components: &components,
+            ..*list
+        };
         let reply = Model.write(list, output);
         if self.fault == Fault::TouchesUnusedOutput {
             if let Some(past) = output.get_mut(reply.value as usize) {
@@ -228,14 +342,14 @@ impl Engine for Faulty {
     }
 }
 
-fn is_found(fault: Fault) -> bool {
+fn is_found(fault: Fault, plan: Plan) -> bool {
     let engine = Faulty::new(fault);
-    SHORT.run(&mut Comparison::new(&Model, &engine)).is_err()
+    plan.run(&mut Comparison::new(&Model, &engine)).is_err()
 }
 
 #[test]
 fn faulty_engines_are_found() {
-    assert!(!is_found(Fault::None));
+    assert!(!is_found(Fault::None, SHORT));
     let faults = [
         Fault::AnswersShort,
         Fault::RefusesAll,
@@ -258,8 +372,26 @@ fn faulty_engines_are_found() {
         Fault::LettersOfRefusedText,
         Fault::LettersTouchPastThePart,
         Fault::TouchesUnusedOutput,
+        Fault::CreationTakesTheDiscount,
+        Fault::RedemptionTakesThePremium,
+        Fault::ReadsTheRatesSwapped,
+        Fault::WritesTheRatesSwapped,
     ];
     for fault in faults {
-        assert!(is_found(fault), "{fault:?} is not found");
+        assert!(is_found(fault, SHORT), "{fault:?} is not found");
+    }
+}
+
+#[test]
+fn engines_that_let_a_discount_pass_are_found() {
+    let faults = [
+        Fault::OpensWithAnyDiscount,
+        Fault::SoundWithAnyDiscount,
+        Fault::ReadsLinesWithoutDiscount,
+        Fault::ReadsUnusedDiscounts,
+        Fault::ReadsDiscountsAboveOne,
+    ];
+    for fault in faults {
+        assert!(is_found(fault, FULL), "{fault:?} is not found");
     }
 }

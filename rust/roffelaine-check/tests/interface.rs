@@ -8,7 +8,8 @@ use roffelaine_check::flat::{
     FUND_NUMBERS, PART_NUMBERS,
 };
 use roffelaine_check::model::{
-    book_length, Call, Day, Fund, Opening, Order, Refusal, Reply, Trade, MAX_COMPONENTS,
+    book_length, Call, Day, Fund, Opening, Order, Refusal, Reply, Trade, COMPONENT_NUMBERS,
+    MAX_COMPONENTS,
 };
 use roffelaine_check::random::{OpeningCase, Rng, Scale, Size, TextCase, WritingCase};
 
@@ -203,7 +204,7 @@ fn a_part_is_stored_where_there_is_room() {
     let mut rng = Rng::new(36);
     let text = TextCase::sound(&mut rng).text;
     let mut lent = LentList {
-        components: vec![0; 5 * MAX_COMPONENTS],
+        components: vec![0; COMPONENT_NUMBERS * MAX_COMPONENTS],
         fields: [0; FIELD_NUMBERS],
         first_row: 0,
     };
@@ -225,9 +226,10 @@ fn a_part_is_stored_where_there_is_room() {
 
 #[test]
 fn a_part_that_is_not_there_is_empty() {
-    let text = vec![b'x'; 149];
-    let parts = [(0, 0), (0, 1), (49, 1), (50, 1), (0, 2), (149, 0), (150, 0)];
-    let places = [7, 57, 106, 0, 0, 0, 0];
+    // Three lines of 58 bytes with their ends, but for the last byte.
+    let text = vec![b'x'; 173];
+    let parts = [(0, 0), (0, 1), (57, 1), (58, 1), (0, 2), (173, 0), (174, 0)];
+    let places = [7, 65, 122, 0, 0, 0, 0];
     for ((first_row, component), place) in parts.into_iter().zip(places) {
         let mut part = [5; PART_NUMBERS];
         let length = lent::name(&text, first_row, component, &mut part);
@@ -286,7 +288,7 @@ fn a_creation_may_break_a_day_at_its_bound() {
             switch: 1,
             ..Fund::default()
         },
-        components: &[600_000, 3, 0, 0, 0],
+        components: &[600_000, 3, 0, 0, 0, 0],
         holdings: &[0, 0, 0, 0, 9, 1_000_000_000_000_000_000],
     };
     let (creation, sale) = (Order::with_places(1, 1, 3), calls(0)[1]);

@@ -1,8 +1,12 @@
 //! What must hold on random days and lists, whatever the calls.
 
+use roffelaine_check::archive::Archive;
 use roffelaine_check::engine::{Engine, Lent, Model};
 use roffelaine_check::model::list;
-use roffelaine_check::model::{range, stretch_width, Call, Reply, Trade, LOTS, SELL, STRETCH_HEAD};
+use roffelaine_check::model::{
+    range, stretch_width, Call, Component, Reply, Trade, COMPONENT_NUMBERS, FLAG_TABLE, LOTS,
+    RECORD_NUMBERS, SELL, STRETCH_HEAD,
+};
 use roffelaine_check::random::{
     any_call, break_day, price_calls, OpeningCase, Rng, Scale, Size, TextCase, WritingCase,
 };
@@ -64,7 +68,8 @@ impl Counted {
             Call::Create(order) => {
                 self.created[order.account as usize] += order.units;
                 self.of(order.account, self.lines - 1).got += order.units;
-                let records = lent.records.chunks_exact(5).take(reply.value as usize);
+                let records = lent.records.chunks_exact(RECORD_NUMBERS);
+                let records = records.take(reply.value as usize);
                 for record in records.filter(|record| record[1] == SELL) {
                     let line = line_of(lent, record[0]);
                     self.of(order.account, line).handed_in += record[2];
@@ -185,6 +190,54 @@ fn days_keep_what_was_opened() {
     }
 }
 
+/// The rate of a component that an order does not read.
+fn unread_rate<'c>(call: &Call, component: &'c mut Component) -> &'c mut u64 {
+    match call {
+        Call::Create(_) => &mut component.discount,
+        _ => &mut component.premium,
+    }
+}
+
+/// Days that differ in discounts alone give a creation the same answer, records
+/// and book; days that differ in premiums alone give a redemption the same.
+#[test]
+fn an_order_reads_its_own_rate_alone() {
+    let mut rng = Rng::new(15);
+    let mut accepted = [0; 2];
+    for _ in 0..200 {
+        let (size, scale) = (Size::any(&mut rng), Scale::any(&mut rng));
+        let case = OpeningCase::sound(&mut rng, size, scale);
+        let mut lent = case.lent(&mut rng);
+        assert!(Model.open(&case.opening(), &mut lent).is_accepted());
+        for call in price_calls(&mut rng, &lent, scale) {
+            Model.call(&call, &mut lent);
+        }
+        for _ in 0..40 {
+            let call = any_call(&mut rng, &lent, scale);
+            let before = lent.clone();
+            let reply = Model.call(&call, &mut lent);
+            let is_order = matches!(call, Call::Create(_) | Call::Redeem(_));
+            if !is_order || !reply.is_accepted() {
+                continue;
+            }
+            let mut other = before;
+            for component in &mut other.day.components[..case.count as usize] {
+                if FLAG_TABLE[component.flag as usize].uses_rates {
+                    *unread_rate(&call, component) = rng.between(0, range::RATE_MAX);
+                }
+            }
+            for engine in [&Model as &dyn Engine, &Archive] {
+                let mut left = other.clone();
+                assert_eq!(engine.call(&call, &mut left), reply, "{call:?}");
+                assert_eq!(left.records, lent.records, "{call:?}");
+                assert_eq!(left.book, lent.book, "{call:?}");
+            }
+            accepted[usize::from(matches!(call, Call::Redeem(_)))] += 1;
+        }
+    }
+    assert!(accepted.iter().all(|&count| count > 100), "{accepted:?}");
+}
+
 #[test]
 fn broken_days_are_left_alone() {
     let mut rng = Rng::new(12);
@@ -220,7 +273,7 @@ fn sound_texts_are_read_and_written_back() {
             letters: read.letters,
             head: read.head,
             count: read.count,
-            components: &components[..5 * read.count as usize],
+            components: &components[..COMPONENT_NUMBERS * read.count as usize],
             names: &names,
         };
         let mut output = vec![0; case.text.len()];

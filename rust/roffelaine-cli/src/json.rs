@@ -17,7 +17,8 @@ pub fn start(out: &mut impl Write, file: &str, list: &List<'_>) -> io::Result<()
             ("name", string(&text_name(list, component.code))),
             ("quantity", component.quantity.to_string()),
             ("flag", component.flag.to_string()),
-            ("rate", string(&component.rate)),
+            ("premium", string(&component.premium)),
+            ("discount", string(&component.discount)),
             ("amount", string(&component.amount)),
         ])
     });

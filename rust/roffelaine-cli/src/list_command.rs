@@ -63,8 +63,10 @@ fn component(out: &mut impl Write, list: &List<'_>, component: &Component) -> io
     let name = text_name(list, component.code);
     let (code, quantity, flag) = (component.code, component.quantity, component.flag);
     write!(out, "{code:06} {name:<8} {quantity} flag {flag}")?;
-    if component.rate.0 > 0 {
-        write!(out, " rate {}", component.rate)?;
+    // Where one rate is 0 and the other is not, both are said.
+    let (premium, discount) = (component.premium, component.discount);
+    if premium.0 > 0 || discount.0 > 0 {
+        write!(out, " premium {premium} discount {discount}")?;
     }
     if component.amount.0 > 0 {
         write!(out, " amount {}", component.amount)?;

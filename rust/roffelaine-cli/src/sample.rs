@@ -21,7 +21,8 @@ pub fn list() -> List<'static> {
         code,
         quantity,
         flag,
-        rate: Rate(rate),
+        premium: Rate(rate),
+        discount: Rate(rate),
         amount: Money::from_yuan(yuan),
     };
     List {

@@ -6,7 +6,7 @@ mod support;
 use roffelaine_check::engine::{Engine, Lent, Model};
 use roffelaine_check::model::list::{write, Head, Writing, NAME_BYTES};
 use roffelaine_check::model::{
-    stretch_width, Call, Order, Reply, LOTS, RECORD_NUMBERS, STRETCH_HEAD,
+    stretch_width, Call, Order, Reply, COMPONENT_NUMBERS, LOTS, RECORD_NUMBERS, STRETCH_HEAD,
 };
 use roffelaine_check::random::{any_call, price_calls, OpeningCase, Rng, Scale, Size};
 use std::collections::BTreeSet;
@@ -145,8 +145,9 @@ impl Rehearsed {
 
 /// The code of each line, the unit's last.
 fn codes(case: &OpeningCase) -> Vec<u64> {
-    let components = case.components.chunks_exact(5).map(|each| each[0]);
-    components.chain([case.fund.first_code]).collect()
+    let components = case.components.chunks_exact(COMPONENT_NUMBERS);
+    let codes = components.map(|each| each[0]);
+    codes.chain([case.fund.first_code]).collect()
 }
 
 /// A call as a line of a day. A line that the day has not is said by a code of

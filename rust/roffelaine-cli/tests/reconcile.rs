@@ -412,10 +412,10 @@ fn the_day_that_was_opened_last_is_compared() {
 #[test]
 fn the_example_agrees_with_what_it_shows() {
     let day = std::fs::read_to_string(repository("examples/day.txt")).expect("the example");
-    let positions = "0,cash,317408.000\n0,600000,12672\n0,600036,7000\n\
+    let positions = "0,cash,303008.000\n0,600000,12672\n0,600036,7000\n\
         1,cash,1567740.000\n1,510300,1600000\n\
-        2,cash,1796452.500\n2,600000,10000\n2,600036,3000\n2,510300,500000\n\
-        3,cash,1218400.000\n3,600000,10400\n3,600036,9000\n3,510300,400000\n";
+        2,cash,1801252.500\n2,600000,10000\n2,600036,3000\n2,510300,500000\n\
+        3,cash,1228000.000\n3,600000,10400\n3,600036,9000\n3,510300,400000\n";
     let all = "; posted and book agree after each of 6 orders and trades\n";
     let ran = run(["day.txt", "positions.csv"], &day, positions);
     let expected = format!("13 positions given, 13 agree, 0 differ{all}");

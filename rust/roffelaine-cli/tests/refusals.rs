@@ -32,6 +32,8 @@ fn cases() -> Vec<(u64, String, String, &'static str)> {
     let rich = OPENING.replace("hold 2 510300 1000000", "hold 2 510300 9000000");
     let bare = OPENING.replace("hold 0 600036 100000", "hold 0 600036 2999");
     let penniless = OPENING.replace("cash 0 1000000", "cash 0 244399.999");
+    let low_premium = LIST.replace("|3|0.10000|0.10000|", "|3|0.05000|0.10000|");
+    let low_discount = LIST.replace("|3|0.10000|0.10000|", "|3|0.10000|0.05000|");
     vec![
         (1, same.clone(), "open\n".into(), "open refused 1 0: there is no line `accounts` above"),
         (1, same.clone(), "accounts 1\nopen\n".into(), "open refused 1 0: accounts 1: a day has 2 to 64"),
@@ -113,6 +115,13 @@ fn cases() -> Vec<(u64, String, String, &'static str)> {
             "create refused 10 0: account 1 has 287007.999 yuan, needs 287008.000",
         ),
         (
+            10,
+            low_premium,
+            // 96,000 with a premium of 0.05 are 4,800 less than with one of 0.1.
+            day("create 1 1000000\n").replace("cash 1 1000000", "cash 1 282207.999"),
+            "create refused 10 0: account 1 has 282207.999 yuan, needs 282208.000",
+        ),
+        (
             11,
             same.clone(),
             day("create 1 1500000\n"),
@@ -168,6 +177,13 @@ fn cases() -> Vec<(u64, String, String, &'static str)> {
             format!("{penniless}{PRICES}redeem 2 1000000\n"),
             "redeem refused 17 5: the fund has 244399.999 yuan, needs 244400.000",
         ),
+        (
+            17,
+            low_discount,
+            // 96,000 less a discount of 0.05 are 4,800 more than less one of 0.1.
+            day("redeem 2 1000000\n").replace("cash 0 1000000", "cash 0 249199.999"),
+            "redeem refused 17 5: the fund has 249199.999 yuan, needs 249200.000",
+        ),
     ]
 }
 
@@ -195,12 +211,31 @@ fn lists() -> Vec<(u64, String, &'static str)> {
             "16:22 CreationLimitPerUser \"2000001\"",
         ),
         (3, LIST.replace("600519|", "600036|"), "27:1 "),
+        (
+            3,
+            LIST.replace("|0.10000|   96000", "|1.00001|   96000"),
+            "23:36 discount \"1.00001\": at most 1.00000",
+        ),
         (18, LIST.replace("Publish", "Publisch"), "5:1 Publish "),
         (18, LIST.replace("\r\n", "\n"), "1:"),
+        (
+            18,
+            // A list from before there was a discount.
+            LIST.replace("|0.10000|0.10000|", "|0.10000|")
+                .replace("|       |       |", "|       |"),
+            "23:36 component line \"000001|PAB     |    8000|3|0.10000|   96000.000|\": \
+             the line is 48 bytes, a component line has 56; it is a line of an old list, \
+             without the discount",
+        ),
         (
             19,
             LIST.replace("=0.05000", "=0.5"),
             "4:14 MaxCashRatio \"0.5\": five decimals, as 0.50000",
+        ),
+        (
+            19,
+            LIST.replace("3000|0|       |       |", "3000|0|       |0.00000|"),
+            "26:36 discount \"0.00000\": flag 0 uses no discount: blank",
         ),
         (
             20,

@@ -123,6 +123,32 @@ fn all_answers_are_in_json() {
 }
 
 #[test]
+fn components_in_json_have_both_rates() {
+    let list = LIST.replace("|3|0.10000|0.10000|", "|3|0.10000|0.05000|");
+    let ran = rehearse(&list, "", &["--json"]);
+    let components = [
+        r#"{"code":"000001","name":"PAB","quantity":8000,"flag":3,"premium":"0.10000","discount":"0.05000","amount":"96000.000"}"#,
+        r#"{"code":"000002","name":"VANKE","quantity":1000,"flag":4,"premium":"0.00000","discount":"0.00000","amount":"8000.000"}"#,
+        r#"{"code":"600000","name":"SPDB","quantity":5200,"flag":1,"premium":"0.10000","discount":"0.10000","amount":"0.000"}"#,
+    ];
+    let components = format!("\"components\":[{},", components.join(","));
+    assert!(ran.out.contains(&components), "{}", ran.out);
+}
+
+/// The cash records of a redemption of one basket, with a discount of 000001 that
+/// is not its premium.
+#[test]
+fn a_redemption_takes_the_discount() {
+    let list = LIST.replace("|3|0.10000|0.10000|", "|3|0.10000|0.05000|");
+    let day = "accounts 2\ncash 0 1000000\nhold 0 600000 10000\nhold 0 600036 10000\n\
+        hold 1 510300 1000000\nopen\nredeem 1 1000000\n";
+    let ran = rehearse(&list, day, &[]);
+    let cash = "510305 S 1000000 0.099 99000.000\n510305 S 1 200.000 200.000\n\
+        510302 S 1000000 0.150 150000.000\n510302 S 1 0.000 0.000\n";
+    assert!(ran.out.contains(cash), "{}", ran.out);
+}
+
+#[test]
 fn a_day_may_come_from_standard_input() {
     let mut child = command()
         .args(["rehearse", "-", "--strict"])
@@ -218,7 +244,9 @@ fn a_list_with_lf_is_named_and_mended() {
 
 #[test]
 fn a_list_says_what_it_has() {
-    let file = scratch("list.txt", LIST.as_bytes());
+    let list = LIST.replace("|3|0.10000|0.10000|", "|3|0.10000|0.05000|");
+    let list = list.replace("|1|0.10000|0.10000|", "|1|0.10000|0.00000|");
+    let file = scratch("list.txt", list.as_bytes());
     let ran = run(&["list", file.to_str().expect("a path")]);
     let expected = "\
 list ETF510300 of 20250630
@@ -228,9 +256,9 @@ CreationRedemption 1: creation and redemption
 MaxCashRatio 0.05000
 CreationLimitPerUser 2000000
 5 components
-000001 PAB      8000 flag 3 rate 0.10000 amount 96000.000
+000001 PAB      8000 flag 3 premium 0.10000 discount 0.05000 amount 96000.000
 000002 VANKE    1000 flag 4 amount 8000.000
-600000 SPDB     5200 flag 1 rate 0.10000
+600000 SPDB     5200 flag 1 premium 0.10000 discount 0.00000
 600036 CMB      3000 flag 0
 600519 MOUTAI   100 flag 2 amount 150000.000
 ";

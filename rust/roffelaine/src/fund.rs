@@ -144,8 +144,11 @@ pub struct Component {
     pub quantity: u64,
     /// Substitution flag, 0 to 4.
     pub flag: u64,
-    /// Premium rate (r), 0 where the flag uses none.
-    pub rate: Rate,
+    /// Premium, which creation takes; 0 where the flag uses no rates.
+    pub premium: Rate,
+    /// Discount, which redemption takes; 0 where the flag uses no rates. That of
+    /// flag 1 enters no sum, since its redemption delivers stock.
+    pub discount: Rate,
     /// Cash substitute of a basket (P), 0 where the flag uses none.
     pub amount: Money,
 }

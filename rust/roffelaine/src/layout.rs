@@ -6,8 +6,8 @@ use crate::{Cents, Component, Fund, Head, Limits, Money, Rate, Switch, Units, MO
 /// Numbers of a fund: first code, basket size, maximum cash ratio, switch,
 /// estimated cash (two numbers), the eight limits.
 pub const FUND_NUMBERS: usize = 14;
-/// Numbers of a component: code, quantity, flag, rate, amount.
-pub const COMPONENT_NUMBERS: usize = 5;
+/// Numbers of a component: code, quantity, flag, premium, discount, amount.
+pub const COMPONENT_NUMBERS: usize = 6;
 /// Numbers of a day: accounts, components, the fund, room for all components.
 pub const DAY_NUMBERS: usize = 2 + FUND_NUMBERS + COMPONENT_NUMBERS * MOST_COMPONENTS;
 /// Numbers of a list's fields: the fund, Publish, TradingDay, PreTradingDay,
@@ -87,7 +87,8 @@ pub fn component_numbers(component: &Component) -> [u64; COMPONENT_NUMBERS] {
         component.code,
         component.quantity,
         component.flag,
-        component.rate.0,
+        component.premium.0,
+        component.discount.0,
         component.amount.0,
     ]
 }
@@ -97,8 +98,9 @@ pub fn component_of(numbers: &[u64]) -> Component {
         code: numbers[0],
         quantity: numbers[1],
         flag: numbers[2],
-        rate: Rate(numbers[3]),
-        amount: Money(numbers[4]),
+        premium: Rate(numbers[3]),
+        discount: Rate(numbers[4]),
+        amount: Money(numbers[5]),
     }
 }
 
@@ -162,8 +164,10 @@ mod tests {
 
     #[test]
     fn components_survive_their_numbers() {
-        let numbers = [1, 2, 3, 4, 5];
-        assert_eq!(component_numbers(&component_of(&numbers)), numbers);
+        let numbers = [1, 2, 3, 4, 5, 6];
+        let component = component_of(&numbers);
+        assert_eq!((component.premium, component.discount), (Rate(4), Rate(5)));
+        assert_eq!(component_numbers(&component), numbers);
     }
 
     #[test]

@@ -20,7 +20,7 @@
 //! #     "PreTradingDay=20250627\r\nCashComponent=0.00\r\nNAVperCU=0.00\r\nNAV=0.0000\r\nCreationLimit=0\r\n",
 //! #     "RedemptionLimit=0\r\nCreationLimitPerUser=0\r\nRedemptionLimitPerUser=0\r\nNetCreationLimit=0\r\n",
 //! #     "NetRedemptionLimit=0\r\nNetCreationLimitPerUser=0\r\nNetRedemptionLimitPerUser=0\r\nTAGTAG\r\n",
-//! #     "600036|CMB     |      30|0|       |            |\r\nENDENDEND\r\n").as_bytes();
+//! #     "600036|CMB     |      30|0|       |       |            |\r\nENDENDEND\r\n").as_bytes();
 //! let list = List::read(text)?;
 //! let accounts = [
 //!     Holdings { cash: Money(0), lines: vec![500, 0] },

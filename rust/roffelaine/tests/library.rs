@@ -5,7 +5,7 @@ mod paper_list;
 
 use paper_list::LIST;
 use roffelaine::{
-    Batch, Cents, Component, Day, Fund, Holdings, List, Lots, Money, Record, RecordList,
+    Batch, Cents, Component, Day, Fund, Holdings, List, Lots, Money, Rate, Record, RecordList,
     ReferenceValue, Refusal, Side, Trade, Units,
 };
 use Side::{Buy, Sell};
@@ -42,13 +42,19 @@ fn holdings(of_600000: u64, of_600036: u64) -> [Holdings; 2] {
 
 /// The day without prices.
 fn opened(of_600000: u64, of_600036: u64) -> Day {
-    let list = the_list();
+    opened_on(&the_list(), of_600000, of_600036)
+}
+
+fn opened_on(list: &List<'_>, of_600000: u64, of_600036: u64) -> Day {
     let accounts = holdings(of_600000, of_600036);
     Day::open(&list.head.fund, &list.components, &accounts).expect("it opens")
 }
 
 fn priced(of_600000: u64, of_600036: u64) -> Day {
-    let mut day = opened(of_600000, of_600036);
+    with_prices(opened(of_600000, of_600036))
+}
+
+fn with_prices(mut day: Day) -> Day {
     for (line, price) in PRICES {
         day.set_price(line, price).expect("a price is set");
     }
@@ -105,6 +111,22 @@ fn the_list_is_read_and_written_back() {
     assert_eq!(list.write().as_deref(), Ok(LIST.as_bytes()));
 }
 
+/// A premium of 0, 0.05 and 1 with a discount of 1, 0.1 and 0, under a flag whose
+/// redemption takes the discount and under one whose redemption does not.
+#[test]
+fn both_rates_are_read_and_written_apart() {
+    for (line, row) in [(0, "|3|0.10000|0.10000|"), (2, "|1|0.10000|0.10000|")] {
+        for rates in [[0, 100_000], [5_000, 10_000], [100_000, 0]] {
+            let [premium, discount] = rates.map(Rate);
+            let text = LIST.replacen(row, &format!("{}{premium}|{discount}|", &row[..3]), 1);
+            let list = List::read(text.as_bytes()).expect("rates in range");
+            let found = &list.components[line];
+            assert_eq!((found.premium, found.discount), (premium, discount));
+            assert_eq!(list.write().as_deref(), Ok(text.as_bytes()));
+        }
+    }
+}
+
 #[test]
 fn a_broken_list_is_refused() {
     let place = LIST.find("Publish").expect("a field") as u64 + 8;
@@ -116,6 +138,11 @@ fn a_broken_list_is_refused() {
     let mut list = the_list();
     list.components[2].code = 1;
     assert_eq!(list.write(), Err(Refusal::Component { place: 2 }));
+    // No rates under flag 4, and none above 1.
+    list.components[1].discount = Rate(1);
+    assert_eq!(list.write(), Err(Refusal::Component { place: 1 }));
+    list.components[0].discount = Rate(100_001);
+    assert_eq!(list.write(), Err(Refusal::Component { place: 0 }));
     list.names.pop();
     assert_eq!(list.write(), Err(Refusal::Sizes));
 }
@@ -189,6 +216,42 @@ fn orders_make_their_records_and_move() {
     assert_eq!(fund.cash().0 + account.cash().0, 2 * AMPLE.0);
     assert_eq!(day.book().accounts(), 2);
     assert!(day.book().account(2).is_none());
+}
+
+/// The records of other cash of a creation and of a redemption, with these rates
+/// of 000001.
+fn other_cash(premium: Rate, discount: Rate) -> [Vec<Record>; 2] {
+    let mut list = the_list();
+    (list.components[0].premium, list.components[0].discount) = (premium, discount);
+    let day = || with_prices(opened_on(&list, 3_072, 3_000));
+    let orders = [day().create(1, BASKET), day().redeem(1, BASKET)];
+    orders.map(|records| {
+        let records = records.expect("it is taken").into_iter();
+        records.filter(|record| record.code == 510_305).collect()
+    })
+}
+
+/// 96,000 yuan with the premium or less the discount, and 8,000 of 000002.
+#[test]
+fn creation_takes_the_premium_and_redemption_the_discount() {
+    let cash = |side, thousands, rest| {
+        vec![
+            record(510_305, side, 1_000_000, thousands),
+            record(510_305, side, 1, rest),
+        ]
+    };
+    let rows = [
+        (10_000, 10_000, (113, 600_000), (94, 400_000)),
+        (10_000, 5_000, (113, 600_000), (99, 200_000)),
+        (5_000, 10_000, (108, 800_000), (94, 400_000)),
+    ];
+    for (premium, discount, created, redeemed) in rows {
+        let expected = [
+            cash(Buy, created.0, created.1),
+            cash(Sell, redeemed.0, redeemed.1),
+        ];
+        assert_eq!(other_cash(Rate(premium), Rate(discount)), expected);
+    }
 }
 
 #[test]

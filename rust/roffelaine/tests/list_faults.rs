@@ -96,7 +96,7 @@ fn a_cr_in_a_name_and_an_lf() {
     let text = LIST
         .replace("|PAYH    |", "|PA\rH    |")
         .replace("96000.000|\r", "96000.000|");
-    let expected = "23:49 line end \"LF\": lines end in CRLF; \
+    let expected = "23:57 line end \"LF\": lines end in CRLF; \
                     1 line ends in LF alone, --crlf mends it";
     assert_eq!(fault(text.as_bytes(), 18), expected);
 }
@@ -141,7 +141,7 @@ fn lists_with_other_lines_behind() {
 fn list_of(count: usize, said: usize) -> String {
     let start = LIST.find("000001|").expect("the first component line");
     let head = LIST[..start].replace("Recordnum=5", &format!("Recordnum={said}"));
-    let row = |code| format!("{code:06}|A       |       1|0|       |            |\r\n");
+    let row = |code| format!("{code:06}|A       |       1|0|       |       |            |\r\n");
     let rows: String = (1..=count).map(row).collect();
     head + &rows + "ENDENDEND\r\n"
 }

@@ -36,7 +36,7 @@ fn damage(random: &mut Random, text: &mut Vec<u8>) {
         return;
     }
     let at = random.below(text.len());
-    match random.below(12) {
+    match random.below(13) {
         0 => text[at] = random.number() as u8,
         1 => text[at] = random.pick(MARKS),
         2 => text.insert(at, random.pick(MARKS)),
@@ -46,6 +46,7 @@ fn damage(random: &mut Random, text: &mut Vec<u8>) {
         8 => end_lines(random, text),
         9 if random.below(8) == 0 => text.truncate(at),
         10 if random.below(4) == 0 => text.extend_from_slice(b"ENDENDEND\r\n"),
+        11 => drop_a_field(random, text),
         _ => swap_bytes(random, text, at),
     }
 }
@@ -78,6 +79,19 @@ fn move_a_line(random: &mut Random, text: &mut Vec<u8>) {
         _ => lines.swap(at, other),
     }
     *text = lines.concat();
+}
+
+/// Drops what stands between two bars of a component line, with one of them.
+fn drop_a_field(random: &mut Random, text: &mut Vec<u8>) {
+    let bars: Vec<usize> = (0..text.len()).filter(|&at| text[at] == b'|').collect();
+    let fields = bars.windows(2).map(|pair| pair[0]..pair[1]);
+    let fields: Vec<_> = fields
+        .filter(|field| !text[field.clone()].contains(&b'\n'))
+        .collect();
+    if !fields.is_empty() {
+        let at = random.below(fields.len());
+        text.drain(fields[at].clone());
+    }
 }
 
 /// Other line ends, for one line or for all.

@@ -378,7 +378,7 @@ fn fund() -> Fund {
     }
 }
 
-/// Components of all flags; most move stock.
+/// Components of all flags; most move stock. The two rates of one are unlike.
 fn components() -> impl Iterator<Item = Component> {
     (0..COUNT as u64).map(|line| {
         let flag = [0, 1, 0, 1, 2, 1, 0, 1, 3, 4][line as usize % 10];
@@ -387,7 +387,8 @@ fn components() -> impl Iterator<Item = Component> {
             code: 600_000 + line,
             quantity: 100 * (1 + line % 20),
             flag,
-            rate: if row.uses_rate { 10_000 } else { 0 },
+            premium: if row.uses_rates { 10_000 } else { 0 },
+            discount: if row.uses_rates { 5_000 } else { 0 },
             amount: if row.uses_amount { 1_000_000 } else { 0 },
         }
     })

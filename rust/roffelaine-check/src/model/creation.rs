@@ -135,16 +135,16 @@ fn add_up(
                 return Err(Refusal::at(SHORT_OF_STOCK, line));
             }
             let worth = (need - there) * price;
-            terms.add_cash(row.shanghai, with_premium(worth, component.rate));
+            terms.add_cash(row.shanghai, with_premium(worth, component.premium));
             *substituted.get_or_insert(0) += worth;
         }
     }
     Ok((terms, substituted))
 }
 
-/// Cash of a component that moves no stock: an unused rate is 0.
+/// Cash of a component that moves no stock: an unused premium is 0.
 fn fixed_cash(component: &Component, baskets: u64) -> u64 {
-    with_premium(baskets * component.amount, component.rate)
+    with_premium(baskets * component.amount, component.premium)
 }
 
 /// Whether the worth of the missing stock is above its share of the units'

@@ -5,7 +5,8 @@
 pub struct FlagRow {
     pub moves_stock: bool,
     pub shortage_in_cash: bool,
-    pub uses_rate: bool,
+    /// Premium and discount; the paper's "r used".
+    pub uses_rates: bool,
     pub uses_amount: bool,
     pub shanghai: bool,
     pub priced: bool,
@@ -15,7 +16,7 @@ const fn row(columns: [u8; 6]) -> FlagRow {
     FlagRow {
         moves_stock: columns[0] == b'y',
         shortage_in_cash: columns[1] == b'y',
-        uses_rate: columns[2] == b'y',
+        uses_rates: columns[2] == b'y',
         uses_amount: columns[3] == b'y',
         shanghai: columns[4] == b'y',
         priced: columns[5] == b'y',

@@ -1,4 +1,5 @@
-//! Document 01, written from the paper alone.
+//! Document 01 and the change requests of document 02 that have landed, written
+//! from these papers alone.
 //!
 //! Every call works in place on what the caller lends. A refused call leaves
 //! all of it as it was. Calls on an opened day first test the day (refusal 5);

@@ -13,7 +13,7 @@ pub struct Opening<'a> {
     pub accounts: u64,
     pub count: u64,
     pub fund: Fund,
-    /// Flat run of components, 5 numbers each.
+    /// Flat run of components, 6 numbers each.
     pub components: &'a [u64],
     /// For each account its cash and then N+1 holdings.
     pub holdings: &'a [u64],

@@ -139,16 +139,16 @@ fn fund_wide_counts(book: &[u64], width: usize) -> (u64, u64) {
         })
 }
 
-/// Money times (1 + rate), rounded.
+/// Money times (1 + premium), rounded.
 #[inline]
-pub(super) fn with_premium(money: u64, rate: u64) -> u64 {
-    times_rate(money, RATE_ONE + rate)
+pub(super) fn with_premium(money: u64, premium: u64) -> u64 {
+    times_rate(money, RATE_ONE + premium)
 }
 
-/// Money times (1 - rate), rounded.
+/// Money times (1 - discount), rounded.
 #[inline]
-pub(super) fn less_premium(money: u64, rate: u64) -> u64 {
-    times_rate(money, RATE_ONE - rate)
+pub(super) fn less_discount(money: u64, discount: u64) -> u64 {
+    times_rate(money, RATE_ONE - discount)
 }
 
 /// Split at the rate one, so that 64 bits hold every product.
@@ -163,16 +163,16 @@ mod tests {
     use super::*;
 
     #[test]
-    fn premium_is_rounded_halves_up() {
+    fn rates_are_rounded_halves_up() {
         assert_eq!(with_premium(5, 10_000), 6);
         assert_eq!(with_premium(5, 9_999), 5);
-        assert_eq!(less_premium(5, 10_000), 5);
-        assert_eq!(less_premium(5, 10_001), 4);
-        assert_eq!(less_premium(2_000_000_000_000, 100_000), 0);
+        assert_eq!(less_discount(5, 10_000), 5);
+        assert_eq!(less_discount(5, 10_001), 4);
+        assert_eq!(less_discount(2_000_000_000_000, 100_000), 0);
     }
 
     #[test]
-    fn premium_agrees_with_wide_arithmetic() {
+    fn rates_agree_with_wide_arithmetic() {
         let largest = 20 * range::QUANTITY_MAX * range::PRICE.end();
         for money in [
             0,
@@ -187,7 +187,7 @@ mod tests {
             for rate in [0, 1, 9_999, 50_000, 99_999, 100_000] {
                 let wide = |factor: u64| (money as u128 * factor as u128 + 50_000) / 100_000;
                 assert_eq!(with_premium(money, rate) as u128, wide(100_000 + rate));
-                assert_eq!(less_premium(money, rate) as u128, wide(100_000 - rate));
+                assert_eq!(less_discount(money, rate) as u128, wide(100_000 - rate));
             }
         }
     }

@@ -3,7 +3,7 @@
 use super::book::{
     self, fund_and_account, handable, lots, lots_mut, stretch, CASH, GOT, OLD, REDEEMED,
 };
-use super::orders::{less_premium, test_order, Kind, Terms};
+use super::orders::{less_discount, test_order, Kind, Terms};
 use super::records::{RecordWriter, BUY, SELL};
 use super::refusal::{Refusal, Reply, FUND_SHORT, SHORT_OF_STOCK};
 use super::soundness::test_day;
@@ -120,7 +120,7 @@ fn add_up(day: &Day, fund: &[u64], baskets: u64) -> Result<Terms, Refusal> {
     Ok(terms)
 }
 
-/// Cash of a component that moves no stock: an unused rate is 0.
+/// Cash of a component that moves no stock: an unused discount is 0.
 fn fixed_cash(component: &Component, baskets: u64) -> u64 {
-    less_premium(baskets * component.amount, component.rate)
+    less_discount(baskets * component.amount, component.discount)
 }

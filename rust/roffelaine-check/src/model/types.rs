@@ -5,8 +5,9 @@ use super::range;
 
 /// Room for components in a day.
 pub const MAX_COMPONENTS: usize = 300;
-/// Numbers of a component in a flat run: code, quantity, flag, rate, amount.
-pub const COMPONENT_NUMBERS: usize = 5;
+/// Numbers of a component in a flat run: code, quantity, flag, premium,
+/// discount, amount.
+pub const COMPONENT_NUMBERS: usize = 6;
 
 /// The fund's fields.
 #[derive(Clone, Copy, Debug, Default, PartialEq, Eq)]
@@ -58,8 +59,10 @@ pub struct Component {
     pub quantity: u64,
     /// Substitution flag.
     pub flag: u64,
-    /// Premium rate (r), in hundred-thousandths.
-    pub rate: u64,
+    /// Creation's rate, in hundred-thousandths.
+    pub premium: u64,
+    /// Redemption's rate, in hundred-thousandths.
+    pub discount: u64,
     /// Cash substitute of a basket (P), in thousandths of a yuan.
     pub amount: u64,
 }
@@ -69,25 +72,34 @@ impl Component {
         code: 0,
         quantity: 0,
         flag: 0,
-        rate: 0,
+        premium: 0,
+        discount: 0,
         amount: 0,
     };
 
-    /// A component from its five numbers in a flat run.
+    /// A component from its six numbers in a flat run.
     #[inline]
     pub fn from_numbers(numbers: &[u64]) -> Self {
         Component {
             code: numbers[0],
             quantity: numbers[1],
             flag: numbers[2],
-            rate: numbers[3],
-            amount: numbers[4],
+            premium: numbers[3],
+            discount: numbers[4],
+            amount: numbers[5],
         }
     }
 
     #[inline]
     pub fn numbers(&self) -> [u64; COMPONENT_NUMBERS] {
-        [self.code, self.quantity, self.flag, self.rate, self.amount]
+        [
+            self.code,
+            self.quantity,
+            self.flag,
+            self.premium,
+            self.discount,
+            self.amount,
+        ]
     }
 
     /// What the flag table says of this component; its flag must be 0 to 4.
@@ -102,7 +114,8 @@ impl Component {
         let in_range = self.code <= range::CODE_MAX
             && self.quantity <= range::QUANTITY_MAX
             && self.flag < FLAG_TABLE.len() as u64
-            && self.rate <= range::RATE_MAX
+            && self.premium <= range::RATE_MAX
+            && self.discount <= range::RATE_MAX
             && self.amount <= range::AMOUNT_MAX;
         let in_group = self.code >= first_code && self.code <= first_code + 5;
         let rising = match previous {
@@ -114,7 +127,8 @@ impl Component {
 
     fn leaves_unused_blank(&self) -> bool {
         let row = self.flag_row();
-        (row.uses_rate || self.rate == 0) && (row.uses_amount || self.amount == 0)
+        (row.uses_rates || (self.premium == 0 && self.discount == 0))
+            && (row.uses_amount || self.amount == 0)
     }
 }
 

@@ -39,14 +39,15 @@ pub(super) fn damage_a_component(rng: &mut Rng, first_code: u64, components: &mu
     let previous = at.checked_sub(1).map(|before| components[before].code);
     let component = &mut components[at];
     let most = u64::MAX;
-    match rng.below(8) {
+    match rng.below(9) {
         0 => component.code = rng.pick(&[range::CODE_MAX + 1, most]),
         1 => component.code = previous.unwrap_or(range::CODE_MAX + 1),
         2 => component.code = previous.map_or(most, |code| code.saturating_sub(1)),
         3 => component.quantity = rng.pick(&[range::QUANTITY_MAX + 1, most]),
         4 => component.flag = rng.pick(&[FLAG_TABLE.len() as u64, 9, 256, 1 << 32, most]),
-        5 => component.rate = rng.pick(&[range::RATE_MAX + 1, most]),
-        6 => component.amount = rng.pick(&[range::AMOUNT_MAX + 1, most]),
+        5 => component.premium = rng.pick(&[range::RATE_MAX + 1, most]),
+        6 => component.discount = rng.pick(&[range::RATE_MAX + 1, most]),
+        7 => component.amount = rng.pick(&[range::AMOUNT_MAX + 1, most]),
         _ => set_unused(rng, component),
     }
 }
@@ -73,16 +74,23 @@ fn put_in_group(rng: &mut Rng, first_code: u64, components: &mut [Component]) {
     }
 }
 
-/// Gives the component a rate or an amount that its flag does not use.
+/// Gives the component a premium, a discount or an amount that its flag does
+/// not use, and no other of them.
 fn set_unused(rng: &mut Rng, component: &mut Component) {
-    if rng.one_in(2) {
-        component.flag = rng.pick(&[0, 2, 4]);
-        component.rate = rng.pick(&[1, range::RATE_MAX]);
-        component.amount = 0;
-    } else {
-        component.flag = rng.pick(&[0, 1]);
-        component.rate = 0;
-        component.amount = rng.pick(&[1, range::AMOUNT_MAX]);
+    let numbers = [
+        &mut component.premium,
+        &mut component.discount,
+        &mut component.amount,
+    ];
+    let at = rng.index(numbers.len());
+    let (flags, most): (&[u64], u64) = match at {
+        2 => (&[0, 1], range::AMOUNT_MAX),
+        _ => (&[0, 2, 4], range::RATE_MAX),
+    };
+    component.flag = rng.pick(flags);
+    let unused = rng.pick(&[1, most]);
+    for (place, each) in numbers.into_iter().enumerate() {
+        *each = if place == at { unused } else { 0 };
     }
 }
 

@@ -4,7 +4,7 @@
 
 use super::{calls, Rng, Scale};
 use crate::engine::{Engine, Lent, Model};
-use crate::model::{range, stretch_width, Call, Order, Reply, LOTS, STRETCH_HEAD};
+use crate::model::{range, stretch_width, Call, Order, Reply, FLAG_TABLE, LOTS, STRETCH_HEAD};
 
 /// Tunes the day and gives a call that meets the edge. Where the day does not
 /// allow it, the day stays and the call is an ordinary order.
@@ -20,7 +20,7 @@ pub fn edge_call(rng: &mut Rng, lent: &mut Lent) -> Call {
         Call::Redeem
     };
     let call = make(order);
-    match rng.below(10) {
+    match rng.below(11) {
         0 => tune_cash(rng, lent, &call, order.account),
         1 => tune_a_limit(rng, lent, &call, order.account),
         2 => tune_ratio(rng, lent, order),
@@ -28,8 +28,9 @@ pub fn edge_call(rng: &mut Rng, lent: &mut Lent) -> Call {
         4 => tune_units(rng, lent, order),
         5 => tune_ceiling(rng, lent, &call, order),
         6 => tune_ratio_exactly(rng, lent, order),
-        7 => return tune_trade(rng, lent),
-        8 => return tune_value(rng, lent),
+        7 => tune_a_rate(rng, lent, &call, order),
+        8 => return tune_trade(rng, lent),
+        9 => return tune_value(rng, lent),
         _ => return tune_room(rng, lent, make, order),
     }
     call
@@ -146,6 +147,36 @@ fn greatest_divisor(one: u64, other: u64) -> u64 {
         one
     } else {
         greatest_divisor(other, one % other)
+    }
+}
+
+/// The rate that the order takes of one component is the least that moves its
+/// cash by a thousandth, or just below it; the other rate is any.
+fn tune_a_rate(rng: &mut Rng, lent: &mut Lent, call: &Call, order: Order) {
+    let line = rng.index(lent.prices.len());
+    let before = lent.day.components[line];
+    if !FLAG_TABLE[before.flag as usize].uses_rates {
+        return;
+    }
+    let other = rng.between(0, range::RATE_MAX);
+    let set_rate = |lent: &mut Lent, rate| {
+        let component = &mut lent.day.components[line];
+        (component.premium, component.discount) = match call {
+            Call::Create(_) => (rate, other),
+            _ => (other, rate),
+        };
+    };
+    let place = order.account as usize * stretch_width(lent.prices.len());
+    let cash = |lent: &mut Lent, rate| {
+        set_rate(lent, rate);
+        let (reply, after) = outcome(lent, call);
+        reply.is_accepted().then_some(after.book[place])
+    };
+    let without = cash(lent, 0);
+    let moves = |lent: &mut Lent, rate| cash(lent, rate).is_some_and(|cash| Some(cash) != without);
+    match least_passing(lent, 0, range::RATE_MAX, moves) {
+        Some(least) => set_rate(lent, least.saturating_sub(rng.below(2))),
+        None => lent.day.components[line] = before,
     }
 }
 

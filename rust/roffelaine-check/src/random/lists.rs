@@ -159,7 +159,8 @@ fn component(rng: &mut Rng, scale: Scale, code: u64) -> Component {
         code,
         quantity: quantity(rng, scale),
         flag,
-        rate: if row.uses_rate { rate(rng) } else { 0 },
+        premium: if row.uses_rates { rate(rng) } else { 0 },
+        discount: if row.uses_rates { rate(rng) } else { 0 },
         amount: if row.uses_amount {
             amount(rng, scale)
         } else {
@@ -176,6 +177,7 @@ fn quantity(rng: &mut Rng, scale: Scale) -> u64 {
     }
 }
 
+/// One of the two rates; they are mostly unlike.
 fn rate(rng: &mut Rng) -> u64 {
     match rng.below(3) {
         0 => rng.between(0, range::RATE_MAX),

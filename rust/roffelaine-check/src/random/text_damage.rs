@@ -4,10 +4,11 @@ use super::text_values::{head_values, COMPONENT_VALUES, FIRST_LINES, MARKS, NO_V
 use super::texts::{component_line, name, Line, Lines};
 use super::Rng;
 use crate::model::{Component, MAX_COMPONENTS};
+use std::ops::Range;
 
 /// One fault in the lines of a text.
 pub(super) fn damage_lines(rng: &mut Rng, lines: &mut Lines) {
-    match rng.below(20) {
+    match rng.below(22) {
         0..=4 => set_head_value(rng, lines),
         5 => edit_head_value(rng, lines),
         6..=9 => set_component_field(rng, lines),
@@ -20,6 +21,8 @@ pub(super) fn damage_lines(rng: &mut Rng, lines: &mut Lines) {
         16 => change_fixed_line(rng, lines),
         17 => damage_component_form(rng, lines),
         18 => fill_with_components(rng, lines),
+        19 => drop_discounts(rng, lines),
+        20 => swap_columns(rng, lines),
         _ => insert_blank_line(rng, lines),
     }
 }
@@ -227,14 +230,18 @@ fn change_fixed_line(rng: &mut Rng, lines: &mut Lines) {
     line.bytes = rng.pick(words).to_vec();
 }
 
+/// Where the bars of a component line stand.
+const BARS: [usize; 7] = [6, 15, 24, 26, 34, 42, 55];
+/// Its discount, with the bar behind it.
+const DISCOUNT: Range<usize> = 35..43;
+
 /// Moves a bar, changes the width or ends the line early.
 fn damage_component_form(rng: &mut Rng, lines: &mut Lines) {
     let Some(line) = some_line(rng, &mut lines.components) else {
         return;
     };
-    let bars = [6, 15, 24, 26, 34, 47];
-    let bar = rng.pick(&bars);
-    if line.bytes.len() < 48 {
+    let bar = rng.pick(&BARS);
+    if line.bytes.len() <= BARS[BARS.len() - 1] {
         return;
     }
     match rng.below(5) {
@@ -243,6 +250,38 @@ fn damage_component_form(rng: &mut Rng, lines: &mut Lines) {
         2 => line.bytes.push(rng.pick(b"| \r")),
         3 => drop(line.bytes.pop()),
         _ => line.bytes[9..11].copy_from_slice(b"\r\n"),
+    }
+}
+
+/// One component line without its discount, of 48 bytes, or all of them, as in
+/// a list from before there was one.
+fn drop_discounts(rng: &mut Rng, lines: &mut Lines) {
+    let drop_discount = |line: &mut Line| {
+        if line.bytes.len() >= DISCOUNT.end {
+            line.bytes.drain(DISCOUNT);
+        }
+    };
+    if rng.one_in(3) {
+        lines.components.iter_mut().for_each(drop_discount);
+    } else {
+        some_line(rng, &mut lines.components).map(drop_discount);
+    }
+}
+
+/// Swaps two columns of a component line that stand side by side: most often
+/// premium and discount, so that the text is right and says something else.
+fn swap_columns(rng: &mut Rng, lines: &mut Lines) {
+    let Some(line) = some_line(rng, &mut lines.components) else {
+        return;
+    };
+    let second = rng.pick(&[1, 2, 3, 4, 5, 5, 5, 6]);
+    let start = match second {
+        1 => 0,
+        _ => BARS[second - 2] + 1,
+    };
+    let (middle, end) = (BARS[second - 1] + 1, BARS[second] + 1);
+    if let Some(both) = line.bytes.get_mut(start..end) {
+        both.rotate_left(middle - start);
     }
 }
 

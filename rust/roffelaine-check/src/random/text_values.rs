@@ -132,7 +132,8 @@ pub(super) const COMPONENT_VALUES: &[(usize, &[&[u8]])] = &[
     (16, QUANTITIES),
     (25, FLAGS),
     (27, RATES),
-    (35, AMOUNTS),
+    (35, RATES),
+    (43, AMOUNTS),
 ];
 
 const CODES: &[&[u8]] = &[
@@ -169,7 +170,7 @@ const FLAGS: &[&[u8]] = &[
 
 const RATES: &[&[u8]] = &[
     b"       ", b"1.00001", b"9.99999", b" .10000", b"0.1000 ", b"00.1000", b" 0.1000", b"0,10000",
-    b"0.10000", b"1.00000", b"0.1000a", b"-.10000", b"      0", b"  |    ",
+    b"0.10000", b"1.00000", b"0.1000a", b"-.10000", b"      0", b"  |    ", b"0.00000",
 ];
 
 const AMOUNTS: &[&[u8]] = &[

@@ -236,13 +236,13 @@ pub(super) fn date(rng: &mut Rng) -> u64 {
 }
 
 pub(super) fn component_line(component: &Component, name: &[u8]) -> Line {
-    let uses_rate = matches!(component.flag, 1 | 3);
+    let uses_rates = matches!(component.flag, 1 | 3);
     let uses_amount = matches!(component.flag, 2..=4);
-    let rate = if uses_rate {
-        decimals(component.rate, 5)
-    } else {
-        String::new()
+    let rate = |rate| match uses_rates {
+        true => decimals(rate, 5),
+        false => String::new(),
     };
+    let (premium, discount) = (rate(component.premium), rate(component.discount));
     let amount = if uses_amount {
         decimals(component.amount, 3)
     } else {
@@ -251,6 +251,6 @@ pub(super) fn component_line(component: &Component, name: &[u8]) -> Line {
     let mut bytes = format!("{:06}|", component.code).into_bytes();
     bytes.extend_from_slice(name);
     let Component { quantity, flag, .. } = component;
-    bytes.extend(format!("|{quantity:>8}|{flag}|{rate:>7}|{amount:>12}|").bytes());
+    bytes.extend(format!("|{quantity:>8}|{flag}|{premium:>7}|{discount:>7}|{amount:>12}|").bytes());
     Line::new(bytes)
 }

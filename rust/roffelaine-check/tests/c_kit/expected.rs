@@ -67,12 +67,12 @@ the count of accounts or components is out of range, or a lent run has another l
 
 /// `longest_text.c`: 2 for a field and 3 for a component past its range.
 pub const LONGEST_TEXT: &str = "\
-written: 0, 15569 bytes
+written: 0, 17969 bytes
 read: 0, 300 components
 [ETFABCDEFGH]
 a byte less: 16
 a letter more: 2
-a digit more in the text: 155700 tried, 0 accepted
+a digit more in the text: 179700 tried, 0 accepted
 first code 999999: 2 0
 basket size 100000000: 2 0
 cash ratio 1000000: 2 0
@@ -98,7 +98,8 @@ components 1000: 1 0
 code 1000000: 3 299
 quantity 100000000: 3 299
 flag 10: 3 299
-rate 1000000: 3 299
+premium 1000000: 3 299
+discount 1000000: 3 299
 amount 100000000000: 3 299
 ";
 
@@ -143,7 +144,8 @@ CashComponent -32958
 NAVperCU 42566878
 NAV 4257
 Recordnum 5
-component 1 8000 3 10000 96000000
+component 1 8000 3 10000 10000 96000000
+component 7 8 9 10 11 12
 signed -1000000000000000000 5
 answer 0 0 8
 answer 0 0 8

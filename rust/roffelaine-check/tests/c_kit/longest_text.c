@@ -46,7 +46,8 @@ static void fill(void)
         component[1] = 99999999;
         component[2] = 3;
         component[3] = 100000;
-        component[4] = UINT64_C(99999999999);
+        component[4] = 100000;
+        component[5] = UINT64_C(99999999999);
     }
     memset(names, 'N', sizeof names);
 }
@@ -141,7 +142,8 @@ int main(void)
     write_longer("code", &last[0], 1000000);
     write_longer("quantity", &last[1], 100000000);
     write_longer("flag", &last[2], 10);
-    write_longer("rate", &last[3], 1000000);
-    write_longer("amount", &last[4], UINT64_C(100000000000));
+    write_longer("premium", &last[3], 1000000);
+    write_longer("discount", &last[4], 1000000);
+    write_longer("amount", &last[5], UINT64_C(100000000000));
     return 0;
 }

@@ -58,10 +58,17 @@ static void print_lines(void)
     must(roffelaine_line_in(NULL, 0, 7, 7) == 0, "the unit stands behind no components");
 }
 
+static void print_component(struct roffelaine_component component)
+{
+    printf(
+        "component %" PRIu64 " %" PRIu64 " %" PRIu64 " %" PRIu64 " %" PRIu64 " %" PRIu64 "\n", component.code,
+        component.quantity, component.flag, component.premium, component.discount, component.amount);
+}
+
 static void print_fields(void)
 {
+    static const uint64_t counted[] = {1, 2, 3, 4, 5, 6, 7, 8, 9, 10, 11, 12};
     const uint64_t *fund = day + ROFFELAINE_DAY_FUND;
-    const struct roffelaine_component first = roffelaine_component_at(component_run, 0);
     const uint64_t below[2] = {1, UINT64_MAX}, above[2] = {2, 5};
     must(memcmp(fund, fields + ROFFELAINE_FIELDS_FUND, sizeof fund[0] * ROFFELAINE_FUND_WIDTH) == 0, "the day has the fund");
     must(
@@ -81,9 +88,8 @@ static void print_fields(void)
     print_number("NAVperCU", fields[ROFFELAINE_FIELDS_NAV_PER_CU]);
     print_number("NAV", fields[ROFFELAINE_FIELDS_NAV]);
     print_number("Recordnum", fields[ROFFELAINE_FIELDS_COMPONENTS]);
-    printf(
-        "component %" PRIu64 " %" PRIu64 " %" PRIu64 " %" PRIu64 " %" PRIu64 "\n", first.code, first.quantity, first.flag,
-        first.rate, first.amount);
+    print_component(roffelaine_component_at(component_run, 0));
+    print_component(roffelaine_component_at(counted, 1));
     printf("signed %" PRId64 " %" PRId64 "\n", roffelaine_signed_at(below), roffelaine_signed_at(above));
 }
 

@@ -6,6 +6,8 @@ pub enum Json {
     Number(i128),
     Text(String),
     List(Vec<Json>),
+    /// No JSON, but what a field of bytes says.
+    Bytes(Vec<u8>),
     Object(Vec<(String, Json)>),
 }
 
@@ -38,6 +40,14 @@ impl Json {
             .unwrap_or_else(|| panic!("no {name:?} in a vector row"))
     }
 
+    /// The names that an object has.
+    pub fn names(&self) -> Vec<&str> {
+        match self {
+            Json::Object(pairs) => pairs.iter().map(|(name, _)| &name[..]).collect(),
+            other => panic!("{other:?} is no object"),
+        }
+    }
+
     pub fn list(&self) -> &[Json] {
         match self {
             Json::List(values) => values,
@@ -68,9 +78,17 @@ impl Json {
         }
     }
 
+    pub fn bytes(&self) -> &[u8] {
+        match self {
+            Json::Bytes(bytes) => bytes,
+            other => panic!("{other:?} are no bytes"),
+        }
+    }
+
     /// The bytes that a text of hexadecimal digits says.
     pub fn hex(&self) -> Vec<u8> {
         let digits = self.text().as_bytes();
+        assert!(digits.len().is_multiple_of(2), "{self:?} has half a byte");
         let value = |digit: u8| (digit as char).to_digit(16).expect("a hexadecimal digit") as u8;
         digits
             .chunks_exact(2)
@@ -144,17 +162,23 @@ impl Reader<'_> {
         Some((name, self.value()?))
     }
 
-    /// A text up to its closing quote; the vectors have no escapes.
+    /// A text up to its closing quote.
     fn text(&mut self) -> Option<String> {
-        let start = self.at;
-        while self.peek()? != b'"' {
-            if self.peek()? == b'\\' {
-                return None;
-            }
-            self.at += 1;
+        let mut text = Vec::new();
+        loop {
+            let byte = self.byte()?;
+            text.push(match byte {
+                b'"' => return String::from_utf8(text).ok(),
+                b'\\' => escaped(self.byte()?)?,
+                _ => byte,
+            });
         }
+    }
+
+    fn byte(&mut self) -> Option<u8> {
+        let byte = self.peek()?;
         self.at += 1;
-        String::from_utf8(self.bytes[start..self.at - 1].to_vec()).ok()
+        Some(byte)
     }
 
     fn number(&mut self) -> Option<Json> {
@@ -167,5 +191,15 @@ impl Reader<'_> {
         }
         let digits = std::str::from_utf8(&self.bytes[start..self.at]).ok()?;
         digits.parse().ok().map(Json::Number)
+    }
+}
+
+/// The byte that one behind a backslash stands for; vectors have no others.
+fn escaped(byte: u8) -> Option<u8> {
+    match byte {
+        b'r' => Some(b'\r'),
+        b'n' => Some(b'\n'),
+        b'"' | b'\\' | b'/' => Some(byte),
+        _ => None,
     }
 }

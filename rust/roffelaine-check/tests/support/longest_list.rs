@@ -5,8 +5,8 @@ use roffelaine_check::model::{range, Component, Fund, MAX_COMPONENTS};
 
 /// Its bytes, added up by hand: the first line with 8 letters 15; of the twenty
 /// fields the names 295, the values 180, and 3 more each for "=" and the line's
-/// end; TAGTAG 8; 50 for each component; ENDENDEND 11.
-pub const LONGEST: usize = 15 + 295 + 180 + 3 * 20 + 8 + 50 * 300 + 11;
+/// end; TAGTAG 8; 58 for each component; ENDENDEND 11.
+pub const LONGEST: usize = 15 + 295 + 180 + 3 * 20 + 8 + 58 * 300 + 11;
 
 /// Each field as long as its range allows, and all components.
 pub fn longest_list() -> Vec<u8> {
@@ -32,7 +32,8 @@ pub fn longest_list() -> Vec<u8> {
         code: 600_000 + at,
         quantity: range::QUANTITY_MAX,
         flag: 3,
-        rate: range::RATE_MAX,
+        premium: range::RATE_MAX,
+        discount: range::RATE_MAX,
         amount: range::AMOUNT_MAX,
     });
     let list = Writing {

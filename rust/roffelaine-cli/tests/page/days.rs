@@ -48,7 +48,7 @@ pub fn large() -> String {
         let part = code % 1_000;
         let _ = write!(
             day,
-            "{code}|N {part:<6}|{:>8}|0|       |            |\r\n",
+            "{code}|N {part:<6}|{:>8}|0|       |       |            |\r\n",
             99_000
         );
     }

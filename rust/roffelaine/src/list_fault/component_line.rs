@@ -1,6 +1,6 @@
 //! What is wrong with the form of a component line: its width and its bars.
 
-use super::form::{Column, BAR, COLUMNS, ROW_BYTES};
+use super::form::{Column, BAR, COLUMNS, DISCOUNT, ROW_BYTES};
 
 /// Whether a line has the width and the bars of a component line.
 pub fn fits(line: &[u8]) -> bool {
@@ -31,6 +31,14 @@ pub fn fault(line: &[u8]) -> RowFault<'_> {
         };
     }
     let at = match missing_bar(line) {
+        Some(_) if lacks_discount(line) => {
+            let width = DISCOUNT.width;
+            expected.push(format!(
+                "it is a line of an old list, without the discount: \
+                 {width} bytes and \"|\" behind the premium"
+            ));
+            DISCOUNT.start
+        }
         Some(bar) => {
             expected.push(format!("column {} is not \"|\"", bar + 1));
             bar.min(line.len())
@@ -62,6 +70,17 @@ fn width_words(line: &[u8]) -> Vec<String> {
             bytes(length)
         )],
     }
+}
+
+/// Whether a line has the form of a component line once a discount stands in
+/// it, as the lines of older lists do.
+fn lacks_discount(line: &[u8]) -> bool {
+    let Some((before, behind)) = line.split_at_checked(DISCOUNT.start) else {
+        return false;
+    };
+    let mut discount = vec![b' '; DISCOUNT.width];
+    discount.push(BAR);
+    fits(&[before, &discount, behind].concat())
 }
 
 /// Where the first bar should stand that does not.

@@ -3,8 +3,8 @@
 use super::digits::{date_expected, digits_expected};
 use super::ends::end_fault;
 use super::form::{
-    Column, Form, HeadField, AMOUNT, AMOUNT_FLAGS, BAR, COLUMNS, FIRST_FIELD, FIRST_ROW, FLAG,
-    HEAD, HIGHEST_FLAG, LINE_END, NAME, QUANTITY, RATE, RATE_FLAGS, ROW_BYTES,
+    Column, Form, HeadField, AMOUNT, AMOUNT_FLAGS, BAR, COLUMNS, DISCOUNT, FIRST_FIELD, FIRST_ROW,
+    FLAG, HEAD, HIGHEST_FLAG, LINE_END, NAME, PREMIUM, QUANTITY, RATE_FLAGS, ROW_BYTES,
 };
 use super::numbers::Number;
 use super::text_lines::{line_with, Line};
@@ -53,7 +53,7 @@ fn row_fault(text: &[u8], line: &Line<'_>, place: usize) -> Option<ListFault> {
         NAME => name_expected(found),
         QUANTITY => Number::unsigned(0).expected_right(found, QUANTITY.width),
         FLAG => "a digit, 0 to 4".to_owned(),
-        RATE | AMOUNT => used_expected(*column, flag, found),
+        PREMIUM | DISCOUNT | AMOUNT => used_expected(*column, flag, found),
         _ => digits_expected(found, column.width),
     };
     Some(ListFault::new(text, place, column.name, found, expected))
@@ -77,7 +77,7 @@ fn name_expected(name: &[u8]) -> String {
 /// What is expected of a rate or an amount under a flag.
 fn used_expected(column: Column, flag: u8, found: &[u8]) -> String {
     let (flags, decimals, one) = match column {
-        RATE => (RATE_FLAGS, Rate::DECIMALS, "a"),
+        PREMIUM | DISCOUNT => (RATE_FLAGS, Rate::DECIMALS, "a"),
         _ => (AMOUNT_FLAGS, Money::DECIMALS, "an"),
     };
     let (flag, is_used) = (char::from(flag), flags.contains(&flag));

@@ -176,15 +176,16 @@ pub const CODE: Column = Column::first("code", 6);
 pub const NAME: Column = Column::behind(CODE, "name", NAME_BYTES);
 pub const QUANTITY: Column = Column::behind(NAME, "quantity", 8);
 pub const FLAG: Column = Column::behind(QUANTITY, "flag", 1);
-pub const RATE: Column = Column::behind(FLAG, "rate", 7);
-pub const AMOUNT: Column = Column::behind(RATE, "amount", 12);
+pub const PREMIUM: Column = Column::behind(FLAG, "premium", 7);
+pub const DISCOUNT: Column = Column::behind(PREMIUM, "discount", 7);
+pub const AMOUNT: Column = Column::behind(DISCOUNT, "amount", 12);
 
 /// All columns, as they stand.
-pub const COLUMNS: [Column; 6] = [CODE, NAME, QUANTITY, FLAG, RATE, AMOUNT];
+pub const COLUMNS: [Column; 7] = [CODE, NAME, QUANTITY, FLAG, PREMIUM, DISCOUNT, AMOUNT];
 /// Bytes of a component line without its end.
 pub const ROW_BYTES: usize = AMOUNT.bar() + 1;
 
-/// The highest flag, and the flags that use a rate or an amount.
+/// The highest flag, and the flags that use the two rates or an amount.
 pub const HIGHEST_FLAG: u8 = b'4';
 pub const RATE_FLAGS: &[u8] = b"13";
 pub const AMOUNT_FLAGS: &[u8] = b"234";
@@ -197,8 +198,11 @@ mod tests {
 
     #[test]
     fn columns_stand_where_the_paper_says() {
-        assert_eq!(COLUMNS.map(|column| column.bar()), [6, 15, 24, 26, 34, 47]);
-        assert_eq!(ROW_BYTES, 48);
+        let starts = COLUMNS.map(|column| column.start);
+        assert_eq!(starts, [0, 7, 16, 25, 27, 35, 43]);
+        let bars = COLUMNS.map(|column| column.bar());
+        assert_eq!(bars, [6, 15, 24, 26, 34, 42, 55]);
+        assert_eq!(ROW_BYTES, 56);
         assert_eq!((TAG_LINE, FIRST_ROW), (21, 22));
     }
 }

@@ -1,8 +1,8 @@
 //! Numbers that are written well but out of range (refusals 20, 2 and 3).
 
 use super::form::{
-    Column, HeadField, Range, CODE, COUNT_NAME, END, FIRST_FIELD, FIRST_ROW, FLAG, HEAD,
-    HIGHEST_FLAG, RATE, RATE_RANGE, ROW_BYTES, UNIT_NAME,
+    Column, HeadField, Range, CODE, COUNT_NAME, DISCOUNT, END, FIRST_FIELD, FIRST_ROW, FLAG, HEAD,
+    HIGHEST_FLAG, PREMIUM, RATE_RANGE, ROW_BYTES, UNIT_NAME,
 };
 use super::numbers::number_of;
 use super::text_lines::{lines, Line};
@@ -109,7 +109,8 @@ pub fn component(text: &[u8], number: usize) -> Option<ListFault> {
         .and_then(|number| rows(text).nth(number));
     let (column, expected) = code_fault(text, &row, before.as_ref())
         .or_else(|| flag_fault(&row))
-        .or_else(|| rate_fault(&row))?;
+        .or_else(|| rate_fault(&row, PREMIUM))
+        .or_else(|| rate_fault(&row, DISCOUNT))?;
     let found = column.of(row.bytes);
     let place = row.start + column.start;
     Some(ListFault::new(text, place, column.name, found, expected))
@@ -139,6 +140,6 @@ fn flag_fault(row: &Line<'_>) -> Option<(Column, String)> {
     is_unknown.then(|| (FLAG, "0 to 4".to_owned()))
 }
 
-fn rate_fault(row: &Line<'_>) -> Option<(Column, String)> {
-    out_of(RATE_RANGE, number_of(RATE.of(row.bytes))).map(|words| (RATE, words))
+fn rate_fault(row: &Line<'_>, rate: Column) -> Option<(Column, String)> {
+    out_of(RATE_RANGE, number_of(rate.of(row.bytes))).map(|words| (rate, words))
 }

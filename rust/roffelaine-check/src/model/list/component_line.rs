@@ -2,7 +2,9 @@
 
 use super::super::flags::FLAG_TABLE;
 use super::super::types::Component;
-use super::layout::{Field, AMOUNT, BAR, CODE, COMPONENT_LINE, FIELDS, FLAG, NAME, QUANTITY, RATE};
+use super::layout::{
+    Field, AMOUNT, BAR, CODE, COMPONENT_LINE, DISCOUNT, FIELDS, FLAG, NAME, PREMIUM, QUANTITY,
+};
 use super::numbers::{after_blanks, decimal, digits, put_digits, put_right, whole};
 
 const RATE_DECIMALS: usize = 5;
@@ -23,22 +25,26 @@ pub(super) fn read_component(line: &[u8]) -> Result<Component, Field> {
     }
     let quantity = whole(after_blanks(QUANTITY.of(line))).ok_or(QUANTITY)?;
     let flag = digits(FLAG.of(line)).ok_or(FLAG)?;
-    let (uses_rate, uses_amount) = uses(flag);
-    let rate = number_or_blank(RATE.of(line), uses_rate, RATE_DECIMALS).ok_or(RATE)?;
+    let (uses_rates, uses_amount) = uses(flag);
+    let rate =
+        |field: Field| number_or_blank(field.of(line), uses_rates, RATE_DECIMALS).ok_or(field);
+    let (premium, discount) = (rate(PREMIUM)?, rate(DISCOUNT)?);
     let amount = number_or_blank(AMOUNT.of(line), uses_amount, AMOUNT_DECIMALS).ok_or(AMOUNT)?;
     Ok(Component {
         code,
         quantity,
         flag,
-        rate,
+        premium,
+        discount,
         amount,
     })
 }
 
-/// Whether the flag uses rate and amount; the flags 5 to 9 use neither.
+/// Whether the flag uses the two rates, and the amount; the flags 5 to 9 use
+/// none of them.
 fn uses(flag: u64) -> (bool, bool) {
     match FLAG_TABLE.get(flag as usize) {
-        Some(row) => (row.uses_rate, row.uses_amount),
+        Some(row) => (row.uses_rates, row.uses_amount),
         None => (false, false),
     }
 }
@@ -64,13 +70,11 @@ pub(super) fn put_component(line: &mut [u8], component: &Component, name: &[u8])
         0,
     );
     put_digits(&mut line[FLAG.start..FLAG.end], component.flag);
-    let (uses_rate, uses_amount) = uses(component.flag);
-    if uses_rate {
-        put_right(
-            &mut line[RATE.start..RATE.end],
-            component.rate,
-            RATE_DECIMALS,
-        );
+    let (uses_rates, uses_amount) = uses(component.flag);
+    if uses_rates {
+        for (field, rate) in [(PREMIUM, component.premium), (DISCOUNT, component.discount)] {
+            put_right(&mut line[field.start..field.end], rate, RATE_DECIMALS);
+        }
     }
     if uses_amount {
         put_right(

@@ -34,7 +34,7 @@ pub(super) const COMPONENTS_BEFORE: &[u8] = b"TAGTAG\r\n";
 pub(super) const COMPONENTS_AFTER: &[u8] = b"ENDENDEND\r\n";
 
 /// Bytes of a component line without its end.
-pub const COMPONENT_LINE: usize = 48;
+pub const COMPONENT_LINE: usize = 56;
 /// Bytes of a component line with its end.
 pub(super) const COMPONENT_STRIDE: usize = COMPONENT_LINE + LINE_END.len();
 /// Bytes of a component's name.
@@ -45,9 +45,10 @@ pub(super) const CODE: Field = Field { start: 0, end: 6 };
 pub(super) const NAME: Field = Field { start: 7, end: 15 };
 pub(super) const QUANTITY: Field = Field { start: 16, end: 24 };
 pub(super) const FLAG: Field = Field { start: 25, end: 26 };
-pub(super) const RATE: Field = Field { start: 27, end: 34 };
-pub(super) const AMOUNT: Field = Field { start: 35, end: 47 };
-pub(super) const FIELDS: [Field; 6] = [CODE, NAME, QUANTITY, FLAG, RATE, AMOUNT];
+pub(super) const PREMIUM: Field = Field { start: 27, end: 34 };
+pub(super) const DISCOUNT: Field = Field { start: 35, end: 42 };
+pub(super) const AMOUNT: Field = Field { start: 43, end: 55 };
+pub(super) const FIELDS: [Field; 7] = [CODE, NAME, QUANTITY, FLAG, PREMIUM, DISCOUNT, AMOUNT];
 pub(super) const BAR: u8 = b'|';
 
 /// Where a field stands, in its line or in the text.
@@ -168,7 +169,14 @@ mod tests {
 
     #[test]
     fn bars_stand_after_the_fields() {
-        assert_eq!(FIELDS.map(|field| field.end), [6, 15, 24, 26, 34, 47]);
+        let widths = FIELDS.map(|field| field.end - field.start);
+        assert_eq!(widths, [6, 8, 8, 1, 7, 7, 12]);
+        let mut start = 0;
+        for field in FIELDS {
+            assert_eq!(field.start, start);
+            start = field.end + 1;
+        }
+        assert_eq!(start, COMPONENT_LINE);
         assert_eq!(NAME.end - NAME.start, NAME_BYTES);
     }
 

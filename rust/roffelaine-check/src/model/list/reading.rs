@@ -31,7 +31,7 @@ impl<'t> List<'t> {
     }
 }
 
-/// Reads a list: the components go to the lent run, 5 numbers each.
+/// Reads a list: the components go to the lent run, 6 numbers each.
 pub fn read<'t>(text: &'t [u8], components: &mut [u64]) -> Result<List<'t>, Refusal> {
     let layout = Layout::of(text)?;
     let (head, record_count) =

@@ -17,7 +17,7 @@ pub struct Writing<'a> {
     pub letters: &'a [u8],
     pub head: Head,
     pub count: u64,
-    /// Flat run of components, 5 numbers each.
+    /// Flat run of components, 6 numbers each.
     pub components: &'a [u64],
     /// Names of 8 bytes each.
     pub names: &'a [u8],
