@@ -16,6 +16,7 @@ use Rattle.units.proofs.Laws.{under, premium-le, discount-le}
 use Rattle.flags.specs.Table.{entry, stockMoves, shortageInCash, shanghai}
 use Rattle.flags.proofs.Laws.{moves-rules, shortage-rule}
 use Rattle.layout.specs.declared.Component.{Component}
+use Rattle.fund.proofs.Laws.{ComponentRanges}
 use Rattle.rules.specs.Sound.{mostPrice}
 use Rattle.rules.specs.Orders.{creation, mostBaskets}
 use Rattle.rules.specs.Kinds.{byKind}
@@ -37,6 +38,10 @@ chosen-le false x y n p q = q
 
 pub missing-le : (b : Bool) (need have : ℕ) → cond b (need - have) 0 ≤ need
 missing-le b need have = cond-le b (sub-le need have) zero-le
+
+-- a component that passes the tests of refusal 3
+pub ranged : (g : ℕ) (c : Component) → ComponentRanges g c → Ranged c
+ranged g c r = record { quantity = r .quantity; premium = r .premium; discount = r .discount; amount = r .amount }
 
 module _ (c : Component) (m : ℕ) (r : Ranged c) (few : m ≤ mostBaskets) where
   pub need-le : m * c .quantity ≤ 1_999_999_980

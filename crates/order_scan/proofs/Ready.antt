@@ -24,13 +24,11 @@ use Rattle.rules.proofs.Asked.{either-kind}
 use Rattle.order_lines.specs.Lines.{creationLine, redemptionLine, missingOf, worthOf}
 use Rattle.order_lines.specs.Ready.{Ranged}
 use Rattle.order_scan.specs.Ready.{Scannable}
-use Rattle.order_lines.proofs.Laws.{creation-small, redemption-small}
+use Rattle.order_lines.proofs.Laws.{ranged, creation-small, redemption-small}
 
 module _ (d : Day) (b ps : List ℕ) (s : SoundDay d b ps) (m : ℕ) (few : m ≤ mostBaskets) where
-  ranged : (k : ℕ) → k < d .count → Ranged (componentOf d k)
-  ranged k h =
-      let c = components-fine (d .fund .«first_code») (d .components) (d .count) (s .own .components) k h in
-      record { quantity = c .quantity; premium = c .premium; discount = c .discount; amount = c .amount }
+  all-ranged : (k : ℕ) → k < d .count → Ranged (componentOf d k)
+  all-ranged k h = ranged _ _ (components-fine (d .fund .«first_code») (d .components) (d .count) (s .own .components) k h)
 
   wide : (a : ℕ) → a < d .accounts → length (account d b a) ≡ width d
   wide a h = stretch-length (width d) b a (omega (arith, within (width d) a (d .accounts) h, s .book .book-size))
@@ -50,7 +48,7 @@ module _ (d : Day) (b ps : List ℕ) (s : SoundDay d b ps) (m : ℕ) (few : m �
         stretch = wide a h;
         fund-stretch = wide 0 (omega (arith, s .own .accounts-low));
         prices-size = s .prices .prices-size;
-        ranges = ranged;
+        ranges = all-ranged;
         prices = s .prices .prices-most;
         lots = lots-fit a h;
       }
