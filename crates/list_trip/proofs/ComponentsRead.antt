@@ -14,7 +14,7 @@ use Rattle.text_rules.specs.Reading.{rowCount, rowOf, runRead}
 use Rattle.text_trip.proofs.Below.{stretch-below}
 use Rattle.text_trip.proofs.ReadColumns.{read-numbers}
 use Rattle.list_rules.specs.Shanghai.{shanghai}
-use Rattle.list_rules.specs.Reading.{componentsRun, lineComponent}
+use Rattle.list_rules.specs.Reading.{componentsRun}
 use Rattle.list_rules.proofs.ComponentLine.{line-component}
 use Rattle.list_trip.specs.Trips.{ComponentsRead}
 use Rattle.list_trip.proofs.Form.{line-numbers}

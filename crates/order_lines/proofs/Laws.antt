@@ -19,7 +19,6 @@ use Rattle.layout.specs.declared.Component.{Component}
 use Rattle.fund.proofs.Laws.{ComponentRanges}
 use Rattle.rules.specs.Sound.{mostPrice}
 use Rattle.rules.specs.Orders.{creation, mostBaskets}
-use Rattle.rules.specs.Kinds.{byKind}
 use Rattle.rules.proofs.Asked.{either-kind}
 use Rattle.order_lines.specs.declared.Line.{Line}
 use Rattle.order_lines.specs.Lines.{money, missingOf, worthOf, creationLine, redemptionLine, amountDue, amountLine, orderLine, stockLine}

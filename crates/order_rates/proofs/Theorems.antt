@@ -7,9 +7,9 @@ use Rattle.flags.specs.Table.{entry}
 use Rattle.layout.specs.declared.Component.{Component}
 use Rattle.layout.specs.Day.{Day}
 use Rattle.layout.specs.Records.{roomIn}
-use Rattle.rules.specs.Lines.{componentOf, codeOf, quantity, column, creationRate, redemptionRate, creationAmount, redemptionAmount}
+use Rattle.rules.specs.Lines.{codeOf, quantity, column, creationRate, redemptionRate, creationAmount, redemptionAmount}
 use Rattle.rules.specs.Sound.{isSound}
-use Rattle.balance.specs.Calls.{Lent, create, redeem, step}
+use Rattle.balance.specs.Calls.{create, redeem, step}
 use Rattle.order_rates.specs.Rates.{SameBut, SameResult, DiscountsLeaveCreations, PremiumsLeaveRedemptions}
 use Rattle.order_rates.proofs.Shared.{Twins, other, Shared}
 use Rattle.order_rates.proofs.Creation as creation
