@@ -26,7 +26,7 @@
  * this pass once for a whole list of calls: a trade in the list then takes about 0.01 microseconds, a creation with 300 components
  * about 2. So a program that has many calls at hand gives them to `roffelaine_run`; one that needs an answer before it can make the
  * next call makes single calls, which answer and leave the same. An opening makes a pass over the holdings, about 17 microseconds;
- * the calls on list texts make none, and take about 9 microseconds to read 300 components and 7 to write them. All times are
+ * the calls on list texts make none, and take about 12 microseconds to read 300 components and 10 to write them. All times are
  * measured on one machine.
  *
  * Money counts thousandths of a yuan, a rate hundred-thousandths, a reference value ten-thousandths of a yuan, estimated cash and a
