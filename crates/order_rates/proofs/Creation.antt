@@ -15,15 +15,15 @@ use Rattle.rules.specs.Records.{sideB, sideS}
 use Rattle.rules.specs.Orders.{baskets, wholeBaskets, formChecks, switchAllows, countOf, fundCount, withinLimits, permissionChecks}
 use Rattle.rules.specs.Creation.{handedIn, isShort, firstShort, missing, missingWorth, isMissing, creationCash, creationDue}
 use Rattle.rules.specs.Creation.{ratioPassed, creationRecords, creationMeans, creationChecks, creationReply, creationMoves, createdBook, createdList}
-use Rattle.order_rates.proofs.Shared.{Twins, one, other, Shared, same-need, same-shanghai, same-other, same-records}
+use Rattle.order_rates.proofs.Shared.{DayPair, one, other, Shared, same-need, same-shanghai, same-other, same-records}
 
 -- what a creation takes besides
-pub record ForCreation (t : Twins) : Type 0 where
+pub record ForCreation (t : DayPair) : Type 0 where
   pub shared : Shared t
   pub rates : (i : ℕ) → creationRate (one t) i ≡ creationRate (other t) i
   pub amounts : (i : ℕ) → creationAmount (one t) i ≡ creationAmount (other t) i
 
-module _ (t : Twins) (c : ForCreation t) where
+module _ (t : DayPair) (c : ForCreation t) where
   -- the reference value
   same-worth : (ps : List ℕ) → worthBefore (one t) ps ≡ worthBefore (other t) ps
   unfolding worthBefore worthAt

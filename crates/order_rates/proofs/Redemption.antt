@@ -12,15 +12,15 @@ use Rattle.rules.specs.Records.{sideB, sideS}
 use Rattle.rules.specs.Orders.{baskets, wholeBaskets, formChecks, switchAllows, countOf, fundCount, withinLimits, permissionChecks}
 use Rattle.rules.specs.Redemption.{delivered, redemptionCash, redemptionPaid, unitsAvailable, fundLacks, firstLacking}
 use Rattle.rules.specs.Redemption.{redemptionRecords, redemptionMeans, redemptionChecks, redemptionReply, redemptionMoves, redeemedBook, redeemedList}
-use Rattle.order_rates.proofs.Shared.{Twins, one, other, Shared, same-need, same-shanghai, same-other, same-records}
+use Rattle.order_rates.proofs.Shared.{DayPair, one, other, Shared, same-need, same-shanghai, same-other, same-records}
 
 -- what a redemption takes besides
-pub record ForRedemption (t : Twins) : Type 0 where
+pub record ForRedemption (t : DayPair) : Type 0 where
   pub shared : Shared t
   pub rates : (i : ℕ) → redemptionRate (one t) i ≡ redemptionRate (other t) i
   pub amounts : (i : ℕ) → redemptionAmount (one t) i ≡ redemptionAmount (other t) i
 
-module _ (t : Twins) (c : ForRedemption t) where
+module _ (t : DayPair) (c : ForRedemption t) where
   -- in m baskets
   module _ (m : ℕ) where
     same-delivered : delivered (one t) m ≡ delivered (other t) m

@@ -12,26 +12,26 @@ use Rattle.rules.specs.Records.{stockRecord, orderRecords}
 use Rattle.rules.specs.Orders.{need, shanghaiCash, otherCash}
 
 -- two days with one head
-pub record Twins : Type 0 where
+pub record DayPair : Type 0 where
   pub accounts : ℕ
   pub count : ℕ
   pub fund : Fund
   pub components : List Component
   pub others : List Component
 
-abbrev pub one : Twins → Day
+abbrev pub one : DayPair → Day
 one t = record { accounts = t .accounts; count = t .count; fund = t .fund; components = t .components }
 
-abbrev pub other : Twins → Day
+abbrev pub other : DayPair → Day
 other t = record { accounts = t .accounts; count = t .count; fund = t .fund; components = t .others }
 
 -- codes, quantities and flags are the same
-pub record Shared (t : Twins) : Type 0 where
+pub record Shared (t : DayPair) : Type 0 where
   pub codes : (i : ℕ) → codeOf (one t) i ≡ codeOf (other t) i
   pub quantities : (i : ℕ) → quantity (one t) i ≡ quantity (other t) i
   pub columns : (k i : ℕ) → column (one t) k i ≡ column (other t) k i
 
-module _ (t : Twins) (s : Shared t) where
+module _ (t : DayPair) (s : Shared t) where
   pub same-need : (m i : ℕ) → need (one t) m i ≡ need (other t) m i
   unfolding need
   same-need m i = rw (s .quantities i)

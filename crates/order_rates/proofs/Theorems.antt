@@ -9,28 +9,28 @@ use Rattle.layout.specs.Day.{Day}
 use Rattle.layout.specs.Records.{roomIn}
 use Rattle.rules.specs.Lines.{codeOf, quantity, column, creationRate, redemptionRate, creationAmount, redemptionAmount}
 use Rattle.rules.specs.Sound.{isSound}
-use Rattle.balance.specs.Calls.{create, redeem, step}
+use Rattle.balance.specs.Calls.{Lent, Call, step}
 use Rattle.order_rates.specs.Rates.{SameBut, SameResult, DiscountsLeaveCreations, PremiumsLeaveRedemptions}
-use Rattle.order_rates.proofs.Shared.{Twins, other, Shared}
+use Rattle.order_rates.proofs.Shared.{DayPair, other, Shared}
 use Rattle.order_rates.proofs.Creation as creation
 use Rattle.order_rates.proofs.Redemption as redemption
 
 -- the day d, and the day e with the head of d
-abbrev twins : Day → Day → Twins
-twins d e = record { accounts = d .accounts; count = d .count; fund = d .fund; components = d .components; others = e .components }
+abbrev pairOf : Day → Day → DayPair
+pairOf d e = record { accounts = d .accounts; count = d .count; fund = d .fund; components = d .components; others = e .components }
 
 -- a change of components that keeps code, quantity and flag
 abbrev Keeping : (Component → Component → Component) → Type 0
 Keeping changed = (x c : Component) → (changed x c .code ≡ c .code) × (changed x c .quantity ≡ c .quantity) × (changed x c .flag ≡ c .flag)
 
 module _ (changed : Component → Component → Component) (d e : Day) (s : SameBut changed d e) where
-  head-same : other (twins d e) ≡ e
+  head-same : other (pairOf d e) ≡ e
   head-same = λ i. record { accounts = s .accounts i; count = s .count i; fund = s .fund i; components = e .components }
 
-  sound-twin : (b ps : List ℕ) → isSound e b ps ≡ true → isSound (other (twins d e)) b ps ≡ true
-  sound-twin b ps h = ap (λ (x : Day). isSound x b ps) head-same ∙ h
+  sound-other : (b ps : List ℕ) → isSound e b ps ≡ true → isSound (other (pairOf d e)) b ps ≡ true
+  sound-other b ps h = ap (λ (x : Day). isSound x b ps) head-same ∙ h
 
-  shared : Keeping changed → Shared (twins d e)
+  shared : Keeping changed → Shared (pairOf d e)
   unfolding codeOf quantity column
   shared keeps =
       record {
@@ -39,38 +39,40 @@ module _ (changed : Component → Component → Component) (d e : Day) (s : Same
         columns = λ k i. ap (λ (flag : ℕ). entry flag k) (sym (keeps _ _ .2) ∙ ap (λ (c : Component). c .flag) (s .components i));
       }
 
+  -- what holds of d and of that day holds of d and e
+  carried : (b ps : List ℕ) (call : Call) (lent : Lent) → SameResult d (other (pairOf d e)) b ps call lent → SameResult d e b ps call lent
+  carried b ps call lent h = subst (λ (x : Day). SameResult d x b ps call lent) head-same h
+
 pub discounts-leave-creations : DiscountsLeaveCreations
 unfolding step creationRate creationAmount
 discounts-leave-creations d e b ps first second s account units lent =
-    let t = twins d e in
-    let takes : creation.ForCreation t =
+    let takes : creation.ForCreation (pairOf d e) =
     record {
       shared = shared _ d e s (λ x c. (refl, refl, refl));
       rates = λ i. ap (λ (c : Component). c .premium .0) (s .components i);
       amounts = λ i. ap (λ (c : Component). c .amount .0) (s .components i);
     } in
-    let sound = sound-twin _ d e s b ps second in
-    subst (λ (x : Day). SameResult d x b ps (create account units) lent) (head-same _ d e s)
+    let sound = sound-other _ d e s b ps second in
+    carried _ d e s b ps _ lent
     (record {
-      answer = creation.same-answer t takes b ps first sound account units (roomIn (lent .records));
-      lists = ap (λ (l : List ℕ). record { records = l }) (creation.same-list t takes b ps first sound account units (lent .records));
-      book = creation.same-book t takes b ps first sound account units (roomIn (lent .records));
+      answer = creation.same-answer _ takes b ps first sound account units (roomIn (lent .records));
+      lists = ap (λ (l : List ℕ). record { records = l }) (creation.same-list _ takes b ps first sound account units (lent .records));
+      book = creation.same-book _ takes b ps first sound account units (roomIn (lent .records));
     })
 
 pub premiums-leave-redemptions : PremiumsLeaveRedemptions
 unfolding step redemptionRate redemptionAmount
 premiums-leave-redemptions d e b ps first second s account units lent =
-    let t = twins d e in
-    let takes : redemption.ForRedemption t =
+    let takes : redemption.ForRedemption (pairOf d e) =
     record {
       shared = shared _ d e s (λ x c. (refl, refl, refl));
       rates = λ i. ap (λ (c : Component). c .discount .0) (s .components i);
       amounts = λ i. ap (λ (c : Component). c .amount .0) (s .components i);
     } in
-    let sound = sound-twin _ d e s b ps second in
-    subst (λ (x : Day). SameResult d x b ps (redeem account units) lent) (head-same _ d e s)
+    let sound = sound-other _ d e s b ps second in
+    carried _ d e s b ps _ lent
     (record {
-      answer = redemption.same-answer t takes b ps first sound account units (roomIn (lent .records));
-      lists = ap (λ (l : List ℕ). record { records = l }) (redemption.same-list t takes b ps first sound account units (lent .records));
-      book = redemption.same-book t takes b ps first sound account units (roomIn (lent .records));
+      answer = redemption.same-answer _ takes b ps first sound account units (roomIn (lent .records));
+      lists = ap (λ (l : List ℕ). record { records = l }) (redemption.same-list _ takes b ps first sound account units (lent .records));
+      book = redemption.same-book _ takes b ps first sound account units (roomIn (lent .records));
     })
