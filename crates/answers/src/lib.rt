@@ -1,8 +1,9 @@
-// Answers as the paper's three numbers: a refusal's number (0 accepted), its place, and the value of an accepted call.
+// Answers as the paper's four numbers: a refusal's number (0 accepted), its place, the value of an accepted call, and of an order
+// the count of its reports.
 ghost use mathlib.Core.Path.{_≡_};
 ghost use Rattle.sequences.specs.Checks.{reply};
 ghost use Rattle.rules.specs.Replies.{refusalReply, answerReply, orderAnswerReply, valueAnswerReply};
-ghost use Rattle.answers.specs.Numbers.{replyOf, Told};
+ghost use Rattle.answers.specs.Numbers.{replyOf, Told, ToldOrder};
 use rules::Answer;
 use rules::OrderAnswer;
 use rules::Refusal;
@@ -12,6 +13,7 @@ pub struct Numbers {
     pub number: u64,
     pub place: u64,
     pub value: u64,
+    pub reports: u64,
 }
 
 // A refusal with its place.
@@ -22,6 +24,7 @@ fn refused_at(number: u64, place: usize) -> Numbers
         number,
         place: place as u64,
         value: 0,
+        reports: 0,
     }
 }
 
@@ -33,6 +36,7 @@ fn accepted(value: u64) -> Numbers
         number: 0,
         place: 0,
         value,
+        reports: 0,
     }
 }
 
@@ -76,7 +80,12 @@ pub fn of_order(answer: OrderAnswer) -> Numbers
     ensures { λ r. ⌜ replyOf r ≡ orderAnswerReply answer ⌝ }
 {
     match answer {
-        OrderAnswer::Made(count) => accepted(count as u64),
+        OrderAnswer::Made(counts) => Numbers {
+            number: 0,
+            place: 0,
+            value: counts.records as u64,
+            reports: counts.reports as u64,
+        },
         OrderAnswer::Refused(why) => of_refusal(why),
     }
 }
@@ -90,11 +99,19 @@ pub fn of_value(answer: ValueAnswer) -> Numbers
     }
 }
 
-// An answer's three numbers: the place and the value where the caller points, and the number handed back.
+// An answer's numbers: the place and the value where the caller points, and the number handed back.
 pub fn tell(answer: Numbers, place: &mut u64, value: &mut u64) -> u64
     ensures { λ r. ⌜ Told (replyOf answer) r (now (place .exit)) (now (value .exit)) ⌝ }
 {
     *place = answer.place;
     *value = answer.value;
     answer.number
+}
+
+// An order's numbers: the count of its reports where the caller points too.
+pub fn tell_order(answer: Numbers, place: &mut u64, value: &mut u64, reports: &mut u64) -> u64
+    ensures { λ r. ⌜ ToldOrder (replyOf answer) r (now (place .exit)) (now (value .exit)) (now (reports .exit)) ⌝ }
+{
+    *reports = answer.reports;
+    tell(answer, place, value)
 }

@@ -5,7 +5,7 @@ use mathlib.Core.Bool.{true}
 use mathlib.Core.List.{List, [], _∷_}
 use Prim.Native.Nat.{ℕ}
 use lib.Dec.{T}
-use Rattle.sequences.specs.Checks.{Check, isAccepted, answered}
+use Rattle.sequences.specs.Checks.{Check, isAccepted, answering, answered}
 use Rattle.sequences.proofs.Checks.{avoids, never-answered}
 use Rattle.layout.specs.Day.{Day}
 use Rattle.rules.specs.Sound.{isSound, onSoundDay}
@@ -29,7 +29,7 @@ kept-opened o accepted = opened-kept o accepted
 
 -- on a sound day no call answers 5
 sound-answer : (d : Day) (b ps : List ℕ) (cs : List Check) (v : ℕ) → isSound d b ps ≡ true → T (avoids 5 cs) → answered (onSoundDay d b ps cs) v .number ≡ 5 → ⊥
-unfolding answered
+unfolding answering
 sound-answer d b ps cs v e t q = never-answered 5 cs v tt t (rw e at q)
 
 pub never-five : (s : State) (c : Call) (lent : Lent) → KeptState s → step s c lent .reply .number ≡ 5 → ⊥

@@ -9,6 +9,7 @@ use Rattle.rules.specs.Lines.{componentOf}
 use Rattle.rules.specs.Opening.{Opening, holdingsOf, heldOpened, openedTotal, openedCash, openedDay, openedBook, openedPrices}
 use Rattle.rules.specs.Orders.{creation, redemption}
 use Rattle.balance.specs.Calls.{State, Event, Happened}
+use Rattle.balance.specs.Reported.{AllReported}
 use Rattle.balance.specs.Counts.{soldBy, boughtBy, gotBy, handedInBy, createdBy, redeemedBy, createdByAll, redeemedByAll}
 
 -- the state that opening leaves
@@ -21,8 +22,10 @@ Within limit units = 0 < limit → units ≤ limit
 
 -- the events es from the opening o to the state t
 pub record Balanced (o : Opening) (es : List Event) (t : State) : Type 0 where
-  -- every answer, book, price and record is the definitions'
+  -- every answer, book, price, record and report is the definitions'
   pub defined : Happened (opened o) es t
+  -- the reports of every accepted order tell both parties its records' cash and stock
+  pub reported : AllReported (o .fund .«first_code») es
   -- A, the fund's fields and the components are those of the opening
   pub accounts : t .day .accounts ≡ o .accounts
   pub count : t .day .count ≡ o .count

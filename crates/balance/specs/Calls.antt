@@ -7,19 +7,15 @@ use Rattle.layout.specs.Day.{Day}
 use Rattle.rules.specs.Price.{priceReply, pricedPrices}
 use Rattle.rules.specs.Trade.{tradeReply, tradedBook}
 use Rattle.rules.specs.Value.{valueReply}
-use Rattle.layout.specs.Records.{roomIn}
-use Rattle.rules.specs.Creation.{creationReply, createdBook, createdList}
-use Rattle.rules.specs.Redemption.{redemptionReply, redeemedBook, redeemedList}
+use Rattle.rules.specs.Lent.{Lent, roomsIn}
+use Rattle.rules.specs.Creation.{creationReply, createdBook, createdLists}
+use Rattle.rules.specs.Redemption.{redemptionReply, redeemedBook, redeemedLists}
 
 -- the day, and the book and the prices that are lent with it
 pub record State : Type 0 where
   pub day : Day
   pub book : List ℕ
   pub prices : List ℕ
-
--- the lists that are lent to one call
-pub record Lent : Type 0 where
-  pub records : List ℕ
 
 pub data Call : Type 0 where
   -- line, price
@@ -36,7 +32,7 @@ pub record Result : Type 0 where
   pub after : State
   pub lent : Lent
 
--- one call on a state, with what is lent to it
+-- one call on a state, with the lists that are lent to it
 unfoldable pub step : State → Call → Lent → Result
 step s (price line p) lent =
     record {
@@ -52,15 +48,15 @@ step s (trade line q p seller buyer) lent =
     }
 step s (create a units) lent =
     record {
-      reply = creationReply (s .day) (s .book) (s .prices) a units (roomIn (lent .records));
-      after = record { day = s .day; book = createdBook (s .day) (s .book) (s .prices) a units (roomIn (lent .records)); prices = s .prices };
-      lent = record { records = createdList (s .day) (s .book) (s .prices) a units (lent .records) };
+      reply = creationReply (s .day) (s .book) (s .prices) a units (roomsIn lent);
+      after = record { day = s .day; book = createdBook (s .day) (s .book) (s .prices) a units (roomsIn lent); prices = s .prices };
+      lent = createdLists (s .day) (s .book) (s .prices) a units lent;
     }
 step s (redeem a units) lent =
     record {
-      reply = redemptionReply (s .day) (s .book) (s .prices) a units (roomIn (lent .records));
-      after = record { day = s .day; book = redeemedBook (s .day) (s .book) (s .prices) a units (roomIn (lent .records)); prices = s .prices };
-      lent = record { records = redeemedList (s .day) (s .book) (s .prices) a units (lent .records) };
+      reply = redemptionReply (s .day) (s .book) (s .prices) a units (roomsIn lent);
+      after = record { day = s .day; book = redeemedBook (s .day) (s .book) (s .prices) a units (roomsIn lent); prices = s .prices };
+      lent = redeemedLists (s .day) (s .book) (s .prices) a units lent;
     }
 step s value lent = record { reply = valueReply (s .day) (s .book) (s .prices); after = s; lent = lent }
 

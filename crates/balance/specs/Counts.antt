@@ -11,7 +11,8 @@ use Rattle.layout.specs.Day.{Day}
 use Rattle.rules.specs.Lines.{codeOf, quantity, movesStock}
 use Rattle.rules.specs.Orders.{baskets}
 use Rattle.layout.specs.Places.{recordWidth}
-use Rattle.balance.specs.Calls.{State, Lent, Call, Event, price, trade, create, redeem, value}
+use Rattle.rules.specs.Lent.{Lent}
+use Rattle.balance.specs.Calls.{State, Call, Event, price, trade, create, redeem, value}
 
 -- the quantity of the stock record with a component's code, among the first n records of a list
 unfoldable pub stockQuantity : ℕ → List ℕ → ℕ → ℕ

@@ -1,16 +1,15 @@
 // The day book for other languages: each call over numbers and runs of numbers. A call returns the refusal's number, 0 where it is
-// accepted, and puts its place and its value where the caller points; include/roffelaine.h says it in C.
+// accepted, and puts its place and its value, and of an order the count of its reports, where the caller points;
+// include/roffelaine.h says it in C.
 ghost use mathlib.Core.Path.{_≡_};
 ghost use lib.ListN.{length};
-ghost use Prim.Native.Nat.{_/_};
 ghost use Rattle.rules.specs.Price.{priceReply, pricedPrices};
 ghost use Rattle.rules.specs.Trade.{tradeReply, tradedBook};
 ghost use Rattle.rules.specs.Value.{valueReply};
-ghost use Rattle.layout.specs.Places.{recordWidth};
-ghost use Rattle.layout.specs.Records.{roomIn};
-ghost use Rattle.rules.specs.Creation.{creationReply, createdBook, createdList};
-ghost use Rattle.rules.specs.Redemption.{redemptionReply, redeemedBook, redeemedList};
-ghost use Rattle.answers.specs.Numbers.{Told};
+ghost use Rattle.rules.specs.Lent.{lentOf, roomsOf, roomsIn};
+ghost use Rattle.rules.specs.Creation.{creationReply, createdBook, createdLists};
+ghost use Rattle.rules.specs.Redemption.{redemptionReply, redeemedBook, redeemedLists};
+ghost use Rattle.answers.specs.Numbers.{Told, ToldOrder};
 ghost use Rattle.driver_rows.specs.Rows.{stateOf};
 ghost use Rattle.driver.specs.Batch.{batchOf, runReply, ran, eventsOf, Demand3};
 ghost use Rattle.list_rules.specs.Reading.{namePlace, lettersPlace};
@@ -104,7 +103,7 @@ pub extern "C" fn roffelaine_reference_value(
     answers::tell(answers::of_value(answer), place, value)
 }
 
-// Creates units for an account; the records go to the lent list.
+// Creates units for an account; the records and the reports to both parties go to the lent lists.
 #[no_mangle]
 pub extern "C" fn roffelaine_create(
     day: &[u64],
@@ -112,19 +111,24 @@ pub extern "C" fn roffelaine_create(
     prices: &[u64],
     account: usize,
     units: u64,
-    list: &mut [u64],
+    records: &mut [u64],
+    investor: &mut [u64],
+    fund: &mut [u64],
     place: &mut u64,
     value: &mut u64,
+    reports: &mut u64,
 ) -> u64
-    ensures { λ r. ⌜ Told (creationReply (dayAt (now (day .entry))) (now (book .entry)) (now (prices .entry)) account units (roomIn (now (list .entry)))) r (now (place .exit)) (now (value .exit)) ⌝ }
-    ensures book { λ r. ⌜ now (book .exit) ≡ createdBook (dayAt (now (day .entry))) (now (book .entry)) (now (prices .entry)) account units (roomIn (now (list .entry))) ⌝ }
-    ensures list { λ r. ⌜ now (list .exit) ≡ createdList (dayAt (now (day .entry))) (now (book .entry)) (now (prices .entry)) account units (now (list .entry)) ⌝ }
+    ensures { λ r. ⌜ ToldOrder (creationReply (dayAt (now (day .entry))) (now (book .entry)) (now (prices .entry)) account units (roomsIn (lentOf (now (records .entry)) (now (investor .entry)) (now (fund .entry))))) r (now (place .exit)) (now (value .exit)) (now (reports .exit)) ⌝ }
+    ensures book { λ r. ⌜ now (book .exit) ≡ createdBook (dayAt (now (day .entry))) (now (book .entry)) (now (prices .entry)) account units (roomsIn (lentOf (now (records .entry)) (now (investor .entry)) (now (fund .entry)))) ⌝ }
+    ensures lists { λ r. ⌜ lentOf (now (records .exit)) (now (investor .exit)) (now (fund .exit)) ≡ createdLists (dayAt (now (day .entry))) (now (book .entry)) (now (prices .entry)) account units (lentOf (now (records .entry)) (now (investor .entry)) (now (fund .entry))) ⌝ }
 {
-    let answer = day::create(day, book, prices, account, units, list);
-    answers::tell(answers::of_order(answer), place, value)
+    let answer = day::create(
+        day, book, prices, account, units, records, investor, fund,
+    );
+    answers::tell_order(answers::of_order(answer), place, value, reports)
 }
 
-// Redeems units of an account; the records go to the lent list.
+// Redeems units of an account; the records and the reports to both parties go to the lent lists.
 #[no_mangle]
 pub extern "C" fn roffelaine_redeem(
     day: &[u64],
@@ -132,19 +136,24 @@ pub extern "C" fn roffelaine_redeem(
     prices: &[u64],
     account: usize,
     units: u64,
-    list: &mut [u64],
+    records: &mut [u64],
+    investor: &mut [u64],
+    fund: &mut [u64],
     place: &mut u64,
     value: &mut u64,
+    reports: &mut u64,
 ) -> u64
-    ensures { λ r. ⌜ Told (redemptionReply (dayAt (now (day .entry))) (now (book .entry)) (now (prices .entry)) account units (roomIn (now (list .entry)))) r (now (place .exit)) (now (value .exit)) ⌝ }
-    ensures book { λ r. ⌜ now (book .exit) ≡ redeemedBook (dayAt (now (day .entry))) (now (book .entry)) (now (prices .entry)) account units (roomIn (now (list .entry))) ⌝ }
-    ensures list { λ r. ⌜ now (list .exit) ≡ redeemedList (dayAt (now (day .entry))) (now (book .entry)) (now (prices .entry)) account units (now (list .entry)) ⌝ }
+    ensures { λ r. ⌜ ToldOrder (redemptionReply (dayAt (now (day .entry))) (now (book .entry)) (now (prices .entry)) account units (roomsIn (lentOf (now (records .entry)) (now (investor .entry)) (now (fund .entry))))) r (now (place .exit)) (now (value .exit)) (now (reports .exit)) ⌝ }
+    ensures book { λ r. ⌜ now (book .exit) ≡ redeemedBook (dayAt (now (day .entry))) (now (book .entry)) (now (prices .entry)) account units (roomsIn (lentOf (now (records .entry)) (now (investor .entry)) (now (fund .entry)))) ⌝ }
+    ensures lists { λ r. ⌜ lentOf (now (records .exit)) (now (investor .exit)) (now (fund .exit)) ≡ redeemedLists (dayAt (now (day .entry))) (now (book .entry)) (now (prices .entry)) account units (lentOf (now (records .entry)) (now (investor .entry)) (now (fund .entry))) ⌝ }
 {
-    let answer = day::redeem(day, book, prices, account, units, list);
-    answers::tell(answers::of_order(answer), place, value)
+    let answer = day::redeem(
+        day, book, prices, account, units, records, investor, fund,
+    );
+    answers::tell_order(answers::of_order(answer), place, value, reports)
 }
 
-// The tests of a creation alone, with the length of the list.
+// The tests of a creation alone, with the lengths of the lists.
 #[no_mangle]
 pub extern "C" fn roffelaine_creation_test(
     day: &[u64],
@@ -152,14 +161,19 @@ pub extern "C" fn roffelaine_creation_test(
     prices: &[u64],
     account: usize,
     units: u64,
-    length: usize,
+    records: usize,
+    investor: usize,
+    fund: usize,
     place: &mut u64,
     value: &mut u64,
+    reports: &mut u64,
 ) -> u64
-    ensures { λ r. ⌜ Told (creationReply (dayAt (now (day .entry))) (now (book .entry)) (now (prices .entry)) account units (length / recordWidth)) r (now (place .exit)) (now (value .exit)) ⌝ }
+    ensures { λ r. ⌜ ToldOrder (creationReply (dayAt (now (day .entry))) (now (book .entry)) (now (prices .entry)) account units (roomsOf records investor fund)) r (now (place .exit)) (now (value .exit)) (now (reports .exit)) ⌝ }
 {
-    let answer = day::creation_test(day, book, prices, account, units, length);
-    answers::tell(answers::of_order(answer), place, value)
+    let answer = day::creation_test(
+        day, book, prices, account, units, records, investor, fund,
+    );
+    answers::tell_order(answers::of_order(answer), place, value, reports)
 }
 
 // The tests of a redemption alone.
@@ -170,14 +184,19 @@ pub extern "C" fn roffelaine_redemption_test(
     prices: &[u64],
     account: usize,
     units: u64,
-    length: usize,
+    records: usize,
+    investor: usize,
+    fund: usize,
     place: &mut u64,
     value: &mut u64,
+    reports: &mut u64,
 ) -> u64
-    ensures { λ r. ⌜ Told (redemptionReply (dayAt (now (day .entry))) (now (book .entry)) (now (prices .entry)) account units (length / recordWidth)) r (now (place .exit)) (now (value .exit)) ⌝ }
+    ensures { λ r. ⌜ ToldOrder (redemptionReply (dayAt (now (day .entry))) (now (book .entry)) (now (prices .entry)) account units (roomsOf records investor fund)) r (now (place .exit)) (now (value .exit)) (now (reports .exit)) ⌝ }
 {
-    let answer = day::redemption_test(day, book, prices, account, units, length);
-    answers::tell(answers::of_order(answer), place, value)
+    let answer = day::redemption_test(
+        day, book, prices, account, units, records, investor, fund,
+    );
+    answers::tell_order(answers::of_order(answer), place, value, reports)
 }
 
 // The driver: a list of calls as rows, with one test of the day where every call keeps it sound.
@@ -188,15 +207,19 @@ pub extern "C" fn roffelaine_run(
     prices: &mut [u64],
     rows: &[u64],
     records: &mut [u64],
+    investor: &mut [u64],
+    fund: &mut [u64],
     answers: &mut [u64],
     place: &mut u64,
     value: &mut u64,
 ) -> u64
-    ensures { λ r. ⌜ Told (runReply (now (rows .entry)) (batchOf (dayAt (now (day .entry))) (now (book .entry)) (now (prices .entry)) (now (records .entry)) (now (answers .entry)))) r (now (place .exit)) (now (value .exit)) ⌝ }
-    ensures left { λ r. ⌜ batchOf (dayAt (now (day .entry))) (now (book .exit)) (now (prices .exit)) (now (records .exit)) (now (answers .exit)) ≡ ran (now (rows .entry)) (batchOf (dayAt (now (day .entry))) (now (book .entry)) (now (prices .entry)) (now (records .entry)) (now (answers .entry))) ⌝ }
-    ensures demand { λ r. ⌜ Demand3 (stateOf (dayAt (now (day .entry))) (now (book .entry)) (now (prices .entry))) (eventsOf (now (rows .entry)) (batchOf (dayAt (now (day .entry))) (now (book .entry)) (now (prices .entry)) (now (records .entry)) (now (answers .entry)))) (stateOf (dayAt (now (day .entry))) (now (book .exit)) (now (prices .exit))) ⌝ }
+    ensures { λ r. ⌜ Told (runReply (now (rows .entry)) (batchOf (dayAt (now (day .entry))) (now (book .entry)) (now (prices .entry)) (lentOf (now (records .entry)) (now (investor .entry)) (now (fund .entry))) (now (answers .entry)))) r (now (place .exit)) (now (value .exit)) ⌝ }
+    ensures left { λ r. ⌜ batchOf (dayAt (now (day .entry))) (now (book .exit)) (now (prices .exit)) (lentOf (now (records .exit)) (now (investor .exit)) (now (fund .exit))) (now (answers .exit)) ≡ ran (now (rows .entry)) (batchOf (dayAt (now (day .entry))) (now (book .entry)) (now (prices .entry)) (lentOf (now (records .entry)) (now (investor .entry)) (now (fund .entry))) (now (answers .entry))) ⌝ }
+    ensures demand { λ r. ⌜ Demand3 (stateOf (dayAt (now (day .entry))) (now (book .entry)) (now (prices .entry))) (eventsOf (now (rows .entry)) (batchOf (dayAt (now (day .entry))) (now (book .entry)) (now (prices .entry)) (lentOf (now (records .entry)) (now (investor .entry)) (now (fund .entry))) (now (answers .entry)))) (stateOf (dayAt (now (day .entry))) (now (book .exit)) (now (prices .exit))) ⌝ }
 {
-    let answer = driver::run(day, book, prices, rows, records, answers);
+    let answer = driver::run(
+        day, book, prices, rows, records, investor, fund, answers,
+    );
     answers::tell(answers::of_answer(answer), place, value)
 }
 
@@ -208,15 +231,19 @@ pub extern "C" fn roffelaine_run_public(
     prices: &mut [u64],
     rows: &[u64],
     records: &mut [u64],
+    investor: &mut [u64],
+    fund: &mut [u64],
     answers: &mut [u64],
     place: &mut u64,
     value: &mut u64,
 ) -> u64
-    ensures { λ r. ⌜ Told (runReply (now (rows .entry)) (batchOf (dayAt (now (day .entry))) (now (book .entry)) (now (prices .entry)) (now (records .entry)) (now (answers .entry)))) r (now (place .exit)) (now (value .exit)) ⌝ }
-    ensures left { λ r. ⌜ batchOf (dayAt (now (day .entry))) (now (book .exit)) (now (prices .exit)) (now (records .exit)) (now (answers .exit)) ≡ ran (now (rows .entry)) (batchOf (dayAt (now (day .entry))) (now (book .entry)) (now (prices .entry)) (now (records .entry)) (now (answers .entry))) ⌝ }
-    ensures demand { λ r. ⌜ Demand3 (stateOf (dayAt (now (day .entry))) (now (book .entry)) (now (prices .entry))) (eventsOf (now (rows .entry)) (batchOf (dayAt (now (day .entry))) (now (book .entry)) (now (prices .entry)) (now (records .entry)) (now (answers .entry)))) (stateOf (dayAt (now (day .entry))) (now (book .exit)) (now (prices .exit))) ⌝ }
+    ensures { λ r. ⌜ Told (runReply (now (rows .entry)) (batchOf (dayAt (now (day .entry))) (now (book .entry)) (now (prices .entry)) (lentOf (now (records .entry)) (now (investor .entry)) (now (fund .entry))) (now (answers .entry)))) r (now (place .exit)) (now (value .exit)) ⌝ }
+    ensures left { λ r. ⌜ batchOf (dayAt (now (day .entry))) (now (book .exit)) (now (prices .exit)) (lentOf (now (records .exit)) (now (investor .exit)) (now (fund .exit))) (now (answers .exit)) ≡ ran (now (rows .entry)) (batchOf (dayAt (now (day .entry))) (now (book .entry)) (now (prices .entry)) (lentOf (now (records .entry)) (now (investor .entry)) (now (fund .entry))) (now (answers .entry))) ⌝ }
+    ensures demand { λ r. ⌜ Demand3 (stateOf (dayAt (now (day .entry))) (now (book .entry)) (now (prices .entry))) (eventsOf (now (rows .entry)) (batchOf (dayAt (now (day .entry))) (now (book .entry)) (now (prices .entry)) (lentOf (now (records .entry)) (now (investor .entry)) (now (fund .entry))) (now (answers .entry)))) (stateOf (dayAt (now (day .entry))) (now (book .exit)) (now (prices .exit))) ⌝ }
 {
-    let answer = driver::run_public(day, book, prices, rows, records, answers);
+    let answer = driver::run_public(
+        day, book, prices, rows, records, investor, fund, answers,
+    );
     answers::tell(answers::of_answer(answer), place, value)
 }
 

@@ -1,16 +1,14 @@
 // The calls of the day. Each takes any day, book, prices and numbers, returns, and refuses by the paper's numbers; a refusal
 // changes nothing. The day is one lent run of numbers, which `dayAt` reads; a run of another length than a day's is not sound.
 ghost use mathlib.Core.Path.{_≡_};
-ghost use Prim.Native.Nat.{_/_};
-ghost use Rattle.layout.specs.Places.{recordWidth};
 ghost use Rattle.layout.specs.Day.{dayAt};
-ghost use Rattle.layout.specs.Records.{roomIn};
+ghost use Rattle.rules.specs.Lent.{lentOf, roomsOf, roomsIn};
 ghost use Rattle.rules.specs.Replies.{answerReply, orderAnswerReply, valueAnswerReply};
 ghost use Rattle.rules.specs.Price.{priceReply, pricedPrices};
 ghost use Rattle.rules.specs.Trade.{tradeReply, tradedBook};
 ghost use Rattle.rules.specs.Value.{valueReply};
-ghost use Rattle.rules.specs.Creation.{creationReply, createdBook, createdList};
-ghost use Rattle.rules.specs.Redemption.{redemptionReply, redeemedBook, redeemedList};
+ghost use Rattle.rules.specs.Creation.{creationReply, createdBook, createdLists};
+ghost use Rattle.rules.specs.Redemption.{redemptionReply, redeemedBook, redeemedLists};
 ghost use Rattle.opening.specs.Given.{given, Outcome};
 use layout::Fund;
 use rules::Answer;
@@ -74,53 +72,59 @@ pub fn reference_value(day: &[u64], book: &[u64], prices: &[u64]) -> ValueAnswer
     calls::reference_value(false, day, book, prices)
 }
 
-// Creates units for an account; the records go to the lent list.
+// Creates units for an account; the records and the reports to both parties go to the lent lists.
 pub fn create(
     day: &[u64],
     book: &mut [u64],
     prices: &[u64],
     account: usize,
     units: u64,
-    list: &mut [u64],
+    records: &mut [u64],
+    investor: &mut [u64],
+    fund: &mut [u64],
 ) -> OrderAnswer
-    ensures { λ r. ⌜ orderAnswerReply r ≡ creationReply (dayAt (now (day .entry))) (now (book .entry)) (now (prices .entry)) account units (roomIn (now (list .entry))) ⌝ }
-    ensures book { λ r. ⌜ now (book .exit) ≡ createdBook (dayAt (now (day .entry))) (now (book .entry)) (now (prices .entry)) account units (roomIn (now (list .entry))) ⌝ }
-    ensures list { λ r. ⌜ now (list .exit) ≡ createdList (dayAt (now (day .entry))) (now (book .entry)) (now (prices .entry)) account units (now (list .entry)) ⌝ }
+    ensures { λ r. ⌜ orderAnswerReply r ≡ creationReply (dayAt (now (day .entry))) (now (book .entry)) (now (prices .entry)) account units (roomsIn (lentOf (now (records .entry)) (now (investor .entry)) (now (fund .entry)))) ⌝ }
+    ensures book { λ r. ⌜ now (book .exit) ≡ createdBook (dayAt (now (day .entry))) (now (book .entry)) (now (prices .entry)) account units (roomsIn (lentOf (now (records .entry)) (now (investor .entry)) (now (fund .entry)))) ⌝ }
+    ensures lists { λ r. ⌜ lentOf (now (records .exit)) (now (investor .exit)) (now (fund .exit)) ≡ createdLists (dayAt (now (day .entry))) (now (book .entry)) (now (prices .entry)) account units (lentOf (now (records .entry)) (now (investor .entry)) (now (fund .entry))) ⌝ }
 {
     let ask = rules::creation(account, units);
-    order_calls::order(false, day, book, prices, ask, list)
+    order_calls::order(false, day, book, prices, ask, records, investor, fund)
 }
 
-// Redeems units of an account; the records go to the lent list.
+// Redeems units of an account; the records and the reports to both parties go to the lent lists.
 pub fn redeem(
     day: &[u64],
     book: &mut [u64],
     prices: &[u64],
     account: usize,
     units: u64,
-    list: &mut [u64],
+    records: &mut [u64],
+    investor: &mut [u64],
+    fund: &mut [u64],
 ) -> OrderAnswer
-    ensures { λ r. ⌜ orderAnswerReply r ≡ redemptionReply (dayAt (now (day .entry))) (now (book .entry)) (now (prices .entry)) account units (roomIn (now (list .entry))) ⌝ }
-    ensures book { λ r. ⌜ now (book .exit) ≡ redeemedBook (dayAt (now (day .entry))) (now (book .entry)) (now (prices .entry)) account units (roomIn (now (list .entry))) ⌝ }
-    ensures list { λ r. ⌜ now (list .exit) ≡ redeemedList (dayAt (now (day .entry))) (now (book .entry)) (now (prices .entry)) account units (now (list .entry)) ⌝ }
+    ensures { λ r. ⌜ orderAnswerReply r ≡ redemptionReply (dayAt (now (day .entry))) (now (book .entry)) (now (prices .entry)) account units (roomsIn (lentOf (now (records .entry)) (now (investor .entry)) (now (fund .entry)))) ⌝ }
+    ensures book { λ r. ⌜ now (book .exit) ≡ redeemedBook (dayAt (now (day .entry))) (now (book .entry)) (now (prices .entry)) account units (roomsIn (lentOf (now (records .entry)) (now (investor .entry)) (now (fund .entry)))) ⌝ }
+    ensures lists { λ r. ⌜ lentOf (now (records .exit)) (now (investor .exit)) (now (fund .exit)) ≡ redeemedLists (dayAt (now (day .entry))) (now (book .entry)) (now (prices .entry)) account units (lentOf (now (records .entry)) (now (investor .entry)) (now (fund .entry))) ⌝ }
 {
     let ask = rules::redemption(account, units);
-    order_calls::order(false, day, book, prices, ask, list)
+    order_calls::order(false, day, book, prices, ask, records, investor, fund)
 }
 
-// The tests of a creation alone, with the length of the list: the answer that the creation would give.
+// The tests of a creation alone, with the lengths of the lists: the answer that the creation would give.
 pub fn creation_test(
     day: &[u64],
     book: &[u64],
     prices: &[u64],
     account: usize,
     units: u64,
-    length: usize,
+    records: usize,
+    investor: usize,
+    fund: usize,
 ) -> OrderAnswer
-    ensures { λ r. ⌜ orderAnswerReply r ≡ creationReply (dayAt (now (day .entry))) (now (book .entry)) (now (prices .entry)) account units (length / recordWidth) ⌝ }
+    ensures { λ r. ⌜ orderAnswerReply r ≡ creationReply (dayAt (now (day .entry))) (now (book .entry)) (now (prices .entry)) account units (roomsOf records investor fund) ⌝ }
 {
     let ask = rules::creation(account, units);
-    order_calls::order_test(day, book, prices, ask, length)
+    order_calls::order_test(day, book, prices, ask, records, investor, fund)
 }
 
 // The tests of a redemption alone.
@@ -130,10 +134,12 @@ pub fn redemption_test(
     prices: &[u64],
     account: usize,
     units: u64,
-    length: usize,
+    records: usize,
+    investor: usize,
+    fund: usize,
 ) -> OrderAnswer
-    ensures { λ r. ⌜ orderAnswerReply r ≡ redemptionReply (dayAt (now (day .entry))) (now (book .entry)) (now (prices .entry)) account units (length / recordWidth) ⌝ }
+    ensures { λ r. ⌜ orderAnswerReply r ≡ redemptionReply (dayAt (now (day .entry))) (now (book .entry)) (now (prices .entry)) account units (roomsOf records investor fund) ⌝ }
 {
     let ask = rules::redemption(account, units);
-    order_calls::order_test(day, book, prices, ask, length)
+    order_calls::order_test(day, book, prices, ask, records, investor, fund)
 }

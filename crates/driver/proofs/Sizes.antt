@@ -6,7 +6,7 @@ use Prim.Native.Nat.{ℕ, _*_, _/_}
 use lib.Dec.{eqb}
 use borrow.Author.Tests.{eq-eqb, ne-eqb, eqb-true}
 use Rattle.layout.specs.Places.{rowWidth, answerWidth}
-use Rattle.sequences.specs.Checks.{reply, answered}
+use Rattle.sequences.specs.Checks.{reply, answering}
 use Rattle.sequences.specs.Every.{every}
 use Rattle.sequences.proofs.Every.{every-at}
 use Rattle.driver.specs.Batch.{Batch, runFrom, rowsIn, rowsFit, fits, runReply, ran}
@@ -28,9 +28,9 @@ unfolding rowsFit
 fit-facts rows answers e = (eqb-true rows (rowWidth * (rows / rowWidth)) (every-at _ e 0), eqb-true answers (answerWidth * (rows / rowWidth)) (every-at _ e 1))
 
 pub run-refused : (rows : List ℕ) (b : Batch) → fits rows b ≡ false → (reply 1 0 0 ≡ runReply rows b) × (b ≡ ran rows b)
-unfolding runReply ran answered
+unfolding runReply ran answering
 run-refused rows b e = rw e (refl, refl)
 
 pub run-done : (rows : List ℕ) (b left : Batch) → fits rows b ≡ true → left ≡ runFrom rows 0 (rowsIn rows) b → (reply 0 0 0 ≡ runReply rows b) × (left ≡ ran rows b)
-unfolding runReply ran answered
+unfolding runReply ran answering
 run-done rows b left e f = rw e (refl, f)

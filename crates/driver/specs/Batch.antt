@@ -12,6 +12,7 @@ use Rattle.layout.specs.Day.{Day}
 use Rattle.rules.specs.Opening.{Opening, openingReply}
 use Rattle.balance.specs.Calls.{State, Event, Happened}
 use Rattle.balance.specs.Balanced.{opened, Balanced}
+use Rattle.rules.specs.Lent.{Lent}
 use Rattle.driver_rows.specs.Rows.{Row, call, none, rowAt, Work, workOf, lentTo, resultOf, rowReply, rowLeaves}
 use Rattle.layout.specs.Answers.{putReply}
 
@@ -20,8 +21,8 @@ pub record Batch : Type 0 where
   pub work : Work
   pub answers : List ℕ
 
-abbrev pub batchOf : Day → List ℕ → List ℕ → List ℕ → List ℕ → Batch
-batchOf d book prices records answers = record { work = workOf d book prices records; answers = answers }
+abbrev pub batchOf : Day → List ℕ → List ℕ → Lent → List ℕ → Batch
+batchOf d book prices runs answers = record { work = workOf d book prices runs; answers = answers }
 
 -- one row: the work that it leaves, and its answer in its place
 abbrev pub rowDone : Batch → Row → ℕ → Batch
@@ -35,7 +36,7 @@ runFrom rows i (suc n) b = runFrom rows (suc i) n (rowDone b (rowAt rows i) i)
 
 -- the event of a row before those of the rest; a row that names no call has none
 unfoldable pub withEvent : Work → Row → List Event → List Event
-withEvent w (call c start len) es = record { call = c; lent = lentTo w start len; result = resultOf w c start len } ∷ es
+withEvent w (call c ps) es = record { call = c; lent = lentTo w ps; result = resultOf w c ps } ∷ es
 withEvent w none es = es
 
 unfoldable pub eventsFrom : List ℕ → ℕ → ℕ → Batch → List Event
@@ -64,14 +65,14 @@ eventsOf rows b = cond (fits rows b) (eventsFrom rows 0 (rowsIn rows) b) []
 
 -- a row's answer, where the events are those of the row and of the rest: the first one's reply, and 1 where it names no call
 unfoldable pub replyFrom : Row → List Event → Reply
-replyFrom (call c start len) [] = reply 1 0 0
-replyFrom (call c start len) (e ∷ es) = e .result .reply
+replyFrom (call c ps) [] = reply 1 0 0
+replyFrom (call c ps) (e ∷ es) = e .result .reply
 replyFrom none es = reply 1 0 0
 
 -- the events of the rest
 unfoldable pub eventsPast : Row → List Event → List Event
-eventsPast (call c start len) [] = []
-eventsPast (call c start len) (e ∷ es) = es
+eventsPast (call c ps) [] = []
+eventsPast (call c ps) (e ∷ es) = es
 eventsPast none es = es
 
 -- the answers after n rows from the i-th on: each has its event's reply in its place

@@ -8,6 +8,7 @@ ghost use Rattle.layout.specs.Places.{rowWidth, answerWidth};
 ghost use Rattle.layout.specs.Day.{dayAt};
 ghost use Rattle.rules.specs.Replies.{answerReply};
 ghost use Rattle.rules.specs.Sound.{isSound, isKept};
+ghost use Rattle.rules.specs.Lent.{lentOf};
 ghost use Rattle.driver_rows.specs.Rows.{rowAt, stateOf};
 ghost use Rattle.driver.specs.Batch.{batchOf, rowDone, runFrom, rowsFit, runReply, ran, eventsOf, Demand3};
 use rules::Answer;
@@ -21,29 +22,36 @@ fn do_row(
     prices: &mut [u64],
     rows: &[u64],
     records: &mut [u64],
+    investor: &mut [u64],
+    fund: &mut [u64],
     answers: &mut [u64],
     i: usize,
 )
     requires { ⌜ (known ≡ true → isSound (dayAt (now day)) (now book) (now prices) ≡ true) ⌝ }
     requires { ⌜ rowWidth * i + rowWidth ≤ length (now rows) ⌝ }
     requires { ⌜ answerWidth * i + answerWidth ≤ length (now answers) ⌝ }
-    ensures { λ _. ⌜ batchOf (dayAt (now (day .entry))) (now (book .exit)) (now (prices .exit)) (now (records .exit)) (now (answers .exit)) ≡ rowDone (batchOf (dayAt (now (day .entry))) (now (book .entry)) (now (prices .entry)) (now (records .entry)) (now (answers .entry))) (rowAt (now (rows .entry)) i) i ⌝ }
+    ensures { λ _. ⌜ batchOf (dayAt (now (day .entry))) (now (book .exit)) (now (prices .exit)) (lentOf (now (records .exit)) (now (investor .exit)) (now (fund .exit))) (now (answers .exit)) ≡ rowDone (batchOf (dayAt (now (day .entry))) (now (book .entry)) (now (prices .entry)) (lentOf (now (records .entry)) (now (investor .entry)) (now (fund .entry))) (now (answers .entry))) (rowAt (now (rows .entry)) i) i ⌝ }
 {
     let at = layout::ROW_WIDTH * i;
+    let end = at + layout::ROW_WIDTH;
     let reply = driver_rows::row_call(
         known,
         day,
         book,
         prices,
         records,
-        rows[at],
-        rows[at + 1],
-        rows[at + 2],
-        rows[at + 3],
-        rows[at + 4],
-        rows[at + 5],
+        investor,
+        fund,
+        &rows[at..end],
     );
-    layout::put_answer(answers, i, reply.number, reply.place, reply.value);
+    layout::put_answer(
+        answers,
+        i,
+        reply.number,
+        reply.place,
+        reply.value,
+        reply.reports,
+    );
 }
 
 // All the rows.
@@ -54,17 +62,30 @@ fn do_rows(
     prices: &mut [u64],
     rows: &[u64],
     records: &mut [u64],
+    investor: &mut [u64],
+    fund: &mut [u64],
     answers: &mut [u64],
     n: usize,
 )
     requires { ⌜ (known ≡ true → isKept (dayAt (now day)) (now book) (now prices) ≡ true) ⌝ }
     requires { ⌜ rowWidth * n ≤ length (now rows) ⌝ }
     requires { ⌜ answerWidth * n ≤ length (now answers) ⌝ }
-    ensures { λ _. ⌜ batchOf (dayAt (now (day .entry))) (now (book .exit)) (now (prices .exit)) (now (records .exit)) (now (answers .exit)) ≡ runFrom (now (rows .entry)) 0 n (batchOf (dayAt (now (day .entry))) (now (book .entry)) (now (prices .entry)) (now (records .entry)) (now (answers .entry))) ⌝ }
+    ensures { λ _. ⌜ batchOf (dayAt (now (day .entry))) (now (book .exit)) (now (prices .exit)) (lentOf (now (records .exit)) (now (investor .exit)) (now (fund .exit))) (now (answers .exit)) ≡ runFrom (now (rows .entry)) 0 n (batchOf (dayAt (now (day .entry))) (now (book .entry)) (now (prices .entry)) (lentOf (now (records .entry)) (now (investor .entry)) (now (fund .entry))) (now (answers .entry))) ⌝ }
 {
     let mut i = 0;
     while i < n {
-        do_row(known, day, book, prices, rows, records, answers, i);
+        do_row(
+            known,
+            day,
+            book,
+            prices,
+            rows,
+            records,
+            investor,
+            fund,
+            answers,
+            i,
+        );
         i += 1;
     }
 }
@@ -88,11 +109,13 @@ fn run_rows(
     prices: &mut [u64],
     rows: &[u64],
     records: &mut [u64],
+    investor: &mut [u64],
+    fund: &mut [u64],
     answers: &mut [u64],
 ) -> Answer
     requires { ⌜ (known ≡ true → isKept (dayAt (now day)) (now book) (now prices) ≡ true) ⌝ }
-    ensures { λ r. ⌜ answerReply r ≡ runReply (now (rows .entry)) (batchOf (dayAt (now (day .entry))) (now (book .entry)) (now (prices .entry)) (now (records .entry)) (now (answers .entry))) ⌝ }
-    ensures left { λ r. ⌜ batchOf (dayAt (now (day .entry))) (now (book .exit)) (now (prices .exit)) (now (records .exit)) (now (answers .exit)) ≡ ran (now (rows .entry)) (batchOf (dayAt (now (day .entry))) (now (book .entry)) (now (prices .entry)) (now (records .entry)) (now (answers .entry))) ⌝ }
+    ensures { λ r. ⌜ answerReply r ≡ runReply (now (rows .entry)) (batchOf (dayAt (now (day .entry))) (now (book .entry)) (now (prices .entry)) (lentOf (now (records .entry)) (now (investor .entry)) (now (fund .entry))) (now (answers .entry))) ⌝ }
+    ensures left { λ r. ⌜ batchOf (dayAt (now (day .entry))) (now (book .exit)) (now (prices .exit)) (lentOf (now (records .exit)) (now (investor .exit)) (now (fund .exit))) (now (answers .exit)) ≡ ran (now (rows .entry)) (batchOf (dayAt (now (day .entry))) (now (book .entry)) (now (prices .entry)) (lentOf (now (records .entry)) (now (investor .entry)) (now (fund .entry))) (now (answers .entry))) ⌝ }
 {
     if !rows_fit(rows.len(), answers.len()) {
         return Answer::Refused(Refusal::Sizes);
@@ -104,6 +127,8 @@ fn run_rows(
         prices,
         rows,
         records,
+        investor,
+        fund,
         answers,
         rows.len() / layout::ROW_WIDTH,
     );
@@ -117,13 +142,17 @@ pub fn run_public(
     prices: &mut [u64],
     rows: &[u64],
     records: &mut [u64],
+    investor: &mut [u64],
+    fund: &mut [u64],
     answers: &mut [u64],
 ) -> Answer
-    ensures { λ r. ⌜ answerReply r ≡ runReply (now (rows .entry)) (batchOf (dayAt (now (day .entry))) (now (book .entry)) (now (prices .entry)) (now (records .entry)) (now (answers .entry))) ⌝ }
-    ensures left { λ r. ⌜ batchOf (dayAt (now (day .entry))) (now (book .exit)) (now (prices .exit)) (now (records .exit)) (now (answers .exit)) ≡ ran (now (rows .entry)) (batchOf (dayAt (now (day .entry))) (now (book .entry)) (now (prices .entry)) (now (records .entry)) (now (answers .entry))) ⌝ }
-    ensures demand { λ r. ⌜ Demand3 (stateOf (dayAt (now (day .entry))) (now (book .entry)) (now (prices .entry))) (eventsOf (now (rows .entry)) (batchOf (dayAt (now (day .entry))) (now (book .entry)) (now (prices .entry)) (now (records .entry)) (now (answers .entry)))) (stateOf (dayAt (now (day .entry))) (now (book .exit)) (now (prices .exit))) ⌝ }
+    ensures { λ r. ⌜ answerReply r ≡ runReply (now (rows .entry)) (batchOf (dayAt (now (day .entry))) (now (book .entry)) (now (prices .entry)) (lentOf (now (records .entry)) (now (investor .entry)) (now (fund .entry))) (now (answers .entry))) ⌝ }
+    ensures left { λ r. ⌜ batchOf (dayAt (now (day .entry))) (now (book .exit)) (now (prices .exit)) (lentOf (now (records .exit)) (now (investor .exit)) (now (fund .exit))) (now (answers .exit)) ≡ ran (now (rows .entry)) (batchOf (dayAt (now (day .entry))) (now (book .entry)) (now (prices .entry)) (lentOf (now (records .entry)) (now (investor .entry)) (now (fund .entry))) (now (answers .entry))) ⌝ }
+    ensures demand { λ r. ⌜ Demand3 (stateOf (dayAt (now (day .entry))) (now (book .entry)) (now (prices .entry))) (eventsOf (now (rows .entry)) (batchOf (dayAt (now (day .entry))) (now (book .entry)) (now (prices .entry)) (lentOf (now (records .entry)) (now (investor .entry)) (now (fund .entry))) (now (answers .entry)))) (stateOf (dayAt (now (day .entry))) (now (book .exit)) (now (prices .exit))) ⌝ }
 {
-    run_rows(false, day, book, prices, rows, records, answers)
+    run_rows(
+        false, day, book, prices, rows, records, investor, fund, answers,
+    )
 }
 
 // The driver: the same list of calls, with one test of the day where every call keeps it sound.
@@ -133,12 +162,16 @@ pub fn run(
     prices: &mut [u64],
     rows: &[u64],
     records: &mut [u64],
+    investor: &mut [u64],
+    fund: &mut [u64],
     answers: &mut [u64],
 ) -> Answer
-    ensures { λ r. ⌜ answerReply r ≡ runReply (now (rows .entry)) (batchOf (dayAt (now (day .entry))) (now (book .entry)) (now (prices .entry)) (now (records .entry)) (now (answers .entry))) ⌝ }
-    ensures left { λ r. ⌜ batchOf (dayAt (now (day .entry))) (now (book .exit)) (now (prices .exit)) (now (records .exit)) (now (answers .exit)) ≡ ran (now (rows .entry)) (batchOf (dayAt (now (day .entry))) (now (book .entry)) (now (prices .entry)) (now (records .entry)) (now (answers .entry))) ⌝ }
-    ensures demand { λ r. ⌜ Demand3 (stateOf (dayAt (now (day .entry))) (now (book .entry)) (now (prices .entry))) (eventsOf (now (rows .entry)) (batchOf (dayAt (now (day .entry))) (now (book .entry)) (now (prices .entry)) (now (records .entry)) (now (answers .entry)))) (stateOf (dayAt (now (day .entry))) (now (book .exit)) (now (prices .exit))) ⌝ }
+    ensures { λ r. ⌜ answerReply r ≡ runReply (now (rows .entry)) (batchOf (dayAt (now (day .entry))) (now (book .entry)) (now (prices .entry)) (lentOf (now (records .entry)) (now (investor .entry)) (now (fund .entry))) (now (answers .entry))) ⌝ }
+    ensures left { λ r. ⌜ batchOf (dayAt (now (day .entry))) (now (book .exit)) (now (prices .exit)) (lentOf (now (records .exit)) (now (investor .exit)) (now (fund .exit))) (now (answers .exit)) ≡ ran (now (rows .entry)) (batchOf (dayAt (now (day .entry))) (now (book .entry)) (now (prices .entry)) (lentOf (now (records .entry)) (now (investor .entry)) (now (fund .entry))) (now (answers .entry))) ⌝ }
+    ensures demand { λ r. ⌜ Demand3 (stateOf (dayAt (now (day .entry))) (now (book .entry)) (now (prices .entry))) (eventsOf (now (rows .entry)) (batchOf (dayAt (now (day .entry))) (now (book .entry)) (now (prices .entry)) (lentOf (now (records .entry)) (now (investor .entry)) (now (fund .entry))) (now (answers .entry)))) (stateOf (dayAt (now (day .entry))) (now (book .exit)) (now (prices .exit))) ⌝ }
 {
     let known = calls::is_kept(day, book, prices);
-    run_rows(known, day, book, prices, rows, records, answers)
+    run_rows(
+        known, day, book, prices, rows, records, investor, fund, answers,
+    )
 }

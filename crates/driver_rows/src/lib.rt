@@ -3,62 +3,73 @@ ghost use mathlib.Core.Path.{_≡_};
 ghost use mathlib.Core.Bool.{true};
 ghost use Prim.Native.Nat.{_+_, _≤_, _<_};
 ghost use lib.ListN.{length};
+ghost use Rattle.layout.specs.Places.{rowWidth};
 ghost use Rattle.layout.specs.Day.{dayAt};
 ghost use Rattle.rules.specs.Sound.{isSound};
+ghost use Rattle.rules.specs.Lent.{lentOf};
 ghost use Rattle.answers.specs.Numbers.{replyOf};
-ghost use Rattle.driver_rows.specs.Rows.{call, rowOf, partStart, partLength, resultOf, rowReply, rowLeaves, orderOf, workOf};
+ghost use Rattle.driver_rows.specs.Rows.{call, span, spansIn, spanWithin, rowOf, resultOf, rowReply, rowLeaves, orderOf, workOf};
 use answers::Numbers;
 use rules::Ask;
 use rules::Refusal;
 
-// A part of the record run.
+// A part of a run, from `start` to before `end`.
 struct Part {
     start: usize,
-    length: usize,
+    end: usize,
 }
 
 // The part that is lent: the empty one at the front, where the part named lies outside the run.
-fn part_in(run: usize, start: usize, length: usize) -> Part
-    ensures { λ r. ⌜ r .start ≡ partStart run start length ⌝ }
-    ensures length { λ r. ⌜ r .length ≡ partLength run start length ⌝ }
-    ensures within { λ r. ⌜ r .start + r .length ≤ run ⌝ }
+fn part_in(run: usize, start: u64, size: u64) -> Part
+    ensures { λ r. ⌜ r .start ≡ spanWithin run (span start size) .start ⌝ }
+    ensures end { λ r. ⌜ r .end ≡ r .start + spanWithin run (span start size) .size ⌝ }
+    ensures within { λ r. ⌜ r .end ≤ run ⌝ }
 {
-    if start > run {
-        return Part {
-            start: 0,
-            length: 0,
-        };
+    let from = start as usize;
+    let length = size as usize;
+    if from > run {
+        return Part { start: 0, end: 0 };
     }
-    if length > run - start {
-        return Part {
-            start: 0,
-            length: 0,
-        };
+    if length > run - from {
+        return Part { start: 0, end: 0 };
     }
-    Part { start, length }
+    Part {
+        start: from,
+        end: from + length,
+    }
 }
 
-// An order whose list is a part of the record run.
+// An order whose lists are parts of the three runs, as its row names them.
 fn order_row(
     known: bool,
     day: &[u64],
     book: &mut [u64],
     prices: &[u64],
     records: &mut [u64],
+    investor: &mut [u64],
+    fund: &mut [u64],
     ask: Ask,
-    start: u64,
-    room: u64,
+    row: &[u64],
 ) -> Numbers
     requires { ⌜ (known ≡ true → isSound (dayAt (now day)) (now book) (now prices) ≡ true) ⌝ }
-    requires { ⌜ ask .kind < 2 ⌝ }
-    ensures { λ r. ⌜ replyOf r ≡ resultOf (workOf (dayAt (now (day .entry))) (now (book .entry)) (now (prices .entry)) (now (records .entry))) (orderOf ask) start room .reply ⌝ }
-    ensures left { λ r. ⌜ workOf (dayAt (now (day .entry))) (now (book .exit)) (now (prices .entry)) (now (records .exit)) ≡ rowLeaves (workOf (dayAt (now (day .entry))) (now (book .entry)) (now (prices .entry)) (now (records .entry))) (call (orderOf ask) start room) ⌝ }
+    requires { ⌜ (ask .kind < 2) × (length (now row) ≡ rowWidth) ⌝ }
+    ensures { λ r. ⌜ replyOf r ≡ resultOf (workOf (dayAt (now (day .entry))) (now (book .entry)) (now (prices .entry)) (lentOf (now (records .entry)) (now (investor .entry)) (now (fund .entry)))) (orderOf ask) (spansIn (now (row .entry))) .reply ⌝ }
+    ensures left { λ r. ⌜ workOf (dayAt (now (day .entry))) (now (book .exit)) (now (prices .entry)) (lentOf (now (records .exit)) (now (investor .exit)) (now (fund .exit))) ≡ rowLeaves (workOf (dayAt (now (day .entry))) (now (book .entry)) (now (prices .entry)) (lentOf (now (records .entry)) (now (investor .entry)) (now (fund .entry)))) (call (orderOf ask) (spansIn (now (row .entry)))) ⌝ }
 {
-    let part = part_in(records.len(), start as usize, room as usize);
-    let from = part.start;
-    let end = from + part.length;
-    let list = &mut records[from..end];
-    answers::of_order(order_calls::order(known, day, book, prices, ask, list))
+    let r = part_in(records.len(), row[3], row[4]);
+    let i = part_in(investor.len(), row[5], row[6]);
+    let f = part_in(fund.len(), row[7], row[8]);
+    let answer = order_calls::order(
+        known,
+        day,
+        book,
+        prices,
+        ask,
+        &mut records[r.start..r.end],
+        &mut investor[i.start..i.end],
+        &mut fund[f.start..f.end],
+    );
+    answers::of_order(answer)
 }
 
 // What an order's row asks.
@@ -79,19 +90,25 @@ pub fn row_call(
     book: &mut [u64],
     prices: &mut [u64],
     records: &mut [u64],
-    kind: u64,
-    x1: u64,
-    x2: u64,
-    x3: u64,
-    x4: u64,
-    x5: u64,
+    investor: &mut [u64],
+    fund: &mut [u64],
+    row: &[u64],
 ) -> Numbers
     requires { ⌜ (known ≡ true → isSound (dayAt (now day)) (now book) (now prices) ≡ true) ⌝ }
-    ensures { λ r. ⌜ replyOf r ≡ rowReply (workOf (dayAt (now (day .entry))) (now (book .entry)) (now (prices .entry)) (now (records .entry))) (rowOf kind x1 x2 x3 x4 x5) ⌝ }
-    ensures left { λ r. ⌜ workOf (dayAt (now (day .entry))) (now (book .exit)) (now (prices .exit)) (now (records .exit)) ≡ rowLeaves (workOf (dayAt (now (day .entry))) (now (book .entry)) (now (prices .entry)) (now (records .entry))) (rowOf kind x1 x2 x3 x4 x5) ⌝ }
+    requires { ⌜ length (now row) ≡ rowWidth ⌝ }
+    ensures { λ r. ⌜ replyOf r ≡ rowReply (workOf (dayAt (now (day .entry))) (now (book .entry)) (now (prices .entry)) (lentOf (now (records .entry)) (now (investor .entry)) (now (fund .entry)))) (rowOf (now (row .entry))) ⌝ }
+    ensures left { λ r. ⌜ workOf (dayAt (now (day .entry))) (now (book .exit)) (now (prices .exit)) (lentOf (now (records .exit)) (now (investor .exit)) (now (fund .exit))) ≡ rowLeaves (workOf (dayAt (now (day .entry))) (now (book .entry)) (now (prices .entry)) (lentOf (now (records .entry)) (now (investor .entry)) (now (fund .entry)))) (rowOf (now (row .entry))) ⌝ }
 {
+    let kind = row[0];
     if kind == 1 {
-        return answers::of_answer(calls::price(known, day, book, prices, x1 as usize, x2));
+        return answers::of_answer(calls::price(
+            known,
+            day,
+            book,
+            prices,
+            row[1] as usize,
+            row[2],
+        ));
     }
     if kind == 2 {
         return answers::of_answer(calls::trade(
@@ -99,20 +116,20 @@ pub fn row_call(
             day,
             book,
             prices,
-            x1 as usize,
-            x2,
-            x3,
-            x4 as usize,
-            x5 as usize,
+            row[1] as usize,
+            row[2],
+            row[3],
+            row[4] as usize,
+            row[5] as usize,
         ));
     }
     if kind == 3 {
-        let ask = asked(rules::CREATION, x1, x2);
-        return order_row(known, day, book, prices, records, ask, x3, x4);
+        let ask = asked(rules::CREATION, row[1], row[2]);
+        return order_row(known, day, book, prices, records, investor, fund, ask, row);
     }
     if kind == 4 {
-        let ask = asked(rules::REDEMPTION, x1, x2);
-        return order_row(known, day, book, prices, records, ask, x3, x4);
+        let ask = asked(rules::REDEMPTION, row[1], row[2]);
+        return order_row(known, day, book, prices, records, investor, fund, ask, row);
     }
     if kind == 5 {
         return answers::of_value(calls::reference_value(known, day, book, prices));

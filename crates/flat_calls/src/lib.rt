@@ -55,6 +55,7 @@ fn of_list(answer: ListAnswer) -> Numbers
             number: 0,
             place: 0,
             value: count as u64,
+            reports: 0,
         },
         ListAnswer::Refused(why) => answers::of_refusal(why),
     }

@@ -3,5 +3,7 @@ pub mod Components
 pub mod Fund
 pub mod Day
 pub mod Book
+pub mod Laid
 pub mod Records
+pub mod Reports
 pub mod Answers

@@ -45,9 +45,13 @@ lineWidth = 3
 abbrev pub recordWidth : ℕ
 recordWidth = 5
 
--- a list of calls: a row, and an answer (number, place and value)
+-- a report: type, side, code, quantity, and three groups of kind and amount
+abbrev pub reportWidth : ℕ
+reportWidth = 10
+
+-- a list of calls: a row, and an answer (number, place, value and count of reports)
 abbrev pub rowWidth : ℕ
-rowWidth = 6
+rowWidth = 9
 
 abbrev pub answerWidth : ℕ
-answerWidth = 3
+answerWidth = 4

@@ -1,9 +1,10 @@
 -- Records in a flat run.
-use Prim.Native.Nat.{ℕ, _+_, _*_, _/_}
-use mathlib.Core.List.{List, [], _∷_, _++_}
-use lib.ListN.{length, getD, drop}
+use Prim.Native.Nat.{ℕ, _+_, _*_}
+use mathlib.Core.List.{List, [], _∷_}
+use lib.ListN.{getD}
 use Rattle.layout.specs.declared.Record.{Record}
 use Rattle.layout.specs.Places.{recordWidth}
+use Rattle.layout.specs.Laid.{laid, withLaid}
 
 -- the k-th record of a run, and a record's numbers in this order
 unfoldable pub recordAt : List ℕ → ℕ → Record
@@ -19,14 +20,9 @@ recordAt list k =
 abbrev pub recordNumbers : Record → List ℕ
 recordNumbers r = r .code ∷ r .side ∷ r .quantity ∷ r .price .0 ∷ r .amount .0 ∷ []
 
+-- all their numbers, and the lent run with the records written: places past the last stay
 unfoldable pub flatten : List Record → List ℕ
-flatten [] = []
-flatten (r ∷ rs) = recordNumbers r ++ flatten rs
+flatten rs = laid recordNumbers rs
 
--- how many records a lent run of numbers takes
-unfoldable pub roomIn : List ℕ → ℕ
-roomIn list = length list / recordWidth
-
--- the lent run with the records written: places past the last stay
 unfoldable pub withRecords : List Record → List ℕ → List ℕ
-withRecords rs list = flatten rs ++ drop (recordWidth * length rs) list
+withRecords rs list = withLaid recordNumbers recordWidth rs list

@@ -1,5 +1,5 @@
 // The types that lie in lent runs of numbers, and their places there: a component, a fund, a day, an account's stretch, a record,
-// and the rows and answers of a list of calls. No other crate knows a width or a place.
+// a report, and the rows and answers of a list of calls. No other crate knows a width or a place.
 ghost use mathlib.Core.Path.{_≡_};
 ghost use Prim.Native.Nat.{_+_, _-_, _*_, _≤_, _<_};
 ghost use mathlib.Core.List.{_++_};
@@ -7,14 +7,14 @@ ghost use lib.IntN.{natAbs};
 ghost use lib.ListN.{length, getD, take, drop, replicate};
 ghost use lib.Seq.{sets};
 ghost use Rattle.sequences.specs.Below.{tabulate};
-ghost use Rattle.sequences.specs.Checks.{reply};
 ghost use Rattle.digits.specs.Digits.{cap, capped};
-ghost use Rattle.layout.specs.Places.{mostComponents, componentWidth, basketWidth, limitCount, fundWidth, dayWidth, recordWidth, answerWidth};
+ghost use Rattle.layout.specs.Places.{mostComponents, componentWidth, basketWidth, limitCount, fundWidth, dayWidth, recordWidth, reportWidth, answerWidth};
 ghost use Rattle.layout.specs.Components.{blank, componentAt, placesOf};
 ghost use Rattle.layout.specs.Fund.{signedAt, signedNumbers, fundAt, fundNumbers};
 ghost use Rattle.layout.specs.Day.{dayHeadAt, basketAt, dayNumbers};
 ghost use Rattle.layout.specs.Book.{widthOf, behindLine, lotsAt, putLots};
 ghost use Rattle.layout.specs.Records.{recordAt, recordNumbers};
+ghost use Rattle.layout.specs.Reports.{reportNumbers};
 ghost use Rattle.layout.specs.Answers.{putReply};
 use digits::Figure;
 use lots::Lots;
@@ -56,6 +56,23 @@ pub struct Record {
     pub quantity: u64,
     pub price: Money,
     pub amount: Money,
+}
+
+// A group of a report's cash: its kind and its amount.
+pub struct Group {
+    pub kind: u64,
+    pub amount: Money,
+}
+
+// A report of an order, to one of its two parties.
+pub struct Report {
+    pub report_type: u64,
+    pub side: u64,
+    pub code: u64,
+    pub quantity: u64,
+    pub first: Group,
+    pub second: Group,
+    pub third: Group,
 }
 
 // How many components a day has room for, how many numbers each takes, and all of them, a day's basket.
@@ -102,12 +119,14 @@ pub const COUNTERS: usize = CREATED;
 // The widest stretch, that of a fund with as many components as there is room for.
 pub const MOST_WIDTH: usize = LINES_FROM + LINE_WIDTH * (MOST_COMPONENTS + 1);
 
-// How many numbers a record takes, and a row and an answer of a list of calls.
+// How many numbers a record takes, a report, and a row and an answer of a list of calls.
 pub const RECORD_WIDTH: usize = 5;
 
-pub const ROW_WIDTH: usize = 6;
+pub const REPORT_WIDTH: usize = 10;
 
-pub const ANSWER_WIDTH: usize = 3;
+pub const ROW_WIDTH: usize = 9;
+
+pub const ANSWER_WIDTH: usize = 4;
 
 // The component that stands where a day has none.
 pub fn blank_component() -> Component
@@ -378,13 +397,39 @@ pub fn put_record(list: &mut [u64], at: usize, r: Record)
     list[at + 4] = r.amount.0;
 }
 
-// Stores the i-th answer: a refusal's number, its place and the value of an accepted call.
-pub fn put_answer(answers: &mut [u64], i: usize, number: u64, place: u64, value: u64)
+// Stores the k-th report.
+pub fn put_report(list: &mut [u64], k: usize, r: Report)
+    requires { ⌜ reportWidth * k + reportWidth ≤ length (now list) ⌝ }
+    ensures { λ _. ⌜ now (list .exit) ≡ sets (now (list .entry)) (reportWidth * k) (reportNumbers r) ⌝ }
+{
+    let at = REPORT_WIDTH * k;
+    list[at] = r.report_type;
+    list[at + 1] = r.side;
+    list[at + 2] = r.code;
+    list[at + 3] = r.quantity;
+    list[at + 4] = r.first.kind;
+    list[at + 5] = r.first.amount.0;
+    list[at + 6] = r.second.kind;
+    list[at + 7] = r.second.amount.0;
+    list[at + 8] = r.third.kind;
+    list[at + 9] = r.third.amount.0;
+}
+
+// Stores the i-th answer: a refusal's number, its place, the value of an accepted call and the count of an order's reports.
+pub fn put_answer(
+    answers: &mut [u64],
+    i: usize,
+    number: u64,
+    place: u64,
+    value: u64,
+    reports: u64,
+)
     requires { ⌜ answerWidth * i + answerWidth ≤ length (now answers) ⌝ }
-    ensures { λ _. ⌜ now (answers .exit) ≡ putReply (now (answers .entry)) i (reply number place value) ⌝ }
+    ensures { λ _. ⌜ now (answers .exit) ≡ putReply (now (answers .entry)) i (record { number = number; place = place; value = value; reports = reports }) ⌝ }
 {
     let at = ANSWER_WIDTH * i;
     answers[at] = number;
     answers[at + 1] = place;
     answers[at + 2] = value;
+    answers[at + 3] = reports;
 }

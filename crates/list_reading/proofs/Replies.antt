@@ -5,7 +5,7 @@ use mathlib.Core.Bool.{Bool, true, false, not, _&&_}
 use mathlib.Core.List.{List, [], _∷_, _++_}
 use lib.Dec.{leb, ltb}
 use lib.ListN.{length}
-use Rattle.sequences.specs.Checks.{Check, check, reply, answered, passes}
+use Rattle.sequences.specs.Checks.{Check, check, reply, answering, answered, passes}
 use Rattle.sequences.proofs.Checks.{passed-all, passes-all, answered-next, answered-stop}
 use Rattle.layout.specs.Places.{componentWidth}
 use Rattle.text_rules.specs.Reading.{rowCount, shapeChecks, wrongField, fieldStart, wrongRow, columnPlace, fieldChecks, figureRead}
@@ -56,14 +56,14 @@ module _ (text : List ℕ) where
       -- past 18
       past-shape : readReply text room ≡ answered (fieldChecks shanghai text ++ (rangeChecks text ++ roomChecks)) (rowCount shanghai text)
       unfolding readReply readChecks
-      past-shape = answered-next (shapeChecks shanghai text) _ _ s
+      past-shape = answering-next (shapeChecks shanghai text) _ _ s
 
       pub reply-19-field : fieldWrong ≡ true → reply 19 (fieldStart shanghaiFields text (wrongField shanghaiFields text)) 0 ≡ readReply text room
-      unfolding fieldChecks answered shanghai
+      unfolding fieldChecks answering shanghai
       reply-19-field e = sym (past-shape ∙ rw e)
 
       pub reply-19-row : fieldWrong ≡ false → rowWrong ≡ true → reply 19 (columnPlace shanghai text (wrongRow shanghai text)) 0 ≡ readReply text room
-      unfolding fieldChecks answered shanghai
+      unfolding fieldChecks answering shanghai
       reply-19-row a e = sym (past-shape ∙ rw (a, e))
 
       module _ (f : passes (fieldChecks shanghai text) ≡ true) where
@@ -72,23 +72,23 @@ module _ (text : List ℕ) where
         past-fields = past-shape ∙ answered-next (fieldChecks shanghai text) _ _ f
 
         pub reply-20 : countWrong ≡ true → reply 20 0 0 ≡ readReply text room
-        unfolding rangeChecks answered
+        unfolding rangeChecks answering
         reply-20 e = sym (past-fields ∙ rw e)
 
         pub reply-2 : countWrong ≡ false → rangeWrong ≡ true → reply 2 0 0 ≡ readReply text room
-        unfolding rangeChecks answered
+        unfolding rangeChecks answering
         reply-2 a e = sym (past-fields ∙ rw (a, e))
 
         module _ (a : countWrong ≡ false) (b : rangeWrong ≡ false) where
           pub reply-3 : faultBelow ≡ true → reply 3 (readFault text) 0 ≡ readReply text room
-          unfolding rangeChecks answered
+          unfolding rangeChecks answering
           reply-3 e = sym (past-fields ∙ rw (a, b, e))
 
           module _ (c : faultBelow ≡ false) where
             pub reply-16 : roomWrong ≡ true → reply 16 0 0 ≡ readReply text room
-            unfolding rangeChecks answered
+            unfolding rangeChecks answering
             reply-16 e = sym (past-fields ∙ rw (a, b, c, e))
 
             pub reply-0 : roomWrong ≡ false → reply 0 0 (rowCount shanghai text) ≡ readReply text room
-            unfolding rangeChecks answered
+            unfolding rangeChecks answering
             reply-0 e = sym (past-fields ∙ rw (a, b, c, e))

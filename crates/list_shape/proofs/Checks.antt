@@ -5,7 +5,7 @@ use mathlib.Core.Bool.{Bool, true, false, not}
 use mathlib.Core.List.{List}
 use lib.Dec.{ltb}
 use lib.ListN.{length}
-use Rattle.sequences.specs.Checks.{reply, answered, passes}
+use Rattle.sequences.specs.Checks.{reply, answering, answered, passes}
 use Rattle.sequences.proofs.Checks.{passes-all}
 use Rattle.lines.specs.Lines.{same, nextAt}
 use Rattle.text_rules.specs.Head.{headLines, endWord}
@@ -28,14 +28,14 @@ module _ (text : List ℕ) where
   shape-passes a b c = passes-all (shapeChecks shanghai text) (a, (b, (c, tt)))
 
   pub line-stops : lineWrong ≡ true → (passes (shapeChecks shanghai text) ≡ false) × (answered (shapeChecks shanghai text) 0 ≡ reply 18 (startOf text (wrongLine shanghaiFields text)) 0)
-  unfolding shapeChecks passes answered shanghai
+  unfolding shapeChecks passes answering shanghai
   line-stops e = (rw e, rw e)
 
   pub end-stops : lineWrong ≡ false → endMissing ≡ true → (passes (shapeChecks shanghai text) ≡ false) × (answered (shapeChecks shanghai text) 0 ≡ reply 18 (endStart shanghai text) 0)
-  unfolding shapeChecks passes answered shanghai
+  unfolding shapeChecks passes answering shanghai
   end-stops a e = (rw (a, e), rw (a, e))
 
   pub more-stops : lineWrong ≡ false → endMissing ≡ false → moreBehind ≡ true
       → (passes (shapeChecks shanghai text) ≡ false) × (answered (shapeChecks shanghai text) 0 ≡ reply 18 (nextAt text (endStart shanghai text)) 0)
-  unfolding shapeChecks passes answered shanghai
+  unfolding shapeChecks passes answering shanghai
   more-stops a b e = (rw (a, b, e), rw (a, b, e))

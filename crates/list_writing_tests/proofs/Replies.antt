@@ -5,7 +5,7 @@ use Prim.Native.Nat.{ℕ, _*_, _≤_, min}
 use lib.Dec.{ltb}
 use lib.ListN.{length}
 use borrow.Author.Tests.{eqb-true}
-use Rattle.sequences.specs.Checks.{reply, answered, passes}
+use Rattle.sequences.specs.Checks.{reply, answering, passes}
 use Rattle.sequences.proofs.Every.{every-at, inside-facts}
 use Rattle.sequences.proofs.Checks.{passes-all, answered-next}
 use Rattle.fund.specs.Components.{componentFault}
@@ -60,22 +60,22 @@ module _ (l : Listing) where
 
   module _ (room : ℕ) where
     pub reply-1 : sizesFit l ≡ false → reply 1 0 0 ≡ writeReply l room
-    unfolding writeReply writeChecks listChecks answered
+    unfolding writeReply writeChecks listChecks answering
     reply-1 e = rw e
 
     module _ (a : sizesFit l ≡ true) where
       pub reply-2 : rangeWrong ≡ true → reply 2 0 0 ≡ writeReply l room
-      unfolding writeReply writeChecks listChecks answered
+      unfolding writeReply writeChecks listChecks answering
       reply-2 e = rw (a, e)
 
       pub reply-3 : rangeWrong ≡ false → ltb (writeFault l) (l .fields .count) ≡ true → reply 3 (writeFault l) 0 ≡ writeReply l room
-      unfolding writeReply writeChecks listChecks answered
+      unfolding writeReply writeChecks listChecks answering
       reply-3 b e = rw (a, b, e)
 
     pub reply-16 : passes (listChecks l) ≡ true → ltb room (length (textOf l)) ≡ true → reply 16 0 0 ≡ writeReply l room
-    unfolding writeReply writeChecks answered
+    unfolding writeReply writeChecks answering
     reply-16 p e = sym (answered-next (listChecks l) _ _ p ∙ rw e)
 
     pub reply-0 : passes (listChecks l) ≡ true → ltb room (length (textOf l)) ≡ false → reply 0 0 (length (textOf l)) ≡ writeReply l room
-    unfolding writeReply writeChecks answered
+    unfolding writeReply writeChecks answering
     reply-0 p e = sym (answered-next (listChecks l) _ _ p ∙ rw e)

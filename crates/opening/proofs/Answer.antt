@@ -9,7 +9,7 @@ use lib.IntN.{natAbs}
 use lib.ListN.{length, replicate}
 use borrow.Author.Tests.{lt-ltb, le-ltb}
 use Rattle.sequences.specs.Below.{joinBelow}
-use Rattle.sequences.specs.Checks.{Check, check, reply, answered, isAccepted}
+use Rattle.sequences.specs.Checks.{Check, check, reply, answering, answered, isAccepted}
 use Rattle.digits.specs.Digits.{cap}
 use Rattle.fund.specs.Fund.{fundInRange}
 use Rattle.fund.proofs.Laws.{fund-sound, cash-size}
@@ -48,26 +48,26 @@ module _ (o : Opening) where
       ∷ []
 
   pub answer-sizes : openingSizesFit o ≡ false → reply 1 0 0 ≡ openingReply o
-  unfolding openingReply dayChecks sizeChecks answered
+  unfolding openingReply dayChecks sizeChecks answering
   answer-sizes e = rw e
 
   later : openingSizesFit o ≡ true → answered laterChecks 0 ≡ openingReply o
-  unfolding openingReply dayChecks sizeChecks fundChecks totalChecks openedTotal openedCash answered
+  unfolding openingReply dayChecks sizeChecks fundChecks totalChecks openedTotal openedCash answering
   later e = rw e
 
   pub answer-fund : openingSizesFit o ≡ true → fundInRange (o .fund) ≡ false → reply 2 0 0 ≡ openingReply o
-  unfolding answered
+  unfolding answering
   answer-fund e f = rw (← later e, f)
 
   pub answer-component : (fault : ℕ) → openingSizesFit o ≡ true → fundInRange (o .fund) ≡ true → fault ≡ componentPlace → fault < o .count → reply 3 fault 0 ≡ openingReply o
-  unfolding answered
+  unfolding answering
   answer-component fault e f p c =
       let low : componentPlace < o .count = omega arith in
       rw (← later e, f, lt-ltb componentPlace (o .count) low, p)
 
   pub answer-total : (fault line : ℕ) → openingSizesFit o ≡ true → fundInRange (o .fund) ≡ true → fault ≡ componentPlace → o .count ≤ fault
       → line ≡ linePlace → line < o .count + 2 → reply 4 line 0 ≡ openingReply o
-  unfolding answered
+  unfolding answering
   answer-total fault line e f p c q t =
       let past : o .count ≤ componentPlace = omega arith in
       let low : linePlace < o .count + 2 = omega arith in
@@ -75,7 +75,7 @@ module _ (o : Opening) where
 
   pub answer-done : (fault line : ℕ) → openingSizesFit o ≡ true → fundInRange (o .fund) ≡ true → fault ≡ componentPlace → o .count ≤ fault
       → line ≡ linePlace → o .count + 2 ≤ line → reply 0 0 0 ≡ openingReply o
-  unfolding answered
+  unfolding answering
   answer-done fault line e f p c q t =
       let past : o .count ≤ componentPlace = omega arith in
       let end : o .count + 2 ≤ linePlace = omega arith in

@@ -9,7 +9,7 @@ use lib.Dec.{leb, eqb}
 use lib.ListN.{length, getD}
 use borrow.Author.Tests.{eqb-true}
 use Rattle.sequences.specs.Below.{sumBelow}
-use Rattle.sequences.specs.Checks.{reply, answered}
+use Rattle.sequences.specs.Checks.{reply, answering, answered}
 use Rattle.sequences.specs.Every.{every, inside}
 use Rattle.sequences.specs.Stretch.{stretchOf, over}
 use Rattle.sequences.proofs.Below.{sum-none, sum-more, sum-grows, sum-part}
@@ -143,26 +143,26 @@ order-form d b ask = refl
 -- the answers, test by test
 module _ (k n : ℕ) (f : Fund) (b : List ℕ) (ask : Ask) where
   pub no-account : isInvestor k (ask .account) ≡ false → reply 8 0 0 ≡ answered (orderForm k n f b ask) 0
-  unfolding answered orderForm
+  unfolding answering orderForm
   no-account e = simp e
 
   module _ (i : isInvestor k (ask .account) ≡ true) where
     pub not-whole : wholeUnits f (ask .units) ≡ false → reply 11 0 0 ≡ answered (orderForm k n f b ask) 0
-    unfolding answered orderForm
+    unfolding answering orderForm
     not-whole e = simp (i, e)
 
     module _ (w : wholeUnits f (ask .units) ≡ true) where
       pub switched-off : switchOpen f (ask .kind) ≡ false → reply 12 0 0 ≡ answered (orderForm k n f b ask) 0
-      unfolding answered orderForm
+      unfolding answering orderForm
       switched-off e = simp (i, w, e)
 
       module _ (s : switchOpen f (ask .kind) ≡ true) where
         pub limit-passed : limitsHeld k n f b ask ≡ false → reply 13 0 0 ≡ answered (orderForm k n f b ask) 0
-        unfolding answered orderForm
+        unfolding answering orderForm
         limit-passed e = simp (i, w, s, e)
 
         pub form-done : limitsHeld k n f b ask ≡ true → reply 0 0 0 ≡ answered (orderForm k n f b ask) 0
-        unfolding answered orderForm
+        unfolding answering orderForm
         form-done e = simp (i, w, s, e)
 
 pub investor-in : (k a : ℕ) → 2 ≤ k → isInvestor k a ≡ true → a < k

@@ -5,9 +5,10 @@ use Prim.Native.Nat.{ℕ, _+_}
 use lib.Dec.{ltb, eqb}
 use Rattle.units.specs.Units.{splitSize}
 use Rattle.rules.specs.declared.CashByMarket.{CashByMarket}
+use Rattle.rules.specs.declared.Counts.{Counts}
 use Rattle.layout.specs.Book.{lotsAt}
 use Rattle.rules.specs.Creation.{available}
-use Rattle.rules.specs.Kinds.{byKind, noCash}
+use Rattle.rules.specs.Kinds.{byKind, noCash, cashReportCount}
 use Rattle.order_lines.specs.declared.Line.{Line}
 use Rattle.order_lines.specs.Lines.{money, otherOf, shanghaiOf}
 use Rattle.order_scan.specs.declared.Scan.{Scan}
@@ -46,6 +47,10 @@ noLines = record { short = 0; missing = false; «missing_worth» = money 0; cash
 unfoldable pub cashCount : ℕ → ℕ
 cashCount c = cond (eqb c 0) 0 (cond (ltb c splitSize) 1 2)
 
--- records of the order, with the two of the unit
-unfoldable pub recordCount : Scan → ℕ
-recordCount t = 2 + t .«stock_records» + cashCount (t .cash .other .0) + cashCount (t .cash .shanghai .0)
+-- records of the order, with the two of the unit, and reports to a party, with the unit's
+unfoldable pub scanCounts : Scan → Counts
+scanCounts t =
+    record {
+      records = 2 + t .«stock_records» + cashCount (t .cash .other .0) + cashCount (t .cash .shanghai .0);
+      reports = 1 + t .«stock_records» + cashReportCount (t .cash);
+    }

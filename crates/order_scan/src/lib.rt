@@ -11,8 +11,9 @@ ghost use Rattle.layout.specs.Day.{dayOf};
 ghost use Rattle.rules.specs.Sound.{mostPrice};
 ghost use Rattle.rules.specs.Orders.{mostBaskets};
 ghost use Rattle.rules.specs.Creation.{available};
+ghost use Rattle.rules.specs.Kinds.{allCash};
 ghost use Rattle.order_lines.specs.Lines.{orderLine, stockLine};
-ghost use Rattle.order_scan.specs.Lines.{heldOf, nextShort, withCash, withLine, noLines, cashCount, recordCount};
+ghost use Rattle.order_scan.specs.Lines.{heldOf, nextShort, withCash, withLine, noLines, cashCount, scanCounts};
 ghost use Rattle.order_scan.specs.Scans.{orderScan};
 ghost use Rattle.order_lines.specs.Ready.{Ranged};
 ghost use Rattle.order_scan.specs.Ready.{Room, Scannable};
@@ -20,6 +21,7 @@ use layout::Component;
 use layout::DayHead;
 use order_lines::Line;
 use rules::CashByMarket;
+use rules::Counts;
 use units::Money;
 use units::Rate;
 use units::ReferenceValue;
@@ -243,12 +245,17 @@ fn cash_count(cash: Money) -> usize
     2
 }
 
-// How many records the order makes, with the two of the unit.
-pub fn record_count(t: Scan) -> usize
-    requires { ⌜ t .«stock_records» ≤ mostComponents ⌝ }
-    ensures { λ r. ⌜ r ≡ recordCount t ⌝ }
+// How many records the order makes, with the two of the unit, and how many reports to a party, with the unit's.
+pub fn counts_of(t: Scan) -> Counts
+    requires { ⌜ (t .«stock_records» ≤ mostComponents) × (allCash (t .cash) < 2 ^ 64) ⌝ }
+    ensures { λ r. ⌜ r ≡ scanCounts t ⌝ }
 {
-    2 + t.stock_records + cash_count(t.cash.other) + cash_count(t.cash.shanghai)
+    let stock = t.stock_records;
+    let cash = t.cash;
+    Counts {
+        records: 2 + stock + cash_count(cash.other) + cash_count(cash.shanghai),
+        reports: 1 + stock + cash.reports(),
+    }
 }
 
 // Whether the missing stock of m baskets of so many units is worth more than the maximum cash ratio lets cash stand for.

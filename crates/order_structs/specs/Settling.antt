@@ -7,6 +7,7 @@ use Rattle.layout.specs.Places.{mostComponents}
 use Rattle.layout.specs.Day.{Day}
 use Rattle.layout.specs.Records.{recordAt}
 use Rattle.rules.specs.declared.Ask.{Ask}
+use Rattle.rules.specs.declared.Rooms.{Rooms}
 use Rattle.rules.specs.declared.OrderAnswer.{OrderAnswer}
 use Rattle.rules.specs.declared.OrderAnswer.the-variants.{Made, Refused}
 use Rattle.rules.specs.Replies.{orderAnswerReply, ifAccepted}
@@ -25,13 +26,13 @@ lentRecords room = min room mostRecords
 
 -- the count of records in an answer, none in a refusal
 abbrev pub madeCount : OrderAnswer → ℕ
-madeCount (Made n) = n
+madeCount (Made counts) = counts .records
 madeCount (Refused why) = 0
 
 -- the answer and the book are the order's, and its records stand at the front of the flat run
-pub record Settling (d : Day) (b ps : List ℕ) (ask : Ask) (room : ℕ) (s : Settled) (after flat : List ℕ) : Type 0 where
-  pub replies : orderAnswerReply (s .answer) ≡ askedReply d b ps ask room
-  pub book : after ≡ askedBook d b ps ask room
-  pub listed : s .count ≤ room
+pub record Settling (d : Day) (b ps : List ℕ) (ask : Ask) (rooms : Rooms) (s : Settled) (after flat : List ℕ) : Type 0 where
+  pub replies : orderAnswerReply (s .answer) ≡ askedReply d b ps ask rooms
+  pub book : after ≡ askedBook d b ps ask rooms
+  pub listed : s .count ≤ rooms .records
   pub held : s .count ≤ mostRecords
-  pub records : tabulate (recordAt flat) (s .count) ≡ ifAccepted (askedReply d b ps ask room) (recordsOf d b ps ask) []
+  pub records : tabulate (recordAt flat) (s .count) ≡ ifAccepted (askedReply d b ps ask rooms) (recordsOf d b ps ask) []

@@ -1,5 +1,5 @@
-// Creation and redemption, by the kind of order, whose records go to a lent list of structs. The order is made into a flat run,
-// and a writer over the list (`record_writer`) takes the records of that run.
+// Creation and redemption, by the kind of order, whose records go to a lent list of structs, and whose reports go to lent runs of
+// numbers. The order is made into a flat run, and a writer over the list (`record_writer`) takes the records of that run.
 ghost use mathlib.Core.Path.{_≡_};
 ghost use Prim.Native.Nat.{_*_, _≤_, _<_};
 ghost use mathlib.Core.List.{_++_};
@@ -8,7 +8,7 @@ ghost use Rattle.layout.specs.Places.{recordWidth};
 ghost use Rattle.layout.specs.Day.{dayAt};
 ghost use Rattle.rules.specs.Replies.{orderAnswerReply};
 ghost use Rattle.rules.specs.Kinds.{askedReply, askedBook};
-ghost use Rattle.order_structs.specs.Made.{knownKind, madeRecords};
+ghost use Rattle.order_structs.specs.Made.{knownKind, roomsBeside, madeRecords, madeReports};
 ghost use Rattle.order_structs.specs.Settling.{madeCount, mostRecords, lentRecords, Settling};
 use layout::Record;
 use rules::Ask;
@@ -45,7 +45,7 @@ fn made_count(answer: OrderAnswer) -> usize
     ensures { λ r. ⌜ r ≡ madeCount answer ⌝ }
 {
     match answer {
-        OrderAnswer::Made(count) => count,
+        OrderAnswer::Made(counts) => counts.records,
         OrderAnswer::Refused(_) => 0,
     }
 }
@@ -68,29 +68,52 @@ fn settle(
     ask: Ask,
     room: usize,
     flat: &mut [u64],
+    investor: &mut [u64],
+    fund: &mut [u64],
 ) -> Settled
     requires { ⌜ length (now flat) ≡ recordWidth * mostRecords ⌝ }
-    ensures { λ r. ⌜ Settling (dayAt (now (day .entry))) (now (book .entry)) (now (prices .entry)) ask room r (now (book .exit)) (now (flat .exit)) ⌝ }
+    ensures { λ r. ⌜ Settling (dayAt (now (day .entry))) (now (book .entry)) (now (prices .entry)) ask (roomsBeside room (now (investor .entry)) (now (fund .entry))) r (now (book .exit)) (now (flat .exit)) ⌝ }
+    ensures reports { λ r. ⌜ (now (investor .exit), now (fund .exit)) ≡ madeReports (dayAt (now (day .entry))) (now (book .entry)) (now (prices .entry)) ask (roomsBeside room (now (investor .entry)) (now (fund .entry))) (now (investor .entry)) (now (fund .entry)) ⌝ }
 {
     let lent = layout::RECORD_WIDTH * records_lent(room);
     let known = known_kind(ask);
-    let answer = order_calls::order(false, day, book, prices, known, &mut flat[..lent]);
+    let answer = order_calls::order(
+        false,
+        day,
+        book,
+        prices,
+        known,
+        &mut flat[..lent],
+        investor,
+        fund,
+    );
     let count = made_count(answer);
     Settled { answer, count }
 }
 
-// Creates or redeems units, by the kind of order; the records go to the lent list.
+// Creates or redeems units, by the kind of order; the records and the reports to both parties go to the lent lists.
 pub fn order(
     day: &[u64],
     book: &mut [u64],
     prices: &[u64],
     ask: Ask,
     list: &mut [Record],
+    investor: &mut [u64],
+    fund: &mut [u64],
 ) -> OrderAnswer
-    ensures { λ r. ⌜ (orderAnswerReply r ≡ askedReply (dayAt (now (day .entry))) (now (book .entry)) (now (prices .entry)) ask (length (now (list .entry)))) × (now (book .exit) ≡ askedBook (dayAt (now (day .entry))) (now (book .entry)) (now (prices .entry)) ask (length (now (list .entry)))) × (now (list .exit) ≡ madeRecords (dayAt (now (day .entry))) (now (book .entry)) (now (prices .entry)) ask (now (list .entry))) ⌝ }
+    ensures { λ r. ⌜ (orderAnswerReply r ≡ askedReply (dayAt (now (day .entry))) (now (book .entry)) (now (prices .entry)) ask (roomsBeside (length (now (list .entry))) (now (investor .entry)) (now (fund .entry)))) × (now (book .exit) ≡ askedBook (dayAt (now (day .entry))) (now (book .entry)) (now (prices .entry)) ask (roomsBeside (length (now (list .entry))) (now (investor .entry)) (now (fund .entry)))) × (now (list .exit) ≡ madeRecords (dayAt (now (day .entry))) (now (book .entry)) (now (prices .entry)) ask (roomsBeside (length (now (list .entry))) (now (investor .entry)) (now (fund .entry))) (now (list .entry))) × ((now (investor .exit), now (fund .exit)) ≡ madeReports (dayAt (now (day .entry))) (now (book .entry)) (now (prices .entry)) ask (roomsBeside (length (now (list .entry))) (now (investor .entry)) (now (fund .entry))) (now (investor .entry)) (now (fund .entry))) ⌝ }
 {
     let mut flat = [0u64; FLAT_LENGTH];
-    let s = settle(day, book, prices, ask, list.len(), &mut flat);
+    let s = settle(
+        day,
+        book,
+        prices,
+        ask,
+        list.len(),
+        &mut flat,
+        investor,
+        fund,
+    );
     record_writer::fill(list, &flat, s.count);
     s.answer
 }
@@ -109,12 +132,22 @@ fn order_in_room(
     ask: Ask,
     room: usize,
     records: [Record; MOST_RECORDS],
+    investor: &mut [u64],
+    fund: &mut [u64],
 ) -> Listed
     requires { ⌜ room ≤ mostRecords ⌝ }
-    ensures { λ r. ⌜ (orderAnswerReply (r .answer) ≡ askedReply (dayAt (now (day .entry))) (now (book .entry)) (now (prices .entry)) ask room) × (now (book .exit) ≡ askedBook (dayAt (now (day .entry))) (now (book .entry)) (now (prices .entry)) ask room) × (r .records ≡ madeRecords (dayAt (now (day .entry))) (now (book .entry)) (now (prices .entry)) ask (take room records) ++ drop room records) ⌝ }
+    ensures { λ r. ⌜ (orderAnswerReply (r .answer) ≡ askedReply (dayAt (now (day .entry))) (now (book .entry)) (now (prices .entry)) ask (roomsBeside room (now (investor .entry)) (now (fund .entry)))) × (now (book .exit) ≡ askedBook (dayAt (now (day .entry))) (now (book .entry)) (now (prices .entry)) ask (roomsBeside room (now (investor .entry)) (now (fund .entry)))) × (r .records ≡ madeRecords (dayAt (now (day .entry))) (now (book .entry)) (now (prices .entry)) ask (roomsBeside room (now (investor .entry)) (now (fund .entry))) (take room records) ++ drop room records) × ((now (investor .exit), now (fund .exit)) ≡ madeReports (dayAt (now (day .entry))) (now (book .entry)) (now (prices .entry)) ask (roomsBeside room (now (investor .entry)) (now (fund .entry))) (now (investor .entry)) (now (fund .entry))) ⌝ }
 {
     let mut list = records;
-    let answer = order(day, book, prices, ask, &mut list[..room]);
+    let answer = order(
+        day,
+        book,
+        prices,
+        ask,
+        &mut list[..room],
+        investor,
+        fund,
+    );
     Listed {
         answer,
         records: list,
@@ -129,11 +162,14 @@ pub fn order_by_value(
     ask: Ask,
     room: usize,
     records: [Record; MOST_RECORDS],
+    investor: &mut [u64],
+    fund: &mut [u64],
 ) -> Listed
-    ensures { λ r. ⌜ orderAnswerReply (r .answer) ≡ askedReply (dayAt (now (day .entry))) (now (book .entry)) (now (prices .entry)) ask (lentRecords room) ⌝ }
-    ensures { λ r. ⌜ r .records ≡ madeRecords (dayAt (now (day .entry))) (now (book .entry)) (now (prices .entry)) ask (take (lentRecords room) records) ++ drop (lentRecords room) records ⌝ }
-    ensures book { λ r. ⌜ now (book .exit) ≡ askedBook (dayAt (now (day .entry))) (now (book .entry)) (now (prices .entry)) ask (lentRecords room) ⌝ }
+    ensures { λ r. ⌜ orderAnswerReply (r .answer) ≡ askedReply (dayAt (now (day .entry))) (now (book .entry)) (now (prices .entry)) ask (roomsBeside (lentRecords room) (now (investor .entry)) (now (fund .entry))) ⌝ }
+    ensures { λ r. ⌜ r .records ≡ madeRecords (dayAt (now (day .entry))) (now (book .entry)) (now (prices .entry)) ask (roomsBeside (lentRecords room) (now (investor .entry)) (now (fund .entry))) (take (lentRecords room) records) ++ drop (lentRecords room) records ⌝ }
+    ensures book { λ r. ⌜ now (book .exit) ≡ askedBook (dayAt (now (day .entry))) (now (book .entry)) (now (prices .entry)) ask (roomsBeside (lentRecords room) (now (investor .entry)) (now (fund .entry))) ⌝ }
+    ensures reports { λ r. ⌜ (now (investor .exit), now (fund .exit)) ≡ madeReports (dayAt (now (day .entry))) (now (book .entry)) (now (prices .entry)) ask (roomsBeside (lentRecords room) (now (investor .entry)) (now (fund .entry))) (now (investor .entry)) (now (fund .entry)) ⌝ }
 {
     let n = records_lent(room);
-    order_in_room(day, book, prices, ask, n, records)
+    order_in_room(day, book, prices, ask, n, records, investor, fund)
 }

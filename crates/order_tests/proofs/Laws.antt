@@ -5,7 +5,7 @@ use mathlib.Core.List.{List, _++_}
 use Prim.Native.Nat.{ℕ, _≤_, _<_}
 use lib.Dec.{ltb}
 use lib.ListN.{length}
-use Rattle.sequences.specs.Checks.{Check, reply, answered}
+use Rattle.sequences.specs.Checks.{Check, reply, answering, answered}
 use Rattle.units.specs.Units.{ratioBound}
 use Rattle.layout.specs.Places.{mostComponents}
 use Rattle.layout.specs.Day.{Day}
@@ -33,11 +33,11 @@ use Rattle.order_tests.specs.Tests.{ratioTests, moneyTests, orderTests, 
 -- 14 and 15, from whether anything is missing
 module _ (d : Day) (ps : List ℕ) (m : ℕ) (missing : Bool) (worth : ℕ) where
   pub ratio-none : missing ≡ false → reply 0 0 0 ≡ answered (ratioTests d ps m missing worth) 0
-  unfolding answered ratioTests
+  unfolding answering ratioTests
   ratio-none e = simp e
 
   pub ratio-no-value : missing ≡ true → hasValue d ps ≡ false → reply 14 0 0 ≡ answered (ratioTests d ps m missing worth) 0
-  unfolding answered ratioTests
+  unfolding answering ratioTests
   ratio-no-value e f = simp (e, f)
 
   -- the value v is the day's, and r the test on it
@@ -47,11 +47,11 @@ module _ (d : Day) (ps : List ℕ) (m : ℕ) (missing : Bool) (worth : ℕ) wher
     same = ap (λ (x : ℕ). ltb (ratioBound m (d .fund .«basket_size») x (d .fund .«max_cash_ratio» .0)) worth) (sym is) ∙ sym tested
 
     pub ratio-over : r ≡ true → reply 15 0 0 ≡ answered (ratioTests d ps m missing worth) 0
-    unfolding answered ratioTests
+    unfolding answering ratioTests
     ratio-over e = simp (some, has, same ∙ e)
 
     pub ratio-within : r ≡ false → reply 0 0 0 ≡ answered (ratioTests d ps m missing worth) 0
-    unfolding answered ratioTests
+    unfolding answering ratioTests
     ratio-within e = simp (some, has, same ∙ e)
 
 -- the stages, from a scan
@@ -87,7 +87,7 @@ module _ (d : Day) (s f ps : List ℕ) (room : ℕ) where
       ++ lastTests (cashNumber (ask .kind)) (cashPlace (ask .kind) (d .count)) (headAt (byKind (ask .kind) s f) cash) (allCash (t .cash)) room (length (askedRecords d s ps ask)))
 
   tests-are : (v : ℕ) (ask : Ask) → ask .kind < 2 → answered (tests ask) v ≡ answered (askedMeans d s f ps ask room) v
-  unfolding answered stockTests ratioTests lastTests cashNumber cashPlace orderScan cashBy available unitsAvailable askedRecords askedMeans
+  unfolding answering stockTests ratioTests lastTests cashNumber cashPlace orderScan cashBy available unitsAvailable askedRecords askedMeans
       creationMeans ratioPassed creationDue redemptionMeans redemptionPaid
   tests-are v = by-ask (λ ask. answered (tests ask) v ≡ answered (askedMeans d s f ps ask room) v) (λ a units. refl) (λ a units. refl)
 

@@ -1,18 +1,18 @@
-// The third stage of an order: stock, the cash ratio, cash and the room for the records. It only reads.
+// The third stage of an order: stock, the cash ratio, cash and the room for the records and reports. It only reads.
 ghost use mathlib.Core.Path.{_≡_};
 ghost use Prim.Native.Nat.{_≤_, _<_, _^_};
 ghost use lib.ListN.{length};
-ghost use Rattle.sequences.specs.Checks.{answered};
+ghost use Rattle.sequences.specs.Checks.{answering, answered};
 ghost use Rattle.layout.specs.Places.{basketWidth, mostComponents};
 ghost use Rattle.layout.specs.Day.{dayOf};
 ghost use Rattle.rules.specs.declared.OrderAnswer.the-variants.{Refused};
 ghost use Rattle.layout.specs.Book.{cash, headAt, behindLine};
-ghost use Rattle.rules.specs.Replies.{answerReply, orderAnswerReply, ifAccepted};
+ghost use Rattle.rules.specs.Replies.{answerReply, madeReply, orderAnswerReply, ifAccepted};
 ghost use Rattle.rules.specs.Orders.{mostBaskets, baskets};
 ghost use Rattle.rules.specs.Creation.{available};
 ghost use Rattle.rules.specs.Kinds.{byKind, allCash, noCash, askedCash};
 ghost use Rattle.value.specs.Worth.{Priceable};
-ghost use Rattle.order_scan.specs.Lines.{recordCount};
+ghost use Rattle.order_scan.specs.Lines.{scanCounts};
 ghost use Rattle.order_scan.specs.Ready.{Scannable};
 ghost use Rattle.order_tests.specs.Tests.{ratioTests, moneyTests, orderTests, meansAnswer};
 use layout::DayHead;
@@ -22,6 +22,7 @@ use rules::Ask;
 use rules::CashByMarket;
 use rules::OrderAnswer;
 use rules::Refusal;
+use rules::Rooms;
 use rules::ValueAnswer;
 use units::Money;
 
@@ -70,18 +71,18 @@ fn money_answer(
     m: u64,
     t: Scan,
     held: u64,
-    room: usize,
+    rooms: Rooms,
 ) -> OrderAnswer
     requires { ⌜ Priceable (dayOf d (now basket)) (now prices) ⌝ }
     requires { ⌜ (m ≤ mostBaskets) × (d .fund .«max_cash_ratio» .0 ≤ 100_000) × (t .«stock_records» ≤ mostComponents) × (allCash (t .cash) ≤ 12_000_000_000_000_000_000) ⌝ }
     requires { ⌜ length (now basket) ≡ basketWidth ⌝ }
-    ensures { λ r. ⌜ orderAnswerReply r ≡ answered (moneyTests (dayOf d (now (basket .entry))) (now (prices .entry)) kind m t held room) (recordCount t) ⌝ }
+    ensures { λ r. ⌜ orderAnswerReply r ≡ answering (moneyTests (dayOf d (now (basket .entry))) (now (prices .entry)) kind m t held rooms) (madeReply (scanCounts t)) ⌝ }
 {
     let n = d.count;
     let due = t.cash.total();
-    let count = order_scan::record_count(t);
+    let counts = order_scan::counts_of(t);
     match ratio_answer(d, basket, prices, m, t.missing, t.missing_worth) {
-        Answer::Done => order_shortage::last_answer(kind, n, held, due.0, room, count),
+        Answer::Done => order_shortage::last_answer(kind, n, held, due.0, rooms, counts),
         Answer::Refused(why) => OrderAnswer::Refused(why),
     }
 }
@@ -107,16 +108,16 @@ fn order_from(
     m: u64,
     t: Scan,
     held: u64,
-    room: usize,
+    rooms: Rooms,
 ) -> OrderAnswer
     requires { ⌜ Priceable (dayOf d (now basket)) (now prices) ⌝ }
     requires { ⌜ (m ≤ mostBaskets) × (d .fund .«max_cash_ratio» .0 ≤ 100_000) × (t .«stock_records» ≤ mostComponents) × (allCash (t .cash) ≤ 12_000_000_000_000_000_000) ⌝ }
     requires { ⌜ (behindLine (d .count) ≤ length (now stretch)) × (available (now stretch) (d .count) < 2 ^ 64) ⌝ }
     requires { ⌜ length (now basket) ≡ basketWidth ⌝ }
-    ensures { λ r. ⌜ orderAnswerReply r ≡ answered (orderTests (dayOf d (now (basket .entry))) (now (prices .entry)) (ask .kind) m t (available (now (stretch .entry)) (d .count)) (ask .units) held room) (recordCount t) ⌝ }
+    ensures { λ r. ⌜ orderAnswerReply r ≡ answering (orderTests (dayOf d (now (basket .entry))) (now (prices .entry)) (ask .kind) m t (available (now (stretch .entry)) (d .count)) (ask .units) held rooms) (madeReply (scanCounts t)) ⌝ }
 {
     match order_shortage::stock_answer(ask, d.count, stretch, t.short) {
-        Answer::Done => money_answer(d, basket, prices, ask.kind, m, t, held, room),
+        Answer::Done => money_answer(d, basket, prices, ask.kind, m, t, held, rooms),
         Answer::Refused(why) => OrderAnswer::Refused(why),
     }
 }
@@ -143,21 +144,21 @@ pub fn order_means(
     prices: &[u64],
     ask: Ask,
     m: u64,
-    room: usize,
+    rooms: Rooms,
 ) -> Tested
     requires { ⌜ Scannable (ask .kind) (dayOf d (now basket)) (now stretch) (now fund) (now prices) m ⌝ }
     requires { ⌜ Priceable (dayOf d (now basket)) (now prices) ⌝ }
     requires { ⌜ (m ≡ baskets (dayOf d (now basket)) (ask .units)) × (d .fund .«max_cash_ratio» .0 ≤ 100_000) × (available (now stretch) (d .count) ≤ 2_000_000_000_000_000_000) ⌝ }
     requires { ⌜ length (now basket) ≡ basketWidth ⌝ }
-    ensures { λ r. ⌜ orderAnswerReply (r .answer) ≡ meansAnswer (dayOf d (now (basket .entry))) (now (stretch .entry)) (now (fund .entry)) (now (prices .entry)) ask room ⌝ }
-    ensures cash { λ r. ⌜ r .cash ≡ ifAccepted (meansAnswer (dayOf d (now (basket .entry))) (now (stretch .entry)) (now (fund .entry)) (now (prices .entry)) ask room) (askedCash (dayOf d (now (basket .entry))) (now (stretch .entry)) (now (prices .entry)) ask) noCash ⌝ }
+    ensures { λ r. ⌜ orderAnswerReply (r .answer) ≡ meansAnswer (dayOf d (now (basket .entry))) (now (stretch .entry)) (now (fund .entry)) (now (prices .entry)) ask rooms ⌝ }
+    ensures cash { λ r. ⌜ r .cash ≡ ifAccepted (meansAnswer (dayOf d (now (basket .entry))) (now (stretch .entry)) (now (fund .entry)) (now (prices .entry)) ask rooms) (askedCash (dayOf d (now (basket .entry))) (now (stretch .entry)) (now (prices .entry)) ask) noCash ⌝ }
 {
     let t = order_scan::order_scan(ask.kind, d, basket, stretch, fund, prices, m);
     let held = cash_held(ask.kind, stretch, fund);
     let cash = t.cash;
-    match order_from(d, basket, stretch, prices, ask, m, t, held, room) {
-        OrderAnswer::Made(count) => Tested {
-            answer: OrderAnswer::Made(count),
+    match order_from(d, basket, stretch, prices, ask, m, t, held, rooms) {
+        OrderAnswer::Made(counts) => Tested {
+            answer: OrderAnswer::Made(counts),
             cash,
         },
         OrderAnswer::Refused(why) => turned_back(why),

@@ -3,16 +3,18 @@ use Prim.Native.Nat.{ℕ, _<_}
 use mathlib.Core.Path.{_≡_}
 use mathlib.Core.Bool.{true}
 use mathlib.Core.List.{List}
-use Rattle.sequences.specs.Checks.{Reply, reply, answered}
+use Rattle.sequences.specs.Checks.{Reply, reply, answering, answered}
 use Rattle.layout.specs.Day.{Day}
 use Rattle.rules.specs.declared.Ask.{Ask}
+use Rattle.rules.specs.declared.Rooms.{Rooms}
+use Rattle.rules.specs.Replies.{madeReply}
 use Rattle.rules.specs.Sound.{isSound}
-use Rattle.rules.specs.Kinds.{askedChecks, askedCount}
+use Rattle.rules.specs.Kinds.{askedChecks, askedCounts}
 use Rattle.order_form.specs.Form.{orderForm}
 
 -- the answer, after 5
-unfoldable pub askedAnswer : Day → List ℕ → List ℕ → Ask → ℕ → Reply
-askedAnswer d b ps ask room = answered (askedChecks d b ps ask room) (askedCount d b ps ask)
+unfoldable pub askedAnswer : Day → List ℕ → List ℕ → Ask → Rooms → Reply
+askedAnswer d b ps ask rooms = answering (askedChecks d b ps ask rooms) (madeReply (askedCounts d b ps ask))
 
 -- a sound day, on which an order has passed its first two stages
 pub record Formed (d : Day) (b ps : List ℕ) (ask : Ask) : Type 0 where

@@ -4,7 +4,7 @@ use mathlib.Core.Bool.{true, false}
 use mathlib.Core.List.{List, _++_}
 use Prim.Native.Nat.{ℕ}
 use lib.Dec.{T}
-use Rattle.sequences.specs.Checks.{Check, Reply, reply, isAccepted, answered}
+use Rattle.sequences.specs.Checks.{Check, Reply, reply, isAccepted, answering, answered}
 use Rattle.sequences.proofs.Checks.{numbered, answered-next, answered-stop, accepted-passes, refused-stops}
 use Rattle.layout.specs.Day.{Day}
 use Rattle.rules.specs.declared.Refusal.{Refusal}
@@ -66,9 +66,9 @@ module _ (cs ds : List Check) (v : ℕ) where
 -- refusal 5, and the call's own tests where the day is sound
 module _ (d : Day) (b ps : List ℕ) (cs : List Check) (v : ℕ) where
   pub on-sound : isSound d b ps ≡ true → answered (onSoundDay d b ps cs) v ≡ answered cs v
-  unfolding answered
+  unfolding answering
   on-sound e = rw e
 
   pub on-unsound : isSound d b ps ≡ false → answered (onSoundDay d b ps cs) v ≡ reply 5 0 0
-  unfolding answered
+  unfolding answering
   on-unsound e = rw e

@@ -9,7 +9,7 @@ use lib.IntN.{negsuc}
 use lib.ListN.{take, drop, replicate}
 use Rattle.sequences.specs.Below.{sumBelow, anyBelow, allBelow, firstBelow, joinBelow, tabulate}
 use Rattle.sequences.specs.Every.{every, inside}
-use Rattle.sequences.specs.Checks.{Reply, answered, passes, isAccepted}
+use Rattle.sequences.specs.Checks.{Reply, answering, passes, isAccepted}
 use Rattle.sequences.specs.Stretch.{stretchOf, over}
 use Rattle.units.specs.Units.{rounded, premium, discount, ratioBound}
 use Rattle.flags.specs.Table.{flagTable, entry}
@@ -200,7 +200,7 @@ rows =
     ∷ []
 
 pub cases : all right rows ≡ true
-unfolding sumBelow anyBelow allBelow firstBelow joinBelow tabulate every inside answered passes isAccepted stretchOf over
+unfolding sumBelow anyBelow allBelow firstBelow joinBelow tabulate every inside answering passes isAccepted stretchOf over
     rounded premium discount ratioBound flagTable entry cashInRange limitInRange limitsInRange fundInRange limitOf
     outsideGroup zeroUnless usedWithin componentInRange fits faultAt componentFault componentAt headAt lotsAt headTotal lineTotal
     codeOf quantity column creationRate redemptionRate creationAmount redemptionAmount priceOf

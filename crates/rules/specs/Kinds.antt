@@ -4,8 +4,7 @@ use Prim.Native.Nat.{ℕ, _+_, _-_}
 use mathlib.Core.Bool.{cond}
 use mathlib.Core.List.{List}
 use lib.Dec.{eqb}
-use lib.ListN.{length}
-use Rattle.sequences.specs.Checks.{Check, Reply, answered}
+use Rattle.sequences.specs.Checks.{Check, Reply, answering}
 use Rattle.sequences.specs.Stretch.{onStretch}
 use Rattle.lots.specs.declared.Lots.{Lots}
 use Rattle.lots.specs.Lots.{handInOf, getOf, takeInOf, payOutOf}
@@ -13,14 +12,18 @@ use Rattle.layout.specs.Day.{Day}
 use Rattle.rules.specs.declared.Ask.{Ask}
 use Rattle.rules.specs.declared.CashByMarket.{CashByMarket}
 use Rattle.layout.specs.declared.Record.{Record}
-use Rattle.rules.specs.Replies.{ifAccepted}
+use Rattle.layout.specs.declared.Report.{Report}
+use Rattle.rules.specs.declared.Rooms.{Rooms}
+use Rattle.rules.specs.declared.Counts.{Counts}
+use Rattle.rules.specs.Replies.{madeReply, ifAccepted}
 use Rattle.layout.specs.Book.{cash, headAt, width, account}
 use Rattle.rules.specs.Sound.{onSoundDay}
 use Rattle.rules.specs.Orders.{creation, redemption, baskets, otherCash, shanghaiCash, accountSide, fundSide}
 use Rattle.rules.specs.Records.{sideB, sideS, orderRecords}
-use Rattle.layout.specs.Records.{roomIn, withRecords}
-use Rattle.rules.specs.Creation.{handedIn, creationCash, creationRecords, creationMeans, creationChecks, creationMoves}
-use Rattle.rules.specs.Redemption.{delivered, redemptionCash, redemptionRecords, redemptionMeans, redemptionChecks, redemptionMoves}
+use Rattle.rules.specs.Reports.{orderReports}
+use Rattle.rules.specs.Lent.{Lent, roomsIn, countsOf, withOrder}
+use Rattle.rules.specs.Creation.{handedIn, creationCash, creationRecords, creationReports, creationMeans, creationChecks, creationMoves}
+use Rattle.rules.specs.Redemption.{delivered, redemptionCash, redemptionRecords, redemptionReports, redemptionMeans, redemptionChecks, redemptionMoves}
 
 abbrev pub byKind : {A : Type 0} → ℕ → A → A → A
 byKind kind x y = cond (eqb kind creation) x y
@@ -80,7 +83,15 @@ restSide kind = byKind kind sideB sideS
 unfoldable pub recordsBy : ℕ → Day → List ℕ → ℕ → ℕ → CashByMarket → List Record
 recordsBy kind d s units m c = orderRecords d (stockSide kind) (restSide kind) units (movedBy kind d s m) (c .other .0) (c .shanghai .0)
 
--- What an ask comes to, for an account with the stretch s and a fund with the stretch f: the cash, the records, and the third stage.
+-- the investor's reports, with the same sides
+unfoldable pub reportsBy : ℕ → Day → List ℕ → ℕ → ℕ → CashByMarket → List Report
+reportsBy kind d s units m c = orderReports d (stockSide kind) (restSide kind) units (movedBy kind d s m) (c .other .0) (c .shanghai .0)
+
+-- how many reports tell an order's cash
+unfoldable pub cashReportCount : CashByMarket → ℕ
+cashReportCount c = cond (eqb (allCash c) 0) 0 1
+
+-- What an ask comes to, for an account with the stretch s and a fund with the stretch f: the cash, the records, the reports, and the third stage.
 unfoldable pub cashBy : ℕ → Day → List ℕ → List ℕ → ℕ → CashByMarket
 cashBy kind d s ps m = byMarket d (byKind kind (creationCash d s ps m) (redemptionCash d m))
 
@@ -90,28 +101,37 @@ askedCash d s ps k = cashBy (k .kind) d s ps (baskets d (k .units))
 unfoldable pub askedRecords : Day → List ℕ → List ℕ → Ask → List Record
 askedRecords d s ps k = byKind (k .kind) (creationRecords d s ps (k .units)) (redemptionRecords d (k .units))
 
-unfoldable pub askedMeans : Day → List ℕ → List ℕ → List ℕ → Ask → ℕ → List Check
-askedMeans d s f ps k room = byKind (k .kind) (creationMeans d s ps (k .units) room) (redemptionMeans d s f (k .units) room)
+unfoldable pub askedReports : Day → List ℕ → List ℕ → Ask → List Report
+askedReports d s ps k = byKind (k .kind) (creationReports d s ps (k .units)) (redemptionReports d (k .units))
+
+-- how many records and reports the order makes
+unfoldable pub countsBy : Day → List ℕ → List ℕ → Ask → Counts
+countsBy d s ps k = countsOf (askedRecords d s ps k) (askedReports d s ps k)
+
+unfoldable pub askedMeans : Day → List ℕ → List ℕ → List ℕ → Ask → Rooms → List Check
+askedMeans d s f ps k rooms = byKind (k .kind) (creationMeans d s ps (k .units) rooms) (redemptionMeans d s f (k .units) rooms)
 
 -- With the book b: all tests after 5, the reply, and what moves.
-unfoldable pub askedChecks : Day → List ℕ → List ℕ → Ask → ℕ → List Check
-askedChecks d b ps k room =
-    byKind (k .kind) (creationChecks d b ps (k .account) (k .units) room) (redemptionChecks d b (k .account) (k .units) room)
+unfoldable pub askedChecks : Day → List ℕ → List ℕ → Ask → Rooms → List Check
+askedChecks d b ps k rooms =
+    byKind (k .kind) (creationChecks d b ps (k .account) (k .units) rooms) (redemptionChecks d b (k .account) (k .units) rooms)
 
--- how many records the order makes
-abbrev pub askedCount : Day → List ℕ → List ℕ → Ask → ℕ
-askedCount d b ps k = length (askedRecords d (account d b (k .account)) ps k)
+abbrev pub askedCounts : Day → List ℕ → List ℕ → Ask → Counts
+askedCounts d b ps k = countsBy d (account d b (k .account)) ps k
 
-unfoldable pub askedReply : Day → List ℕ → List ℕ → Ask → ℕ → Reply
-askedReply d b ps k room = answered (onSoundDay d b ps (askedChecks d b ps k room)) (askedCount d b ps k)
+unfoldable pub askedReply : Day → List ℕ → List ℕ → Ask → Rooms → Reply
+askedReply d b ps k rooms = answering (onSoundDay d b ps (askedChecks d b ps k rooms)) (madeReply (askedCounts d b ps k))
 
 unfoldable pub askedMoves : Day → List ℕ → Ask → List ℕ → List ℕ
 askedMoves d ps k b = byKind (k .kind) (creationMoves d ps (k .account) (k .units) b) (redemptionMoves d (k .account) (k .units) b)
 
--- the book and the list that it leaves
-unfoldable pub askedBook : Day → List ℕ → List ℕ → Ask → ℕ → List ℕ
-askedBook d b ps k room = ifAccepted (askedReply d b ps k room) (askedMoves d ps k b) b
+-- the book and the lists that it leaves
+unfoldable pub askedBook : Day → List ℕ → List ℕ → Ask → Rooms → List ℕ
+askedBook d b ps k rooms = ifAccepted (askedReply d b ps k rooms) (askedMoves d ps k b) b
 
-unfoldable pub askedList : Day → List ℕ → List ℕ → Ask → List ℕ → List ℕ
-askedList d b ps k list =
-    ifAccepted (askedReply d b ps k (roomIn list)) (withRecords (askedRecords d (account d b (k .account)) ps k) list) list
+-- the lists with what the order makes
+abbrev pub withAsked : Day → List ℕ → List ℕ → Ask → Lent → Lent
+withAsked d b ps k lent = withOrder (askedRecords d (account d b (k .account)) ps k) (askedReports d (account d b (k .account)) ps k) lent
+
+unfoldable pub askedLists : Day → List ℕ → List ℕ → Ask → Lent → Lent
+askedLists d b ps k lent = ifAccepted (askedReply d b ps k (roomsIn lent)) (withAsked d b ps k lent) lent

@@ -6,6 +6,8 @@ pub mod Price
 pub mod Trade
 pub mod Value
 pub mod Records
+pub mod Reports
+pub mod Lent
 pub mod Orders
 pub mod Creation
 pub mod Redemption

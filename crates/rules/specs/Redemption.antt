@@ -3,21 +3,24 @@ use Prim.Native.Nat.{ℕ, _+_, _-_, _*_}
 use mathlib.Core.Bool.{Bool, cond}
 use mathlib.Core.List.{List, [], _∷_, _++_}
 use lib.Dec.{ltb}
-use lib.ListN.{length}
 use Rattle.sequences.specs.Below.{firstBelow}
-use Rattle.sequences.specs.Checks.{Check, check, Reply, answered}
+use Rattle.sequences.specs.Checks.{Check, check, Reply, answering}
 use Rattle.sequences.specs.Stretch.{onStretch}
 use Rattle.units.specs.Units.{discount}
 use Rattle.lots.specs.Lots.{handInOf, getOf, payOutOf, handable}
 use Rattle.layout.specs.Day.{Day}
 use Rattle.layout.specs.declared.Record.{Record}
-use Rattle.rules.specs.Replies.{ifAccepted}
+use Rattle.layout.specs.declared.Report.{Report}
+use Rattle.rules.specs.declared.Rooms.{Rooms}
+use Rattle.rules.specs.declared.Counts.{Counts}
+use Rattle.rules.specs.Replies.{madeReply, ifAccepted}
 use Rattle.layout.specs.Book.{cash, headAt, lotsAt, width, account}
 use Rattle.rules.specs.Lines.{movesStock, redemptionRate, redemptionAmount}
 use Rattle.rules.specs.Sound.{onSoundDay}
 use Rattle.rules.specs.Orders.{redemption, baskets, formChecks, permissionChecks, need, shanghaiCash, otherCash, accountSide, fundSide}
 use Rattle.rules.specs.Records.{sideB, sideS, orderRecords}
-use Rattle.layout.specs.Records.{roomIn, withRecords}
+use Rattle.rules.specs.Reports.{orderReports}
+use Rattle.rules.specs.Lent.{Lent, roomsIn, countsOf, tooShort, withOrder}
 
 -- flags 0 and 1 deliver stock in full
 unfoldable pub delivered : Day → ℕ → ℕ → ℕ
@@ -50,22 +53,33 @@ redemptionRecords d units =
     (otherCash d (redemptionCash d (baskets d units)))
     (shanghaiCash d (redemptionCash d (baskets d units)))
 
--- the third stage; room is how many records the lent list takes
-unfoldable pub redemptionMeans : Day → List ℕ → List ℕ → ℕ → ℕ → List Check
-redemptionMeans d s f units room =
+-- the investor's reports: stock is on side 1, the rest on side 2
+unfoldable pub redemptionReports : Day → ℕ → List Report
+redemptionReports d units =
+    orderReports d sideB sideS units
+    (delivered d (baskets d units))
+    (otherCash d (redemptionCash d (baskets d units)))
+    (shanghaiCash d (redemptionCash d (baskets d units)))
+
+abbrev pub redemptionCounts : Day → ℕ → Counts
+redemptionCounts d units = countsOf (redemptionRecords d units) (redemptionReports d units)
+
+-- the third stage; the rooms are how many records and reports the lent lists take
+unfoldable pub redemptionMeans : Day → List ℕ → List ℕ → ℕ → Rooms → List Check
+redemptionMeans d s f units rooms =
     check (ltb (unitsAvailable d s) units) 9 0
     ∷ check (ltb (firstLacking d f (baskets d units)) (d .count)) 17 (firstLacking d f (baskets d units))
     ∷ check (ltb (headAt f cash) (redemptionPaid d (baskets d units))) 17 (d .count)
-    ∷ check (ltb room (length (redemptionRecords d units))) 16 0
+    ∷ check (tooShort rooms (redemptionCounts d units)) 16 0
     ∷ []
 
-unfoldable pub redemptionChecks : Day → List ℕ → ℕ → ℕ → ℕ → List Check
-redemptionChecks d b a units room =
-    formChecks d a units ++ (permissionChecks d b redemption a units ++ redemptionMeans d (account d b a) (account d b 0) units room)
+unfoldable pub redemptionChecks : Day → List ℕ → ℕ → ℕ → Rooms → List Check
+redemptionChecks d b a units rooms =
+    formChecks d a units ++ (permissionChecks d b redemption a units ++ redemptionMeans d (account d b a) (account d b 0) units rooms)
 
-unfoldable pub redemptionReply : Day → List ℕ → List ℕ → ℕ → ℕ → ℕ → Reply
-redemptionReply d b ps a units room =
-    answered (onSoundDay d b ps (redemptionChecks d b a units room)) (length (redemptionRecords d units))
+unfoldable pub redemptionReply : Day → List ℕ → List ℕ → ℕ → ℕ → Rooms → Reply
+redemptionReply d b ps a units rooms =
+    answering (onSoundDay d b ps (redemptionChecks d b a units rooms)) (madeReply (redemptionCounts d units))
 
 -- the fund delivers stock and cash, and the units cease
 unfoldable pub redemptionMoves : Day → ℕ → ℕ → List ℕ → List ℕ
@@ -76,9 +90,10 @@ redemptionMoves d a units b =
     (λ f. fundSide (d .count) (λ i x. payOutOf x (delivered d (baskets d units) i)) (headAt f cash - redemptionPaid d (baskets d units)) f)
     b)
 
-unfoldable pub redeemedBook : Day → List ℕ → List ℕ → ℕ → ℕ → ℕ → List ℕ
-redeemedBook d b ps a units room = ifAccepted (redemptionReply d b ps a units room) (redemptionMoves d a units b) b
+unfoldable pub redeemedBook : Day → List ℕ → List ℕ → ℕ → ℕ → Rooms → List ℕ
+redeemedBook d b ps a units rooms = ifAccepted (redemptionReply d b ps a units rooms) (redemptionMoves d a units b) b
 
-unfoldable pub redeemedList : Day → List ℕ → List ℕ → ℕ → ℕ → List ℕ → List ℕ
-redeemedList d b ps a units list =
-    ifAccepted (redemptionReply d b ps a units (roomIn list)) (withRecords (redemptionRecords d units) list) list
+-- the three lists
+unfoldable pub redeemedLists : Day → List ℕ → List ℕ → ℕ → ℕ → Lent → Lent
+redeemedLists d b ps a units lent =
+    ifAccepted (redemptionReply d b ps a units (roomsIn lent)) (withOrder (redemptionRecords d units) (redemptionReports d units) lent) lent

@@ -1,4 +1,4 @@
--- "Calls and what turns them back": the paper's number, place and value for every answer.
+-- "Calls and what turns them back": the paper's number, place, value and count of reports for every answer.
 use mathlib.Core.Bool.{cond}
 use Rattle.sequences.specs.Checks.{Reply, reply, isAccepted}
 use Rattle.rules.specs.declared.Refusal.{Refusal}
@@ -6,6 +6,7 @@ use Rattle.rules.specs.declared.Refusal.the-variants.{Sizes, FundField, 
 use Rattle.rules.specs.declared.Refusal.the-variants.{NotWholeBaskets, Switch, Limit, NoReferenceValue, CashRatio, ListTooShort, FundShort, TextLine, TextField, RecordCount}
 use Rattle.rules.specs.declared.Answer.{Answer}
 use Rattle.rules.specs.declared.Answer.the-variants.{Done, Refused}
+use Rattle.rules.specs.declared.Counts.{Counts}
 use Rattle.rules.specs.declared.OrderAnswer.{OrderAnswer}
 use Rattle.rules.specs.declared.OrderAnswer.the-variants.{Made, Refused as OrderRefused}
 use Rattle.rules.specs.declared.ValueAnswer.{ValueAnswer}
@@ -38,8 +39,12 @@ abbrev pub answerReply : Answer → Reply
 answerReply Done = reply 0 0 0
 answerReply (Refused why) = refusalReply why
 
+-- an order that is made
+abbrev pub madeReply : Counts → Reply
+madeReply made = record { number = 0; place = 0; value = made .records; reports = made .reports }
+
 abbrev pub orderAnswerReply : OrderAnswer → Reply
-orderAnswerReply (Made count) = reply 0 0 count
+orderAnswerReply (Made counts) = madeReply counts
 orderAnswerReply (OrderRefused why) = refusalReply why
 
 abbrev pub valueAnswerReply : ValueAnswer → Reply

@@ -13,19 +13,25 @@ pub record Check : Type 0 where
 abbrev pub check : Bool → ℕ → ℕ → Check
 check f n p = record { fails = f; number = n; place = p }
 
--- an answer as three numbers: the refusal's number (0 accepted), its place, and the value of an accepted call
+-- An answer as four numbers: the refusal's number (0 accepted), its place, the value of an accepted call, and of an accepted order
+-- how many reports it makes; its value is how many records.
 pub record Reply : Type 0 where
   pub number : ℕ
   pub place : ℕ
   pub value : ℕ
+  pub reports : ℕ
 
 abbrev pub reply : ℕ → ℕ → ℕ → Reply
-reply n p v = record { number = n; place = p; value = v }
+reply n p v = record { number = n; place = p; value = v; reports = 0 }
 
--- the refusal of the first test that fails; where none does, accepted with the value v
-unfoldable pub answered : List Check → ℕ → Reply
-answered [] v = reply 0 0 v
-answered (c ∷ cs) v = cond (c .fails) (reply (c .number) (c .place) 0) (answered cs v)
+-- the refusal of the first test that fails; where none does, the accepted reply r
+unfoldable pub answering : List Check → Reply → Reply
+answering [] r = r
+answering (c ∷ cs) r = cond (c .fails) (reply (c .number) (c .place) 0) (answering cs r)
+
+-- and with the value v
+abbrev pub answered : List Check → ℕ → Reply
+answered cs v = answering cs (reply 0 0 v)
 
 -- no test fails
 unfoldable pub passes : List Check → Bool

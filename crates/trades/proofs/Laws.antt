@@ -10,7 +10,7 @@ use lib.Dec.{ltb}
 use lib.ListN.{length}
 use borrow.Author.Tests.{le-leb, lt-leb, lt-ltb, le-ltb, leb-false, ltb-false, eqb-false, eq-eqb, ne-eqb, not-false}
 use Rattle.sequences.specs.Every.{inside}
-use Rattle.sequences.specs.Checks.{reply, answered}
+use Rattle.sequences.specs.Checks.{reply, answering, answered}
 use Rattle.sequences.specs.Stretch.{stretchOf, over}
 use Rattle.sequences.proofs.Below.{sum-part}
 use Rattle.sequences.proofs.Every.{inside-facts}
@@ -32,15 +32,15 @@ use Rattle.trades.specs.Fits.{BookFits}
 
 module _ (n line p : ℕ) where
   pub price-no-line : n ≤ line → reply 6 0 0 ≡ answered (priceChecks n line p) 0
-  unfolding answered priceChecks
+  unfolding answering priceChecks
   price-no-line h = simp (le-leb n line h)
 
   pub price-out : line < n → inside 1 mostPrice p ≡ false → reply 7 0 0 ≡ answered (priceChecks n line p) 0
-  unfolding answered priceChecks
+  unfolding answering priceChecks
   price-out h e = simp (lt-leb n line h, e)
 
   pub price-done : line < n → inside 1 mostPrice p ≡ true → reply 0 0 0 ≡ answered (priceChecks n line p) 0
-  unfolding answered priceChecks
+  unfolding answering priceChecks
   price-done h e = simp (lt-leb n line h, e)
 
   pub priced-line : reply 0 0 0 ≡ answered (priceChecks n line p) 0 → line < n
@@ -51,37 +51,37 @@ module _ (n line p : ℕ) where
 
 module _ (k n : ℕ) (b : List ℕ) (line q p seller buyer : ℕ) where
   pub trade-no-line : n < line → reply 6 0 0 ≡ answered (tradeChecks k n b line q p seller buyer) 0
-  unfolding answered tradeChecks
+  unfolding answering tradeChecks
   trade-no-line h = simp (lt-ltb n line h)
 
   module _ (l : line ≤ n) where
     pub trade-quantity-out : inside 1 999_999_999 q ≡ false → reply 7 0 0 ≡ answered (tradeChecks k n b line q p seller buyer) 0
-    unfolding answered tradeChecks
+    unfolding answering tradeChecks
     trade-quantity-out e = simp (le-ltb n line l, e)
 
     module _ (r : inside 1 999_999_999 q ≡ true) where
       pub trade-price-out : inside 1 mostPrice p ≡ false → reply 7 0 0 ≡ answered (tradeChecks k n b line q p seller buyer) 0
-      unfolding answered tradeChecks
+      unfolding answering tradeChecks
       trade-price-out e = simp (le-ltb n line l, r, e)
 
       module _ (t : inside 1 mostPrice p ≡ true) where
         pub trade-no-seller : isInvestor k seller ≡ false → reply 8 0 0 ≡ answered (tradeChecks k n b line q p seller buyer) 0
-        unfolding answered tradeChecks
+        unfolding answering tradeChecks
         trade-no-seller e = simp (le-ltb n line l, r, t, e)
 
         module _ (s : isInvestor k seller ≡ true) where
           pub trade-no-buyer : isInvestor k buyer ≡ false → reply 8 0 0 ≡ answered (tradeChecks k n b line q p seller buyer) 0
-          unfolding answered tradeChecks
+          unfolding answering tradeChecks
           trade-no-buyer e = simp (le-ltb n line l, r, t, s, e)
 
           module _ (u : isInvestor k buyer ≡ true) where
             pub trade-one : seller ≡ buyer → reply 8 0 0 ≡ answered (tradeChecks k n b line q p seller buyer) 0
-            unfolding answered tradeChecks
+            unfolding answering tradeChecks
             trade-one e = simp (le-ltb n line l, r, t, s, u, eq-eqb seller buyer e)
 
             -- the rest is the means
             pub trade-rest : (seller ≡ buyer → ⊥) → answered (tradeMeans n b line q (q * p) seller buyer) 0 ≡ answered (tradeChecks k n b line q p seller buyer) 0
-            unfolding answered tradeChecks
+            unfolding answering tradeChecks
             trade-rest e = simp (le-ltb n line l, r, t, s, u, ne-eqb seller buyer e)
 
 -- the means as the code reads them: w is the width, x the seller's lots, and held what may be sold of them
@@ -91,7 +91,7 @@ module _ (n : ℕ) (b : List ℕ) (line q m seller buyer w : ℕ) (x : Lots) (he
   held-is = ap sellable (ap (λ (v : ℕ). lotsAt (stretchOf v b seller) line) (sym ew) ∙ sym ex) ∙ sym eh
 
   pub means-short : held < q → reply 9 0 0 ≡ answered (tradeMeans n b line q m seller buyer) 0
-  unfolding answered tradeMeans
+  unfolding answering tradeMeans
   means-short h = simp (lt-ltb (sellable (lotsAt (stretchOf (widthOf n) b seller) line)) q (omega (arith, held-is)))
 
   -- and own the buyer's cash
@@ -103,11 +103,11 @@ module _ (n : ℕ) (b : List ℕ) (line q m seller buyer w : ℕ) (x : Lots) (he
     stocked = le-ltb (sellable (lotsAt (stretchOf (widthOf n) b seller) line)) q (omega (arith, held-is))
 
     pub means-cash : own < m → reply 10 0 0 ≡ answered (tradeMeans n b line q m seller buyer) 0
-    unfolding answered tradeMeans
+    unfolding answering tradeMeans
     means-cash g = simp (stocked, lt-ltb (headAt (stretchOf (widthOf n) b buyer) cash) m (omega (arith, cash-is)))
 
     pub means-done : m ≤ own → reply 0 0 0 ≡ answered (tradeMeans n b line q m seller buyer) 0
-    unfolding answered tradeMeans
+    unfolding answering tradeMeans
     means-done g = simp (stocked, le-ltb (headAt (stretchOf (widthOf n) b buyer) cash) m (omega (arith, cash-is)))
 
 -- an account of the fits

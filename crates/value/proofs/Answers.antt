@@ -7,7 +7,7 @@ use native.Mathlib.Omega.{arith}
 use lib.Dec.{leb}
 use borrow.Author.Tests.{leb-true}
 use Rattle.sequences.specs.Below.{anyBelow}
-use Rattle.sequences.specs.Checks.{Reply, reply, answered, isAccepted}
+use Rattle.sequences.specs.Checks.{Reply, reply, answering, answered, isAccepted}
 use Rattle.sequences.proofs.Every.{every-at}
 use Rattle.units.specs.declared.ReferenceValue.{ReferenceValue}
 use Rattle.layout.specs.Day.{Day}
@@ -39,11 +39,11 @@ falls false x r n e = refl
 module _ (d : Day) (ps : List ℕ) where
   pub worth-facts : (v : ReferenceValue) → valueAnswerReply (Worth v) ≡ answered (valueChecks d ps) (referenceValue d ps)
       → (hasValue d ps ≡ true) × (v .0 ≡ referenceValue d ps) × (v .0 ≤ 9_999_999)
-  unfolding valueChecks answered
+  unfolding valueChecks answering
   worth-facts v e =
       let s = stands (hasValue d ps) (v .0) (referenceValue d ps) e in
       (s .0, s .1, omega (arith, s .1, value-range d ps (s .0)))
 
   pub refused-facts : (why : Refusal) → valueAnswerReply (Refused why) ≡ answered (valueChecks d ps) (referenceValue d ps) → hasValue d ps ≡ false
-  unfolding valueChecks answered
+  unfolding valueChecks answering
   refused-facts why e = falls (hasValue d ps) (referenceValue d ps) (refusalReply why) (refused why) e

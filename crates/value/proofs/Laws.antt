@@ -9,7 +9,7 @@ use lib.Dec.{leb, lit≤}
 use borrow.Author.Tests.{le-leb, lt-leb}
 use Rattle.sequences.specs.Below.{sumBelow, anyBelow}
 use Rattle.sequences.specs.Every.{every}
-use Rattle.sequences.specs.Checks.{reply, answered}
+use Rattle.sequences.specs.Checks.{reply, answering, answered}
 use Rattle.sequences.proofs.Below.{sum-le, sum-more, any-more, any-here, cond-le}
 use Rattle.units.specs.Units.{rounded}
 use Rattle.units.proofs.Laws.{under}
@@ -65,7 +65,7 @@ module _ (d : Day) (ps : List ℕ) where
 
   -- where a price is missing there is no value
   pub unpriced : (i v : ℕ) → i < d .count → lacks (componentOf d i) (priceOf ps i) ≡ true → reply 14 0 0 ≡ answered (valueChecks d ps) v
-  unfolding valueChecks hasValue answered every lacksPrice lacks column quantity
+  unfolding valueChecks hasValue answering every lacksPrice lacks column quantity
   unpriced i v h e = simp (any-here (lacksPrice d ps) (d .count) i h e)
 
   chosen : (b : Bool) (x : ℕ) → cond b (reply 0 0 x) (reply 14 0 0) ≡ cond (not b) (reply 14 0 0) (reply 0 0 x)
@@ -75,7 +75,7 @@ module _ (d : Day) (ps : List ℕ) where
   -- where none is, the sum decides
   pub priced-all : anyBelow (lacksPrice d ps) (d .count) ≡ false
       → valueFrom (worthBefore d ps) (cashTaken (d .fund .«estimated_cash»)) (d .fund .«basket_size») ≡ answered (valueChecks d ps) (referenceValue d ps)
-  unfolding valueFrom valueChecks hasValue referenceValue answered every
+  unfolding valueFrom valueChecks hasValue referenceValue answering every
   priced-all none =
       rw none
       (chosen
