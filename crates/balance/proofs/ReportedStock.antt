@@ -107,7 +107,7 @@ module _ (d : Day) (sound : componentFault (d .fund .«first_code») (d .compone
   below-outside : (n : ℕ) → n ≤ d .count → Each Outside (joinBelow (stockRecord d stock moved) n)
   unfolding joinBelow Each
   below-outside zero h = tt
-  below-outside (suc n) h = each-append (joinBelow (stockRecord d stock moved) n) (stockRecord d stock moved n) (below-outside n (omega arith)) (line-outside n h)
+  below-outside (suc n) h = each-append Outside (joinBelow (stockRecord d stock moved) n) (stockRecord d stock moved n) (below-outside n (omega arith)) (line-outside n h)
 
   outside : Each Outside lines
   outside = below-outside (d .count) (omega arith)
@@ -168,7 +168,7 @@ module _ (d : Day) (sound : componentFault (d .fund .«first_code») (d .compone
     each k h =
         record {
           of-stock = rw (report-is k h);
-          recorded = rw (record-is k h) (each-at lines k blank h outside);
+          recorded = rw (record-is k h) (each-at Outside lines k blank h outside);
           code = rw (report-is k h, record-is k h);
           quantity = rw (report-is k h, record-is k h);
         }
