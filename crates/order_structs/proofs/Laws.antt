@@ -157,10 +157,22 @@ module _ (d : Day) (b ps : List ℕ) (ask : Ask) where
         ap (λ (l : Lent). l .records ++ drop (recordWidth * n) flat) (lists-by true e lists)
         ∙ append-assoc (flatten rs) (drop (recordWidth * length rs) front) (drop (recordWidth * n) flat)
 
+    -- its reports stand in their lists
+    reporting : lentOf left toInvestor toFund ≡ askedLists d b ps ask lent → (toInvestor, toFund) ≡ madeReports d b ps ask rooms investor fund
+    unfolding madeReports withOrder
+    reporting lists = go (isAccepted (askedReply d b ps ask rooms)) refl
+      where
+        both : Lent → List ℕ × List ℕ
+        both l = (l .investor, l .fund)
+
+        go : (x : Bool) → isAccepted (askedReply d b ps ask rooms) ≡ x → (toInvestor, toFund) ≡ madeReports d b ps ask rooms investor fund
+        go true e = rw e (ap both (lists-by true e lists))
+        go false e = rw e (ap both (lists-by false e lists))
+
     pub settling : orderAnswerReply answer ≡ askedReply d b ps ask (roomsIn lent) → after ≡ askedBook d b ps ask (roomsIn lent)
         → lentOf left toInvestor toFund ≡ askedLists d b ps ask lent
-        → Settling d b ps ask rooms (record { answer = answer; count = count }) after whole
-    settling replies book lists = go (isAccepted (askedReply d b ps ask rooms)) refl
+        → Settling d b ps ask rooms (record { answer = answer; count = count }) after whole × ((toInvestor, toFund) ≡ madeReports d b ps ask rooms investor fund)
+    settling replies book lists = (go (isAccepted (askedReply d b ps ask rooms)) refl, reporting lists)
       where
         kept : after ≡ askedBook d b ps ask rooms
         kept = book ∙ ap (askedBook d b ps ask) rooms-are ∙ book-room d b ps rooms ask
@@ -188,18 +200,6 @@ module _ (d : Day) (b ps : List ℕ) (ask : Ask) where
               records = rw (e, none) (none-read whole);
             }
 
-    -- and makes its reports
-    pub reporting : lentOf left toInvestor toFund ≡ askedLists d b ps ask lent → (toInvestor, toFund) ≡ madeReports d b ps ask rooms investor fund
-    unfolding madeReports withOrder
-    reporting lists = go (isAccepted (askedReply d b ps ask rooms)) refl
-      where
-        both : Lent → List ℕ × List ℕ
-        both l = (l .investor, l .fund)
-
-        go : (x : Bool) → isAccepted (askedReply d b ps ask rooms) ≡ x → (toInvestor, toFund) ≡ madeReports d b ps ask rooms investor fund
-        go true e = rw e (ap both (lists-by true e lists))
-        go false e = rw e (ap both (lists-by false e lists))
-
   module _ (rooms : Rooms) (s : Settled) (after flat : List ℕ) (t : Settling d b ps ask rooms s after flat) where
     -- the writer can take its records
     pub fillable : length flat ≡ recordWidth * mostRecords → (s .count ≤ rooms .records) × (recordWidth * s .count ≤ length flat)
@@ -221,3 +221,9 @@ module _ (d : Day) (b ps : List ℕ) (ask : Ask) where
         go false h =
             let none : tabulate (recordAt flat) (s .count) ≡ [] = rw h at (t .records) in
             rw (h, none, counted ∙ ap length none)
+
+    -- what the whole call leaves
+    pub order-leaves : (list left : List Record) (investor fund toInvestor toFund : List ℕ) → left ≡ withFirst (s .count) flat list → (toInvestor, toFund) ≡ madeReports d b ps ask rooms investor fund
+        → (orderAnswerReply (s .answer) ≡ askedReply d b ps ask rooms) × (after ≡ askedBook d b ps ask rooms) × (left ≡ madeRecords d b ps ask rooms list)
+        × ((toInvestor, toFund) ≡ madeReports d b ps ask rooms investor fund)
+    order-leaves list left investor fund toInvestor toFund e reports = (t .replies, t .book, e ∙ first-is list, reports)
