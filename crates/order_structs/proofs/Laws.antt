@@ -1,4 +1,4 @@
--- An order settled into a flat run: what its tests give, and what the whole call leaves.
+-- An order settled into a flat run: what its tests give, and the records and reports that it leaves.
 use mathlib.Core.Path.{_≡_, refl, sym, ap, _∙_}
 use mathlib.Core.Bool.{Bool, true, false, cond, false≢true}
 use mathlib.Core.List.{List, [], _++_, append-assoc}
@@ -206,7 +206,7 @@ module _ (d : Day) (b ps : List ℕ) (ask : Ask) where
     fillable e = (t .listed, omega (arith, t .held, e))
 
     -- the records of the flat run are the order's
-    first-is : (list : List Record) → withFirst (s .count) flat list ≡ madeRecords d b ps ask rooms list
+    pub first-is : (list : List Record) → withFirst (s .count) flat list ≡ madeRecords d b ps ask rooms list
     unfolding withFirst madeRecords
     first-is list = go (isAccepted (askedReply d b ps ask rooms)) refl
       where
@@ -221,9 +221,3 @@ module _ (d : Day) (b ps : List ℕ) (ask : Ask) where
         go false h =
             let none : tabulate (recordAt flat) (s .count) ≡ [] = rw h at (t .records) in
             rw (h, none, counted ∙ ap length none)
-
-    -- what the whole call leaves
-    pub order-leaves : (list left : List Record) (investor fund toInvestor toFund : List ℕ) → left ≡ withFirst (s .count) flat list → (toInvestor, toFund) ≡ madeReports d b ps ask rooms investor fund
-        → (orderAnswerReply (s .answer) ≡ askedReply d b ps ask rooms) × (after ≡ askedBook d b ps ask rooms) × (left ≡ madeRecords d b ps ask rooms list)
-        × ((toInvestor, toFund) ≡ madeReports d b ps ask rooms investor fund)
-    order-leaves list left investor fund toInvestor toFund e reports = (t .replies, t .book, e ∙ first-is list, reports)

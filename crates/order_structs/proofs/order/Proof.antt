@@ -61,7 +61,7 @@ use Rattle.order_structs.proofs.Settled as Se
 use Rattle.order_structs.proofs.Settled.Laws as Se′
 use Rattle.order_structs.proofs.OrderLocals.{Settle, Fill, askVal, flatLength, word, dl, ml, pl, sl, ar, am, ai, br, bm, rf, flat-room, xf, flatVal, sv, fields}
 use Rattle.order_structs.proofs.Local.{big-lit, Elements, Parts, array-in, array-out, lends-array, lends-array-shared, shared-array-back}
-use Rattle.order_structs.proofs.Laws.{fillable, order-leaves}
+use Rattle.order_structs.proofs.Laws.{fillable, first-is}
 use Rattle.order_structs.proofs.order.Key.{name as #order_structs·order}
 use Rattle.order_structs.proofs.order as order′
 use Rattle.order_structs.proofs.order.Statement as stated
@@ -248,7 +248,7 @@ module _ {M : Type 1} (𝓤 : URA M) (H : Heap 𝓤) (A : Atoms 𝓤) (W : Given
       suffices ! _ (ends-at 𝓤 H A order′.ended stayed (order′.clauses 𝓤 H A mem run) W (((κ₀, (κ₁, (κ₂, (κ₃, (κ₄, (κ₅, tt)))))), (q₀, (q₁, (q₂, (q₃, (q₄, (q₅, tt)))))), tt, arg, vals), tt)
       (EL.val OA.the-type OA′.the-laws (s .answer)) (s .answer)
       (tt, (zs, (tt, (tt, (ws, (us, (vs, tt))))))) (tt, (n₁, (tt, (tt, (n₃, (n₄, (n₅, tt)))))))) $
-      says ! (order-leaves (dayAt (y .now)) ys₁ (z .now) ask rooms s zs fs t ys₃ ws ys₄ ys₅ us vs e reported) $
+      says ! (t .replies, t .book, e ∙ first-is (dayAt (y .now)) ys₁ (z .now) ask rooms s zs fs t ys₃, reported) $
       nothing ! $ move ! (6 ∷ 0 ∷ []) $ join ! $ move ! (5 ∷ 0 ∷ []) $ join ! $ move ! (4 ∷ 0 ∷ []) $ join ! $ move ! (3 ∷ 0 ∷ []) $ join ! $ move ! (2 ∷ 0 ∷ []) $ join ! $ move ! (1 ∷ 0 ∷ []) $
       join ! $ frame ! $
       -- [the last book; day; prices; the last list; the investor's reports; the fund's]
@@ -396,7 +396,8 @@ module _ {M : Type 1} (𝓤 : URA M) (H : Heap 𝓤) (A : Atoms 𝓤) (W : Given
         lists s (bookLeft zs) (flatLeft zs) (investorLeft zs) (fundLeft zs) (subst (Is Se.the-row s) (LL.tells Se.the-type Se′.the-laws s _ is) is) t reported n₁ (nf ∙ ex) n₄ n₅))))))))))))
 
   walk : (𝓣 : Tables 𝓤 H) → Triple 𝓤 (𝓣 .C #order_structs·settle) (Settle 𝓤 H A mem run) → Triple 𝓤 (𝓣 .C #record_writer·fill) (Fill 𝓤 H A mem run)
-      → ent 𝓤 (onEntry 𝓤 H A order′.signature (κ₀, (κ₁, (κ₂, (κ₃, (κ₄, (κ₅, tt)))))) (q₀, (q₁, (q₂, (q₃, (q₄, (q₅, tt)))))) arg vals) (WpFn 𝓤 H (𝓣 .C) (𝓣 .Λ) code.function (s₀ ∷ s₁ ∷ s₂ ∷ askVal ask ∷ s₃ ∷ s₄ ∷ s₅ ∷ []) Post)
+      → ent 𝓤 (onEntry 𝓤 H A order′.signature (κ₀, (κ₁, (κ₂, (κ₃, (κ₄, (κ₅, tt)))))) (q₀, (q₁, (q₂, (q₃, (q₄, (q₅, tt)))))) arg vals)
+      (WpFn 𝓤 H (𝓣 .C) (𝓣 .Λ) code.function (s₀ ∷ s₁ ∷ s₂ ∷ askVal ask ∷ s₃ ∷ s₄ ∷ s₅ ∷ []) Post)
   walk 𝓣 known-settle known-fill =
       qed W ((‵ (flft κ₀ q₀) ⊛ ‵ (flft κ₁ q₁) ⊛ ‵ (flft κ₂ q₂) ⊛ ‵ (flft κ₃ q₃) ⊛ ‵ (flft κ₄ q₄) ⊛ ‵ (flft κ₅ q₅)
       ⊛ ‵ ftrue)
