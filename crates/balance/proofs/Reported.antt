@@ -86,8 +86,7 @@ all-reported s [] t h k = tt
 all-reported s (e ∷ es) t h k =
     let keeps = step-keeps s (e .call) (e .lent) k in
     let first : e .result .after .day .fund .«first_code» ≡ s .day .fund .«first_code» =
-    ap (λ (r : Result). r .after .day .fund .«first_code») (h .0) ∙ ap (λ (f : Fund). f .«first_code») (keeps .stays .fund) in
-    (
+    ap (λ (r : Result). r .after .day .fund .«first_code») (h .0) ∙ ap (λ (f : Fund). f .«first_code») (keeps .stays .fund) in (
       (λ o a. rw (h .0) (step-reported s (e .call) (e .lent) o (rw (h .0) at a))),
       rw first at (all-reported (e .result .after) es t (h .1) (rw (h .0) (keeps .kept))),
     )

@@ -122,9 +122,7 @@ pub extern "C" fn roffelaine_create(
     ensures book { λ r. ⌜ now (book .exit) ≡ createdBook (dayAt (now (day .entry))) (now (book .entry)) (now (prices .entry)) account units (roomsIn (lentOf (now (records .entry)) (now (investor .entry)) (now (fund .entry)))) ⌝ }
     ensures lists { λ r. ⌜ lentOf (now (records .exit)) (now (investor .exit)) (now (fund .exit)) ≡ createdLists (dayAt (now (day .entry))) (now (book .entry)) (now (prices .entry)) account units (lentOf (now (records .entry)) (now (investor .entry)) (now (fund .entry))) ⌝ }
 {
-    let answer = day::create(
-        day, book, prices, account, units, records, investor, fund,
-    );
+    let answer = day::create(day, book, prices, account, units, records, investor, fund);
     answers::tell_order(answers::of_order(answer), place, value, reports)
 }
 
@@ -147,9 +145,7 @@ pub extern "C" fn roffelaine_redeem(
     ensures book { λ r. ⌜ now (book .exit) ≡ redeemedBook (dayAt (now (day .entry))) (now (book .entry)) (now (prices .entry)) account units (roomsIn (lentOf (now (records .entry)) (now (investor .entry)) (now (fund .entry)))) ⌝ }
     ensures lists { λ r. ⌜ lentOf (now (records .exit)) (now (investor .exit)) (now (fund .exit)) ≡ redeemedLists (dayAt (now (day .entry))) (now (book .entry)) (now (prices .entry)) account units (lentOf (now (records .entry)) (now (investor .entry)) (now (fund .entry))) ⌝ }
 {
-    let answer = day::redeem(
-        day, book, prices, account, units, records, investor, fund,
-    );
+    let answer = day::redeem(day, book, prices, account, units, records, investor, fund);
     answers::tell_order(answers::of_order(answer), place, value, reports)
 }
 
@@ -170,9 +166,7 @@ pub extern "C" fn roffelaine_creation_test(
 ) -> u64
     ensures { λ r. ⌜ ToldOrder (creationReply (dayAt (now (day .entry))) (now (book .entry)) (now (prices .entry)) account units (roomsOf records investor fund)) r (now (place .exit)) (now (value .exit)) (now (reports .exit)) ⌝ }
 {
-    let answer = day::creation_test(
-        day, book, prices, account, units, records, investor, fund,
-    );
+    let answer = day::creation_test(day, book, prices, account, units, records, investor, fund);
     answers::tell_order(answers::of_order(answer), place, value, reports)
 }
 
@@ -193,9 +187,7 @@ pub extern "C" fn roffelaine_redemption_test(
 ) -> u64
     ensures { λ r. ⌜ ToldOrder (redemptionReply (dayAt (now (day .entry))) (now (book .entry)) (now (prices .entry)) account units (roomsOf records investor fund)) r (now (place .exit)) (now (value .exit)) (now (reports .exit)) ⌝ }
 {
-    let answer = day::redemption_test(
-        day, book, prices, account, units, records, investor, fund,
-    );
+    let answer = day::redemption_test(day, book, prices, account, units, records, investor, fund);
     answers::tell_order(answers::of_order(answer), place, value, reports)
 }
 
@@ -217,9 +209,7 @@ pub extern "C" fn roffelaine_run(
     ensures left { λ r. ⌜ batchOf (dayAt (now (day .entry))) (now (book .exit)) (now (prices .exit)) (lentOf (now (records .exit)) (now (investor .exit)) (now (fund .exit))) (now (answers .exit)) ≡ ran (now (rows .entry)) (batchOf (dayAt (now (day .entry))) (now (book .entry)) (now (prices .entry)) (lentOf (now (records .entry)) (now (investor .entry)) (now (fund .entry))) (now (answers .entry))) ⌝ }
     ensures demand { λ r. ⌜ Demand3 (stateOf (dayAt (now (day .entry))) (now (book .entry)) (now (prices .entry))) (eventsOf (now (rows .entry)) (batchOf (dayAt (now (day .entry))) (now (book .entry)) (now (prices .entry)) (lentOf (now (records .entry)) (now (investor .entry)) (now (fund .entry))) (now (answers .entry)))) (stateOf (dayAt (now (day .entry))) (now (book .exit)) (now (prices .exit))) ⌝ }
 {
-    let answer = driver::run(
-        day, book, prices, rows, records, investor, fund, answers,
-    );
+    let answer = driver::run(day, book, prices, rows, records, investor, fund, answers);
     answers::tell(answers::of_answer(answer), place, value)
 }
 
@@ -241,9 +231,7 @@ pub extern "C" fn roffelaine_run_public(
     ensures left { λ r. ⌜ batchOf (dayAt (now (day .entry))) (now (book .exit)) (now (prices .exit)) (lentOf (now (records .exit)) (now (investor .exit)) (now (fund .exit))) (now (answers .exit)) ≡ ran (now (rows .entry)) (batchOf (dayAt (now (day .entry))) (now (book .entry)) (now (prices .entry)) (lentOf (now (records .entry)) (now (investor .entry)) (now (fund .entry))) (now (answers .entry))) ⌝ }
     ensures demand { λ r. ⌜ Demand3 (stateOf (dayAt (now (day .entry))) (now (book .entry)) (now (prices .entry))) (eventsOf (now (rows .entry)) (batchOf (dayAt (now (day .entry))) (now (book .entry)) (now (prices .entry)) (lentOf (now (records .entry)) (now (investor .entry)) (now (fund .entry))) (now (answers .entry)))) (stateOf (dayAt (now (day .entry))) (now (book .exit)) (now (prices .exit))) ⌝ }
 {
-    let answer = driver::run_public(
-        day, book, prices, rows, records, investor, fund, answers,
-    );
+    let answer = driver::run_public(day, book, prices, rows, records, investor, fund, answers);
     answers::tell(answers::of_answer(answer), place, value)
 }
 

@@ -151,7 +151,15 @@ pub fn run_public(
     ensures demand { λ r. ⌜ Demand3 (stateOf (dayAt (now (day .entry))) (now (book .entry)) (now (prices .entry))) (eventsOf (now (rows .entry)) (batchOf (dayAt (now (day .entry))) (now (book .entry)) (now (prices .entry)) (lentOf (now (records .entry)) (now (investor .entry)) (now (fund .entry))) (now (answers .entry)))) (stateOf (dayAt (now (day .entry))) (now (book .exit)) (now (prices .exit))) ⌝ }
 {
     run_rows(
-        false, day, book, prices, rows, records, investor, fund, answers,
+        false,
+        day,
+        book,
+        prices,
+        rows,
+        records,
+        investor,
+        fund,
+        answers,
     )
 }
 
@@ -170,8 +178,16 @@ pub fn run(
     ensures left { λ r. ⌜ batchOf (dayAt (now (day .entry))) (now (book .exit)) (now (prices .exit)) (lentOf (now (records .exit)) (now (investor .exit)) (now (fund .exit))) (now (answers .exit)) ≡ ran (now (rows .entry)) (batchOf (dayAt (now (day .entry))) (now (book .entry)) (now (prices .entry)) (lentOf (now (records .entry)) (now (investor .entry)) (now (fund .entry))) (now (answers .entry))) ⌝ }
     ensures demand { λ r. ⌜ Demand3 (stateOf (dayAt (now (day .entry))) (now (book .entry)) (now (prices .entry))) (eventsOf (now (rows .entry)) (batchOf (dayAt (now (day .entry))) (now (book .entry)) (now (prices .entry)) (lentOf (now (records .entry)) (now (investor .entry)) (now (fund .entry))) (now (answers .entry)))) (stateOf (dayAt (now (day .entry))) (now (book .exit)) (now (prices .exit))) ⌝ }
 {
-    let known = calls::is_kept(day, book, prices);
+    let kept = calls::is_kept(day, book, prices);
     run_rows(
-        known, day, book, prices, rows, records, investor, fund, answers,
+        kept,
+        day,
+        book,
+        prices,
+        rows,
+        records,
+        investor,
+        fund,
+        answers,
     )
 }

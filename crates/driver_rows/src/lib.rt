@@ -107,14 +107,7 @@ pub fn row_call(
 {
     let kind = row[0];
     if kind == 1 {
-        return answers::of_answer(calls::price(
-            known,
-            day,
-            book,
-            prices,
-            row[1] as usize,
-            row[2],
-        ));
+        return answers::of_answer(calls::price(known, day, book, prices, row[1] as usize, row[2]));
     }
     if kind == 2 {
         return answers::of_answer(calls::trade(

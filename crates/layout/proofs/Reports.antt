@@ -38,8 +38,16 @@ report-read rs list k r h =
     let at = laid-read reportNumbers reportWidth (λ q. refl) rs list k r h in
     let first = laid-first reportNumbers reportWidth (λ q. refl) rs list k r h (omega arith) in
     rw (
-      first, at 1 (omega arith), at 2 (omega arith), at 3 (omega arith), at 4 (omega arith),
-      at 5 (omega arith), at 6 (omega arith), at 7 (omega arith), at 8 (omega arith), at 9 (omega arith),
+      first,
+      at 1 (omega arith),
+      at 2 (omega arith),
+      at 3 (omega arith),
+      at 4 (omega arith),
+      at 5 (omega arith),
+      at 6 (omega arith),
+      at 7 (omega arith),
+      at 8 (omega arith),
+      at 9 (omega arith),
     )
 
 -- a number of each report, summed

@@ -416,14 +416,7 @@ pub fn put_report(list: &mut [u64], k: usize, r: Report)
 }
 
 // Stores the i-th answer: a refusal's number, its place, the value of an accepted call and the count of an order's reports.
-pub fn put_answer(
-    answers: &mut [u64],
-    i: usize,
-    number: u64,
-    place: u64,
-    value: u64,
-    reports: u64,
-)
+pub fn put_answer(answers: &mut [u64], i: usize, number: u64, place: u64, value: u64, reports: u64)
     requires { ⌜ answerWidth * i + answerWidth ≤ length (now answers) ⌝ }
     ensures { λ _. ⌜ now (answers .exit) ≡ putReply (now (answers .entry)) i (record { number = number; place = place; value = value; reports = reports }) ⌝ }
 {
