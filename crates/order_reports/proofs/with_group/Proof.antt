@@ -6,7 +6,7 @@ use Rattle.order_reports.proofs.with_group.Tie as tie
 
 returns : tie.Need-returns
 unfolding withGroup
-returns c = rw (eq-eqb _ _ (c .if1 .taken))
+returns c = rw (eq-eqb (c .before .before .args .amount .0) 0 (c .if1 .taken))
 
 returns-2 : tie.Need-returns-2
 unfolding withGroup
