@@ -4,14 +4,13 @@ use mathlib.Core.Bool.{true, false, false≢true}
 use mathlib.Core.List.{List, [], _∷_, map}
 use Prim.Native.Nat.{ℕ, _<_}
 use native.Mathlib.Omega.{arith}
-use lib.ListN.{length, getD, length-map, List·getD-map}
-use Rattle.sequences.specs.Checks.{Reply, isAccepted}
-use Rattle.sequences.proofs.Sums.{sumOf, sum-map}
+use lib.ListN.{length, length-map, List·getD-map}
+use Rattle.sequences.specs.Checks.{isAccepted}
+use Rattle.sequences.proofs.Sums.{sum-map}
 use Rattle.fund.specs.Components.{componentFault}
 use Rattle.layout.specs.Day.{Day}
 use Rattle.layout.specs.declared.Fund.{Fund}
 use Rattle.layout.specs.declared.Report.{Report}
-use Rattle.layout.specs.Book.{account}
 use Rattle.layout.specs.Reports.{reportAt, withReports}
 use Rattle.layout.proofs.Reports.{report-read}
 use Rattle.rules.specs.Records.{orderRecords}
@@ -26,7 +25,7 @@ use Rattle.balance.specs.Reported.{CashTold, Reported, isOrder, AllRepor
 use Rattle.balance.proofs.ReportedCash.{cash-told}
 use Rattle.balance.proofs.ReportedStock.{stock-told}
 use Rattle.balance.proofs.Relation.{KeptState}
-use Rattle.balance.proofs.Steps.{step-keeps, kept-step}
+use Rattle.balance.proofs.Steps.{step-keeps}
 
 -- the lists with an order written, whatever stood in them before
 module _ (d : Day) (sound : componentFault (d .fund .«first_code») (d .components) (d .count) ≡ d .count) (stock rest units : ℕ) (moved : ℕ → ℕ) (other shanghai : ℕ)

@@ -18,8 +18,8 @@ use Rattle.layout.specs.Day.{Day}
 use Rattle.layout.specs.declared.Group.{Group}
 use Rattle.layout.specs.declared.Record.{Record}
 use Rattle.layout.specs.declared.Report.{Report}
-use Rattle.layout.specs.Records.{recordAt, withRecords}
-use Rattle.layout.specs.Reports.{groupOf, reportAt, withReports}
+use Rattle.layout.specs.Records.{withRecords}
+use Rattle.layout.specs.Reports.{groupOf, withReports}
 use Rattle.layout.proofs.Records.{records-total}
 use Rattle.layout.proofs.Reports.{reports-total}
 use Rattle.rules.specs.Lines.{codeOf}

@@ -1,6 +1,6 @@
 -- The stock of an order, in its reports and in its records.
 use mathlib.Core.Path.{_≡_, refl, sym, ap, _∙_}
-use mathlib.Core.Bool.{Bool, true, false, cond, _||_}
+use mathlib.Core.Bool.{Bool, true, false, cond}
 use mathlib.Core.List.{List, [], _∷_, _++_, map}
 use Prim.Native.Nat.{ℕ, zero, suc, _+_, _≤_, _<_}
 use native.Mathlib.Omega.{arith}
@@ -8,7 +8,7 @@ use lib.Dec.{ltb, eqb}
 use lib.ListN.{length, getD, length-append, length-map, List·getD-append, List·getD-map}
 use borrow.Author.Tests.{le-ltb}
 use Rattle.sequences.specs.Below.{joinBelow}
-use Rattle.sequences.proofs.Sums.{sumOf, sum-append, sum-ones, sum-map, Each, each-append, each-at}
+use Rattle.sequences.proofs.Sums.{sumOf, sum-append, Each, each-append, each-at}
 use Rattle.fund.specs.Components.{outsideGroup, componentFault}
 use Rattle.fund.proofs.Laws.{components-fine}
 use Rattle.layout.specs.Day.{Day}

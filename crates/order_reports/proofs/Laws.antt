@@ -7,7 +7,7 @@ use native.Mathlib.Omega.{arith}
 use lib.Dec.{eqb}
 use lib.ListN.{length, length-append}
 use lib.Seq.{sets, length-sets}
-use borrow.Author.Tests.{eqb-true, eq-eqb, ne-eqb}
+use borrow.Author.Tests.{eqb-true, eq-eqb}
 use Rattle.sequences.specs.Below.{tabulate}
 use Rattle.sequences.proofs.Below.{table-length}
 use Rattle.layout.specs.Places.{reportWidth}

@@ -1,22 +1,21 @@
 -- What is told from an order's own records are the reports of its definition.
-use mathlib.Core.Path.{_≡_, refl, sym, ap, _∙_}
-use mathlib.Core.List.{List, _∷_, map, _++_}
-use Prim.Native.Nat.{ℕ, suc, _+_, _-_, _*_, _≤_, _<_}
+use mathlib.Core.Path.{_≡_, sym, ap, _∙_}
+use mathlib.Core.List.{List, map}
+use Prim.Native.Nat.{ℕ, _+_, _≤_}
 use native.Mathlib.Omega.{arith}
 use lib.ListN.{length, getD, length-append, length-map, List·getD-map}
 use Rattle.sequences.specs.Below.{joinBelow, tabulate}
 use Rattle.sequences.proofs.Below.{table-ext}
 use Rattle.layout.specs.Day.{Day}
-use Rattle.layout.specs.Places.{recordWidth}
 use Rattle.layout.specs.declared.Record.{Record}
 use Rattle.layout.specs.declared.Report.{Report}
 use Rattle.layout.specs.Records.{recordAt, withRecords}
 use Rattle.layout.proofs.Records.{record-read}
 use Rattle.rules.specs.declared.CashByMarket.{CashByMarket}
 use Rattle.rules.specs.Records.{stockRecord, orderRecords}
-use Rattle.rules.specs.Reports.{unitType, cashGroups, cashReports, stockReport, orderReports, opposite}
-use Rattle.rules.specs.Kinds.{movedBy, stockSide, restSide, recordsBy, reportsBy, cashReportCount}
-use Rattle.rules.proofs.Reports.{stockOf, stock-reports, noRecord, line-read, fund-reports, cash-count}
+use Rattle.rules.specs.Reports.{unitType, stockReport, orderReports, opposite}
+use Rattle.rules.specs.Kinds.{movedBy, stockSide, restSide, recordsBy, reportsBy}
+use Rattle.rules.proofs.Reports.{stockOf, stock-reports, noRecord, line-read, fund-reports}
 use Rattle.order_reports.specs.Told.{told, toldStock, toldReports}
 
 -- of an order whose records have one side of stock and one of the rest, told with any two sides
@@ -60,17 +59,7 @@ module _ (kind : ℕ) (d : Day) (s : List ℕ) (units m : ℕ) (c : CashByMarket
   abbrev moves : List Record
   moves = joinBelow (stockRecord d (stockSide kind) (movedBy kind d s m)) (d .count)
 
-  -- how many reports and records there are beside those of stock
-  pub report-count : length (reportsBy kind d s units m c) ≡ 1 + length moves + cashReportCount c
-  unfolding reportsBy orderReports
-  report-count =
-      simp length-append
-      (omega (
-        arith,
-        ap length (stock-reports d (stockSide kind) (stockSide kind) (movedBy kind d s m) (d .count)) ∙ length-map moves (stockOf (stockSide kind)),
-        cash-count (restSide kind) c,
-      ))
-
+  -- the unit's record and those of stock are among the records
   pub record-count : 1 + length moves ≤ length (recordsBy kind d s units m c)
   unfolding recordsBy orderRecords
   record-count = simp length-append (omega arith)

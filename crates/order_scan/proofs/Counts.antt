@@ -15,11 +15,9 @@ use Rattle.rules.specs.declared.Ask.{Ask}
 use Rattle.rules.specs.declared.CashByMarket.{CashByMarket}
 use Rattle.rules.specs.Orders.{baskets}
 use Rattle.rules.specs.Records.{recordOf, cashParts, cashRecords, stockRecord, orderRecords, shanghaiStep, otherStep}
-use Rattle.rules.specs.declared.Counts.{Counts}
-use Rattle.rules.specs.Reports.{cashGroups, cashReports, stockReport, orderReports}
-use Rattle.rules.specs.Kinds.{allCash, stockSide, restSide, movedBy, recordsBy, reportsBy, cashReportCount, askedCash, askedRecords, askedReports, countsBy}
+use Rattle.rules.specs.Kinds.{allCash, stockSide, movedBy, recordsBy, reportsBy, cashReportCount, askedCash, countsBy}
 use Rattle.rules.proofs.Asked.{asked-records, asked-reports}
-use Rattle.rules.proofs.Reports.{cash-count}
+use Rattle.rules.proofs.Reports.{report-count}
 use Rattle.order_scan.specs.Lines.{stockCount, cashCount, scanCounts}
 use Rattle.order_scan.specs.Scans.{orderScan}
 
@@ -59,28 +57,23 @@ order-count d ss rs units moved other shanghai =
       cash-records (d .fund .«first_code» + shanghaiStep) rs shanghai,
     ))
 
--- the unit's, one for each component with stock moved, and that of cash
-stock-reports : (d : Day) (side : ℕ) (moved : ℕ → ℕ) (i : ℕ) → length (stockReport d side moved i) ≡ stockCount (moved i)
-unfolding stockReport
-stock-reports d side moved i = one-or-none (ltb 0 (moved i)) _
-
-report-count : (kind : ℕ) (d : Day) (s : List ℕ) (units m : ℕ) (c : CashByMarket)
+-- the reports of stock are as many as its records
+reports-count : (kind : ℕ) (d : Day) (s : List ℕ) (units m : ℕ) (c : CashByMarket)
     → length (reportsBy kind d s units m c) ≡ 1 + sumBelow (λ i. stockCount (movedBy kind d s m i)) (d .count) + cashReportCount c
-unfolding reportsBy orderReports
-report-count kind d s units m c =
-    simp length-append
-    (omega (
+reports-count kind d s units m c =
+    let moved = movedBy kind d s m in
+    omega (
       arith,
-      join-count (stockReport d (stockSide kind) (movedBy kind d s m)) (λ i. stockCount (movedBy kind d s m i)) (d .count) (stock-reports d (stockSide kind) (movedBy kind d s m)),
-      cash-count (restSide kind) c,
-    ))
+      report-count kind d s units m c,
+      join-count (stockRecord d (stockSide kind) moved) (λ i. stockCount (moved i)) (d .count) (stock-records d (stockSide kind) moved),
+    )
 
 -- so the scan counts them
 pub scan-counts : (d : Day) (s f ps : List ℕ) (k : Ask) → k .kind < 2 → scanCounts (orderScan (k .kind) d s f ps (baskets d (k .units))) ≡ countsBy d s ps k
 unfolding scanCounts orderScan recordsBy askedCash countsBy
 scan-counts d s f ps k h =
     let records = sym (order-count d _ _ (k .units) (movedBy (k .kind) d s (baskets d (k .units))) _ _) ∙ ap length (asked-records d s ps k h) in
-    let reports = sym (report-count (k .kind) d s (k .units) (baskets d (k .units)) (askedCash d s ps k)) ∙ ap length (asked-reports d s ps k h) in
+    let reports = sym (reports-count (k .kind) d s (k .units) (baskets d (k .units)) (askedCash d s ps k)) ∙ ap length (asked-reports d s ps k h) in
     λ i. record { records = records i; reports = reports i }
 
 -- at most two for an amount of cash, and one for a component

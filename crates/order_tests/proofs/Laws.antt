@@ -57,7 +57,8 @@ module _ (d : Day) (ps : List ℕ) (m : ℕ) (missing : Bool) (worth : ℕ) wher
 -- the stages, from a scan
 module _ (d : Day) (ps : List ℕ) (kind m : ℕ) (t : Scan) (held : ℕ) (rooms : Rooms) where
   pub ratio-passes : reply 0 0 0 ≡ answered (ratioTests d ps m (t .missing) (t .«missing_worth» .0)) 0
-      → answering (lastTests (cashNumber kind) (cashPlace kind (d .count)) held (allCash (t .cash)) rooms (scanCounts t)) (madeReply (scanCounts t)) ≡ answering (moneyTests d ps kind m t held rooms) (madeReply (scanCounts t))
+      → answering (lastTests (cashNumber kind) (cashPlace kind (d .count)) held (allCash (t .cash)) rooms (scanCounts t)) (madeReply (scanCounts t))
+      ≡ answering (moneyTests d ps kind m t held rooms) (madeReply (scanCounts t))
   unfolding moneyTests ratioTests
   ratio-passes e = stage-passed (ratioTests d ps m (t .missing) (t .«missing_worth» .0)) _ _ tt e
 

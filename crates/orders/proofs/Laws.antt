@@ -35,6 +35,7 @@ use Rattle.rules.specs.Kinds.{creationOf, redemptionOf, allCash, cashBy, orderM
 use Rattle.rules.specs.Kinds.{askedCash, askedRecords, askedReports, countsBy, askedCounts, askedMeans, askedChecks, askedReply, askedMoves, withAsked}
 use Rattle.rules.proofs.SoundDay.{SoundDay, sound-facts}
 use Rattle.rules.proofs.Accepted.{Orders, Listed, order-facts, creation-facts, creation-made, redemption-facts, redemption-made}
+use Rattle.rules.proofs.Reports.{report-count}
 use Rattle.rules.proofs.Replies.{is-accepted, on-sound, stage-passed, stage-stopped}
 use Rattle.rules.proofs.Asked.{by-ask, asked-records, asked-reports, asked-moves}
 use Rattle.book.specs.Ready.{OrderReady}
@@ -42,7 +43,7 @@ use Rattle.book.proofs.Ready.{creation-ready, redemption-ready}
 use Rattle.order_records.specs.Ready.{Writable}
 use Rattle.order_records.proofs.Sound.{sound-writable}
 use Rattle.order_reports.specs.Told.{toldReports}
-use Rattle.order_reports.proofs.Order.{report-count, record-count, investor-told, fund-told}
+use Rattle.order_reports.proofs.Order.{record-count, investor-told, fund-told}
 use Rattle.order_tests.specs.Tests.{meansAnswer}
 use Rattle.order_form.specs.Form.{headOf, headSum, wholeUnits, limitsHeld, orderForm}
 use Rattle.order_form.proofs.Laws.{order-form}
@@ -171,7 +172,7 @@ module _ (d : Day) (b ps : List ℕ) (ask : Ask) (lent : Lent) (k : ask .kind < 
   counted = ap (λ (r : Reply). r .reports) (made ∙ sym own-reply ∙ reply-made d b ps (roomsIn lent) ask k taken)
 
   told : counts .reports ≡ 1 + stocked + cashReportCount c
-  told = counted ∙ sym (ap length reports) ∙ report-count (ask .kind) d s (ask .units) m c (lent .records)
+  told = counted ∙ sym (ap length reports) ∙ report-count (ask .kind) d s (ask .units) m c
 
   -- the records as they stand written
   module _ (written : List ℕ) (w : written ≡ withRecords (recordsBy (ask .kind) d s (ask .units) m c) (lent .records)) where

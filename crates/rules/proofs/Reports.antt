@@ -3,10 +3,10 @@
 use mathlib.Core.Path.{_≡_, refl, ap, _∙_}
 use mathlib.Core.Bool.{Bool, true, false, cond}
 use mathlib.Core.List.{List, [], _∷_, _++_, map}
-use Prim.Native.Nat.{ℕ, zero, suc, _<_}
+use Prim.Native.Nat.{ℕ, zero, suc, _+_, _<_}
 use native.Mathlib.Omega.{arith}
 use lib.Dec.{ltb, eqb}
-use lib.ListN.{length, getD, length-append, List·getD-append}
+use lib.ListN.{length, getD, length-append, length-map, List·getD-append}
 use borrow.Author.Tests.{eqb-true, eqb-false, eq-eqb, ne-eqb}
 use Rattle.sequences.specs.Below.{joinBelow}
 use Rattle.layout.specs.Day.{Day}
@@ -112,3 +112,16 @@ cash-count side c = go (eqb (c .shanghai .0) 0) refl (eqb (c .other .0) 0) refl
     go true p true q = rw (eq-eqb (allCash c) 0 (omega (arith, eqb-true (c .shanghai .0) 0 p, eqb-true (c .other .0) 0 q)))
     go true p false q = rw (ne-eqb (allCash c) 0 (λ e. eqb-false (c .other .0) 0 q (omega arith)))
     go false p b q = rw (ne-eqb (allCash c) 0 (λ e. eqb-false (c .shanghai .0) 0 p (omega arith)))
+
+-- all reports to a party: the unit's, one for each record of stock, and that of cash
+pub report-count : (kind : ℕ) (d : Day) (s : List ℕ) (units m : ℕ) (c : CashByMarket)
+    → length (reportsBy kind d s units m c) ≡ 1 + length (joinBelow (stockRecord d (stockSide kind) (movedBy kind d s m)) (d .count)) + cashReportCount c
+unfolding reportsBy orderReports
+report-count kind d s units m c =
+    let moves = joinBelow (stockRecord d (stockSide kind) (movedBy kind d s m)) (d .count) in
+    simp length-append
+    (omega (
+      arith,
+      ap length (stock-reports d (stockSide kind) (stockSide kind) (movedBy kind d s m) (d .count)) ∙ length-map moves (stockOf (stockSide kind)),
+      cash-count (restSide kind) c,
+    ))

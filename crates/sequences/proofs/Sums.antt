@@ -52,12 +52,6 @@ module _ {A : Type 0} where
   each-at P (y ∷ xs) zero x h p = p .0
   each-at P (y ∷ xs) (suc k) x h p = each-at P xs k x (le-of-suc-le-suc h) (p .1)
 
-  -- where each counts 1, they are counted
-  pub sum-ones : (f : A → ℕ) (xs : List A) → Each (λ x. f x ≡ 1) xs → sumOf f xs ≡ length xs
-  unfolding sumOf Each
-  sum-ones f [] p = refl
-  sum-ones f (x ∷ xs) p = omega (arith, p .0, sum-ones f xs (p .1))
-
 pub sum-map : {A B : Type 0} (f : B → ℕ) (g : A → B) (xs : List A) → sumOf f (map g xs) ≡ sumOf (λ x. f (g x)) xs
 unfolding sumOf
 sum-map f g [] = refl

@@ -18,8 +18,9 @@ row-call-requires c κs =
 
 returns : tie.Need-returns
 returns c =
-    let start = c .before .before .before .before .before .before .before .before .before .before .before .before .before .before .before .before .before .before .before .before .before .before .before .before .before .before .before .before .before in
-    let called = rw (part-is rowWidth (now (start .args .rows)) (start .args .i)) at (c .before .before .before .before .before .before .before .before .before .before .before .before .before .before .row-call .ensures) in
+    let call = c .before .before .before .before .before .before .before .before .before .before .before .before .before .before in
+    let start = call .before .before .before .before .before .before .before .before .before .before .before .before .before .before .before in
+    let called = rw (part-is rowWidth (now (start .args .rows)) (start .args .i)) at (call .row-call .ensures) in
     row-is-done _ _ _ _ _ _ _ (called .0) (called .1) (c .before .before .put-answer .ensures)
 
 pub do-row-spec : {M : Type 1} → statement M

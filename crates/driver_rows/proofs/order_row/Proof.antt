@@ -4,7 +4,6 @@ use Prim.Native.Nat.{_≤_}
 use lib.ListN.{length}
 use denote.Ref.{now}
 use borrow.Author.Needs.{needs}
-use native.Mathlib.Omega.{arith}
 use Rattle.rules.specs.Lent.{lentOf}
 use Rattle.driver_rows.specs.Rows.{spansIn}
 use Rattle.driver_rows.proofs.Rows.{parts-meet}
@@ -13,15 +12,20 @@ use Rattle.driver_rows.proofs.order_row.Tie as tie
 
 mul-order-3 : tie.Need-mul-order-3
 mul-order-3 c =
-    let within : c .before .before .before .part-in3 .result .end ≤ length (now (c .before .before .before .before .before .before .before .before .before .before .before .before .before .before .before .before .before .before .before .args .fund)) = c .before .before .before .part-in3 .ensures .1 .1 in
-    search (needs, within, c .before .before .before .before .before .before .before .before .before .before .before .before .before .before .before .before .before .before .before .good .1 .1 .1 .1 .1 .1 .0)
+    let part = c .before .before .before in
+    let start = part .before .before .before .before .before .before .before .before .before .before .before .before .before .before .before .before in
+    let within : part .part-in3 .result .end ≤ length (now (start .args .fund)) = part .part-in3 .ensures .1 .1 in
+    search (needs, within, start .good .1 .1 .1 .1 .1 .1 .0)
 
 returns : tie.Need-returns
 returns c =
-    let f = c .before .before .before .before .before .before .before .before .before .before .before .before .before .before .part-in3 .ensures in
-    let i = c .before .before .before .before .before .before .before .before .before .before .before .before .before .before .before .before .before .part-in2 .ensures in
-    let r = c .before .before .before .before .before .before .before .before .before .before .before .before .before .before .before .before .before .before .before .before .part-in .ensures in
-    let start = c .before .before .before .before .before .before .before .before .before .before .before .before .before .before .before .before .before .before .before .before .before .before .before .before .before .before .before .before .before .before in
+    let third = c .before .before .before .before .before .before .before .before .before .before .before .before .before .before in
+    let second = third .before .before .before in
+    let first = second .before .before .before in
+    let start = first .before .before .before .before .before .before .before .before .before .before in
+    let f = third .part-in3 .ensures in
+    let i = second .part-in2 .ensures in
+    let r = first .part-in .ensures in
     let made = c .before .before .before .before .before .before .before .before .before .order .ensures in
     let runs = lentOf (now (start .args .records)) (now (start .args .investor)) (now (start .args .fund)) in
     let met =
