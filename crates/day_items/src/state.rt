@@ -145,7 +145,7 @@ fn print_row(item: &[u64]) {
 }
 
 // Whether a run has what `fill` put there; if not, the first other place is printed.
-fn is_as_filled(word: &[u8], run: &[u64]) -> bool {
+pub fn is_as_filled(word: &[u8], run: &[u64]) -> bool {
     let i = runs::first_marred(run);
     if i < run.len() {
         output::place(word, i);
