@@ -22,8 +22,9 @@ Printed is, for each row, its number and then replies, each as number, place, va
     price, trade or value ..        the reply of a call
     test ..                         the reply of an order's test alone
     create or redeem ..             the reply of the order
-    records .., investor ..,        the three lists that the order was lent, whole, or `lists same` where one of them is long and
-    fund_reports ..                 all are unchanged
+    records .., investor ..,        where it is accepted: the numbers that it wrote to each of its three lists
+    fund_reports ..
+    rest same                       the lists behind these, and where it is refused the whole lists, are what they were
     same                            where the call is refused: the book and the prices are what they were
     book .., prices ..              both, whole: behind an accepted opening with no calls, and at the end of a row in order;
                                     behind an accepted call that is made on a state anew, those that are other than before
@@ -40,9 +41,6 @@ from vector_files import LISTS, is_held, numbers, opened_book
 TAGS = {"opening": 1, "anew": 2, "state": 3, "price": 4, "trade": 5, "create": 6, "redeem": 7, "value": 8, "show": 9}
 
 FILES = ["openings", "days", "big_days", "broken_days", "chains"]
-
-# A refused order's lists are printed whole up to this length.
-WHOLE = 100
 
 
 def line(*words):
@@ -88,13 +86,6 @@ def lists(c):
         yield name, room, written
 
 
-def listed(c):
-    """Whether the lists are printed whole, and what is printed of them. Place k of each holds k + 1 before the call."""
-    if c["reply"][0] and max(c["call"][-1]) > WHOLE:
-        return 0, ["lists same"]
-    return 1, [line(name, *written, *range(len(written) + 1, room + 1)) for name, room, written in lists(c)]
-
-
 def call(c):
     name, *args = c["call"]
     reply = c["reply"]
@@ -102,8 +93,8 @@ def call(c):
     if name not in ORDERS:
         return item(name, args), [line(name, *reply), *behind]
     account, units, rooms = args
-    shown, printed = listed(c)
-    return item(name, [account, units, *rooms, shown]), [line("test", *reply), line(name, *reply), *printed, *behind]
+    printed = [line(run, *written) for run, _, written in lists(c) if written]
+    return item(name, [account, units, *rooms]), [line("test", *reply), line(name, *reply), *printed, "rest same", *behind]
 
 
 def show(book, prices):

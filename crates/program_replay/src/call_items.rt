@@ -7,6 +7,8 @@ use day_items::state::Session;
 use program_io::output;
 use program_io::runs;
 use rules::Ask;
+use rules::Counts;
+use rules::OrderAnswer;
 
 const PRICE: u64 = 4;
 
@@ -18,15 +20,12 @@ const REDEEM: u64 = 7;
 
 const VALUE: u64 = 8;
 
-// Of an order: account, units, the lengths of the lists of records, of the investor's and of the fund's reports, and whether these
-// lists are printed whole.
+// Of an order: account, units, and the lengths of the lists of records, of the investor's and of the fund's reports.
 const RECORDS: usize = 2;
 
 const INVESTOR: usize = 3;
 
 const FUND: usize = 4;
-
-const SHOWN: usize = 5;
 
 // How long a list of records may be lent, and one of reports.
 const MOST_RECORDS: usize = 2048;
@@ -48,7 +47,7 @@ fn is_call(tag: u64, item: &[u64]) -> bool {
     match tag {
         PRICE => item.len() == 2,
         TRADE => item.len() == 5,
-        CREATE | REDEEM => item.len() == 6 && is_room(item),
+        CREATE | REDEEM => item.len() == 5 && is_room(item),
         VALUE => item.len() == 0,
         _ => false,
     }
@@ -89,28 +88,53 @@ fn value(day: &[u64], book: &[u64], prices: &[u64]) -> Numbers {
     r
 }
 
-// Whether three lists are what they were, or for each that differs the first such place.
-fn print_lists_kept(records: &[u64], investor: &[u64], fund: &[u64]) {
-    let is_records = state::is_as_filled(b"records", records);
-    let is_investor = state::is_as_filled(b"investor", investor);
-    let is_fund = state::is_as_filled(b"fund_reports", fund);
+// How many numbers so many records take, and so many reports.
+fn records_length(count: usize) -> usize {
+    if rules::MOST_RECORDS < count {
+        return 0;
+    }
+    layout::RECORD_WIDTH * count
+}
+
+fn reports_length(count: usize) -> usize {
+    if rules::MOST_REPORTS < count {
+        return 0;
+    }
+    layout::REPORT_WIDTH * count
+}
+
+// `rest same` where three lists have from a place on what they had, and for each that differs the first such place.
+fn print_rest(records: &[u64], investor: &[u64], fund: &[u64], n: usize, m: usize) {
+    let is_records = state::is_as_filled(b"records", records, n);
+    let is_investor = state::is_as_filled(b"investor", investor, m);
+    let is_fund = state::is_as_filled(b"fund_reports", fund, m);
     if is_records && is_investor && is_fund {
-        output::text(b"lists same\n");
+        output::text(b"rest same\n");
     }
 }
 
-// The lists after an order: whole where the item says so, else only where it was refused, and then whether they are the same.
-fn print_lists(records: &[u64], investor: &[u64], fund: &[u64], is_whole: bool, number: u64) {
-    if is_whole {
-        output::run(b"records", records);
-        output::run(b"investor", investor);
-        output::run(b"fund_reports", fund);
-        return;
+// The first numbers of a list.
+fn print_front(word: &[u8], list: &[u64], length: usize) {
+    let n = runs::cut(length, list);
+    output::run(word, &list[..n]);
+}
+
+// What an accepted order wrote, and whether its lists behind that are what they were.
+fn print_written(counts: Counts, records: &[u64], investor: &[u64], fund: &[u64]) {
+    let n = records_length(counts.records);
+    let m = reports_length(counts.reports);
+    print_front(b"records", records, n);
+    print_front(b"investor", investor, m);
+    print_front(b"fund_reports", fund, m);
+    print_rest(records, investor, fund, n, m);
+}
+
+// The lists after an order; where it was refused, whether they are what they were.
+fn print_lists(answer: OrderAnswer, records: &[u64], investor: &[u64], fund: &[u64]) {
+    match answer {
+        OrderAnswer::Made(counts) => print_written(counts, records, investor, fund),
+        OrderAnswer::Refused(_) => print_rest(records, investor, fund, 0, 0),
     }
-    if number == 0 {
-        return;
-    }
-    print_lists_kept(records, investor, fund);
 }
 
 // The test of an order alone, with the lengths of its lists.
@@ -156,7 +180,6 @@ fn order_with(
     tag: u64,
     a: usize,
     units: u64,
-    is_whole: bool,
     day: &[u64],
     book: &mut [u64],
     prices: &[u64],
@@ -182,7 +205,7 @@ fn order_with(
     let answer = structs::order(day, book, prices, ask, records, investor, fund);
     let r = answers::of_order(answer);
     print_order(tag, r);
-    print_lists(records, investor, fund, is_whole, r.number);
+    print_lists(answer, records, investor, fund);
     r
 }
 
@@ -195,12 +218,10 @@ fn order(tag: u64, item: &[u64], day: &[u64], book: &mut [u64], prices: &[u64]) 
     let f = runs::cut(state::size_at(item, FUND), &fund);
     let a = state::size_at(item, 0);
     let units = state::at(item, 1);
-    let is_whole = state::at(item, SHOWN) == 1;
     order_with(
         tag,
         a,
         units,
-        is_whole,
         day,
         book,
         prices,
