@@ -15,11 +15,13 @@ use Rattle.layout.specs.Book.{cash, headAt, lotsAt, account}
 use Rattle.rules.specs.Lines.{codeOf, movesStock}
 use Rattle.rules.specs.Orders.{creation, baskets, need, fundCount, shanghaiCash, otherCash}
 use Rattle.rules.specs.Records.{sideB, sideS}
-use Rattle.layout.specs.Records.{roomIn, withRecords}
-use Rattle.rules.specs.Creation.{available, handedIn, creationCash, creationDue, creationRecords, creationMoves, createdBook, createdList}
+use Rattle.layout.specs.Records.{withRecords}
+use Rattle.rules.specs.declared.Rooms.{Rooms}
+use Rattle.rules.specs.Lent.{Lent, roomsIn, withOrder}
+use Rattle.rules.specs.Creation.{available, handedIn, creationCash, creationDue, creationRecords, creationReports, creationMoves, createdBook, createdLists}
 use Rattle.rules.proofs.SoundDay.{Kept}
-use Rattle.rules.proofs.Accepted.{Creates, creation-facts, creation-value}
-use Rattle.balance.specs.Calls.{State, Lent, create, step}
+use Rattle.rules.proofs.Accepted.{Creates, creation-facts, creation-made}
+use Rattle.balance.specs.Calls.{State, create, step}
 use Rattle.balance.specs.Counts.{stockQuantity, callSold, callBought, callGot, callHandedIn, callCreated, callRedeemed, callCreatedByAll, callRedeemedByAll}
 use Rattle.balance.proofs.Relation.{Keeps, callTally, AcceptedKeeps, drawn-get, drawn-hand, drawn-eq}
 use Rattle.balance.proofs.OrderMove.{Move, Settles, own-rises, other-stays, order-keeps}
@@ -34,7 +36,7 @@ handed-there d s m i = go (movesStock d i)
     go true = omega arith
     go false = omega arith
 
-module _ (d : Day) (b ps : List ℕ) (a units room : ℕ) (t : Creates d b ps a units room) (list : List ℕ) where
+module _ (d : Day) (b ps : List ℕ) (a units : ℕ) (rooms : Rooms) (t : Creates d b ps a units rooms) (lent : Lent) where
   abbrev m : ℕ
   m = baskets d units
 
@@ -53,7 +55,10 @@ module _ (d : Day) (b ps : List ℕ) (a units room : ℕ) (t : Creates d b ps a 
 
   -- what the account handed in, as its records have it
   abbrev made : List ℕ
-  made = withRecords (creationRecords d (account d b a) ps units) list
+  made = withRecords (creationRecords d (account d b a) ps units) (lent .records)
+
+  abbrev lists : Lent
+  lists = withOrder (creationRecords d (account d b a) ps units) (creationReports d (account d b a) ps units) lent
 
   abbrev n : ℕ
   n = length (creationRecords d (account d b a) ps units)
@@ -68,7 +73,7 @@ module _ (d : Day) (b ps : List ℕ) (a units room : ℕ) (t : Creates d b ps a 
   unfolding creationRecords
   recorded l i =
       ap (λ (z : Bool). cond z (stockQuantity (codeOf d l) made n) 0) (lt-ltb l (d .count) i)
-      ∙ quantity-is d b ps (t .sound) l i sideS sideB units hands (otherCash d (creationCash d (account d b a) ps m)) (shanghaiCash d (creationCash d (account d b a) ps m)) list
+      ∙ quantity-is d b ps (t .sound) l i sideS sideB units hands (otherCash d (creationCash d (account d b a) ps m)) (shanghaiCash d (creationCash d (account d b a) ps m)) (lent .records)
 
   none-got : (l : ℕ) → l < d .count → got l ≡ 0
   none-got l i = when-other (d .count) l units (λ q. omega arith)
@@ -93,8 +98,8 @@ module _ (d : Day) (b ps : List ℕ) (a units room : ℕ) (t : Creates d b ps a 
       none-handed = ap (λ (z : Bool). cond z (stockQuantity (codeOf d (d .count)) made n) 0) (le-ltb (d .count) (d .count) (omega arith))
 
   moves-keep : Kept d b ps
-      → Keeps (record { day = d; book = b; prices = ps }) (record { day = d; book = creationMoves d ps a units b; prices = ps }) (callTally d (create a units) (record { records = made }) n)
-  unfolding creationMoves fundCount callSold callBought callGot callHandedIn callCreated callRedeemed callCreatedByAll callRedeemedByAll
+      → Keeps (record { day = d; book = b; prices = ps }) (record { day = d; book = creationMoves d ps a units b; prices = ps }) (callTally d (create a units) lists n)
+  unfolding withOrder creationMoves fundCount callSold callBought callGot callHandedIn callCreated callRedeemed callCreatedByAll callRedeemedByAll
   moves-keep k =
       let low : creation < 2 = omega arith in
       order-keeps d b ps creation a units move (t .sound) (t .order) low settles
@@ -105,7 +110,7 @@ module _ (d : Day) (b ps : List ℕ) (a units room : ℕ) (t : Creates d b ps a 
       k
 
 pub create-keeps : (s : State) (a units : ℕ) (lent : Lent) → AcceptedKeeps s (create a units) lent
-unfolding step createdBook createdList
+unfolding step createdBook createdLists
 create-keeps s a units lent k e =
-    rw (e, creation-value (s .day) (s .book) (s .prices) a units (roomIn (lent .records)) e)
-    (moves-keep (s .day) (s .book) (s .prices) a units (roomIn (lent .records)) (creation-facts _ _ _ _ _ _ e) (lent .records) k)
+    rw (e, creation-made (s .day) (s .book) (s .prices) a units (roomsIn lent) e)
+    (moves-keep (s .day) (s .book) (s .prices) a units (roomsIn lent) (creation-facts _ _ _ _ _ _ e) lent k)

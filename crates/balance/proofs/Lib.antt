@@ -9,5 +9,8 @@ pub mod CreateStep
 pub mod RedeemStep
 pub mod Steps
 pub mod Limits
+pub mod ReportedCash
+pub mod ReportedStock
+pub mod Reported
 pub mod Whole
 pub mod Theorems

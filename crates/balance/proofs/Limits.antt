@@ -12,7 +12,8 @@ use Rattle.layout.specs.declared.Fund.{Fund}
 use Rattle.fund.specs.Fund.{limitOf, cumulativeLimit, cumulativeLimitEach, netLimit, netLimitEach}
 use Rattle.rules.specs.Orders.{creation, redemption}
 use Rattle.rules.proofs.Accepted.{Orders, creation-facts, redemption-facts}
-use Rattle.balance.specs.Calls.{State, Lent, Call, Event, price, trade, create, redeem, value, step, Happened}
+use Rattle.rules.specs.Lent.{Lent}
+use Rattle.balance.specs.Calls.{State, Call, Event, price, trade, create, redeem, value, step, Happened}
 use Rattle.balance.specs.Counts.{callCreated, callRedeemed, callCreatedByAll, callRedeemedByAll}
 use Rattle.balance.specs.Balanced.{Within}
 use Rattle.balance.proofs.Relation.{KeptState, countIn, fundCountIn, Tally, Stays, Rises, Keeps, callTally}

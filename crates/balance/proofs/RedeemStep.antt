@@ -12,15 +12,17 @@ use Rattle.lots.specs.Lots.{handInOf, getOf, payOutOf}
 use Rattle.layout.specs.Day.{Day}
 use Rattle.layout.specs.Book.{cash, headAt, lotsAt, account}
 use Rattle.rules.specs.Orders.{redemption, baskets, need, fundCount}
-use Rattle.rules.specs.Redemption.{delivered, redemptionPaid, redemptionMoves, redeemedBook, redeemedList}
+use Rattle.rules.specs.declared.Rooms.{Rooms}
+use Rattle.rules.specs.Lent.{Lent}
+use Rattle.rules.specs.Redemption.{delivered, redemptionPaid, redemptionMoves, redeemedBook, redeemedLists}
 use Rattle.rules.proofs.SoundDay.{Kept}
 use Rattle.rules.proofs.Accepted.{Redeems, redemption-facts}
-use Rattle.balance.specs.Calls.{State, Lent, redeem, step}
+use Rattle.balance.specs.Calls.{State, redeem, step}
 use Rattle.balance.specs.Counts.{callSold, callBought, callGot, callHandedIn, callCreated, callRedeemed, callCreatedByAll, callRedeemedByAll}
 use Rattle.balance.proofs.Relation.{Keeps, callTally, AcceptedKeeps, drawn-get, drawn-hand, drawn-eq}
 use Rattle.balance.proofs.OrderMove.{Move, Settles, own-rises, other-stays, order-keeps}
 
-module _ (d : Day) (b ps : List ℕ) (a units room : ℕ) (t : Redeems d b ps a units room) where
+module _ (d : Day) (b ps : List ℕ) (a units : ℕ) (rooms : Rooms) (t : Redeems d b ps a units rooms) where
   abbrev m : ℕ
   m = baskets d units
 
@@ -78,5 +80,5 @@ module _ (d : Day) (b ps : List ℕ) (a units room : ℕ) (t : Redeems d b ps a 
       k
 
 pub redeem-keeps : (s : State) (a units : ℕ) (lent : Lent) → AcceptedKeeps s (redeem a units) lent
-unfolding step redeemedBook redeemedList
+unfolding step redeemedBook redeemedLists
 redeem-keeps s a units lent k e = rw e (moves-keep (s .day) (s .book) (s .prices) a units _ (redemption-facts _ _ _ _ _ _ e) k _ _)

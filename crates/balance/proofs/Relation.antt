@@ -12,7 +12,8 @@ use Rattle.layout.specs.Book.{cash, account, lotsAt, headTotal, lineTotal}
 use Rattle.rules.specs.Orders.{creation, redemption, countOf, fundCount}
 use Rattle.rules.proofs.SoundDay.{Kept}
 use Rattle.sequences.specs.Checks.{isAccepted}
-use Rattle.balance.specs.Calls.{State, Lent, Call, Result, step}
+use Rattle.rules.specs.Lent.{Lent}
+use Rattle.balance.specs.Calls.{State, Call, Result, step}
 use Rattle.balance.specs.Counts.{callSold, callBought, callGot, callHandedIn, callCreated, callRedeemed, callCreatedByAll, callRedeemedByAll}
 
 -- what a state holds, by its own day

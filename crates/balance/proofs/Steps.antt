@@ -4,9 +4,10 @@ use mathlib.Core.Bool.{Bool, true, false}
 use Rattle.sequences.specs.Checks.{isAccepted}
 use Rattle.rules.specs.Price.{pricedPrices}
 use Rattle.rules.specs.Trade.{tradedBook}
-use Rattle.rules.specs.Creation.{createdBook, createdList}
-use Rattle.rules.specs.Redemption.{redeemedBook, redeemedList}
-use Rattle.balance.specs.Calls.{State, Lent, Call, price, trade, create, redeem, value, step}
+use Rattle.rules.specs.Creation.{createdBook, createdLists}
+use Rattle.rules.specs.Redemption.{redeemedBook, redeemedLists}
+use Rattle.rules.specs.Lent.{Lent}
+use Rattle.balance.specs.Calls.{State, Call, price, trade, create, redeem, value, step}
 use Rattle.balance.proofs.Relation.{KeptState, Keeps, keeps-same, tallyIf, callTally, resultTally, AcceptedKeeps}
 use Rattle.balance.proofs.PriceStep.{price-keeps}
 use Rattle.balance.proofs.TradeStep.{trade-keeps}
@@ -16,7 +17,7 @@ use Rattle.balance.proofs.ValueStep.{value-keeps}
 
 -- a refused call changes nothing, of the state and of what is lent
 pub refusal-changes-nothing : (s : State) (c : Call) (lent : Lent) → isAccepted (step s c lent .reply) ≡ false → (step s c lent .after ≡ s) × (step s c lent .lent ≡ lent)
-unfolding step pricedPrices tradedBook createdBook createdList redeemedBook redeemedList
+unfolding step pricedPrices tradedBook createdBook createdLists redeemedBook redeemedLists
 refusal-changes-nothing s (price line p) lent e = rw e (refl, refl)
 refusal-changes-nothing s (trade line n p seller buyer) lent e = rw e (refl, refl)
 refusal-changes-nothing s (create a units) lent e = rw e (refl, refl)

@@ -24,6 +24,7 @@ use Rattle.balance.specs.Counts.{counted, soldBy, boughtBy, gotBy, hande
 use Rattle.balance.specs.Balanced.{opened, Balanced}
 use Rattle.balance.proofs.Relation.{KeptState, lineIn, countIn, fundCountIn, Tally, Keeps, keeps-same, keeps-then, resultTally}
 use Rattle.balance.proofs.Steps.{step-keeps}
+use Rattle.balance.proofs.Reported.{all-reported}
 use Rattle.balance.proofs.Limits.{KindLimits, Limits, within-less, list-limits}
 
 -- the counts of a list of events from the state s on
@@ -144,6 +145,7 @@ module _ (o : Opening) (accepted : isAccepted (openingReply o) ≡ true) where
     demand-3 =
         record {
           defined = h;
+          reported = rw (ap (λ (f : Fund). f .«first_code») fund-is) at (all-reported (opened o) es t h (opened-kept o accepted));
           accounts = accounts-kept;
           count = count-kept;
           fund = fund-kept;

@@ -3,21 +3,20 @@ use Prim.Native.Nat.{ℕ, _+_, _*_}
 use mathlib.Core.Bool.{cond}
 use mathlib.Core.List.{List, [], _∷_}
 use lib.Dec.{ltb}
-use lib.ListN.{getD}
 use Rattle.sequences.specs.Below.{sumBelow}
 use Rattle.sequences.specs.Checks.{isAccepted}
 use Rattle.sequences.specs.Same.{whenSame}
 use Rattle.layout.specs.Day.{Day}
 use Rattle.rules.specs.Lines.{codeOf, quantity, movesStock}
 use Rattle.rules.specs.Orders.{baskets}
-use Rattle.layout.specs.Places.{recordWidth}
+use Rattle.layout.specs.Records.{recordAt}
 use Rattle.rules.specs.Lent.{Lent}
 use Rattle.balance.specs.Calls.{State, Call, Event, price, trade, create, redeem, value}
 
 -- the quantity of the stock record with a component's code, among the first n records of a list
 unfoldable pub stockQuantity : ℕ → List ℕ → ℕ → ℕ
 stockQuantity code list n =
-    sumBelow (λ k. whenSame (getD list (recordWidth * k) 0) code (getD list (recordWidth * k + 2) 0)) n
+    sumBelow (λ k. whenSame (recordAt list k .code) code (recordAt list k .quantity)) n
 
 -- counts of one call (call..): the quantity of line l that account a sold by it
 unfoldable pub callSold : ℕ → ℕ → Call → ℕ

@@ -1,5 +1,5 @@
 -- What the lists hold after an accepted order: its reports tell each party the cash and the stock of its records.
-use Prim.Native.Nat.{ℕ, _+_, _<_}
+use Prim.Native.Nat.{ℕ, suc, _+_, _<_}
 use mathlib.Core.Path.{_≡_}
 use mathlib.Core.Bool.{Bool, true, false, cond}
 use mathlib.Core.List.{List, [], _∷_}
@@ -67,7 +67,7 @@ pub record SameStock (g : ℕ) (records reports : List ℕ) (k : ℕ) : Type 0 w
 -- stock: there are as many reports as records, and they stand behind the unit's, in the same order
 pub record StockTold (g : ℕ) (records : List ℕ) (n : ℕ) (reports : List ℕ) (m : ℕ) : Type 0 where
   pub many : countBelow (isStockReport reports) m ≡ countBelow (isStockRecord g records) n
-  pub each : (k : ℕ) → k < countBelow (isStockReport reports) m → SameStock g records reports (1 + k)
+  pub each : (k : ℕ) → k < countBelow (isStockReport reports) m → SameStock g records reports (suc k)
 
 -- an accepted order's result
 pub record Reported (g : ℕ) (r : Result) : Type 0 where

@@ -1,25 +1,25 @@
 -- Records in a flat run: their numbers, stored and read back.
-use mathlib.Core.Path.{_≡_, refl, ap, _∙_}
-use mathlib.Core.List.{List, [], _∷_, _++_}
-use Prim.Native.Nat.{ℕ, zero, suc, _+_, _*_, _<_}
-use native.Mathlib.Nat.{not-suc-le-zero, le-of-suc-le-suc}
+use mathlib.Core.Path.{_≡_, refl}
+use mathlib.Core.List.{List, _++_}
+use Prim.Native.Nat.{ℕ, suc, _+_, _*_, _<_}
 use native.Mathlib.Numerals.{add-one}
 use native.Mathlib.Omega.{arith}
-use lib.ListN.{length, getD, set, drop}
+use lib.ListN.{length, getD, set}
 use lib.Seq.{sets}
 use Rattle.layout.specs.declared.Record.{Record}
 use Rattle.layout.specs.Places.{recordWidth}
 use Rattle.layout.specs.Records.{recordAt, recordNumbers, flatten, withRecords}
+use Rattle.sequences.specs.Below.{sumBelow}
+use Rattle.sequences.proofs.Sums.{sumOf, read-total}
+use Rattle.layout.proofs.Laid.{laid-append, laid-length, laid-first, laid-read}
 
 pub flatten-append : (rs qs : List Record) → flatten (rs ++ qs) ≡ flatten rs ++ flatten qs
 unfolding flatten
-flatten-append [] qs = refl
-flatten-append (r ∷ rs) qs = ap (λ (t : List ℕ). recordNumbers r ++ t) (flatten-append rs qs)
+flatten-append rs qs = laid-append recordNumbers rs qs
 
 pub flatten-length : (rs : List Record) → length (flatten rs) ≡ recordWidth * length rs
 unfolding flatten
-flatten-length [] = refl
-flatten-length (r ∷ rs) = omega (arith, flatten-length rs)
+flatten-length rs = laid-length recordNumbers recordWidth (λ r. refl) rs
 
 -- a record's numbers stored one by one
 pub record-stored : (list : List ℕ) (p : ℕ) (r : Record)
@@ -31,24 +31,16 @@ record-stored list p r =
     let four : p + 4 ≡ suc (suc (suc (suc p))) = omega arith in
     rw (add-one p, two, three, four)
 
--- the record behind the first is the first of the rest
-record-behind : (r : Record) (xs : List ℕ) (k : ℕ) → recordAt (recordNumbers r ++ xs) (suc k) ≡ recordAt xs k
-unfolding recordAt
-record-behind r xs k =
-    let code : recordWidth * suc k ≡ suc (suc (suc (suc (suc (recordWidth * k))))) = omega arith in
-    let side : recordWidth * suc k + 1 ≡ suc (suc (suc (suc (suc (recordWidth * k + 1))))) = omega arith in
-    let quantity : recordWidth * suc k + 2 ≡ suc (suc (suc (suc (suc (recordWidth * k + 2))))) = omega arith in
-    let price : recordWidth * suc k + 3 ≡ suc (suc (suc (suc (suc (recordWidth * k + 3))))) = omega arith in
-    let amount : recordWidth * suc k + 4 ≡ suc (suc (suc (suc (suc (recordWidth * k + 4))))) = omega arith in
-    rw (amount, price, quantity, side, code)
-
-record-in : (rs : List Record) (xs : List ℕ) (k : ℕ) (r : Record) → k < length rs → recordAt (flatten rs ++ xs) k ≡ getD rs k r
-unfolding flatten recordAt
-record-in [] xs k r h = absurd (not-suc-le-zero h)
-record-in (q ∷ rs) xs zero r h = refl
-record-in (q ∷ rs) xs (suc k) r h = record-behind q (flatten rs ++ xs) k ∙ record-in rs xs k r (le-of-suc-le-suc h)
-
 -- what was written is read
 pub record-read : (rs : List Record) (list : List ℕ) (k : ℕ) (r : Record) → k < length rs → recordAt (withRecords rs list) k ≡ getD rs k r
-unfolding withRecords
-record-read rs list k r h = record-in rs (drop (recordWidth * length rs) list) k r h
+unfolding recordAt withRecords
+record-read rs list k r h =
+    let at = laid-read recordNumbers recordWidth (λ q. refl) rs list k r h in
+    rw (laid-first recordNumbers recordWidth (λ q. refl) rs list k r h (omega arith), at 1 (omega arith), at 2 (omega arith), at 3 (omega arith), at 4 (omega arith))
+
+-- a number of each record, summed
+blank : Record
+blank = record { code = 0; side = 0; quantity = 0; price = record { 0 = 0 }; amount = record { 0 = 0 } }
+
+pub records-total : (f : Record → ℕ) (rs : List Record) (list : List ℕ) → sumBelow (λ k. f (recordAt (withRecords rs list) k)) (length rs) ≡ sumOf f rs
+records-total f rs list = read-total f (recordAt (withRecords rs list)) rs blank (λ k h. record-read rs list k blank h)

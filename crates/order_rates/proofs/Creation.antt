@@ -7,15 +7,16 @@ use lib.Dec.{ltb}
 use Rattle.sequences.specs.Below.{anyBelow}
 use Rattle.flags.specs.Table.{stockMoves, shortageInCash, priced}
 use Rattle.layout.specs.Book.{headTotal, account}
-use Rattle.layout.specs.Records.{roomIn}
+use Rattle.rules.specs.declared.Rooms.{Rooms}
+use Rattle.rules.specs.Lent.{Lent, roomsIn}
 use Rattle.rules.specs.Lines.{creationRate, creationAmount}
 use Rattle.rules.specs.Sound.{isSound}
 use Rattle.rules.specs.Value.{worthAt, lacksPrice, worthBefore, referenceValue, hasValue}
 use Rattle.rules.specs.Records.{sideB, sideS}
 use Rattle.rules.specs.Orders.{baskets, wholeBaskets, formChecks, switchAllows, countOf, fundCount, withinLimits, permissionChecks}
 use Rattle.rules.specs.Creation.{handedIn, isShort, firstShort, missing, missingWorth, isMissing, creationCash, creationDue}
-use Rattle.rules.specs.Creation.{ratioPassed, creationRecords, creationMeans, creationChecks, creationReply, creationMoves, createdBook, createdList}
-use Rattle.order_rates.proofs.Shared.{DayPair, one, other, Shared, same-need, same-shanghai, same-other, same-records}
+use Rattle.rules.specs.Creation.{ratioPassed, creationRecords, creationReports, creationMeans, creationChecks, creationReply, creationMoves, createdBook, createdLists}
+use Rattle.order_rates.proofs.Shared.{DayPair, one, other, Shared, same-need, same-shanghai, same-other, same-records, same-reports}
 
 -- what a creation takes besides
 pub record ForCreation (t : DayPair) : Type 0 where
@@ -86,20 +87,27 @@ module _ (t : DayPair) (c : ForCreation t) where
         let cash = same-cash x ps m in
         same-records t (c .shared) sideS sideB units (same-handed x ps m) (same-other t (c .shared) cash) (same-shanghai t (c .shared) cash)
 
-    same-means : (room : ℕ) → creationMeans (one t) x ps units room ≡ creationMeans (other t) x ps units room
-    unfolding creationMeans baskets
-    same-means room =
+    same-told : creationReports (one t) x ps units ≡ creationReports (other t) x ps units
+    unfolding creationReports baskets
+    same-told =
         let m = baskets (one t) units in
-        rw (same-first x ps m, same-any x ps m, same-exists ps, same-ratio x ps m, same-due x ps m, same-made)
+        let cash = same-cash x ps m in
+        same-reports t (c .shared) sideS sideB units (same-handed x ps m) (same-other t (c .shared) cash) (same-shanghai t (c .shared) cash)
+
+    same-means : (rooms : Rooms) → creationMeans (one t) x ps units rooms ≡ creationMeans (other t) x ps units rooms
+    unfolding creationMeans baskets
+    same-means rooms =
+        let m = baskets (one t) units in
+        rw (same-first x ps m, same-any x ps m, same-exists ps, same-ratio x ps m, same-due x ps m, same-made, same-told)
 
   module _ (b ps : List ℕ) (first : isSound (one t) b ps ≡ true) (second : isSound (other t) b ps ≡ true) (a units : ℕ) where
-    pub same-answer : (room : ℕ) → creationReply (one t) b ps a units room ≡ creationReply (other t) b ps a units room
+    pub same-answer : (rooms : Rooms) → creationReply (one t) b ps a units rooms ≡ creationReply (other t) b ps a units rooms
     unfolding creationReply creationChecks formChecks wholeBaskets baskets permissionChecks switchAllows withinLimits fundCount countOf headTotal
-    same-answer room = rw (first, second, same-means (account (one t) b a) ps units room, same-made (account (one t) b a) ps units)
+    same-answer rooms = rw (first, second, same-means (account (one t) b a) ps units rooms, same-made (account (one t) b a) ps units, same-told (account (one t) b a) ps units)
 
-    pub same-list : (list : List ℕ) → createdList (one t) b ps a units list ≡ createdList (other t) b ps a units list
-    unfolding createdList
-    same-list list = rw (same-answer (roomIn list), same-made (account (one t) b a) ps units)
+    pub same-lists : (lent : Lent) → createdLists (one t) b ps a units lent ≡ createdLists (other t) b ps a units lent
+    unfolding createdLists
+    same-lists lent = rw (same-answer (roomsIn lent), same-made (account (one t) b a) ps units, same-told (account (one t) b a) ps units)
 
     same-moves : creationMoves (one t) ps a units b ≡ creationMoves (other t) ps a units b
     unfolding creationMoves baskets
@@ -107,6 +115,6 @@ module _ (t : DayPair) (c : ForCreation t) where
         let m = baskets (one t) units in
         rw (same-handed (account (one t) b a) ps m, same-due (account (one t) b a) ps m)
 
-    pub same-book : (room : ℕ) → createdBook (one t) b ps a units room ≡ createdBook (other t) b ps a units room
+    pub same-book : (rooms : Rooms) → createdBook (one t) b ps a units rooms ≡ createdBook (other t) b ps a units rooms
     unfolding createdBook
-    same-book room = rw (same-answer room, same-moves)
+    same-book rooms = rw (same-answer rooms, same-moves)

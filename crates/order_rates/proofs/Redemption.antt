@@ -5,14 +5,15 @@ use mathlib.Core.Bool.{true}
 use mathlib.Core.List.{List}
 use Rattle.flags.specs.Table.{stockMoves}
 use Rattle.layout.specs.Book.{headTotal}
-use Rattle.layout.specs.Records.{roomIn}
+use Rattle.rules.specs.declared.Rooms.{Rooms}
+use Rattle.rules.specs.Lent.{Lent, roomsIn}
 use Rattle.rules.specs.Lines.{redemptionRate, redemptionAmount}
 use Rattle.rules.specs.Sound.{isSound}
 use Rattle.rules.specs.Records.{sideB, sideS}
 use Rattle.rules.specs.Orders.{baskets, wholeBaskets, formChecks, switchAllows, countOf, fundCount, withinLimits, permissionChecks}
 use Rattle.rules.specs.Redemption.{delivered, redemptionCash, redemptionPaid, unitsAvailable, fundLacks, firstLacking}
-use Rattle.rules.specs.Redemption.{redemptionRecords, redemptionMeans, redemptionChecks, redemptionReply, redemptionMoves, redeemedBook, redeemedList}
-use Rattle.order_rates.proofs.Shared.{DayPair, one, other, Shared, same-need, same-shanghai, same-other, same-records}
+use Rattle.rules.specs.Redemption.{redemptionRecords, redemptionReports, redemptionMeans, redemptionChecks, redemptionReply, redemptionMoves, redeemedBook, redeemedLists}
+use Rattle.order_rates.proofs.Shared.{DayPair, one, other, Shared, same-need, same-shanghai, same-other, same-records, same-reports}
 
 -- what a redemption takes besides
 pub record ForRedemption (t : DayPair) : Type 0 where
@@ -49,20 +50,27 @@ module _ (t : DayPair) (c : ForRedemption t) where
         let cash = same-cash m in
         same-records t (c .shared) sideB sideS units (same-delivered m) (same-other t (c .shared) cash) (same-shanghai t (c .shared) cash)
 
-    same-means : (x f : List ℕ) (room : ℕ) → redemptionMeans (one t) x f units room ≡ redemptionMeans (other t) x f units room
-    unfolding redemptionMeans unitsAvailable baskets
-    same-means x f room =
+    same-told : redemptionReports (one t) units ≡ redemptionReports (other t) units
+    unfolding redemptionReports baskets
+    same-told =
         let m = baskets (one t) units in
-        rw (same-lacking m f, same-paid m, same-made)
+        let cash = same-cash m in
+        same-reports t (c .shared) sideB sideS units (same-delivered m) (same-other t (c .shared) cash) (same-shanghai t (c .shared) cash)
+
+    same-means : (x f : List ℕ) (rooms : Rooms) → redemptionMeans (one t) x f units rooms ≡ redemptionMeans (other t) x f units rooms
+    unfolding redemptionMeans unitsAvailable baskets
+    same-means x f rooms =
+        let m = baskets (one t) units in
+        rw (same-lacking m f, same-paid m, same-made, same-told)
 
   module _ (b ps : List ℕ) (first : isSound (one t) b ps ≡ true) (second : isSound (other t) b ps ≡ true) (a units : ℕ) where
-    pub same-answer : (room : ℕ) → redemptionReply (one t) b ps a units room ≡ redemptionReply (other t) b ps a units room
+    pub same-answer : (rooms : Rooms) → redemptionReply (one t) b ps a units rooms ≡ redemptionReply (other t) b ps a units rooms
     unfolding redemptionReply redemptionChecks formChecks wholeBaskets baskets permissionChecks switchAllows withinLimits fundCount countOf headTotal
-    same-answer room = rw (first, second, same-means units _ _ room, same-made units)
+    same-answer rooms = rw (first, second, same-means units _ _ rooms, same-made units, same-told units)
 
-    pub same-list : (list : List ℕ) → redeemedList (one t) b ps a units list ≡ redeemedList (other t) b ps a units list
-    unfolding redeemedList
-    same-list list = rw (same-answer (roomIn list), same-made units)
+    pub same-lists : (lent : Lent) → redeemedLists (one t) b ps a units lent ≡ redeemedLists (other t) b ps a units lent
+    unfolding redeemedLists
+    same-lists lent = rw (same-answer (roomsIn lent), same-made units, same-told units)
 
     same-moves : redemptionMoves (one t) a units b ≡ redemptionMoves (other t) a units b
     unfolding redemptionMoves baskets
@@ -70,6 +78,6 @@ module _ (t : DayPair) (c : ForRedemption t) where
         let m = baskets (one t) units in
         rw (same-delivered m, same-paid m)
 
-    pub same-book : (room : ℕ) → redeemedBook (one t) b ps a units room ≡ redeemedBook (other t) b ps a units room
+    pub same-book : (rooms : Rooms) → redeemedBook (one t) b ps a units rooms ≡ redeemedBook (other t) b ps a units rooms
     unfolding redeemedBook
-    same-book room = rw (same-answer room, same-moves)
+    same-book rooms = rw (same-answer rooms, same-moves)

@@ -9,6 +9,7 @@ use Rattle.layout.specs.Day.{Day}
 use Rattle.flags.specs.Table.{shanghai}
 use Rattle.rules.specs.Lines.{codeOf, quantity, column}
 use Rattle.rules.specs.Records.{stockRecord, orderRecords}
+use Rattle.rules.specs.Reports.{stockReport, orderReports}
 use Rattle.rules.specs.Orders.{need, shanghaiCash, otherCash}
 
 -- two days with one head
@@ -51,4 +52,12 @@ module _ (t : DayPair) (s : Shared t) where
   unfolding orderRecords stockRecord
   same-records stockSide restSide units {f} {g} h p q =
       let stock : stockRecord (one t) stockSide f ≡ stockRecord (other t) stockSide g = fun-ext (λ i. rw (s .codes i, h)) in
+      rw (stock, p, q)
+
+  -- and the reports
+  pub same-reports : (stockSide restSide units : ℕ) {f g : ℕ → ℕ} → f ≡ g → {c c′ x x′ : ℕ} → c ≡ c′ → x ≡ x′
+      → orderReports (one t) stockSide restSide units f c x ≡ orderReports (other t) stockSide restSide units g c′ x′
+  unfolding orderReports stockReport
+  same-reports stockSide restSide units {f} {g} h p q =
+      let stock : stockReport (one t) stockSide f ≡ stockReport (other t) stockSide g = fun-ext (λ i. rw (s .codes i, h)) in
       rw (stock, p, q)

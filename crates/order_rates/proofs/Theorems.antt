@@ -6,10 +6,10 @@ use mathlib.Core.List.{List}
 use Rattle.flags.specs.Table.{entry}
 use Rattle.layout.specs.declared.Component.{Component}
 use Rattle.layout.specs.Day.{Day}
-use Rattle.layout.specs.Records.{roomIn}
 use Rattle.rules.specs.Lines.{codeOf, quantity, column, creationRate, redemptionRate, creationAmount, redemptionAmount}
 use Rattle.rules.specs.Sound.{isSound}
-use Rattle.balance.specs.Calls.{Lent, Call, step}
+use Rattle.rules.specs.Lent.{Lent, roomsIn}
+use Rattle.balance.specs.Calls.{Call, step}
 use Rattle.order_rates.specs.Rates.{SameBut, SameResult, DiscountsLeaveCreations, PremiumsLeaveRedemptions}
 use Rattle.order_rates.proofs.Shared.{DayPair, other, Shared}
 use Rattle.order_rates.proofs.Creation as creation
@@ -55,9 +55,9 @@ discounts-leave-creations d e b ps first second s account units lent =
     let sound = sound-other _ d e s b ps second in
     carried _ d e s b ps _ lent
     (record {
-      answer = creation.same-answer _ takes b ps first sound account units (roomIn (lent .records));
-      lists = ap (λ (l : List ℕ). record { records = l }) (creation.same-list _ takes b ps first sound account units (lent .records));
-      book = creation.same-book _ takes b ps first sound account units (roomIn (lent .records));
+      answer = creation.same-answer _ takes b ps first sound account units (roomsIn lent);
+      lists = creation.same-lists _ takes b ps first sound account units lent;
+      book = creation.same-book _ takes b ps first sound account units (roomsIn lent);
     })
 
 pub premiums-leave-redemptions : PremiumsLeaveRedemptions
@@ -72,7 +72,7 @@ premiums-leave-redemptions d e b ps first second s account units lent =
     let sound = sound-other _ d e s b ps second in
     carried _ d e s b ps _ lent
     (record {
-      answer = redemption.same-answer _ takes b ps first sound account units (roomIn (lent .records));
-      lists = ap (λ (l : List ℕ). record { records = l }) (redemption.same-list _ takes b ps first sound account units (lent .records));
-      book = redemption.same-book _ takes b ps first sound account units (roomIn (lent .records));
+      answer = redemption.same-answer _ takes b ps first sound account units (roomsIn lent);
+      lists = redemption.same-lists _ takes b ps first sound account units lent;
+      book = redemption.same-book _ takes b ps first sound account units (roomsIn lent);
     })

@@ -1,5 +1,5 @@
 -- Which rate an order takes: creation the premium and redemption the discount. Two sound days that differ in the other rate alone
--- give it the same answer, records and book.
+-- give it the same answer, records, reports and book.
 use Prim.Native.Nat.{ℕ}
 use mathlib.Core.Path.{_≡_}
 use mathlib.Core.Bool.{true}
@@ -8,7 +8,8 @@ use Rattle.layout.specs.declared.Component.{Component}
 use Rattle.layout.specs.Day.{Day}
 use Rattle.rules.specs.Lines.{componentOf}
 use Rattle.rules.specs.Sound.{isSound}
-use Rattle.balance.specs.Calls.{State, Lent, Call, create, redeem, step}
+use Rattle.rules.specs.Lent.{Lent}
+use Rattle.balance.specs.Calls.{State, Call, create, redeem, step}
 
 -- the component c with the premium of x, and with its discount
 abbrev pub withPremiumOf : Component → Component → Component

@@ -3,12 +3,12 @@ use mathlib.Core.Path.{_≡_, refl, sym, ap, _∙_}
 use mathlib.Core.List.{List, [], _∷_, _++_}
 use Prim.Native.Nat.{ℕ, _+_, _/_, _%_, _≤_, _<_}
 use native.Mathlib.Omega.{arith}
-use lib.ListN.{length, drop, length-append}
+use lib.ListN.{length, length-append}
 use lib.Seq.{sets, length-sets}
 use borrow.Author.Tests.{lt-ltb, le-ltb, eq-eqb, ne-eqb}
 use Rattle.sequences.specs.Below.{joinBelow}
 use Rattle.sequences.proofs.Below.{join-none, join-more}
-use Rattle.sequences.proofs.Runs.{sets-append, sets-front, join-grows}
+use Rattle.sequences.proofs.Runs.{sets-append, join-grows}
 use Rattle.units.specs.Units.{splitSize}
 use Rattle.layout.specs.Day.{Day}
 use Rattle.rules.specs.declared.Ask.{Ask}
@@ -18,6 +18,8 @@ use Rattle.rules.specs.Lines.{componentOf, codeOf}
 use Rattle.rules.specs.Records.{recordOf, cashParts, cashRecords, stockRecord, orderRecords}
 use Rattle.layout.specs.Places.{recordWidth}
 use Rattle.layout.specs.Records.{recordNumbers, flatten, withRecords}
+use Rattle.layout.specs.Laid.{laid}
+use Rattle.layout.proofs.Laid.{laid-front}
 use Rattle.layout.proofs.Records.{flatten-append, flatten-length}
 use Rattle.rules.specs.Kinds.{movedBy, stockSide, restSide, recordsBy}
 use Rattle.order_records.specs.Written.{behind, written, Fits, Wrote, lineRecord, stockRecords, recordsAfterStock}
@@ -37,18 +39,16 @@ written-append rs qs p list =
 
 -- from the first place on, where there is room
 pub written-first : (rs : List Record) (list : List ℕ) → behind rs 0 ≤ length list → written rs 0 list ≡ withRecords rs list
-unfolding written withRecords
-written-first rs list h =
-    sets-front (flatten rs) list (omega (arith, flatten-length rs))
-    ∙ ap (λ (k : ℕ). flatten rs ++ drop k list) (flatten-length rs)
+unfolding written flatten withRecords
+written-first rs list h = laid-front recordNumbers recordWidth (λ r. refl) rs list (omega arith)
 
 -- one record
 pub one-written : (list : List ℕ) (p : ℕ) (r : Record) (new : List ℕ) → new ≡ sets list p (recordNumbers r) → Wrote (r ∷ []) p list new (p + recordWidth)
-unfolding written flatten
+unfolding written flatten laid
 one-written list p r new e = record { list = e; place = omega arith }
 
 pub wrote-none : (p : ℕ) (list : List ℕ) → Wrote [] p list list p
-unfolding written flatten
+unfolding written flatten laid
 wrote-none p list = record { list = refl; place = omega arith }
 
 pub wrote-then : {rs qs : List Record} {p next end : ℕ} {old mid new : List ℕ} → Wrote rs p old mid next → Wrote qs next mid new end → Wrote (rs ++ qs) p old new end

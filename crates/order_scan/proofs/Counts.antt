@@ -1,4 +1,4 @@
--- How many records an order makes.
+-- How many records and reports an order makes.
 use mathlib.Core.Path.{_≡_, refl, sym, ap, _∙_}
 use mathlib.Core.Bool.{Bool, true, false, cond}
 use mathlib.Core.List.{List, [], _∷_}
@@ -12,11 +12,15 @@ use Rattle.units.specs.Units.{splitSize}
 use Rattle.layout.specs.Places.{mostComponents}
 use Rattle.layout.specs.Day.{Day}
 use Rattle.rules.specs.declared.Ask.{Ask}
+use Rattle.rules.specs.declared.CashByMarket.{CashByMarket}
 use Rattle.rules.specs.Orders.{baskets}
 use Rattle.rules.specs.Records.{recordOf, cashParts, cashRecords, stockRecord, orderRecords, shanghaiStep, otherStep}
-use Rattle.rules.specs.Kinds.{movedBy, recordsBy, askedCash, askedRecords}
-use Rattle.rules.proofs.Asked.{asked-records}
-use Rattle.order_scan.specs.Lines.{stockCount, cashCount, recordCount}
+use Rattle.rules.specs.declared.Counts.{Counts}
+use Rattle.rules.specs.Reports.{cashGroups, cashReports, stockReport, orderReports}
+use Rattle.rules.specs.Kinds.{allCash, movedBy, recordsBy, reportsBy, cashReportCount, askedCash, askedRecords, askedReports, countsBy}
+use Rattle.rules.proofs.Asked.{asked-records, asked-reports}
+use Rattle.rules.proofs.Reports.{cash-count}
+use Rattle.order_scan.specs.Lines.{stockCount, cashCount, scanCounts}
 use Rattle.order_scan.specs.Scans.{orderScan}
 
 module _ {A : Type 0} where
@@ -55,15 +59,38 @@ order-count d ss rs units moved other shanghai =
       cash-records (d .fund .«first_code» + shanghaiStep) rs shanghai,
     ))
 
+-- the unit's, one for each component with stock moved, and that of cash
+stock-reports : (d : Day) (side : ℕ) (moved : ℕ → ℕ) (i : ℕ) → length (stockReport d side moved i) ≡ stockCount (moved i)
+unfolding stockReport
+stock-reports d side moved i = one-or-none (ltb 0 (moved i)) _
+
+report-count : (kind : ℕ) (d : Day) (s : List ℕ) (units m : ℕ) (c : CashByMarket)
+    → length (reportsBy kind d s units m c) ≡ 1 + sumBelow (λ i. stockCount (movedBy kind d s m i)) (d .count) + cashReportCount c
+unfolding reportsBy orderReports
+report-count kind d s units m c =
+    simp length-append
+    (omega (
+      arith,
+      join-count (stockReport d _ (movedBy kind d s m)) (λ i. stockCount (movedBy kind d s m i)) (d .count) (stock-reports d _ (movedBy kind d s m)),
+      cash-count _ c,
+    ))
+
 -- so the scan counts them
-pub scan-count : (d : Day) (s f ps : List ℕ) (k : Ask) → k .kind < 2 → recordCount (orderScan (k .kind) d s f ps (baskets d (k .units))) ≡ length (askedRecords d s ps k)
-unfolding recordCount orderScan recordsBy askedCash
-scan-count d s f ps k h = sym (order-count d _ _ (k .units) (movedBy (k .kind) d s (baskets d (k .units))) _ _) ∙ ap length (asked-records d s ps k h)
+pub scan-counts : (d : Day) (s f ps : List ℕ) (k : Ask) → k .kind < 2 → scanCounts (orderScan (k .kind) d s f ps (baskets d (k .units))) ≡ countsBy d s ps k
+unfolding scanCounts orderScan recordsBy askedCash countsBy
+scan-counts d s f ps k h =
+    let records = sym (order-count d _ _ (k .units) (movedBy (k .kind) d s (baskets d (k .units))) _ _) ∙ ap length (asked-records d s ps k h) in
+    let reports = sym (report-count (k .kind) d s (k .units) (baskets d (k .units)) (askedCash d s ps k)) ∙ ap length (asked-reports d s ps k h) in
+    λ i. record { records = records i; reports = reports i }
 
 -- at most two for an amount of cash, and one for a component
 pub cash-count-le : (c : ℕ) → cashCount c ≤ 2
 unfolding cashCount
 cash-count-le c = cond-le (eqb c 0) (lit≤ tt) (cond-le (ltb c splitSize) (lit≤ tt) (lit≤ tt))
+
+pub cash-reports-le : (c : CashByMarket) → cashReportCount c ≤ 1
+unfolding cashReportCount
+cash-reports-le c = cond-le (eqb (allCash c) 0) (lit≤ tt) (lit≤ tt)
 
 pub stock-count-le : (moved : ℕ) → stockCount moved ≤ 1
 stock-count-le moved = cond-le (ltb 0 moved) (lit≤ tt) (lit≤ tt)

@@ -1,5 +1,5 @@
 -- From a sound day and an order's form to what its third stage, its records and its move ask.
-use mathlib.Core.Path.{_≡_, ap, _∙_}
+use mathlib.Core.Path.{_≡_, refl, ap, _∙_}
 use mathlib.Core.Bool.{true}
 use mathlib.Core.List.{List, _++_, append-assoc}
 use Prim.Native.Nat.{ℕ, _+_, _*_, _≤_, _<_}
@@ -13,20 +13,22 @@ use Rattle.fund.proofs.Laws.{FundRanges, fund-sound}
 use Rattle.layout.specs.Day.{Day}
 use Rattle.rules.specs.declared.Ask.{Ask}
 use Rattle.rules.specs.declared.CashByMarket.{CashByMarket}
+use Rattle.rules.specs.declared.Rooms.{Rooms}
+use Rattle.rules.specs.declared.Counts.{Counts}
+use Rattle.rules.specs.Lent.{Lent, roomsIn}
 use Rattle.layout.specs.declared.Record.{Record}
 use Rattle.rules.specs.declared.Refusal.{Refusal}
 use Rattle.layout.specs.Book.{widthOf, account, headTotal}
-use Rattle.rules.specs.Replies.{refusalReply}
+use Rattle.rules.specs.Replies.{refusalReply, madeReply}
 use Rattle.rules.specs.Sound.{isSound}
 use Rattle.rules.specs.Orders.{baskets, wholeBaskets, countOf, fundCount, withinLimits}
-use Rattle.layout.specs.Records.{roomIn, withRecords}
 use Rattle.rules.specs.Creation.{available, creationDue, creationChecks, creationReply}
 use Rattle.rules.specs.Redemption.{redemptionPaid, redemptionChecks, redemptionReply}
-use Rattle.rules.specs.Kinds.{creationOf, redemptionOf, allCash, cashBy, orderMoves, recordsBy, askedCash, askedRecords, askedMeans, askedChecks, askedReply, askedMoves}
+use Rattle.rules.specs.Kinds.{creationOf, redemptionOf, allCash, cashBy, orderMoves, recordsBy, reportsBy, askedCash, askedRecords, askedReports, countsBy, askedCounts, askedMeans, askedChecks, askedReply, askedMoves}
 use Rattle.rules.proofs.SoundDay.{SoundDay, sound-facts}
-use Rattle.rules.proofs.Accepted.{Orders, order-facts, creation-facts, redemption-facts}
+use Rattle.rules.proofs.Accepted.{Orders, Listed, order-facts, creation-facts, redemption-facts}
 use Rattle.rules.proofs.Replies.{is-accepted, on-sound, stage-passed, stage-stopped}
-use Rattle.rules.proofs.Asked.{by-ask, asked-records, asked-moves}
+use Rattle.rules.proofs.Asked.{by-ask, asked-records, asked-reports, asked-moves}
 use Rattle.book.specs.Ready.{OrderReady}
 use Rattle.book.proofs.Ready.{creation-ready, redemption-ready}
 use Rattle.order_records.specs.Ready.{Writable}
@@ -48,7 +50,7 @@ module _ (d : Day) (b ps : List ℕ) (ask : Ask) (f : Formed d b ps ask) where
   pub order : Orders d b (ask .kind) (ask .account) (ask .units)
   unfolding orderForm wholeUnits limitsHeld headOf headSum wholeBaskets baskets withinLimits fundCount countOf headTotal
   order =
-      let p = all-passed (orderForm (d .accounts) (d .count) (d .fund) b ask) 0 tt (is-accepted 0 _ (f .formed)) in
+      let p = all-passed (orderForm (d .accounts) (d .count) (d .fund) b ask) _ tt (is-accepted _ _ refl (f .formed)) in
       order-facts d b (ask .kind) (ask .account) (ask .units) (sound .own .accounts-low) (not-false _ (p .0)) (not-false _ (p .1 .0)) (not-false _ (p .1 .1 .1 .0))
 
   pub fund : FundRanges (d .fund)
@@ -72,60 +74,62 @@ module _ (d : Day) (b ps : List ℕ) (ask : Ask) (f : Formed d b ps ask) where
   units-ask s e = rw e (omega (arith, sound-fits d b ps sound .lots (ask .account) (d .count) (order .account-in) (omega arith)))
 
 -- the answer from the stages
-module _ (d : Day) (b ps : List ℕ) (room : ℕ) where
+module _ (d : Day) (b ps : List ℕ) (rooms : Rooms) where
   abbrev form : Ask → List Check
   form ask = orderForm (d .accounts) (d .count) (d .fund) b ask
 
   abbrev means : Ask → List Check
-  means ask = askedMeans d (account d b (ask .account)) (account d b 0) ps ask room
+  means ask = askedMeans d (account d b (ask .account)) (account d b 0) ps ask rooms
 
-  stages : (ask : Ask) → ask .kind < 2 → askedChecks d b ps ask room ≡ form ask ++ means ask
+  stages : (ask : Ask) → ask .kind < 2 → askedChecks d b ps ask rooms ≡ form ask ++ means ask
   unfolding askedChecks askedMeans creationChecks redemptionChecks
   stages =
-      by-ask (λ ask. askedChecks d b ps ask room ≡ form ask ++ means ask)
+      by-ask (λ ask. askedChecks d b ps ask rooms ≡ form ask ++ means ask)
       (λ a units. rw (order-form d b (creationOf a units)) (simp append-assoc))
       (λ a units. rw (order-form d b (redemptionOf a units)) (simp append-assoc))
 
   module _ (ask : Ask) (k : ask .kind < 2) where
-    pub form-passed : reply 0 0 0 ≡ answered (form ask) 0 → meansAnswer d (account d b (ask .account)) (account d b 0) ps ask room ≡ askedAnswer d b ps ask room
+    pub form-passed : reply 0 0 0 ≡ answered (form ask) 0 → meansAnswer d (account d b (ask .account)) (account d b 0) ps ask rooms ≡ askedAnswer d b ps ask rooms
     unfolding askedAnswer meansAnswer orderForm
     form-passed e = rw (stages ask k) (stage-passed (form ask) _ _ tt e)
 
-    pub form-stopped : (why : Refusal) → refusalReply why ≡ answered (form ask) 0 → refusalReply why ≡ askedAnswer d b ps ask room
+    pub form-stopped : (why : Refusal) → refusalReply why ≡ answered (form ask) 0 → refusalReply why ≡ askedAnswer d b ps ask rooms
     unfolding askedAnswer
     form-stopped why e = rw (stages ask k) (stage-stopped (form ask) _ _ why e)
 
 -- what an accepted order has
-record Accepted (d : Day) (b ps : List ℕ) (room : ℕ) (ask : Ask) : Type 0 where
+record Accepted (d : Day) (b ps : List ℕ) (rooms : Rooms) (ask : Ask) : Type 0 where
   pub sound : SoundDay d b ps
   pub movable : OrderReady (ask .kind) d b (ask .account) (ask .units) (baskets d (ask .units)) (allCash (askedCash d (account d b (ask .account)) ps ask))
-  pub listed : length (askedRecords d (account d b (ask .account)) ps ask) ≤ room
+  pub listed : Listed rooms (askedCounts d b ps ask)
 
-accepted : (d : Day) (b ps : List ℕ) (room : ℕ) (ask : Ask) → ask .kind < 2 → isAccepted (askedReply d b ps ask room) ≡ true → Accepted d b ps room ask
-unfolding askedReply askedChecks askedRecords askedCash cashBy creationReply creationDue redemptionReply redemptionPaid
-accepted d b ps room =
-    by-ask (λ ask. isAccepted (askedReply d b ps ask room) ≡ true → Accepted d b ps room ask)
-    (λ a units e. let t = creation-facts d b ps a units room e in record { sound = t .sound; movable = creation-ready t; listed = t .listed })
-    (λ a units e. let t = redemption-facts d b ps a units room e in record { sound = t .sound; movable = redemption-ready t; listed = t .listed })
+accepted : (d : Day) (b ps : List ℕ) (rooms : Rooms) (ask : Ask) → ask .kind < 2 → isAccepted (askedReply d b ps ask rooms) ≡ true → Accepted d b ps rooms ask
+unfolding askedReply askedChecks askedRecords askedReports countsBy askedCash cashBy creationReply creationDue redemptionReply redemptionPaid
+accepted d b ps rooms =
+    by-ask (λ ask. isAccepted (askedReply d b ps ask rooms) ≡ true → Accepted d b ps rooms ask)
+    (λ a units e. let t = creation-facts d b ps a units rooms e in record { sound = t .sound; movable = creation-ready t; listed = t .listed })
+    (λ a units e. let t = redemption-facts d b ps a units rooms e in record { sound = t .sound; movable = redemption-ready t; listed = t .listed })
 
--- it can be written and moved, and gives the rules' records and book; m is its count of baskets, and c its cash
-module _ (d : Day) (b ps : List ℕ) (ask : Ask) (list : List ℕ) (k : ask .kind < 2) (whole : isSound d b ps ≡ true) (count : ℕ)
-    (made : reply 0 0 count ≡ askedAnswer d b ps ask (roomIn list)) (m : ℕ) (in-baskets : m ≡ baskets d (ask .units)) (c : CashByMarket)
+-- it can be written, moved and reported, and gives the rules' lists and book; m is its count of baskets, and c its cash
+module _ (d : Day) (b ps : List ℕ) (ask : Ask) (lent : Lent) (k : ask .kind < 2) (whole : isSound d b ps ≡ true) (counts : Counts)
+    (made : madeReply counts ≡ askedAnswer d b ps ask (roomsIn lent)) (m : ℕ) (in-baskets : m ≡ baskets d (ask .units)) (c : CashByMarket)
     (paid : c ≡ askedCash d (account d b (ask .account)) ps ask) where
-  facts : Accepted d b ps (roomIn list) ask
+  abbrev s : List ℕ
+  s = account d b (ask .account)
+
+  taken : isAccepted (askedReply d b ps ask (roomsIn lent)) ≡ true
   unfolding askedAnswer askedReply
-  facts = accepted d b ps (roomIn list) ask k (ap isAccepted (on-sound d b ps (askedChecks d b ps ask (roomIn list)) _ whole) ∙ is-accepted count _ made)
+  taken = ap isAccepted (on-sound d b ps (askedChecks d b ps ask (roomsIn lent)) _ whole) ∙ is-accepted _ _ refl made
 
-  records : recordsBy (ask .kind) d (account d b (ask .account)) (ask .units) m c ≡ askedRecords d (account d b (ask .account)) ps ask
-  records = rw (in-baskets, paid) (asked-records d (account d b (ask .account)) ps ask k)
+  facts : Accepted d b ps (roomsIn lent) ask
+  facts = accepted d b ps (roomsIn lent) ask k taken
 
-  pub order-makes : OrderReady (ask .kind) d b (ask .account) (ask .units) m (allCash c) × Writable d (account d b (ask .account)) ask m c list
-  order-makes = (rw (in-baskets, paid) (facts .movable), sound-writable d b ps (facts .sound) _ ask m c list (rw records (facts .listed)))
+  records : recordsBy (ask .kind) d s (ask .units) m c ≡ askedRecords d s ps ask
+  records = rw (in-baskets, paid) (asked-records d s ps ask k)
 
-  pub order-made : (after written : List ℕ) → after ≡ orderMoves (ask .kind) d (ask .account) (ask .units) m (allCash c) b
-      → written ≡ withRecords (recordsBy (ask .kind) d (account d b (ask .account)) (ask .units) m c) list
-      → (after ≡ askedMoves d ps ask b) × (written ≡ withRecords (askedRecords d (account d b (ask .account)) ps ask) list)
-  order-made after written e w = (
-    e ∙ rw (in-baskets, paid) (asked-moves d b ps ask k),
-    w ∙ ap (λ (rs : List Record). withRecords rs list) records,
-  )
+  reports : reportsBy (ask .kind) d s (ask .units) m c ≡ askedReports d s ps ask
+  reports = rw (in-baskets, paid) (asked-reports d s ps ask k)
+
+  pub order-makes : OrderReady (ask .kind) d b (ask .account) (ask .units) m (allCash c) × Writable d s ask m c (lent .records)
+  unfolding roomsIn countsBy
+  order-makes = (rw (in-baskets, paid) (facts .movable), sound-writable d b ps (facts .sound) _ ask m c (lent .records) (rw records (facts .listed .records)))

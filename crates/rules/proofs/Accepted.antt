@@ -5,23 +5,26 @@ use mathlib.Core.List.{List, [], _∷_}
 use Prim.Native.Nat.{ℕ, _+_, _-_, _*_, _%_, _≤_, _<_}
 use native.Mathlib.Omega.{arith}
 use lib.Dec.{leb, eqb}
-use lib.ListN.{length}
 use borrow.Author.Tests.{leb-true, ltb-false, leb-false, eqb-true, eqb-false, not-false}
 use Rattle.sequences.specs.Every.{inside}
 use Rattle.sequences.specs.Checks.{isAccepted}
 use Rattle.sequences.proofs.Below.{first-all, first-stops}
 use Rattle.sequences.proofs.Every.{every-at, inside-facts}
-use Rattle.sequences.proofs.Checks.{all-passed, accepted-value}
+use Rattle.sequences.proofs.Checks.{all-passed, accepted-reply}
 use Rattle.lots.specs.Lots.{sellable}
 use Rattle.fund.specs.Fund.{ceiling, limitOf, cumulativeLimit, cumulativeLimitEach, netLimit, netLimitEach}
 use Rattle.layout.specs.Day.{Day}
 use Rattle.layout.specs.Book.{cash, headAt, lotsAt, account}
+use Rattle.rules.specs.declared.Rooms.{Rooms}
+use Rattle.rules.specs.declared.Counts.{Counts}
+use Rattle.rules.specs.Replies.{madeReply}
+use Rattle.rules.specs.Lent.{tooShort}
 use Rattle.rules.specs.Sound.{onSoundDay, mostPrice}
 use Rattle.rules.specs.Price.{priceChecks, priceReply}
 use Rattle.rules.specs.Trade.{isInvestor, tradeMeans, tradeChecks, tradeReply}
 use Rattle.rules.specs.Orders.{creation, redemption, baskets, mostBaskets, wholeBaskets, formChecks, switchAllows, withinLimit, countOf, fundCount, withinLimits, permissionChecks}
-use Rattle.rules.specs.Creation.{firstShort, isShort, creationDue, creationRecords, creationMeans, creationChecks, creationReply}
-use Rattle.rules.specs.Redemption.{delivered, fundLacks, firstLacking, unitsAvailable, redemptionPaid, redemptionRecords, redemptionMeans, redemptionChecks, redemptionReply}
+use Rattle.rules.specs.Creation.{firstShort, isShort, creationDue, creationCounts, creationMeans, creationChecks, creationReply}
+use Rattle.rules.specs.Redemption.{delivered, fundLacks, firstLacking, unitsAvailable, redemptionPaid, redemptionCounts, redemptionMeans, redemptionChecks, redemptionReply}
 use Rattle.rules.proofs.SoundDay.{SoundDay, sound-facts}
 
 -- an account other than the fund
@@ -40,7 +43,7 @@ pub record Prices (d : Day) (b ps : List ℕ) (line price : ℕ) : Type 0 where
 pub price-facts : (d : Day) (b ps : List ℕ) (line price : ℕ) → isAccepted (priceReply d b ps line price) ≡ true → Prices d b ps line price
 unfolding priceReply priceChecks
 price-facts d b ps line price e =
-    let p = all-passed (onSoundDay d b ps (priceChecks (d .count) line price)) 0 tt e in
+    let p = all-passed (onSoundDay d b ps (priceChecks (d .count) line price)) _ tt e in
     let r = inside-facts 1 mostPrice price (not-false _ (p .1 .1 .0)) in
     record {
       sound = sound-facts d b ps (not-false _ (p .0));
@@ -67,7 +70,7 @@ pub record Trades (d : Day) (b ps : List ℕ) (line q price seller buyer : ℕ) 
 pub trade-facts : (d : Day) (b ps : List ℕ) (line q price seller buyer : ℕ) → isAccepted (tradeReply d b ps line q price seller buyer) ≡ true → Trades d b ps line q price seller buyer
 unfolding tradeReply tradeChecks tradeMeans
 trade-facts d b ps line q price seller buyer e =
-    let p = all-passed (onSoundDay d b ps (tradeChecks (d .accounts) (d .count) b line q price seller buyer)) 0 tt e in
+    let p = all-passed (onSoundDay d b ps (tradeChecks (d .accounts) (d .count) b line q price seller buyer)) _ tt e in
     let sound = sound-facts d b ps (not-false _ (p .0)) in
     let qs = inside-facts 1 999_999_999 q (not-false _ (p .1 .1 .0)) in
     let prices = inside-facts 1 mostPrice price (not-false _ (p .1 .1 .1 .0)) in
@@ -139,19 +142,31 @@ order-facts d b kind a units two i w l =
       below-ceiling = leb-true _ _ (at 4);
     }
 
+-- the three lists have room
+pub record Listed (rooms : Rooms) (counts : Counts) : Type 0 where
+  pub records : counts .records ≤ rooms .records
+  pub investor : counts .reports ≤ rooms .investor
+  pub fund : counts .reports ≤ rooms .fund
+
+listed-facts : (rooms : Rooms) (counts : Counts) → tooShort rooms counts ≡ false → Listed rooms counts
+unfolding tooShort
+listed-facts rooms counts e =
+    let at = every-at (leb (counts .records) (rooms .records) ∷ leb (counts .reports) (rooms .investor) ∷ leb (counts .reports) (rooms .fund) ∷ []) (not-false _ e) in
+    record { records = leb-true _ _ (at 0); investor = leb-true _ _ (at 1); fund = leb-true _ _ (at 2) }
+
 -- an accepted creation
-pub record Creates (d : Day) (b ps : List ℕ) (a units room : ℕ) : Type 0 where
+pub record Creates (d : Day) (b ps : List ℕ) (a units : ℕ) (rooms : Rooms) : Type 0 where
   pub sound : SoundDay d b ps
   pub order : Orders d b creation a units
   pub allowed : switchAllows d creation ≡ true
   pub stocked : (i : ℕ) → i < d .count → isShort d (account d b a) (baskets d units) i ≡ false
   pub money : creationDue d (account d b a) ps (baskets d units) ≤ headAt (account d b a) cash
-  pub listed : length (creationRecords d (account d b a) ps units) ≤ room
+  pub listed : Listed rooms (creationCounts d (account d b a) ps units)
 
-pub creation-facts : (d : Day) (b ps : List ℕ) (a units room : ℕ) → isAccepted (creationReply d b ps a units room) ≡ true → Creates d b ps a units room
+pub creation-facts : (d : Day) (b ps : List ℕ) (a units : ℕ) (rooms : Rooms) → isAccepted (creationReply d b ps a units rooms) ≡ true → Creates d b ps a units rooms
 unfolding creationReply creationChecks formChecks permissionChecks creationMeans firstShort
-creation-facts d b ps a units room e =
-    let p = all-passed (onSoundDay d b ps (creationChecks d b ps a units room)) (length (creationRecords d (account d b a) ps units)) tt e in
+creation-facts d b ps a units rooms e =
+    let p = all-passed (onSoundDay d b ps (creationChecks d b ps a units rooms)) _ tt e in
     let sound = sound-facts d b ps (not-false _ (p .0)) in
     let short = first-stops (isShort d (account d b a) (baskets d units)) (d .count) (p .1 .1 .1 .1 .1 .0) in
     record {
@@ -160,17 +175,17 @@ creation-facts d b ps a units room e =
       allowed = not-false _ (p .1 .1 .1 .0);
       stocked = first-all (isShort d (account d b a) (baskets d units)) (d .count) short;
       money = ltb-false _ _ (p .1 .1 .1 .1 .1 .1 .1 .1 .0);
-      listed = ltb-false _ _ (p .1 .1 .1 .1 .1 .1 .1 .1 .1 .0);
+      listed = listed-facts rooms _ (p .1 .1 .1 .1 .1 .1 .1 .1 .1 .0);
     }
 
--- its value is the count of records
-pub creation-value : (d : Day) (b ps : List ℕ) (a units room : ℕ) → isAccepted (creationReply d b ps a units room) ≡ true
-    → creationReply d b ps a units room .value ≡ length (creationRecords d (account d b a) ps units)
+-- its reply has the counts of records and reports
+pub creation-made : (d : Day) (b ps : List ℕ) (a units : ℕ) (rooms : Rooms) → isAccepted (creationReply d b ps a units rooms) ≡ true
+    → creationReply d b ps a units rooms ≡ madeReply (creationCounts d (account d b a) ps units)
 unfolding creationReply creationChecks formChecks permissionChecks creationMeans
-creation-value d b ps a units room e = accepted-value (onSoundDay d b ps (creationChecks d b ps a units room)) _ tt e
+creation-made d b ps a units rooms e = accepted-reply (onSoundDay d b ps (creationChecks d b ps a units rooms)) _ tt e
 
 -- an accepted redemption
-pub record Redeems (d : Day) (b ps : List ℕ) (a units room : ℕ) : Type 0 where
+pub record Redeems (d : Day) (b ps : List ℕ) (a units : ℕ) (rooms : Rooms) : Type 0 where
   pub sound : SoundDay d b ps
   pub order : Orders d b redemption a units
   pub allowed : switchAllows d redemption ≡ true
@@ -178,12 +193,12 @@ pub record Redeems (d : Day) (b ps : List ℕ) (a units room : ℕ) : Type 0 whe
   pub handed : units ≤ lotsAt (account d b a) (d .count) .bought + lotsAt (account d b a) (d .count) .old
   pub stocked : (i : ℕ) → i < d .count → delivered d (baskets d units) i ≤ lotsAt (account d b 0) i .old
   pub money : redemptionPaid d (baskets d units) ≤ headAt (account d b 0) cash
-  pub listed : length (redemptionRecords d units) ≤ room
+  pub listed : Listed rooms (redemptionCounts d units)
 
-pub redemption-facts : (d : Day) (b ps : List ℕ) (a units room : ℕ) → isAccepted (redemptionReply d b ps a units room) ≡ true → Redeems d b ps a units room
+pub redemption-facts : (d : Day) (b ps : List ℕ) (a units : ℕ) (rooms : Rooms) → isAccepted (redemptionReply d b ps a units rooms) ≡ true → Redeems d b ps a units rooms
 unfolding redemptionReply redemptionChecks formChecks permissionChecks redemptionMeans unitsAvailable firstLacking fundLacks
-redemption-facts d b ps a units room e =
-    let p = all-passed (onSoundDay d b ps (redemptionChecks d b a units room)) (length (redemptionRecords d units)) tt e in
+redemption-facts d b ps a units rooms e =
+    let p = all-passed (onSoundDay d b ps (redemptionChecks d b a units rooms)) _ tt e in
     let sound = sound-facts d b ps (not-false _ (p .0)) in
     let lacks = first-stops (fundLacks d (account d b 0) (baskets d units)) (d .count) (p .1 .1 .1 .1 .1 .1 .0) in
     record {
@@ -193,5 +208,10 @@ redemption-facts d b ps a units room e =
       handed = omega (arith, ltb-false (unitsAvailable d (account d b a)) units (p .1 .1 .1 .1 .1 .0));
       stocked = λ i h. ltb-false _ _ (first-all (fundLacks d (account d b 0) (baskets d units)) (d .count) lacks i h);
       money = ltb-false _ _ (p .1 .1 .1 .1 .1 .1 .1 .0);
-      listed = ltb-false _ _ (p .1 .1 .1 .1 .1 .1 .1 .1 .0);
+      listed = listed-facts rooms _ (p .1 .1 .1 .1 .1 .1 .1 .1 .0);
     }
+
+pub redemption-made : (d : Day) (b ps : List ℕ) (a units : ℕ) (rooms : Rooms) → isAccepted (redemptionReply d b ps a units rooms) ≡ true
+    → redemptionReply d b ps a units rooms ≡ madeReply (redemptionCounts d units)
+unfolding redemptionReply redemptionChecks formChecks permissionChecks redemptionMeans
+redemption-made d b ps a units rooms e = accepted-reply (onSoundDay d b ps (redemptionChecks d b a units rooms)) _ tt e

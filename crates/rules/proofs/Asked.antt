@@ -8,12 +8,14 @@ use native.Mathlib.Omega.{arith}
 use lib.Dec.{eqb}
 use Rattle.layout.specs.Day.{Day}
 use Rattle.rules.specs.declared.Ask.{Ask}
+use Rattle.rules.specs.declared.Rooms.{Rooms}
+use Rattle.rules.specs.Lent.{Lent}
 use Rattle.layout.specs.Book.{account}
 use Rattle.rules.specs.Orders.{creation, redemption, baskets}
-use Rattle.rules.specs.Creation.{creationDue, creationRecords, creationReply, creationMoves, createdBook, createdList}
-use Rattle.rules.specs.Redemption.{redemptionPaid, redemptionRecords, redemptionReply, redemptionMoves, redeemedBook, redeemedList}
+use Rattle.rules.specs.Creation.{creationDue, creationRecords, creationReports, creationReply, creationMoves, createdBook, createdLists}
+use Rattle.rules.specs.Redemption.{redemptionPaid, redemptionRecords, redemptionReports, redemptionReply, redemptionMoves, redeemedBook, redeemedLists}
 use Rattle.rules.specs.Kinds.{byKind, creationOf, redemptionOf, allCash, movedBy, stockLots, fundLots, unitLots, accountCash, fundCash}
-use Rattle.rules.specs.Kinds.{orderMoves, recordsBy, cashBy, askedCash, askedRecords, askedChecks, askedReply, askedMoves, askedBook, askedList}
+use Rattle.rules.specs.Kinds.{orderMoves, recordsBy, reportsBy, cashBy, askedCash, askedRecords, askedReports, countsBy, askedChecks, askedReply, askedMoves, askedBook, askedLists}
 
 -- what holds of creation and of redemption holds of a kind
 pub by-kind : (P : ℕ → Type 0) → P creation → P redemption → (kind : ℕ) → kind < 2 → P kind
@@ -38,36 +40,44 @@ pub by-ask : (P : Ask → Type 0) → ((a units : ℕ) → P (creationOf a units
 by-ask P x y k h = by-kind (λ kind. P (record { kind = kind; account = k .account; units = k .units })) (x (k .account) (k .units)) (y (k .account) (k .units)) (k .kind) h
 
 module _ (d : Day) (b ps : List ℕ) (a units : ℕ) where
-  pub creation-asked : (room : ℕ) → askedReply d b ps (creationOf a units) room ≡ creationReply d b ps a units room
-  unfolding askedReply askedChecks askedRecords creationReply
-  creation-asked room = refl
+  pub creation-asked : (rooms : Rooms) → askedReply d b ps (creationOf a units) rooms ≡ creationReply d b ps a units rooms
+  unfolding askedReply askedChecks askedRecords askedReports countsBy creationReply
+  creation-asked rooms = refl
 
-  pub redemption-asked : (room : ℕ) → askedReply d b ps (redemptionOf a units) room ≡ redemptionReply d b ps a units room
-  unfolding askedReply askedChecks askedRecords redemptionReply
-  redemption-asked room = refl
+  pub redemption-asked : (rooms : Rooms) → askedReply d b ps (redemptionOf a units) rooms ≡ redemptionReply d b ps a units rooms
+  unfolding askedReply askedChecks askedRecords askedReports countsBy redemptionReply
+  redemption-asked rooms = refl
 
-  pub created-book : (room : ℕ) → askedBook d b ps (creationOf a units) room ≡ createdBook d b ps a units room
-  unfolding askedBook askedMoves askedReply askedChecks askedRecords createdBook creationReply
-  created-book room = refl
+  pub created-book : (rooms : Rooms) → askedBook d b ps (creationOf a units) rooms ≡ createdBook d b ps a units rooms
+  unfolding askedBook askedMoves askedReply askedChecks askedRecords askedReports countsBy createdBook creationReply
+  created-book rooms = refl
 
-  pub redeemed-book : (room : ℕ) → askedBook d b ps (redemptionOf a units) room ≡ redeemedBook d b ps a units room
-  unfolding askedBook askedMoves askedReply askedChecks askedRecords redeemedBook redemptionReply
-  redeemed-book room = refl
+  pub redeemed-book : (rooms : Rooms) → askedBook d b ps (redemptionOf a units) rooms ≡ redeemedBook d b ps a units rooms
+  unfolding askedBook askedMoves askedReply askedChecks askedRecords askedReports countsBy redeemedBook redemptionReply
+  redeemed-book rooms = refl
 
-  pub created-list : (list : List ℕ) → askedList d b ps (creationOf a units) list ≡ createdList d b ps a units list
-  unfolding askedList askedReply askedChecks askedRecords createdList creationReply
-  created-list list = refl
+  pub created-lists : (lent : Lent) → askedLists d b ps (creationOf a units) lent ≡ createdLists d b ps a units lent
+  unfolding askedLists askedReply askedChecks askedRecords askedReports countsBy createdLists creationReply
+  created-lists lent = refl
 
-  pub redeemed-list : (list : List ℕ) → askedList d b ps (redemptionOf a units) list ≡ redeemedList d b ps a units list
-  unfolding askedList askedReply askedChecks askedRecords redeemedList redemptionReply
-  redeemed-list list = refl
+  pub redeemed-lists : (lent : Lent) → askedLists d b ps (redemptionOf a units) lent ≡ redeemedLists d b ps a units lent
+  unfolding askedLists askedReply askedChecks askedRecords askedReports countsBy redeemedLists redemptionReply
+  redeemed-lists lent = refl
 
--- the records and the moves of an ask, by the text for both kinds
+-- the records, the reports and the moves of an ask, by the text for both kinds
 pub asked-records : (d : Day) (s ps : List ℕ) (k : Ask) → k .kind < 2
     → recordsBy (k .kind) d s (k .units) (baskets d (k .units)) (askedCash d s ps k) ≡ askedRecords d s ps k
 unfolding recordsBy creationRecords redemptionRecords movedBy askedCash cashBy askedRecords
 asked-records d s ps =
     by-ask (λ k. recordsBy (k .kind) d s (k .units) (baskets d (k .units)) (askedCash d s ps k) ≡ askedRecords d s ps k)
+    (λ a units. refl)
+    (λ a units. refl)
+
+pub asked-reports : (d : Day) (s ps : List ℕ) (k : Ask) → k .kind < 2
+    → reportsBy (k .kind) d s (k .units) (baskets d (k .units)) (askedCash d s ps k) ≡ askedReports d s ps k
+unfolding reportsBy creationReports redemptionReports movedBy askedCash cashBy askedReports
+asked-reports d s ps =
+    by-ask (λ k. reportsBy (k .kind) d s (k .units) (baskets d (k .units)) (askedCash d s ps k) ≡ askedReports d s ps k)
     (λ a units. refl)
     (λ a units. refl)
 

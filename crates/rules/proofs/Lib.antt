@@ -5,3 +5,4 @@ pub mod Sides
 pub mod Accepted
 pub mod Stock
 pub mod Asked
+pub mod Reports

@@ -85,7 +85,7 @@ module _ (o : Opening) (accepted : isAccepted (openingReply o) ≡ true) where
 
   pub opened-opens : Opens (openingSizesFit o) (o .fund) (componentsOpened o) (o .count) (openedTotals o)
   unfolding openingReply dayChecks sizeChecks fundChecks totalChecks
-  opened-opens = opens-facts _ _ _ _ _ (all-passed _ 0 tt accepted)
+  opened-opens = opens-facts _ _ _ _ _ (all-passed _ _ tt accepted)
 
   pub opened-sizes : DaySizes (o .accounts) (o .count) (length (o .book)) (length (o .prices))
   unfolding lentSizesFit

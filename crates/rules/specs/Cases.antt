@@ -15,7 +15,7 @@ use Rattle.units.specs.Units.{rounded, premium, discount, ratioBound}
 use Rattle.flags.specs.Table.{flagTable, entry}
 use Rattle.fund.specs.Fund.{cashInRange, limitInRange, limitsInRange, fundInRange, limitOf}
 use Rattle.fund.specs.Components.{outsideGroup, zeroUnless, usedWithin, componentInRange, fits, faultAt, componentFault}
-use Rattle.layout.specs.Places.{recordWidth, dayWidth}
+use Rattle.layout.specs.Places.{recordWidth, reportWidth, dayWidth}
 use Rattle.layout.specs.Components.{componentAt, placesOf}
 use Rattle.layout.specs.Book.{headAt, lotsAt, account, headTotal, lineTotal}
 use Rattle.rules.specs.Lines.{codeOf, quantity, column, creationRate, redemptionRate, creationAmount, redemptionAmount, priceOf}
@@ -25,12 +25,16 @@ use Rattle.rules.specs.Sound.{opens, fundStill, isSound}
 use Rattle.rules.specs.Trade.{isInvestor}
 use Rattle.rules.specs.Value.{worthAt, lacksPrice, cashAdded, cashTaken, worthBefore, referenceValue, hasValue, valueChecks, valueReply}
 use Rattle.rules.specs.Records.{sideB, cashParts, cashRecords, stockRecord, orderRecords}
-use Rattle.layout.specs.Records.{flatten, roomIn, withRecords}
+use Rattle.rules.specs.Reports.{present, cashGroups, cashReports, stockReport, orderReports, turned}
+use Rattle.rules.specs.Lent.{Lent, lentOf, roomsIn, tooShort, withOrder}
+use Rattle.layout.specs.Laid.{laid, withLaid}
+use Rattle.layout.specs.Records.{flatten, withRecords}
+use Rattle.layout.specs.Reports.{reportNumbers, withReports}
 use Rattle.rules.specs.Orders.{baskets, wholeBaskets, formChecks, switchAllows, withinLimit, countOf, fundCount, withinLimits, permissionChecks, need, shanghaiCash, otherCash}
 use Rattle.rules.specs.Creation.{available, handedIn, isShort, missing, missingWorth, isMissing, creationCash, creationDue}
-use Rattle.rules.specs.Creation.{ratioPassed, creationRecords, firstShort, creationMeans, creationChecks, creationReply, createdList}
+use Rattle.rules.specs.Creation.{ratioPassed, creationRecords, firstShort, creationReports, creationMeans, creationChecks, creationReply, createdLists}
 use Rattle.rules.specs.Redemption.{delivered, redemptionCash, redemptionPaid, unitsAvailable, fundLacks, firstLacking}
-use Rattle.rules.specs.Redemption.{redemptionRecords, redemptionMeans, redemptionChecks, redemptionReply, redeemedList}
+use Rattle.rules.specs.Redemption.{redemptionRecords, redemptionReports, redemptionMeans, redemptionChecks, redemptionReply, redeemedLists}
 
 abbrev both : Bool → Bool → Bool
 both true b = b
@@ -100,31 +104,70 @@ prices = 12_000 ∷ 0 ∷ 10_000 ∷ 40_000 ∷ 0 ∷ []
 abbrev three : Reply → List ℕ
 three r = r .number ∷ r .place ∷ r .value ∷ []
 
--- one basket by account 1, with a list of eight records lent: the reply, and the list after
-abbrev lent : List ℕ
-lent = replicate 40 0
+abbrev four : Reply → List ℕ
+four r = r .number ∷ r .place ∷ r .value ∷ r .reports ∷ []
+
+-- one basket by account 1, with lists of eight records and of so many reports lent: the reply, and the lists after
+abbrev lentFor : ℕ → ℕ → Lent
+lentFor investor fund = lentOf (replicate (8 * recordWidth) 0) (replicate (investor * reportWidth) 0) (replicate (fund * reportWidth) 0)
+
+abbrev lent : Lent
+lent = lentFor 4 4
 
 abbrev createReply : Opening → List ℕ
-createReply o = three (creationReply (openedDay o) (openedBook o) prices 1 basket (roomIn lent))
+createReply o = four (creationReply (openedDay o) (openedBook o) prices 1 basket (roomsIn lent))
+
+abbrev createLists : Opening → Lent
+createLists o = createdLists (openedDay o) (openedBook o) prices 1 basket lent
 
 abbrev createList : Opening → List ℕ
-createList o = createdList (openedDay o) (openedBook o) prices 1 basket lent
+createList o = createLists o .records
 
 -- what is missing of 600000, the third component
 abbrev missingOf : Opening → ℕ
 missingOf o = missing (openedDay o) (account (openedDay o) (openedBook o) 1) 1 2
 
 abbrev redeemReply : Opening → List ℕ
-redeemReply o = three (redemptionReply (openedDay o) (openedBook o) prices 1 basket (roomIn lent))
+redeemReply o = four (redemptionReply (openedDay o) (openedBook o) prices 1 basket (roomsIn lent))
+
+abbrev redeemLists : Opening → Lent
+redeemLists o = redeemedLists (openedDay o) (openedBook o) prices 1 basket lent
 
 abbrev redeemList : Opening → List ℕ
-redeemList o = redeemedList (openedDay o) (openedBook o) prices 1 basket lent
+redeemList o = redeemLists o .records
+
+-- the reply of the creation of (e) with room for so many reports
+abbrev createWith : ℕ → ℕ → List ℕ
+createWith investor fund = four (creationReply (openedDay (compared 3_072 3_000)) (openedBook (compared 3_072 3_000)) prices 1 basket (roomsIn (lentFor investor fund)))
+
+-- a report without groups, and one of cash in two
+abbrev moved : ℕ → ℕ → ℕ → ℕ → List ℕ
+moved type side code q = type ∷ side ∷ code ∷ q ∷ replicate 6 0
+
+abbrev paid : ℕ → ℕ → ℕ → List ℕ
+paid side shanghai other = 3 ∷ side ∷ 0 ∷ 0 ∷ 1 ∷ shanghai ∷ 2 ∷ other ∷ 0 ∷ 0 ∷ []
+
+-- the reports of (e) and of (f), by the side of the unit and of cash and by that of stock
+abbrev createdReports : ℕ → ℕ → List ℕ
+createdReports rest stock =
+    moved 1 rest 510_300 1_000_000 ++ (moved 2 stock 600_000 3_072 ++ (moved 2 stock 600_036 3_000 ++ paid rest 173_408_000 113_600_000))
+
+abbrev redeemedReports : ℕ → ℕ → List ℕ
+redeemedReports rest stock =
+    moved 1 rest 510_300 1_000_000 ++ (moved 2 stock 600_000 5_200 ++ (moved 2 stock 600_036 3_000 ++ paid rest 150_000_000 94_400_000))
 
 abbrev valueOf : Opening → List ℕ
 valueOf o = three (valueReply (openedDay o) (openedBook o) prices)
 
 abbrev cashOf : ℕ → List ℕ
 cashOf c = flatten (cashRecords 510_302 sideB c)
+
+-- the reports of an amount of cash, and of a component of which so much moved
+abbrev cashTold : ℕ → ℕ → List ℕ
+cashTold other shanghai = laid reportNumbers (cashReports sideB (cashGroups other shanghai))
+
+abbrev stockTold : ℕ → ℕ → List ℕ
+stockTold of600000 q = laid reportNumbers (stockReport (openedDay (compared of600000 3_000)) sideS (λ i. q) 2)
 
 -- the records of (e), and the reply and the records of (f)
 abbrev created : List ℕ
@@ -141,7 +184,7 @@ created =
 
 abbrev redeemed : List ℕ
 redeemed =
-    0 ∷ 0 ∷ 8
+    0 ∷ 0 ∷ 8 ∷ 4
     ∷ 510_300 ∷ 2 ∷ 1_000_000 ∷ 0 ∷ 0
     ∷ 600_000 ∷ 1 ∷ 5_200 ∷ 0 ∷ 0
     ∷ 600_036 ∷ 1 ∷ 3_000 ∷ 0 ∷ 0
@@ -161,15 +204,26 @@ rows =
     -- (a) value 4257
     record { got = valueOf (compared 3_072 3_000); want = 0 ∷ 0 ∷ 4_257 ∷ [] }
     -- (b) old 600000 of 3072 passes, with eight records; 2128 are missing
-    ∷ record { got = missingOf (compared 3_072 3_000) ∷ createReply (compared 3_072 3_000); want = 2_128 ∷ 0 ∷ 0 ∷ 8 ∷ [] }
+    ∷ record { got = missingOf (compared 3_072 3_000) ∷ createReply (compared 3_072 3_000); want = 2_128 ∷ 0 ∷ 0 ∷ 8 ∷ 4 ∷ [] }
     -- (c) 3071 gives 15
-    ∷ record { got = createReply (compared 3_071 3_000); want = 15 ∷ 0 ∷ 0 ∷ [] }
+    ∷ record { got = createReply (compared 3_071 3_000); want = 15 ∷ 0 ∷ 0 ∷ 0 ∷ [] }
     -- (d) 600036 at 2999 gives 9, place 3
-    ∷ record { got = createReply (compared 3_072 2_999); want = 9 ∷ 3 ∷ 0 ∷ [] }
+    ∷ record { got = createReply (compared 3_072 2_999); want = 9 ∷ 3 ∷ 0 ∷ 0 ∷ [] }
     -- (e) the creation's records
     ∷ record { got = createList (compared 3_072 3_000); want = created }
     -- (f) one basket redeemed: other cash 94,400.000, Shanghai 150,000.000 in two records, the second 0
     ∷ record { got = redeemReply (compared 3_072 3_000) ++ redeemList (compared 3_072 3_000); want = redeemed }
+    -- the reports of (e) and of (f), the investor's and the fund's
+    ∷ record { got = createLists (compared 3_072 3_000) .investor; want = createdReports 1 2 }
+    ∷ record { got = createLists (compared 3_072 3_000) .fund; want = createdReports 2 1 }
+    ∷ record { got = redeemLists (compared 3_072 3_000) .investor; want = redeemedReports 2 1 }
+    ∷ record { got = redeemLists (compared 3_072 3_000) .fund; want = redeemedReports 1 2 }
+    -- room for three reports is too little, in either list
+    ∷ record { got = createWith 3 4 ++ createWith 4 3; want = 16 ∷ 0 ∷ 0 ∷ 0 ∷ 16 ∷ 0 ∷ 0 ∷ 0 ∷ [] }
+    -- cash: none makes no report, and a kind of which there is none leaves no gap
+    ∷ record { got = cashTold 0 0 ++ (cashTold 7 0 ++ cashTold 0 5); want = 3 ∷ 1 ∷ 0 ∷ 0 ∷ 2 ∷ 7 ∷ (replicate 4 0 ++ (3 ∷ 1 ∷ 0 ∷ 0 ∷ 1 ∷ 5 ∷ replicate 4 0)) }
+    -- a component of which nothing moved makes none
+    ∷ record { got = stockTold 600_000 0; want = [] }
     -- (g) cash 999.999 is one record, 1,000.000 two
     ∷ record {
       got = cashOf 999_999 ++ cashOf 1_000_000;
@@ -207,8 +261,11 @@ unfolding sumBelow anyBelow allBelow firstBelow joinBelow tabulate every inside 
     cashOpened heldOpened openedTotal openedCash daySizesFit sizeChecks fundChecks overAt totalFault totalChecks dayChecks
     componentsOpened placesOf lentSizesFit openingReply openedDay openedStretch openedBook
     opens fundStill isSound isInvestor worthAt lacksPrice cashAdded cashTaken worthBefore referenceValue hasValue valueChecks valueReply
-    cashParts cashRecords stockRecord orderRecords flatten roomIn withRecords
+    cashParts cashRecords stockRecord orderRecords laid withLaid flatten withRecords withReports
+    present cashGroups stockReport orderReports turned roomsIn tooShort withOrder
     baskets wholeBaskets formChecks switchAllows withinLimit countOf fundCount withinLimits permissionChecks need shanghaiCash otherCash
-    available handedIn isShort missing missingWorth isMissing creationCash creationDue ratioPassed creationRecords firstShort creationMeans creationChecks creationReply createdList
-    delivered redemptionCash redemptionPaid unitsAvailable fundLacks firstLacking redemptionRecords redemptionMeans redemptionChecks redemptionReply redeemedList
+    available handedIn isShort missing missingWorth isMissing creationCash creationDue ratioPassed creationRecords creationReports
+    firstShort creationMeans creationChecks creationReply createdLists
+    delivered redemptionCash redemptionPaid unitsAvailable fundLacks firstLacking redemptionRecords redemptionReports redemptionMeans
+    redemptionChecks redemptionReply redeemedLists
 cases = refl

@@ -4,3 +4,4 @@ pub mod Checks
 pub mod Stretch
 pub mod Same
 pub mod Runs
+pub mod Sums

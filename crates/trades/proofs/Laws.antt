@@ -45,7 +45,7 @@ module _ (n line p : ℕ) where
 
   pub priced-line : reply 0 0 0 ≡ answered (priceChecks n line p) 0 → line < n
   unfolding priceChecks
-  priced-line e = leb-false _ _ (all-passed (priceChecks n line p) 0 tt (is-accepted 0 _ e) .0)
+  priced-line e = leb-false _ _ (all-passed (priceChecks n line p) _ tt (is-accepted _ _ refl e) .0)
 
 -- Trade.
 
@@ -126,7 +126,7 @@ amount-fits q p e f = mul-le-mul {m₂ = 9_999_999} (inside-facts 1 999_999_999 
 pub tradable : (k n : ℕ) (b : List ℕ) (line q p seller buyer : ℕ) → BookFits k n b → reply 0 0 0 ≡ answered (tradeChecks k n b line q p seller buyer) 0 → Tradable n b line q p seller buyer
 unfolding tradeChecks tradeMeans
 tradable k n b line q p seller buyer f e =
-    let t = all-passed (tradeChecks k n b line q p seller buyer) 0 tt (is-accepted 0 _ e) in
+    let t = all-passed (tradeChecks k n b line q p seller buyer) _ tt (is-accepted _ _ refl e) in
     let line-in : line ≤ n = ltb-false _ _ (t .0) in
     let qs = inside-facts 1 999_999_999 q (not-false _ (t .1 .0)) in
     let amount = amount-fits q p (not-false _ (t .1 .0)) (not-false _ (t .1 .1 .0)) in

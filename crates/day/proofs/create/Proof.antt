@@ -3,7 +3,7 @@ use mathlib.Core.Path.{_∙_}
 use mathlib.Core.Bool.{false≢true}
 use native.Mathlib.Omega.{arith}
 use borrow.Author.Needs.{needs}
-use Rattle.rules.proofs.Asked.{creation-asked, created-book, created-list}
+use Rattle.rules.proofs.Asked.{creation-asked, created-book, created-lists}
 use Rattle.day.proofs.create.Statement.{statement}
 use Rattle.day.proofs.create.Tie as tie
 
@@ -13,7 +13,7 @@ order-requires c κs = (λ q. absurd (false≢true q), rw (c .before .before .cr
 returns : tie.Need-returns
 returns c =
     let made = rw (c .before .before .before .before .before .before .before .creation .ensures) at (c .before .before .before .before .order .ensures) in
-    (made .0 ∙ creation-asked _ _ _ _ _ _, (made .1 .0 ∙ created-book _ _ _ _ _ _, made .1 .1 ∙ created-list _ _ _ _ _ _))
+    (made .0 ∙ creation-asked _ _ _ _ _ _, (made .1 .0 ∙ created-book _ _ _ _ _ _, made .1 .1 ∙ created-lists _ _ _ _ _ _))
 
 pub create-spec : {M : Type 1} → statement M
 create-spec = tie.close (tie.spec (λ c κs. search needs) order-requires (λ c. search needs) (λ c. search needs) returns)

@@ -1,4 +1,4 @@
--- `layout::put_answer` meets its contract: three numbers, stored one by one.
+-- `layout::put_answer` meets its contract: four numbers, stored one by one.
 use lib.ListN.{length-set}
 use borrow.Author.Needs.{needs}
 use native.Mathlib.Omega.{arith}
@@ -15,5 +15,6 @@ put-answer-spec =
     tie.close
     (tie.spec
     (λ c. search needs) (λ c. search needs) (λ c. search needs) (λ c. search needs) (λ c. search needs) (λ c. simp length-set (omega arith)) (λ c. search needs)
+    (λ c. search needs) (λ c. simp length-set (omega arith)) (λ c. search needs)
     (λ c. search needs) (λ c. simp length-set (omega arith)) (λ c. search needs)
     returns)

@@ -6,11 +6,10 @@ use borrow.Author.Tests.{not-true, not-false}
 use Prim.Native.Nat.{ℕ}
 use mathlib.Core.List.{List}
 use Rattle.layout.specs.Day.{Day, dayAt}
-use Rattle.layout.specs.Book.{account}
-use Rattle.layout.specs.Records.{roomIn, withRecords}
+use Rattle.rules.specs.Lent.{Lent, lentOf, roomsIn}
 use Rattle.rules.specs.declared.Ask.{Ask}
 use Rattle.rules.specs.Replies.{ifAccepted}
-use Rattle.rules.specs.Kinds.{askedRecords}
+use Rattle.rules.specs.Kinds.{withAsked}
 use Rattle.orders.specs.Orders.{askedAnswer}
 use Rattle.rules.specs.Sound.{isSound}
 use Rattle.order_calls.proofs.Laws.{stays-five, order-own, leaves-own}
@@ -35,10 +34,9 @@ order-requires c κs =
       (start .pre .1, basket-wide (a .day .now) _ (c .before .before .basket-of .ensures) full),
     )
 
--- the list that the core leaves
-abbrev listLeft : Day → List ℕ → List ℕ → Ask → List ℕ → List ℕ
-listLeft d b ps ask list =
-    ifAccepted (askedAnswer d b ps ask (roomIn list)) (withRecords (askedRecords d (account d b (ask .account)) ps ask) list) list
+-- the lists that the core leaves
+abbrev listsLeft : Day → List ℕ → List ℕ → Ask → Lent → Lent
+listsLeft d b ps ask lent = ifAccepted (askedAnswer d b ps ask (roomsIn lent)) (withAsked d b ps ask lent) lent
 
 returns-2 : tie.Need-returns-2
 returns-2 c =
@@ -48,11 +46,12 @@ returns-2 c =
     let a = head .before .before .before .before .before .before .before .before .args in
     let same = run-parts (a .day .now) _ _ (head .head-of .ensures) (basket .basket-of .ensures) (sound-width _ _ _ s) in
     let made = c .before .before .before .before .order .ensures in
-    let left = leaves-own _ _ _ s (a .ask) (a .list .now) in (
+    let lent = lentOf (a .records .now) (a .investor .now) (a .fund .now) in
+    let left = leaves-own _ _ _ s (a .ask) lent in (
       (rw same at (made .0)) ∙ order-own _ _ _ s (a .ask) _,
       (
         (rw same at (made .1 .0)) ∙ left .0,
-        made .1 .1 ∙ ap (λ (d : Day). listLeft d (a .book .now) (a .prices .now) (a .ask) (a .list .now)) same ∙ left .1,
+        made .1 .1 ∙ ap (λ (d : Day). listsLeft d (a .book .now) (a .prices .now) (a .ask) lent) same ∙ left .1,
       ),
     )
 

@@ -9,7 +9,7 @@ use Rattle.order_tests.proofs.money_answer.Tie as tie
 
 returns : tie.Need-returns
 returns c =
-    (rw (c .before .before .before .before .record-count .ensures, c .before .before .before .before .before .total .ensures) at (c .last-answer .ensures))
+    (rw (c .before .before .before .before .counts-of .ensures, c .before .before .before .before .before .total .ensures) at (c .last-answer .ensures))
     ∙ ratio-passes _ _ _ _ _ _ _ (ap answerReply (sym (c .before .enum-told .given .1)) ∙ c .before .before .before .ratio-answer .ensures)
 
 returns-2 : tie.Need-returns-2

@@ -22,8 +22,8 @@ returns c =
     let p = c .before .before .before .before .before .before .before .before .before .before .before .pre in
     let scanned = c .before .before .before .before .before .before .order-scan .ensures in
     let answered = rw (c .before .before .before .before .before .cash-held .ensures) at (c .before .before .before .order-from .ensures) in
-    let made = ap orderAnswerReply (sym (c .before .count .given .1)) ∙ answered ∙ means-done _ _ _ _ _ _ _ _ scanned (p .1 .1 .0 .0) (p .0) in
-    (made, means-cash _ _ _ _ 0 _ _ _ scanned (p .1 .1 .0 .0) (p .0) ∙ leaves-after _ _ _ _ made)
+    let made = ap orderAnswerReply (sym (c .before .counts .given .1)) ∙ answered ∙ means-done _ _ _ _ _ _ _ _ scanned (p .1 .1 .0 .0) (p .0) in
+    (made, means-cash _ _ _ _ 0 _ _ _ scanned (p .1 .1 .0 .0) (p .0) ∙ leaves-after _ _ _ _ refl made)
 
 returns-2 : tie.Need-returns-2
 returns-2 c =

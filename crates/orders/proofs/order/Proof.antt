@@ -27,7 +27,7 @@ unfolding roomIn baskets
 settle-requires c κs =
     let p = c .before .before .before .before .before .before .before .before .before .before .before .before .before .before .pre in
     let made = ap orderAnswerReply (sym (c .before .before .before .answer .given .1)) ∙ c .before .before .before .before .before .before .tested-in .ensures .0 in
-    let paid = c .before .before .before .before .before .before .tested-in .ensures .1 ∙ sym (leaves-after _ _ _ _ made) in
+    let paid = c .before .before .before .before .before .before .tested-in .ensures .1 ∙ sym (leaves-after _ _ _ _ refl made) in
     let ready =
     order-makes _ _ _ _ (now (c .before .before .before .before .before .before .before .before .before .before .before .before .before .before .args .list)) (p .1 .0)
     (p .0) _ made _ refl _ paid in
@@ -40,10 +40,10 @@ returns c =
     let start = tests .before .before .before .before .before .before .before .before in
     let p = start .pre in
     let made = ap orderAnswerReply (sym (c .before .before .before .before .before .before .before .before .answer .given .1)) ∙ tests .tested-in .ensures .0 in
-    let paid = tests .tested-in .ensures .1 ∙ sym (leaves-after _ _ _ _ made) in
+    let paid = tests .tested-in .ensures .1 ∙ sym (leaves-after _ _ _ _ refl made) in
     let settled = c .before .before .before .before .settle .ensures in
     let done = order-made _ _ _ _ (now (start .args .list)) (p .1 .0) (p .0) _ made _ refl _ paid _ _ (settled .0) (settled .1) in
-    (made, (done .0 ∙ leaves-after _ _ _ _ made, done .1 ∙ leaves-after _ _ _ _ made))
+    (made, (done .0 ∙ leaves-after _ _ _ _ refl made, done .1 ∙ leaves-after _ _ _ _ refl made))
 
 returns-2 : tie.Need-returns-2
 unfolding roomIn

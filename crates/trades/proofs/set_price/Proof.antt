@@ -16,7 +16,7 @@ inside c = priced-line _ _ _ (ap answerReply (sym (c .enum-told .given .1)) ∙ 
 returns : tie.Need-returns
 returns c =
     let e = ap answerReply (sym (c .enum-told .given .1)) ∙ c .before .before .price-answer .ensures in
-    (e, leaves-after _ _ 0 _ e)
+    (e, leaves-after _ _ _ _ refl e)
 
 returns-2 : tie.Need-returns-2
 returns-2 c =

@@ -17,7 +17,7 @@ returns : tie.Need-returns
 returns c =
     let made = c .before .before .before in
     let e = ap answerReply (sym (made .before .before .enum-told .given .1)) ∙ made .before .before .before .before .trade-answer .ensures in
-    (e, c .before .before .move-trade .ensures ∙ rw (made .new .ensures) (leaves-after _ _ 0 _ e))
+    (e, c .before .before .move-trade .ensures ∙ rw (made .new .ensures) (leaves-after _ _ _ _ refl e))
 
 returns-2 : tie.Need-returns-2
 returns-2 c =
