@@ -12,7 +12,8 @@ use Rattle.rules.specs.Sound.{mostPrice}
 use Rattle.rules.specs.Price.{pricedPrices}
 use Rattle.rules.proofs.SoundDay.{PricesSound, kept-priced}
 use Rattle.rules.proofs.Accepted.{Prices, price-facts}
-use Rattle.balance.specs.Calls.{State, Lent, price, step}
+use Rattle.rules.specs.Lent.{Lent}
+use Rattle.balance.specs.Calls.{State, price, step}
 use Rattle.balance.specs.Counts.{callSold, callBought, callGot, callHandedIn, callCreated, callRedeemed, callCreatedByAll, callRedeemedByAll}
 use Rattle.balance.proofs.Relation.{keeps-same, AcceptedKeeps}
 

@@ -34,7 +34,7 @@ unfolding cashRecords cashParts sumOf
 cash-sum code side f u each none adds c = go (eqb c 0) refl (ltb c splitSize)
   where
     go : (a : Bool) → eqb c 0 ≡ a → (b : Bool)
-        → sumOf f (map (λ part. recordOf code side (part .0) (part .1)) (cond a [] (cond b ((1, c) ∷ []) ((splitSize, c / splitSize) ∷ (1, c % splitSize) ∷ [])))) ≡ u c
+        → sumOf f (map (λ (part : ℕ × ℕ). recordOf code side (part .0) (part .1)) (cond a [] (cond b ((1, c) ∷ []) ((splitSize, c / splitSize) ∷ (1, c % splitSize) ∷ [])))) ≡ u c
     go true p b = sym (ap u (eqb-true c 0 p) ∙ none)
     go false p true =
         let whole : 1 * c ≡ c = omega arith in
@@ -123,16 +123,16 @@ module _ (d : Day) (stock rest units : ℕ) (moved : ℕ → ℕ) (other shangha
   abbrev under : ℕ → Record → ℕ
   under code r = whenSame (r .code) code (r .amount .0)
 
+  neither : (b : Bool) → cond {A = ℕ} b 0 0 ≡ 0
+  neither true = refl
+  neither false = refl
+
   no-amount : (q : ℕ) → q * 0 ≡ 0
   no-amount q = mul-zero q
 
   when-zero : (x y : ℕ) → whenSame x y 0 ≡ 0
   unfolding whenSame
-  when-zero x y = go (eqb x y)
-    where
-      go : (b : Bool) → cond b 0 0 ≡ 0
-      go true = refl
-      go false = refl
+  when-zero x y = neither (eqb x y)
 
   when-adds : (x y m n : ℕ) → whenSame x y (m + n) ≡ whenSame x y m + whenSame x y n
   unfolding whenSame
@@ -144,12 +144,13 @@ module _ (d : Day) (stock rest units : ℕ) (moved : ℕ → ℕ) (other shangha
 
   all-amounts : sumOf amount records ≡ other + shanghai
   all-amounts =
-      let cash = λ (code c : ℕ). cash-sum code rest amount (λ n. n) (λ q p. refl) refl (λ x y. refl) c in
+      let cash : (code c : ℕ) → sumOf amount (cashRecords code rest c) ≡ c = λ code c. cash-sum code rest amount (λ n. n) (λ q p. refl) refl (λ x y. refl) c in
       omega (arith, records-sum amount (λ code side q. no-amount q), cash (g + otherStep) other, cash (g + shanghaiStep) shanghai)
 
   under-sum : (code : ℕ) → sumOf (under code) records ≡ whenSame (g + otherStep) code other + whenSame (g + shanghaiStep) code shanghai
   under-sum code =
-      let cash = λ (own c : ℕ). cash-sum own rest (under code) (whenSame own code) (λ q p. refl) (when-zero own code) (when-adds own code) c in
+      let cash : (own c : ℕ) → sumOf (under code) (cashRecords own rest c) ≡ whenSame own code c =
+      λ own c. cash-sum own rest (under code) (whenSame own code) (λ q p. refl) (when-zero own code) (when-adds own code) c in
       omega (
         arith,
         records-sum (under code) (λ own side q. ap (whenSame own code) (no-amount q) ∙ when-zero own code),
@@ -182,7 +183,7 @@ module _ (d : Day) (stock rest units : ℕ) (moved : ℕ → ℕ) (other shangha
           other =
               omega (
                 arith,
-                total (otherThan shanghaiKind) refl no-other,
+                total (otherThan shanghaiKind) refl (λ kind. neither (eqb kind shanghaiKind)),
                 records-total (under (g + otherStep)) records list,
                 under-sum (g + otherStep),
                 when-same (g + otherStep) (g + otherStep) other refl,
@@ -190,10 +191,3 @@ module _ (d : Day) (stock rest units : ℕ) (moved : ℕ → ℕ) (other shangha
               );
           all = omega (arith, total amountOf refl (λ kind. refl), records-total amount records list, all-amounts);
         }
-      where
-        no-other : (kind : ℕ) → otherThan shanghaiKind (groupOf kind 0) ≡ 0
-        no-other kind = go (eqb kind shanghaiKind)
-          where
-            go : (b : Bool) → cond b 0 0 ≡ 0
-            go true = refl
-            go false = refl

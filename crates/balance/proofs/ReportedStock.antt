@@ -3,7 +3,6 @@ use mathlib.Core.Path.{_≡_, refl, sym, ap, _∙_}
 use mathlib.Core.Bool.{Bool, true, false, cond, _||_}
 use mathlib.Core.List.{List, [], _∷_, _++_, map}
 use Prim.Native.Nat.{ℕ, zero, suc, _+_, _≤_, _<_}
-use native.Mathlib.Nat.{le-step, lt-suc-self, suc-le-suc}
 use native.Mathlib.Omega.{arith}
 use lib.Dec.{ltb, eqb}
 use lib.ListN.{length, getD, length-append, length-map, List·getD-append, List·getD-map}
@@ -107,7 +106,7 @@ module _ (d : Day) (sound : componentFault (d .fund .«first_code») (d .compone
   below-outside : (n : ℕ) → n ≤ d .count → Each Outside (joinBelow (stockRecord d stock moved) n)
   unfolding joinBelow Each
   below-outside zero h = tt
-  below-outside (suc n) h = each-append (joinBelow (stockRecord d stock moved) n) (stockRecord d stock moved n) (below-outside n (omega arith)) (line-outside n h)
+  below-outside (suc n) h = each-append Outside (joinBelow (stockRecord d stock moved) n) (stockRecord d stock moved n) (below-outside n (omega arith)) (line-outside n h)
 
   outside : Each Outside lines
   outside = below-outside (d .count) (omega arith)
@@ -151,14 +150,14 @@ module _ (d : Day) (sound : componentFault (d .fund .«first_code») (d .compone
     record-is : (k : ℕ) → k < length lines → recordAt (withRecords records list) (suc k) ≡ getD lines k blank
     unfolding orderRecords
     record-is k h =
-        record-read records list (suc k) blank (suc-le-suc (rw length-append (omega (arith, h))))
+        record-read records list (suc k) blank (simp length-append (omega (arith, h)))
         ∙ List·getD-append lines _ blank k h
 
     report-is : (k : ℕ) → k < length lines → reportAt (withReports reports lent) (suc k) ≡ stockOf stock (getD lines k blank)
     unfolding orderReports
     report-is k h =
         let size : length told ≡ length lines = ap length told-lines ∙ length-map lines (stockOf stock) in
-        report-read reports lent (suc k) (stockOf stock blank) (suc-le-suc (rw length-append (omega (arith, h, size))))
+        report-read reports lent (suc k) (stockOf stock blank) (simp length-append (omega (arith, h, size)))
         ∙ List·getD-append told _ (stockOf stock blank) k (omega (arith, h, size))
         ∙ ap (λ (rs : List Report). getD rs k (stockOf stock blank)) told-lines
         ∙ List·getD-map (stockOf stock) lines k blank
@@ -168,7 +167,7 @@ module _ (d : Day) (sound : componentFault (d .fund .«first_code») (d .compone
     each k h =
         record {
           of-stock = rw (report-is k h);
-          recorded = rw (record-is k h) (each-at lines k blank h outside);
+          recorded = rw (record-is k h) (each-at Outside lines k blank h outside);
           code = rw (report-is k h, record-is k h);
           quantity = rw (report-is k h, record-is k h);
         }

@@ -19,7 +19,8 @@ use Rattle.rules.specs.Trade.{sellSide, buySide, tradeMoves, tradedBook}
 use Rattle.rules.proofs.SoundDay.{Kept, sound-moved}
 use Rattle.rules.proofs.Sides.{side-length, side-cash, side-counter, side-line, side-other}
 use Rattle.rules.proofs.Accepted.{Trades, trade-facts}
-use Rattle.balance.specs.Calls.{State, Lent, trade, step}
+use Rattle.rules.specs.Lent.{Lent}
+use Rattle.balance.specs.Calls.{State, trade, step}
 use Rattle.balance.specs.Counts.{callSold, callBought, callGot, callHandedIn, callCreated, callRedeemed, callCreatedByAll, callRedeemedByAll}
 use Rattle.balance.proofs.Relation.{Drawn, drawn-same, drawn-sell, drawn-buy, drawn-eq, stays-same, Rises, Keeps, callTally, AcceptedKeeps}
 

@@ -1,5 +1,6 @@
 -- The reference value: nothing changes.
-use Rattle.balance.specs.Calls.{State, Lent, value, step}
+use Rattle.rules.specs.Lent.{Lent}
+use Rattle.balance.specs.Calls.{State, value, step}
 use Rattle.balance.specs.Counts.{callSold, callBought, callGot, callHandedIn, callCreated, callRedeemed, callCreatedByAll, callRedeemedByAll}
 use Rattle.balance.proofs.Relation.{keeps-same, AcceptedKeeps}
 

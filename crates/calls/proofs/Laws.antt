@@ -48,4 +48,4 @@ module _ (d : Day) (b ps : List ℕ) (sound : isSound d b ps ≡ true) where
 
   pub value-own : answered (valueChecks d ps) (referenceValue d ps) ≡ valueReply d b ps
   unfolding valueReply
-  value-own = own (valueChecks d ps) (referenceValue d ps)
+  value-own = own (valueChecks d ps) _

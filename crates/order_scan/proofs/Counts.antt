@@ -17,7 +17,7 @@ use Rattle.rules.specs.Orders.{baskets}
 use Rattle.rules.specs.Records.{recordOf, cashParts, cashRecords, stockRecord, orderRecords, shanghaiStep, otherStep}
 use Rattle.rules.specs.declared.Counts.{Counts}
 use Rattle.rules.specs.Reports.{cashGroups, cashReports, stockReport, orderReports}
-use Rattle.rules.specs.Kinds.{allCash, movedBy, recordsBy, reportsBy, cashReportCount, askedCash, askedRecords, askedReports, countsBy}
+use Rattle.rules.specs.Kinds.{allCash, stockSide, restSide, movedBy, recordsBy, reportsBy, cashReportCount, askedCash, askedRecords, askedReports, countsBy}
 use Rattle.rules.proofs.Asked.{asked-records, asked-reports}
 use Rattle.rules.proofs.Reports.{cash-count}
 use Rattle.order_scan.specs.Lines.{stockCount, cashCount, scanCounts}
@@ -71,8 +71,8 @@ report-count kind d s units m c =
     simp length-append
     (omega (
       arith,
-      join-count (stockReport d _ (movedBy kind d s m)) (λ i. stockCount (movedBy kind d s m i)) (d .count) (stock-reports d _ (movedBy kind d s m)),
-      cash-count _ c,
+      join-count (stockReport d (stockSide kind) (movedBy kind d s m)) (λ i. stockCount (movedBy kind d s m i)) (d .count) (stock-reports d (stockSide kind) (movedBy kind d s m)),
+      cash-count (restSide kind) c,
     ))
 
 -- so the scan counts them

@@ -57,23 +57,23 @@ module _ (d : Day) (ps : List ℕ) (m : ℕ) (missing : Bool) (worth : ℕ) wher
 -- the stages, from a scan
 module _ (d : Day) (ps : List ℕ) (kind m : ℕ) (t : Scan) (held : ℕ) (rooms : Rooms) where
   pub ratio-passes : reply 0 0 0 ≡ answered (ratioTests d ps m (t .missing) (t .«missing_worth» .0)) 0
-      → answering (lastTests (cashNumber kind) (cashPlace kind (d .count)) held (allCash (t .cash)) rooms (scanCounts t)) (madeReply (scanCounts t)) ≡ answering (moneyTests d ps kind m t held roomss) (madeReply (scanCounts t))
+      → answering (lastTests (cashNumber kind) (cashPlace kind (d .count)) held (allCash (t .cash)) rooms (scanCounts t)) (madeReply (scanCounts t)) ≡ answering (moneyTests d ps kind m t held rooms) (madeReply (scanCounts t))
   unfolding moneyTests ratioTests
   ratio-passes e = stage-passed (ratioTests d ps m (t .missing) (t .«missing_worth» .0)) _ _ tt e
 
   pub ratio-stops : (why : Refusal) → refusalReply why ≡ answered (ratioTests d ps m (t .missing) (t .«missing_worth» .0)) 0
-      → refusalReply why ≡ answering (moneyTests d ps kind m t held roomss) (madeReply (scanCounts t))
+      → refusalReply why ≡ answering (moneyTests d ps kind m t held rooms) (madeReply (scanCounts t))
   unfolding moneyTests
   ratio-stops why e = stage-stopped (ratioTests d ps m (t .missing) (t .«missing_worth» .0)) _ _ why e
 
   module _ (there units : ℕ) where
     pub stock-passes : reply 0 0 0 ≡ answered (stockTests kind (d .count) there units (t .short)) 0
-        → answering (moneyTests d ps kind m t held roomss) (madeReply (scanCounts t)) ≡ answering (orderTests d ps kind m t there units held roomss) (madeReply (scanCounts t))
+        → answering (moneyTests d ps kind m t held rooms) (madeReply (scanCounts t)) ≡ answering (orderTests d ps kind m t there units held rooms) (madeReply (scanCounts t))
     unfolding orderTests
     stock-passes e = stage-passed (stockTests kind (d .count) there units (t .short)) _ _ (stock-numbered kind (d .count) there units (t .short)) e
 
     pub stock-stops : (why : Refusal) → refusalReply why ≡ answered (stockTests kind (d .count) there units (t .short)) 0
-        → refusalReply why ≡ answering (orderTests d ps kind m t there units held roomss) (madeReply (scanCounts t))
+        → refusalReply why ≡ answering (orderTests d ps kind m t there units held rooms) (madeReply (scanCounts t))
     unfolding orderTests
     stock-stops why e = stage-stopped (stockTests kind (d .count) there units (t .short)) _ _ why e
 
@@ -91,17 +91,19 @@ module _ (d : Day) (s f ps : List ℕ) (rooms : Rooms) where
       creationMeans ratioPassed creationDue redemptionMeans redemptionPaid
   tests-are r = by-ask (λ ask. answering (tests ask) r ≡ answering (askedMeans d s f ps ask rooms) r) (λ a units. refl) (λ a units. refl)
 
-  -- and so from a scan t, for m that is the order's count of baskets
-  module _ (ask : Ask) (m : ℕ) (t : Scan) (scanned : t ≡ orderScan (ask .kind) d s f ps m) (whole : m ≡ baskets d (ask .units)) (r : Scannable (ask .kind) d s f ps m) where
-    pub means-done : answering (orderTests d ps (ask .kind) m t (available s (d .count)) (ask .units) (headAt (byKind (ask .kind) s f) cash) rooms) (madeReply (scanCounts t)) ≡ meansAnswer d s f ps ask room
-    unfolding orderTests moneyTests meansAnswer
-    means-done = rw (scanned, whole, scan-counts d s f ps ask (r .kind-in)) (tests-are _ ask (r .kind-in))
+-- and so from a scan t, for m that is the order's count of baskets
+module _ (d : Day) (s f ps : List ℕ) (ask : Ask) (m : ℕ) (t : Scan) (scanned : t ≡ orderScan (ask .kind) d s f ps m) (whole : m ≡ baskets d (ask .units))
+    (r : Scannable (ask .kind) d s f ps m) where
+  pub means-done : (rooms : Rooms)
+      → answering (orderTests d ps (ask .kind) m t (available s (d .count)) (ask .units) (headAt (byKind (ask .kind) s f) cash) rooms) (madeReply (scanCounts t)) ≡ meansAnswer d s f ps ask rooms
+  unfolding orderTests moneyTests meansAnswer
+  means-done rooms = rw (scanned, whole, scan-counts d s f ps ask (r .kind-in)) (tests-are d s f ps rooms _ ask (r .kind-in))
 
-    pub means-cash : t .cash ≡ askedCash d s ps ask
-    unfolding orderScan askedCash
-    means-cash = rw (scanned, whole)
+  pub means-cash : t .cash ≡ askedCash d s ps ask
+  unfolding orderScan askedCash
+  means-cash = rw (scanned, whole)
 
-    -- and its sums fit
-    pub means-fit : (t .«stock_records» ≤ mostComponents) × (allCash (t .cash) ≤ 12_000_000_000_000_000_000)
-    unfolding orderScan
-    means-fit = rw scanned (scan-records-le (ask .kind) d s f ps m (r .count), cash-fits (ask .kind) d s f ps m r)
+  -- and its sums fit
+  pub means-fit : (t .«stock_records» ≤ mostComponents) × (allCash (t .cash) ≤ 12_000_000_000_000_000_000)
+  unfolding orderScan
+  means-fit = rw scanned (scan-records-le (ask .kind) d s f ps m (r .count), cash-fits (ask .kind) d s f ps m r)

@@ -94,11 +94,9 @@ pub cash-count : (side : ℕ) (c : CashByMarket) → length (cashReports side (c
 unfolding cashGroups present cashReportCount
 cash-count side c = go (eqb (c .shanghai .0) 0) refl (eqb (c .other .0) 0) refl
   where
-    count : Bool → Bool → ℕ
-    count a b = length (cashReports side (cond a (cond b [] (groupOf otherKind (c .other .0) ∷ [])) (groupOf shanghaiKind (c .shanghai .0) ∷ cond b [] (groupOf otherKind (c .other .0) ∷ []))))
-
-    go : (a : Bool) → eqb (c .shanghai .0) 0 ≡ a → (b : Bool) → eqb (c .other .0) 0 ≡ b → count (eqb (c .shanghai .0) 0) (eqb (c .other .0) 0) ≡ cond (eqb (allCash c) 0) 0 1
-    unfolding count
-    go true p true q = rw (p, q, eq-eqb (allCash c) 0 (omega (arith, eqb-true _ _ p, eqb-true _ _ q)))
-    go true p false q = rw (p, q, ne-eqb (allCash c) 0 (λ e. eqb-false _ _ q (omega arith)))
-    go false p b q = rw (p, ne-eqb (allCash c) 0 (λ e. eqb-false _ _ p (omega arith)))
+    go : (a : Bool) → eqb (c .shanghai .0) 0 ≡ a → (b : Bool) → eqb (c .other .0) 0 ≡ b
+        → length (cashReports side (cond a (cond b [] (groupOf otherKind (c .other .0) ∷ [])) (groupOf shanghaiKind (c .shanghai .0) ∷ cond b [] (groupOf otherKind (c .other .0) ∷ []))))
+        ≡ cond (eqb (allCash c) 0) 0 1
+    go true p true q = rw (eq-eqb (allCash c) 0 (omega (arith, eqb-true (c .shanghai .0) 0 p, eqb-true (c .other .0) 0 q)))
+    go true p false q = rw (ne-eqb (allCash c) 0 (λ e. eqb-false (c .other .0) 0 q (omega arith)))
+    go false p b q = rw (ne-eqb (allCash c) 0 (λ e. eqb-false (c .shanghai .0) 0 p (omega arith)))

@@ -24,7 +24,7 @@ use Rattle.rules.specs.Opening.{totalFault, totalChecks, dayChecks, comp
 use Rattle.rules.specs.Sound.{opens, fundStill, isSound}
 use Rattle.rules.specs.Trade.{isInvestor}
 use Rattle.rules.specs.Value.{worthAt, lacksPrice, cashAdded, cashTaken, worthBefore, referenceValue, hasValue, valueChecks, valueReply}
-use Rattle.rules.specs.Records.{sideB, cashParts, cashRecords, stockRecord, orderRecords}
+use Rattle.rules.specs.Records.{sideB, sideS, cashParts, cashRecords, stockRecord, orderRecords}
 use Rattle.rules.specs.Reports.{present, cashGroups, cashReports, stockReport, orderReports, turned}
 use Rattle.rules.specs.Lent.{Lent, lentOf, roomsIn, tooShort, withOrder}
 use Rattle.layout.specs.Laid.{laid, withLaid}

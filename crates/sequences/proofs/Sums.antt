@@ -9,7 +9,7 @@ use Rattle.sequences.specs.Below.{sumBelow, joinBelow}
 use Rattle.sequences.proofs.Below.{sum-none, sum-head, sum-same}
 
 module _ {A : Type 0} where
-  pub sumOf : (A → ℕ) → List A → ℕ
+  unfoldable pub sumOf : (A → ℕ) → List A → ℕ
   sumOf f [] = 0
   sumOf f (x ∷ xs) = f x + sumOf f xs
 
@@ -37,20 +37,20 @@ module _ {A : Type 0} where
   read-total f at xs x read = sum-same _ (λ k. f (getD xs k x)) (length xs) (λ k h. ap f (read k h)) ∙ sum-getD f xs x
 
   -- what holds of each
-  pub Each : (A → Type 0) → List A → Type 0
+  unfoldable pub Each : (A → Type 0) → List A → Type 0
   Each P [] = Unit {0}
   Each P (x ∷ xs) = P x × Each P xs
 
-  pub each-append : {P : A → Type 0} (xs ys : List A) → Each P xs → Each P ys → Each P (xs ++ ys)
+  pub each-append : (P : A → Type 0) (xs ys : List A) → Each P xs → Each P ys → Each P (xs ++ ys)
   unfolding Each
-  each-append [] ys p q = q
-  each-append (x ∷ xs) ys p q = (p .0, each-append xs ys (p .1) q)
+  each-append P [] ys p q = q
+  each-append P (x ∷ xs) ys p q = (p .0, each-append P xs ys (p .1) q)
 
-  pub each-at : {P : A → Type 0} (xs : List A) (k : ℕ) (x : A) → k < length xs → Each P xs → P (getD xs k x)
+  pub each-at : (P : A → Type 0) (xs : List A) (k : ℕ) (x : A) → k < length xs → Each P xs → P (getD xs k x)
   unfolding Each
-  each-at [] k x h p = absurd (not-suc-le-zero h)
-  each-at (y ∷ xs) zero x h p = p .0
-  each-at (y ∷ xs) (suc k) x h p = each-at xs k x (le-of-suc-le-suc h) (p .1)
+  each-at P [] k x h p = absurd (not-suc-le-zero h)
+  each-at P (y ∷ xs) zero x h p = p .0
+  each-at P (y ∷ xs) (suc k) x h p = each-at P xs k x (le-of-suc-le-suc h) (p .1)
 
   -- where each counts 1, they are counted
   pub sum-ones : (f : A → ℕ) (xs : List A) → Each (λ x. f x ≡ 1) xs → sumOf f xs ≡ length xs

@@ -15,4 +15,4 @@ returns-3 : tie.Need-returns-3
 returns-3 c = last-made _ _ _ _ _ _ (c .before .before .if1 .left) (sym (c .before .is-too-short .ensures) ∙ c .if2 .left)
 
 pub last-answer-spec : {M : Type 1} → statement M
-last-answer-spec = tie.close (tie.spec (λ c κs. search needs) returns returns-2 returns-3)
+last-answer-spec = tie.close (tie.spec (λ c κs. search needs) returns (λ c κs. search needs) returns-2 returns-3)

@@ -1,5 +1,5 @@
 -- `order_tests::order_means` meets its contract: the scan has what the tests look at, and the cash of an order that is made.
-use mathlib.Core.Path.{sym, ap, _∙_}
+use mathlib.Core.Path.{refl, sym, ap, _∙_}
 use native.Mathlib.Omega.{arith}
 use borrow.Author.Needs.{needs}
 use Rattle.rules.specs.Replies.{orderAnswerReply}
@@ -14,7 +14,7 @@ cash-held-requires c κs = (omega (arith, c .before .before .before .before .bef
 order-from-requires : tie.Need-order-from-requires
 order-from-requires c κs =
     let p = c .before .before .before .before .before .before .before .pre in
-    let fit = means-fit _ _ _ _ 0 (c .before .before .before .before .before .before .before .args .ask) _ _ (c .before .before .order-scan .ensures) (p .1 .1 .0 .0) (p .0) in
+    let fit = means-fit _ _ _ _ (c .before .before .before .before .before .before .before .args .ask) _ _ (c .before .before .order-scan .ensures) (p .1 .1 .0 .0) (p .0) in
     (p .1 .0, ((p .0 .baskets, p .1 .1 .0 .1, fit .0, fit .1), ((omega (arith, p .0 .stretch), omega (arith, p .1 .1 .0 .2)), p .1 .1 .1)))
 
 returns : tie.Need-returns
@@ -22,16 +22,16 @@ returns c =
     let p = c .before .before .before .before .before .before .before .before .before .before .before .pre in
     let scanned = c .before .before .before .before .before .before .order-scan .ensures in
     let answered = rw (c .before .before .before .before .before .cash-held .ensures) at (c .before .before .before .order-from .ensures) in
-    let made = ap orderAnswerReply (sym (c .before .counts .given .1)) ∙ answered ∙ means-done _ _ _ _ _ _ _ _ scanned (p .1 .1 .0 .0) (p .0) in
-    (made, means-cash _ _ _ _ 0 _ _ _ scanned (p .1 .1 .0 .0) (p .0) ∙ leaves-after _ _ _ _ refl made)
+    let made = ap orderAnswerReply (sym (c .before .counts .given .1)) ∙ answered ∙ means-done _ _ _ _ _ _ _ scanned (p .1 .1 .0 .0) (p .0) _ in
+    (made, means-cash _ _ _ _ _ _ _ scanned (p .1 .1 .0 .0) (p .0) ∙ leaves-after _ _ _ _ refl made)
 
 returns-2 : tie.Need-returns-2
 returns-2 c =
     let p = c .before .before .before .before .before .before .before .before .before .before .before .before .pre in
     let answered = rw (c .before .before .before .before .before .before .cash-held .ensures) at (c .before .before .before .before .order-from .ensures) in
     let stopped =
-    ap orderAnswerReply (sym (c .before .before .why .given .1)) ∙ answered ∙ means-done _ _ _ _ _ _ _ _
-    (c .before .before .before .before .before .before .before .order-scan .ensures) (p .1 .1 .0 .0) (p .0) in
+    ap orderAnswerReply (sym (c .before .before .why .given .1)) ∙ answered ∙ means-done _ _ _ _ _ _ _
+    (c .before .before .before .before .before .before .before .order-scan .ensures) (p .1 .1 .0 .0) (p .0) _ in
     (ap orderAnswerReply (c .turned-back .ensures .0) ∙ stopped, c .turned-back .ensures .1 ∙ leaves-before _ _ (c .before .before .why .given .0 .0) _ stopped)
 
 pub order-means-spec : {M : Type 1} → statement M

@@ -1,5 +1,5 @@
 -- `trades::set_price` meets its contract: the tests have the answer, and only an accepted one is written.
-use mathlib.Core.Path.{sym, ap, _∙_}
+use mathlib.Core.Path.{refl, sym, ap, _∙_}
 use Prim.Native.Nat.{_<_}
 use native.Mathlib.Omega.{arith}
 use borrow.Author.Needs.{needs}

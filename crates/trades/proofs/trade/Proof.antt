@@ -1,5 +1,5 @@
 -- `trades::trade` meets its contract: the tests have the answer, and only an accepted trade is moved.
-use mathlib.Core.Path.{sym, ap, _∙_}
+use mathlib.Core.Path.{refl, sym, ap, _∙_}
 use borrow.Author.Needs.{needs}
 use Rattle.rules.specs.Replies.{answerReply}
 use Rattle.rules.proofs.Replies.{leaves-after, leaves-before}
