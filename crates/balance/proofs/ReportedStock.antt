@@ -17,12 +17,12 @@ use Rattle.layout.specs.declared.Record.{Record}
 use Rattle.layout.specs.declared.Report.{Report}
 use Rattle.layout.specs.Records.{recordAt, withRecords}
 use Rattle.layout.specs.Reports.{reportAt, withReports}
-use Rattle.layout.proofs.Records.{record-read, records-total}
+use Rattle.layout.proofs.Records.{records-total}
 use Rattle.layout.proofs.Reports.{report-read, reports-total}
 use Rattle.rules.specs.Lines.{codeOf}
 use Rattle.rules.specs.Records.{recordOf, cashRecords, stockRecord, secondUnit, shanghaiStep, otherStep, orderRecords}
 use Rattle.rules.specs.Reports.{stockType, cashGroups, cashReports, stockReport, orderReports}
-use Rattle.rules.proofs.Reports.{stockOf, stock-reports}
+use Rattle.rules.proofs.Reports.{stockOf, stock-reports, noRecord, line-read}
 use Rattle.balance.specs.Reported.{countBelow, isStockReport, isStockRecord, SameStock, StockTold}
 use Rattle.balance.proofs.ReportedCash.{cash-sum}
 
@@ -144,30 +144,24 @@ module _ (d : Day) (sound : componentFault (d .fund .«first_code») (d .compone
     unfolding countBelow
     many-records = records-total own records list ∙ records-counted
 
-    blank : Record
-    blank = recordOf 0 0 0 0
+    record-is : (k : ℕ) → k < length lines → recordAt (withRecords records list) (suc k) ≡ getD lines k noRecord
+    record-is k h = line-read d stock rest units moved other shanghai list k h
 
-    record-is : (k : ℕ) → k < length lines → recordAt (withRecords records list) (suc k) ≡ getD lines k blank
-    unfolding orderRecords
-    record-is k h =
-        record-read records list (suc k) blank (simp length-append (omega (arith, h)))
-        ∙ List·getD-append lines _ blank k h
-
-    report-is : (k : ℕ) → k < length lines → reportAt (withReports reports lent) (suc k) ≡ stockOf stock (getD lines k blank)
+    report-is : (k : ℕ) → k < length lines → reportAt (withReports reports lent) (suc k) ≡ stockOf stock (getD lines k noRecord)
     unfolding orderReports
     report-is k h =
         let size : length told ≡ length lines = ap length told-lines ∙ length-map lines (stockOf stock) in
-        report-read reports lent (suc k) (stockOf stock blank) (simp length-append (omega (arith, h, size)))
-        ∙ List·getD-append told _ (stockOf stock blank) k (omega (arith, h, size))
-        ∙ ap (λ (rs : List Report). getD rs k (stockOf stock blank)) told-lines
-        ∙ List·getD-map (stockOf stock) lines k blank
+        report-read reports lent (suc k) (stockOf stock noRecord) (simp length-append (omega (arith, h, size)))
+        ∙ List·getD-append told _ (stockOf stock noRecord) k (omega (arith, h, size))
+        ∙ ap (λ (rs : List Report). getD rs k (stockOf stock noRecord)) told-lines
+        ∙ List·getD-map (stockOf stock) lines k noRecord
 
     each : (k : ℕ) → k < length lines → SameStock g (withRecords records list) (withReports reports lent) (suc k)
     unfolding Outside
     each k h =
         record {
           of-stock = rw (report-is k h);
-          recorded = rw (record-is k h) (each-at Outside lines k blank h outside);
+          recorded = rw (record-is k h) (each-at Outside lines k noRecord h outside);
           code = rw (report-is k h, record-is k h);
           quantity = rw (report-is k h, record-is k h);
         }

@@ -3,23 +3,24 @@
 use mathlib.Core.Path.{_≡_, refl, ap, _∙_}
 use mathlib.Core.Bool.{Bool, true, false, cond}
 use mathlib.Core.List.{List, [], _∷_, _++_, map}
-use Prim.Native.Nat.{ℕ, zero, suc, _+_}
+use Prim.Native.Nat.{ℕ, zero, suc, _<_}
 use native.Mathlib.Omega.{arith}
 use lib.Dec.{ltb, eqb}
-use lib.ListN.{length}
+use lib.ListN.{length, getD, length-append, List·getD-append}
 use borrow.Author.Tests.{eqb-true, eqb-false, eq-eqb, ne-eqb}
 use Rattle.sequences.specs.Below.{joinBelow}
 use Rattle.layout.specs.Day.{Day}
 use Rattle.layout.specs.declared.Group.{Group}
 use Rattle.layout.specs.declared.Record.{Record}
 use Rattle.layout.specs.declared.Report.{Report}
+use Rattle.layout.specs.Records.{recordAt, withRecords}
 use Rattle.layout.specs.Reports.{groupOf}
+use Rattle.layout.proofs.Records.{record-read}
 use Rattle.rules.specs.declared.CashByMarket.{CashByMarket}
 use Rattle.rules.specs.Orders.{creation}
-use Rattle.rules.specs.Records.{sideB, sideS, recordOf, stockRecord}
-use Rattle.rules.specs.Reports.{stockType, shanghaiKind, otherKind, moveReport, cashReport, present, cashGroups, cashReports, stockReport, orderReports, turned, opposite}
-use Rattle.rules.specs.Lines.{codeOf}
-use Rattle.rules.specs.Kinds.{byKind, allCash, stockSide, restSide, movedBy, reportsBy, cashReportCount}
+use Rattle.rules.specs.Records.{sideB, sideS, recordOf, stockRecord, orderRecords}
+use Rattle.rules.specs.Reports.{stockType, shanghaiKind, otherKind, moveReport, present, cashGroups, cashReports, stockReport, orderReports, turned, opposite}
+use Rattle.rules.specs.Kinds.{allCash, stockSide, restSide, movedBy, reportsBy, cashReportCount}
 
 -- what a record of stock tells
 abbrev pub stockOf : ℕ → Record → Report
@@ -44,6 +45,17 @@ pub stock-reports : (d : Day) (side other : ℕ) (moved : ℕ → ℕ) (n : ℕ)
     → joinBelow (stockReport d side moved) n ≡ map (stockOf side) (joinBelow (stockRecord d other moved) n)
 unfolding stockReport stockRecord
 stock-reports d side other moved n = map-join (stockOf side) (stockRecord d other moved) (stockReport d side moved) (λ i. one-map (stockOf side) (ltb 0 (moved i)) _ _ refl) n
+
+-- the records of stock stand behind the unit's
+pub noRecord : Record
+noRecord = recordOf 0 0 0 0
+
+pub line-read : (d : Day) (stock rest units : ℕ) (moved : ℕ → ℕ) (other shanghai : ℕ) (list : List ℕ) (k : ℕ) → k < length (joinBelow (stockRecord d stock moved) (d .count))
+    → recordAt (withRecords (orderRecords d stock rest units moved other shanghai) list) (suc k) ≡ getD (joinBelow (stockRecord d stock moved) (d .count)) k noRecord
+unfolding orderRecords
+line-read d stock rest units moved other shanghai list k h =
+    record-read (orderRecords d stock rest units moved other shanghai) list (suc k) noRecord (simp length-append (omega (arith, h)))
+    ∙ List·getD-append (joinBelow (stockRecord d stock moved) (d .count)) _ noRecord k h
 
 -- with the sides turned
 pub turned-stock : (kind : ℕ) → turned (stockSide kind) ≡ restSide kind
