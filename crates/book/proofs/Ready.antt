@@ -15,6 +15,7 @@ use Rattle.fund.specs.Fund.{ceiling}
 use Rattle.fund.proofs.Laws.{components-fine}
 use Rattle.layout.specs.Day.{Day}
 use Rattle.layout.specs.Book.{cash, headAt, lotsAt, width, account, headTotal, lineTotal, counter}
+use Rattle.rules.specs.declared.Rooms.{Rooms}
 use Rattle.rules.specs.Opening.{mostCash}
 use Rattle.rules.specs.Sound.{mostUnits}
 use Rattle.rules.specs.Orders.{creation, redemption, baskets, fundCount}
@@ -81,9 +82,9 @@ module _ {d : Day} {b ps : List ℕ} {kind a units : ℕ} (c : ℕ) (s : SoundDa
         fund-fits = omega (arith, head-most s 0 zero-in cash, s .book .money);
       }
 
-pub creation-ready : {d : Day} {b ps : List ℕ} {a units room : ℕ} → Creates d b ps a units room
+pub creation-ready : {d : Day} {b ps : List ℕ} {a units : ℕ} {rooms : Rooms} → Creates d b ps a units rooms
     → OrderReady creation d b a units (baskets d units) (creationDue d (account d b a) ps (baskets d units))
-creation-ready {d} {b} {ps} {a} {units} {room} r =
+creation-ready {d} {b} {ps} {a} {units} {rooms} r =
     let s = r .sound in
     let o = r .order in
     order-ready _ s o (omega arith) (omega (arith, r .money, head-most s a (o .account-in) cash, s .book .money))
@@ -92,10 +93,10 @@ creation-ready {d} {b} {ps} {a} {units} {room} r =
     (λ n. absurd (n refl))
     (λ n. absurd (n refl))
 
-pub redemption-ready : {d : Day} {b ps : List ℕ} {a units room : ℕ} → Redeems d b ps a units room
+pub redemption-ready : {d : Day} {b ps : List ℕ} {a units : ℕ} {rooms : Rooms} → Redeems d b ps a units rooms
     → OrderReady redemption d b a units (baskets d units) (redemptionPaid d (baskets d units))
 unfolding movedBy unitsAvailable
-redemption-ready {d} {b} {ps} {a} {units} {room} r =
+redemption-ready {d} {b} {ps} {a} {units} {rooms} r =
     let s = r .sound in
     let o = r .order in
     order-ready _ s o (omega arith) (omega (arith, r .money, head-most s 0 (omega (arith, s .own .accounts-low)) cash, s .book .money))

@@ -6,7 +6,7 @@ use Rattle.answers.proofs.of_order.Statement.{statement}
 use Rattle.answers.proofs.of_order.Tie as tie
 
 returns : tie.Need-returns
-returns c = c .accepted .ensures ∙ ap orderAnswerReply (sym (c .before .before .answer .given .1))
+returns c = ap orderAnswerReply (sym (c .before .answer .given .1))
 
 returns-2 : tie.Need-returns-2
 returns-2 c = c .of-refusal .ensures ∙ ap orderAnswerReply (sym (c .before .before .answer2 .given .1))
@@ -14,7 +14,4 @@ returns-2 c = c .of-refusal .ensures ∙ ap orderAnswerReply (sym (c .before .be
 pub of-order-spec : {M : Type 1} → statement M
 of-order-spec =
     tie.close
-    (tie.spec
-    (λ c. search needs) (λ c κs. search needs) (λ c. search needs) (λ c κs. search needs)
-    returns
-    returns-2)
+    (tie.spec (λ c. search needs) (λ c. search needs) (λ c κs. search needs) returns returns-2)

@@ -8,12 +8,14 @@ use Rattle.day.proofs.redeem.Statement.{statement}
 use Rattle.day.proofs.redeem.Tie as tie
 
 order-requires : tie.Need-order-requires
-order-requires c κs = (λ q. absurd (false≢true q), rw (c .before .before .redemption .ensures) (omega arith))
+order-requires c κs = (λ q. absurd (false≢true q), rw (c .before .before .before .before .redemption .ensures) (omega arith))
 
 returns : tie.Need-returns
 returns c =
-    let made = rw (c .before .before .before .before .before .before .before .redemption .ensures) at (c .before .before .before .before .order .ensures) in
+    let made = rw (c .before .before .before .before .before .before .before .before .before .before .before .before .before .redemption .ensures) at (c .before .before .before .before .before .before .before .before .order .ensures) in
     (made .0 ∙ redemption-asked _ _ _ _ _ _, (made .1 .0 ∙ redeemed-book _ _ _ _ _ _, made .1 .1 ∙ redeemed-lists _ _ _ _ _ _))
 
 pub redeem-spec : {M : Type 1} → statement M
-redeem-spec = tie.close (tie.spec (λ c κs. search needs) order-requires (λ c. search needs) (λ c. search needs) returns)
+redeem-spec =
+    tie.close
+    (tie.spec (λ c κs. search needs) order-requires (λ c. search needs) (λ c. search needs) (λ c. search needs) (λ c. search needs) returns)

@@ -17,21 +17,23 @@ use Rattle.calls.proofs.Run.{sound-width, run-parts, basket-wide}
 use Rattle.order_calls.proofs.order.Statement.{statement}
 use Rattle.order_calls.proofs.order.Tie as tie
 
-sound : (c : tie.Else1) → let a = c .before .before .before .before .before .before .before .args in isSound (dayAt (a .day .now)) (a .book .now) (a .prices .now) ≡ true
+sound : (c : tie.Else1) → let a = c .before .before .before .before .before .before .before .before .before .args in isSound (dayAt (a .day .now)) (a .book .now) (a .prices .now) ≡ true
 sound c = sym (c .before .sound-day .ensures) ∙ not-false _ (c .if1 .left)
 
 returns : tie.Need-returns
-returns c = stays-five _ _ _ (sym (c .before .sound-day .ensures) ∙ not-true _ (c .if1 .taken)) _ _
+returns c =
+    let a = c .before .before .before .before .before .before .before .before .before .args in
+    stays-five _ _ _ (sym (c .before .sound-day .ensures) ∙ not-true _ (c .if1 .taken)) _ (lentOf (a .records .now) (a .investor .now) (a .fund .now))
 
 order-requires : tie.Need-order-requires
 order-requires c κs =
-    let head = c .before .before .before in
+    let head = c .before .before .before .before .before in
     let s = sound (head .before) in
     let full = sound-width _ _ _ s in
-    let start = head .before .before .before .before .before .before .before .before in
+    let start = head .before .before .before .before .before .before .before .before .before .before in
     let a = start .args in (
-      rw (run-parts (a .day .now) _ _ (head .head-of .ensures) (c .before .before .basket-of .ensures) full) s,
-      (start .pre .1, basket-wide (a .day .now) _ (c .before .before .basket-of .ensures) full),
+      rw (run-parts (a .day .now) _ _ (head .head-of .ensures) (c .before .before .before .before .basket-of .ensures) full) s,
+      (start .pre .1, basket-wide (a .day .now) _ (c .before .before .before .before .basket-of .ensures) full),
     )
 
 -- the lists that the core leaves
@@ -40,12 +42,12 @@ listsLeft d b ps ask lent = ifAccepted (askedAnswer d b ps ask (roomsIn lent)) (
 
 returns-2 : tie.Need-returns-2
 returns-2 c =
-    let basket = c .before .before .before .before .before .before .before in
+    let basket = c .before .before .before .before .before .before .before .before .before .before .before .before .before in
     let head = basket .before in
     let s = sound (head .before) in
-    let a = head .before .before .before .before .before .before .before .before .args in
+    let a = head .before .before .before .before .before .before .before .before .before .before .args in
     let same = run-parts (a .day .now) _ _ (head .head-of .ensures) (basket .basket-of .ensures) (sound-width _ _ _ s) in
-    let made = c .before .before .before .before .order .ensures in
+    let made = c .before .before .before .before .before .before .before .before .order .ensures in
     let lent = lentOf (a .records .now) (a .investor .now) (a .fund .now) in
     let left = leaves-own _ _ _ s (a .ask) lent in (
       (rw same at (made .0)) ∙ order-own _ _ _ s (a .ask) _,
@@ -64,5 +66,5 @@ order-spec =
     (λ c κs. sound-width _ _ _ (sound c))
     (λ c κs. sound-width _ _ _ (sound (c .before)))
     order-requires
-    (λ c. search needs) (λ c. search needs)
+    (λ c. search needs) (λ c. search needs) (λ c. search needs) (λ c. search needs)
     returns-2)

@@ -18,20 +18,29 @@ returns c = order-five _ _ _ (sym (c .before .is-sound .ensures) ∙ not-true _ 
 
 order-tested-requires : tie.Need-order-tested-requires
 order-tested-requires c κs =
-    let s = sound (c .before .before) in
+    let s = sound (c .before .before .before) in
     let full = sound-width _ _ _ s in
-    let start = c .before .before .before .before .before .before .before in
+    let start = c .before .before .before .before .before .before .before .before in
     let a = start .args in
     (rw (run-parts (a .day .now) _ _ (c .before .head-of .ensures) (c .basket-of .ensures) full) s, (start .pre, basket-wide (a .day .now) _ (c .basket-of .ensures) full))
 
 returns-2 : tie.Need-returns-2
 returns-2 c =
     let head = c .before .before in
-    let s = sound (head .before) in
-    let a = head .before .before .before .before .before .before .args in
-    let tested = rw (run-parts (a .day .now) _ _ (head .head-of .ensures) (c .before .basket-of .ensures) (sound-width _ _ _ s)) at (c .order-tested .ensures) in
+    let s = sound (head .before .before) in
+    let a = c .before .before .before .before .before .before .before .before .before .args in
+    let same = run-parts (a .day .now) _ _ (head .head-of .ensures) (c .before .basket-of .ensures) (sound-width _ _ _ s) in
+    let tested = rw (same, head .before .rooms-of .ensures) at (c .order-tested .ensures) in
     tested .0 ∙ order-own _ _ _ s _ _
 
 pub order-test-spec : {M : Type 1} → statement M
 order-test-spec =
-    tie.close (tie.spec (λ c κs. search needs) returns (λ c κs. sound-width _ _ _ (sound c)) (λ c κs. sound-width _ _ _ (sound (c .before))) order-tested-requires returns-2)
+    tie.close
+    (tie.spec
+    (λ c κs. search needs)
+    returns
+    (λ c κs. search needs)
+    (λ c κs. sound-width _ _ _ (sound (c .before)))
+    (λ c κs. sound-width _ _ _ (sound (c .before .before)))
+    order-tested-requires
+    returns-2)

@@ -28,7 +28,7 @@ returns : tie.Need-returns
 returns c =
     let a = c .before .before .before .before .before .before .before .before .args in
     let passed =
-    form-passed (dayOf (a .d) (now (a .basket))) (now (a .book)) (now (a .prices)) (a .room) (a .ask)
+    form-passed (dayOf (a .d) (now (a .basket))) (now (a .book)) (now (a .prices)) (a .rooms) (a .ask)
     (c .before .before .before .before .before .before .before .before .pre .1 .0)
     (ap answerReply (sym (c .before .enum-told .given .1)) ∙ c .before .before .before .order-form .ensures) in
     rw passed at (c .order-stage .ensures)
