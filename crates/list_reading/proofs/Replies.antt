@@ -50,13 +50,13 @@ module _ (text : List ℕ) where
 
     pub reply-18 : (place : ℕ) → passes (shapeChecks shanghai text) ≡ false → answered (shapeChecks shanghai text) 0 ≡ reply 18 place 0 → reply 18 place 0 ≡ readReply text room
     unfolding readReply readChecks
-    reply-18 place e q = sym (answered-stop (shapeChecks shanghai text) _ _ 0 e ∙ q)
+    reply-18 place e q = sym (answered-stop (shapeChecks shanghai text) _ _ (reply 0 0 0) e ∙ q)
 
     module _ (s : passes (shapeChecks shanghai text) ≡ true) where
       -- past 18
       past-shape : readReply text room ≡ answered (fieldChecks shanghai text ++ (rangeChecks text ++ roomChecks)) (rowCount shanghai text)
       unfolding readReply readChecks
-      past-shape = answering-next (shapeChecks shanghai text) _ _ s
+      past-shape = answered-next (shapeChecks shanghai text) _ _ s
 
       pub reply-19-field : fieldWrong ≡ true → reply 19 (fieldStart shanghaiFields text (wrongField shanghaiFields text)) 0 ≡ readReply text room
       unfolding fieldChecks answering shanghai
