@@ -59,15 +59,21 @@ fn order_row(
     let r = part_in(records.len(), row[3], row[4]);
     let i = part_in(investor.len(), row[5], row[6]);
     let f = part_in(fund.len(), row[7], row[8]);
+    let r_start = r.start;
+    let r_end = r.end;
+    let i_start = i.start;
+    let i_end = i.end;
+    let f_start = f.start;
+    let f_end = f.end;
     let answer = order_calls::order(
         known,
         day,
         book,
         prices,
         ask,
-        &mut records[r.start..r.end],
-        &mut investor[i.start..i.end],
-        &mut fund[f.start..f.end],
+        &mut records[r_start..r_end],
+        &mut investor[i_start..i_end],
+        &mut fund[f_start..f_end],
     );
     answers::of_order(answer)
 }
