@@ -21,14 +21,16 @@ row-is-done w left row r answers put i e f g = rw (g, e, f) refl
 -- a row keeps the kept property
 pub row-keeps : (w : Work) (row : Row) → KeptState (w .state) → KeptState (rowLeaves w row .state)
 unfolding rowLeaves
-row-keeps w (call c start len) k = kept-step (w .state) c (lentTo w start len) k
+row-keeps w (call c ps) k = kept-step (w .state) c (lentTo w ps) k
 row-keeps w none k = k
 
 -- the lengths of all that is lent
 pub record SameLengths (b c : Batch) : Type 0 where
   pub book : length (b .work .state .book) ≡ length (c .work .state .book)
   pub prices : length (b .work .state .prices) ≡ length (c .work .state .prices)
-  pub records : length (b .work .records) ≡ length (c .work .records)
+  pub records : length (b .work .runs .records) ≡ length (c .work .runs .records)
+  pub investor : length (b .work .runs .investor) ≡ length (c .work .runs .investor)
+  pub fund : length (b .work .runs .fund) ≡ length (c .work .runs .fund)
   pub answers : length (b .answers) ≡ length (c .answers)
 
 -- b, after the first i of n rows on b₀
@@ -48,7 +50,7 @@ going-starts known rows n b k =
       within = omega arith;
       rest = ap (λ (m : ℕ). runFrom rows 0 m b) all-left;
       kept = λ e. kept-facts _ _ _ (k e);
-      lengths = record { book = refl; prices = refl; records = refl; answers = refl };
+      lengths = record { book = refl; prices = refl; records = refl; investor = refl; fund = refl; answers = refl };
     }
 
 module _ {known : Bool} {rows : List ℕ} {n : ℕ} {b₀ : Batch} {i : ℕ} {b : Batch} (g : Going known rows n b₀ i b) where
@@ -72,6 +74,8 @@ module _ {known : Bool} {rows : List ℕ} {n : ℕ} {b₀ : Batch} {i : ℕ} {b 
               book = same .book ∙ g .lengths .book;
               prices = same .prices ∙ g .lengths .prices;
               records = same .records ∙ g .lengths .records;
+              investor = same .investor ∙ g .lengths .investor;
+              fund = same .fund ∙ g .lengths .fund;
               answers = same .answers ∙ g .lengths .answers;
             };
       }

@@ -15,7 +15,7 @@ use Rattle.driver.specs.Batch.{Batch, rowDone, runFrom, withEvent, event
 -- a row's event, and then those of the rest
 row-happened : (w : Work) (row : Row) (es : List Event) (t : State) → Happened (rowLeaves w row .state) es t → Happened (w .state) (withEvent w row es) t
 unfolding Happened withEvent rowLeaves
-row-happened w (call c start len) es t h = (refl, h)
+row-happened w (call c ps) es t h = (refl, h)
 row-happened w none es t h = h
 
 pub rows-happened : (rows : List ℕ) (i n : ℕ) (b : Batch) → Happened (b .work .state) (eventsFrom rows i n b) (runFrom rows i n b .work .state)
@@ -51,7 +51,7 @@ runs-joined {s} {t} {u} {fs} {gs} d e = all-balanced s (fs ++ gs) u (happened-jo
 -- the answers are the events' replies
 row-answer : (w : Work) (row : Row) (es : List Event) → (replyFrom row (withEvent w row es) ≡ rowReply w row) × (eventsPast row (withEvent w row es) ≡ es)
 unfolding replyFrom eventsPast withEvent rowReply
-row-answer w (call c start len) es = (refl, refl)
+row-answer w (call c ps) es = (refl, refl)
 row-answer w none es = (refl, refl)
 
 rows-answers : (rows : List ℕ) (i n : ℕ) (b : Batch) → runFrom rows i n b .answers ≡ answersFrom rows i n (eventsFrom rows i n b) (b .answers)

@@ -32,7 +32,7 @@ fn do_row(
     requires { ⌜ answerWidth * i + answerWidth ≤ length (now answers) ⌝ }
     ensures { λ _. ⌜ batchOf (dayAt (now (day .entry))) (now (book .exit)) (now (prices .exit)) (lentOf (now (records .exit)) (now (investor .exit)) (now (fund .exit))) (now (answers .exit)) ≡ rowDone (batchOf (dayAt (now (day .entry))) (now (book .entry)) (now (prices .entry)) (lentOf (now (records .entry)) (now (investor .entry)) (now (fund .entry))) (now (answers .entry))) (rowAt (now (rows .entry)) i) i ⌝ }
 {
-    let at = layout::ROW_WIDTH * i;
+    let at = i * layout::ROW_WIDTH;
     let end = at + layout::ROW_WIDTH;
     let reply = driver_rows::row_call(
         known,

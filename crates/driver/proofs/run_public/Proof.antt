@@ -10,10 +10,13 @@ run-rows-requires c κs q = absurd (false≢true q)
 
 returns : tie.Need-returns
 returns c =
-    let done = c .before .before .before .before .before .before .before .before .run-rows .ensures in
+    let done = c .before .before .before .before .before .before .before .before .before .before .before .before .run-rows .ensures in
     (done .0, (done .1, run-meets _ _ _ (done .1)))
 
 pub run-public-spec : {M : Type 1} → statement M
 run-public-spec =
     tie.close
-    (tie.spec run-rows-requires (λ c. search needs) (λ c. search needs) (λ c. search needs) (λ c. search needs) returns)
+    (tie.spec
+    run-rows-requires
+    (λ c. search needs) (λ c. search needs) (λ c. search needs) (λ c. search needs) (λ c. search needs) (λ c. search needs)
+    returns)

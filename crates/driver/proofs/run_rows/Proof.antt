@@ -12,15 +12,15 @@ returns c = run-refused _ _ (sym (c .before .rows-fit .ensures) ∙ not-true _ (
 
 do-rows-requires : tie.Need-do-rows-requires
 do-rows-requires c κs =
-    let facts = fit-facts _ _ (sym (c .before .before .before .before .before .rows-fit .ensures) ∙ not-false _ (c .before .before .before .before .if1 .left)) in
-    (c .before .before .before .before .before .before .before .before .before .before .before .before .pre, (omega (arith, facts .0), omega (arith, facts .1)))
+    let facts = fit-facts _ _ (sym (c .before .before .before .before .before .before .before .rows-fit .ensures) ∙ not-false _ (c .before .before .before .before .before .before .if1 .left)) in
+    (c .before .before .before .before .before .before .before .before .before .before .before .before .before .before .before .before .pre, (omega (arith, facts .0), omega (arith, facts .1)))
 
 returns-2 : tie.Need-returns-2
 returns-2 c =
     run-done _ _ _
-    (sym (c .before .before .before .before .before .before .before .before .before .before .before .before .before .before .rows-fit .ensures)
-    ∙ not-false _ (c .before .before .before .before .before .before .before .before .before .before .before .before .before .if1 .left))
-    (c .before .before .before .before .before .before .before .before .do-rows .ensures)
+    (sym (c .before .before .before .before .before .before .before .before .before .before .before .before .before .before .before .before .before .before .before .before .rows-fit .ensures)
+    ∙ not-false _ (c .before .before .before .before .before .before .before .before .before .before .before .before .before .before .before .before .before .before .before .if1 .left))
+    (c .before .before .before .before .before .before .before .before .before .before .before .before .do-rows .ensures)
 
 pub run-rows-spec : {M : Type 1} → statement M
 run-rows-spec =
@@ -29,5 +29,5 @@ run-rows-spec =
     (λ c κs. search needs)
     returns
     do-rows-requires
-    (λ c. search needs) (λ c. search needs) (λ c. search needs) (λ c. search needs)
+    (λ c. search needs) (λ c. search needs) (λ c. search needs) (λ c. search needs) (λ c. search needs) (λ c. search needs)
     returns-2)
