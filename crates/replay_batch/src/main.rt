@@ -121,6 +121,22 @@ fn drive(
     answers::of_answer(answer)
 }
 
+// Fills the runs that the calls write with other numbers.
+fn mark(records: &mut [u64], investor: &mut [u64], fund: &mut [u64], answers: &mut [u64]) {
+    runs::fill(records);
+    runs::fill(investor);
+    runs::fill(fund);
+    runs::fill(answers);
+}
+
+// Copies these runs.
+fn copy_lent(records: &[u64], investor: &[u64], fund: &[u64], answers: &[u64], left: &mut [u64]) {
+    copy_in(records, left, RECORDS_AT);
+    copy_in(investor, left, INVESTOR_AT);
+    copy_in(fund, left, FUND_AT);
+    copy_in(answers, left, ANSWERS_AT);
+}
+
 // Makes the calls with records, reports and answers that hold other numbers, and copies all that is left.
 fn make(
     is_public: bool,
@@ -135,10 +151,7 @@ fn make(
     let mut investor = [0u64; MOST_REPORTS];
     let mut fund = [0u64; MOST_REPORTS];
     let mut answers = [0u64; MOST_ANSWERS];
-    runs::fill(&mut records);
-    runs::fill(&mut investor);
-    runs::fill(&mut fund);
-    runs::fill(&mut answers);
+    mark(&mut records, &mut investor, &mut fund, &mut answers);
     let r = drive(
         is_public,
         l,
@@ -153,10 +166,7 @@ fn make(
     );
     copy_in(book, left, 0);
     copy_in(prices, left, PRICES_AT);
-    copy_in(&records, left, RECORDS_AT);
-    copy_in(&investor, left, INVESTOR_AT);
-    copy_in(&fund, left, FUND_AT);
-    copy_in(&answers, left, ANSWERS_AT);
+    copy_lent(&records, &investor, &fund, &answers, left);
     r
 }
 
