@@ -50,7 +50,7 @@ module _ (text : List ℕ) where
 
     pub reply-18 : (place : ℕ) → passes (shapeChecks shanghai text) ≡ false → answered (shapeChecks shanghai text) 0 ≡ reply 18 place 0 → reply 18 place 0 ≡ readReply text room
     unfolding readReply readChecks
-    reply-18 place e q = sym (answered-stop (shapeChecks shanghai text) _ _ (reply 0 0 0) e ∙ q)
+    reply-18 place e q = sym (answered-stop (shapeChecks shanghai text) _ _ _ e ∙ q)
 
     module _ (s : passes (shapeChecks shanghai text) ≡ true) where
       -- past 18

@@ -6,7 +6,7 @@ use Prim.Native.Nat.{ℕ, _≤_}
 use lib.Dec.{leb, ltb, eqb}
 use borrow.Author.Tests.{leb-true, eqb-true, not-false}
 use Rattle.sequences.specs.Every.{inside}
-use Rattle.sequences.specs.Checks.{reply, isAccepted, passes}
+use Rattle.sequences.specs.Checks.{isAccepted, passes}
 use Rattle.sequences.proofs.Below.{first-stops}
 use Rattle.sequences.proofs.Every.{inside-facts}
 use Rattle.sequences.proofs.Checks.{all-passed, passes-all}
@@ -34,7 +34,7 @@ module _ (text : List ℕ) where
   pub reads : (room : ℕ) → isAccepted (readReply text room) ≡ true → Reads text
   unfolding readReply readChecks shapeChecks fieldChecks rangeChecks
   reads room e =
-      let p = all-passed (readChecks text room) (reply 0 0 (rowCount shanghai text)) tt e in
+      let p = all-passed (readChecks text room) _ tt e in
       let q = p .1 .1 .1 in
       let v = q .1 .1 in
       let r = and-eq-true-iff (leb 1 (figureRead shanghaiFields text creationCodeField .size)) (fieldsInRange (fieldsRead text)) .0 (not-false _ (v .1 .0)) in

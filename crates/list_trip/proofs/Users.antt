@@ -9,7 +9,7 @@ use lib.Dec.{ltb}
 use lib.ListN.{length}
 use lib.Seq.{take-append-seam}
 use borrow.Author.Tests.{le-ltb}
-use Rattle.sequences.specs.Checks.{check, Reply, reply, isAccepted, passes}
+use Rattle.sequences.specs.Checks.{Reply, check, reply, isAccepted, passes}
 use Rattle.sequences.proofs.Checks.{all-passed, accepted-reply, passes-all, answered-next, answered-passed}
 use Rattle.digits.specs.Written.{put}
 use Rattle.list_rules.specs.Writing.{Listing, textOf, listChecks, writeChecks, writeReply, outputAfter}
@@ -23,7 +23,7 @@ taken : (l : Listing) (n : ℕ) → passes (listChecks l) ≡ true → length (t
 unfolding writeReply writeChecks
 taken l n e h =
     answered-next (listChecks l) _ _ e
-    ∙ answered-passed (check (ltb n (length (textOf l))) 16 0 ∷ []) (reply 0 0 (length (textOf l))) (passes-all _ (le-ltb n (length (textOf l)) h, tt))
+    ∙ answered-passed (check (ltb n (length (textOf l))) 16 0 ∷ []) _ (passes-all _ (le-ltb n (length (textOf l)) h, tt))
 
 pub rewritten : Rewritten
 rewritten text room n e h =
@@ -36,12 +36,12 @@ module _ (l : Listing) (output : List ℕ) (e : isAccepted (writeReply l (length
   list-passes : passes (listChecks l) ≡ true
   unfolding writeReply writeChecks listChecks
   list-passes =
-      let p = all-passed (writeChecks l (length output)) (reply 0 0 (length (textOf l))) tt e in
+      let p = all-passed (writeChecks l (length output)) _ tt e in
       passes-all (listChecks l) (p .0, (p .1 .0, (p .1 .1 .0, tt)))
 
   value-is : writeReply l (length output) .value ≡ length (textOf l)
   unfolding writeReply writeChecks listChecks
-  value-is = ap (λ (r : Reply). r .value) (accepted-reply (writeChecks l (length output)) (reply 0 0 (length (textOf l))) tt e)
+  value-is = ap (λ (r : Reply). r .value) (accepted-reply (writeChecks l (length output)) _ tt e)
 
   text-in : writtenIn l output ≡ textOf l
   unfolding writtenIn outputAfter put

@@ -107,7 +107,7 @@ module _ (l : Listing) (full : length (l .fields .fund .limits) ≡ limitCount) 
       answered-next (shapeChecks shanghai (textOf l)) _ _ shape-passes
       ∙ answered-next (fieldChecks shanghai (textOf l)) _ _ fields-pass
       ∙ answered-next (rangeChecks (textOf l)) _ _ values-pass
-      ∙ answered-passed (check (ltb room (componentWidth * rowCount shanghai (textOf l))) 16 0 ∷ []) (reply 0 0 (rowCount shanghai (textOf l)))
+      ∙ answered-passed (check (ltb room (componentWidth * rowCount shanghai (textOf l))) 16 0 ∷ []) _
       (passes-all _ (le-ltb room (componentWidth * rowCount shanghai (textOf l)) (omega (arith, count-there)), tt))
       ∙ ap (λ (n : ℕ). reply 0 0 n) count-there
 

@@ -49,8 +49,9 @@ word = tyInt w64
 abbrev pub dl : Ty
 dl = sliceTy (tyRef (named 0) imm word)
 
-abbrev pub bl : Ty
-bl = sliceTy (tyRef (named 1) mut word)
+-- a run of numbers that is lent as `&mut` for the n-th lifetime
+abbrev pub ml : ℕ → Ty
+ml n = sliceTy (tyRef (named n) mut word)
 
 abbrev pub pl : Ty
 pl = sliceTy (tyRef (named 2) imm word)

@@ -4,9 +4,9 @@ use mathlib.Core.Bool.{Bool, true, false, cond}
 use mathlib.Core.List.{List, [], _∷_, _++_}
 use Prim.Native.Nat.{ℕ, _+_, _/_, _%_, _≤_, min}
 use native.Mathlib.Omega.{arith}
-use lib.Dec.{ltb, eqb, lit≤}
+use lib.Dec.{ltb, leb, eqb, lit≤}
 use lib.ListN.{length, length-append, length-map}
-use borrow.Author.Tests.{lt-ltb, le-ltb, ltb-true, ltb-false}
+use borrow.Author.Tests.{le-leb, lt-leb, leb-true, leb-false}
 use Rattle.sequences.specs.Below.{joinBelow}
 use Rattle.sequences.proofs.Below.{join-le}
 use Rattle.units.specs.Units.{splitSize}
@@ -15,11 +15,14 @@ use Rattle.layout.specs.Day.{Day}
 use Rattle.layout.specs.declared.Record.{Record}
 use Rattle.layout.specs.Book.{account}
 use Rattle.rules.specs.declared.Ask.{Ask}
+use Rattle.rules.specs.declared.Rooms.{Rooms}
+use Rattle.rules.specs.declared.Counts.{Counts}
 use Rattle.rules.specs.Lines.{codeOf}
 use Rattle.rules.specs.Records.{secondUnit, shanghaiStep, otherStep, recordOf, cashParts, cashRecords, stockRecord, orderRecords}
+use Rattle.rules.specs.Lent.{tooShort}
 use Rattle.rules.specs.Sound.{isSound}
-use Rattle.rules.specs.Creation.{creationRecords, creationMeans, creationChecks}
-use Rattle.rules.specs.Redemption.{redemptionRecords, redemptionMeans, redemptionChecks}
+use Rattle.rules.specs.Creation.{creationRecords, creationCounts, creationMeans, creationChecks}
+use Rattle.rules.specs.Redemption.{redemptionRecords, redemptionCounts, redemptionMeans, redemptionChecks}
 use Rattle.rules.specs.Kinds.{askedChecks, askedReply, askedBook}
 use Rattle.rules.proofs.SoundDay.{sound-facts}
 use Rattle.order_calls.proofs.Laws.{order-five}
@@ -86,39 +89,44 @@ pub lent-fits : (room : ℕ) → lentRecords room ≤ room
 unfolding lentRecords
 lent-fits room = omega arith
 
-same-test : (room n : ℕ) → n ≤ mostRecords → ltb (lentRecords room) n ≡ ltb room n
+-- the rooms, with no more records than the flat run lends
+abbrev pub lentRooms : Rooms → Rooms
+lentRooms rooms = record { records = lentRecords (rooms .records); investor = rooms .investor; fund = rooms .fund }
+
+same-test : (room n : ℕ) → n ≤ mostRecords → leb n (lentRecords room) ≡ leb n room
 unfolding lentRecords
-same-test room n h = go (ltb room n) refl
+same-test room n h = go (leb n room) refl
   where
-    go : (x : Bool) → ltb room n ≡ x → ltb (min room mostRecords) n ≡ ltb room n
-    go true e = e-lt ∙ sym e
-      where
-        e-lt : ltb (min room mostRecords) n ≡ true
-        e-lt = lt-ltb (min room mostRecords) n (omega (arith, ltb-true room n e))
-    go false e = le-ltb (min room mostRecords) n (omega (arith, h, ltb-false room n e)) ∙ sym e
+    go : (x : Bool) → leb n room ≡ x → leb n (min room mostRecords) ≡ leb n room
+    go true e = le-leb n (min room mostRecords) (omega (arith, h, leb-true n room e)) ∙ sym e
+    go false e = lt-leb n (min room mostRecords) (omega (arith, leb-false n room e)) ∙ sym e
 
-module _ (d : Day) (b ps : List ℕ) (room : ℕ) where
-  created-checks : (a units : ℕ) → d .count ≤ mostComponents → creationChecks d b ps a units (lentRecords room) ≡ creationChecks d b ps a units room
+same-short : (rooms : Rooms) (counts : Counts) → counts .records ≤ mostRecords → tooShort (lentRooms rooms) counts ≡ tooShort rooms counts
+unfolding tooShort
+same-short rooms counts h = rw (same-test (rooms .records) (counts .records) h)
+
+module _ (d : Day) (b ps : List ℕ) (rooms : Rooms) where
+  created-checks : (a units : ℕ) → d .count ≤ mostComponents → creationChecks d b ps a units (lentRooms rooms) ≡ creationChecks d b ps a units rooms
   unfolding creationChecks creationMeans
-  created-checks a units h = rw (same-test room _ (most-created d (account d b a) ps units h))
+  created-checks a units h = rw (same-short rooms (creationCounts d (account d b a) ps units) (most-created d (account d b a) ps units h))
 
-  redeemed-checks : (a units : ℕ) → d .count ≤ mostComponents → redemptionChecks d b a units (lentRecords room) ≡ redemptionChecks d b a units room
+  redeemed-checks : (a units : ℕ) → d .count ≤ mostComponents → redemptionChecks d b a units (lentRooms rooms) ≡ redemptionChecks d b a units rooms
   unfolding redemptionChecks redemptionMeans
-  redeemed-checks a units h = rw (same-test room _ (most-redeemed d units h))
+  redeemed-checks a units h = rw (same-short rooms (redemptionCounts d units) (most-redeemed d units h))
 
-  asked-checks : (ask : Ask) → d .count ≤ mostComponents → askedChecks d b ps ask (lentRecords room) ≡ askedChecks d b ps ask room
+  asked-checks : (ask : Ask) → d .count ≤ mostComponents → askedChecks d b ps ask (lentRooms rooms) ≡ askedChecks d b ps ask rooms
   unfolding askedChecks
   asked-checks ask h = rw (created-checks (ask .account) (ask .units) h, redeemed-checks (ask .account) (ask .units) h)
 
   -- the rooms agree: no order needs more than the flat run lends
-  pub reply-room : (ask : Ask) → askedReply d b ps ask (lentRecords room) ≡ askedReply d b ps ask room
+  pub reply-room : (ask : Ask) → askedReply d b ps ask (lentRooms rooms) ≡ askedReply d b ps ask rooms
   unfolding askedReply
   reply-room ask = go (isSound d b ps) refl
     where
-      go : (x : Bool) → isSound d b ps ≡ x → askedReply d b ps ask (lentRecords room) ≡ askedReply d b ps ask room
+      go : (x : Bool) → isSound d b ps ≡ x → askedReply d b ps ask (lentRooms rooms) ≡ askedReply d b ps ask rooms
       go true e = rw (asked-checks ask (sound-facts d b ps e .own .count-high))
-      go false e = sym (order-five d b ps e ask (lentRecords room)) ∙ order-five d b ps e ask room
+      go false e = sym (order-five d b ps e ask (lentRooms rooms)) ∙ order-five d b ps e ask rooms
 
-  pub book-room : (ask : Ask) → askedBook d b ps ask (lentRecords room) ≡ askedBook d b ps ask room
+  pub book-room : (ask : Ask) → askedBook d b ps ask (lentRooms rooms) ≡ askedBook d b ps ask rooms
   unfolding askedBook
   book-room ask = rw (reply-room ask)

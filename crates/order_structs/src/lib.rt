@@ -139,15 +139,7 @@ fn order_in_room(
     ensures { λ r. ⌜ (orderAnswerReply (r .answer) ≡ askedReply (dayAt (now (day .entry))) (now (book .entry)) (now (prices .entry)) ask (roomsBeside room (now (investor .entry)) (now (fund .entry)))) × (now (book .exit) ≡ askedBook (dayAt (now (day .entry))) (now (book .entry)) (now (prices .entry)) ask (roomsBeside room (now (investor .entry)) (now (fund .entry)))) × (r .records ≡ madeRecords (dayAt (now (day .entry))) (now (book .entry)) (now (prices .entry)) ask (roomsBeside room (now (investor .entry)) (now (fund .entry))) (take room records) ++ drop room records) × ((now (investor .exit), now (fund .exit)) ≡ madeReports (dayAt (now (day .entry))) (now (book .entry)) (now (prices .entry)) ask (roomsBeside room (now (investor .entry)) (now (fund .entry))) (now (investor .entry)) (now (fund .entry))) ⌝ }
 {
     let mut list = records;
-    let answer = order(
-        day,
-        book,
-        prices,
-        ask,
-        &mut list[..room],
-        investor,
-        fund,
-    );
+    let answer = order(day, book, prices, ask, &mut list[..room], investor, fund);
     Listed {
         answer,
         records: list,

@@ -7,7 +7,7 @@ use Rattle.c_interface.proofs.roffelaine_run_public.Tie as tie
 
 returns : tie.Need-returns
 returns c =
-    let made = c .before .before .before .before .before .before .before .before .before .before .before .before .run-public .ensures in
+    let made = c .before .before .before .before .before .before .before .before .before .before .before .before .before .before .before .before .run-public .ensures in
     let told = told-as (c .before .before .before .of-answer .ensures ∙ made .0) (c .tell .ensures) in
     (told, made .1)
 
@@ -16,4 +16,5 @@ roffelaine-run-public-spec =
     tie.close
     (tie.spec
     (λ c κs. search needs) (λ c κs. search needs) (λ c κs. search needs) (λ c. search needs) (λ c. search needs) (λ c. search needs) (λ c. search needs)
+    (λ c. search needs) (λ c. search needs)
     returns)

@@ -6,12 +6,13 @@ use Rattle.order_structs.proofs.order_by_value.Statement.{statement}
 use Rattle.order_structs.proofs.order_by_value.Tie as tie
 
 order-in-room-requires : tie.Need-order-in-room-requires
-order-in-room-requires c κs = lent-bound _ _ (c .before .records-lent .ensures)
+order-in-room-requires c κs = lent-bound _ _ (c .before .before .before .records-lent .ensures)
 
 returns : tie.Need-returns
 returns c =
-    let made = c .before .before .order-in-room .ensures in
-    rw (sym (c .before .before .before .before .records-lent .ensures)) (made .0, (made .2, made .1))
+    let called = c .before .before .before .before .before .before in
+    let made = called .order-in-room .ensures in
+    rw (sym (called .before .before .before .before .records-lent .ensures)) (made .0, (made .2, (made .1, made .3)))
 
 pub order-by-value-spec : {M : Type 1} → statement M
-order-by-value-spec = tie.close (tie.spec (λ c κs. search needs) order-in-room-requires (λ c. search needs) returns)
+order-by-value-spec = tie.close (tie.spec (λ c κs. search needs) order-in-room-requires (λ c. search needs) (λ c. search needs) (λ c. search needs) returns)
