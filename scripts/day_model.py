@@ -1,18 +1,17 @@
-"""A model of a day after an accepted opening, written from document 01 and change request 1 alone; it shares nothing with the day
-book. Python's numbers have no upper end.
+"""A model of a day after an accepted opening, written from document 01 and change requests 1 and 2 alone; it shares nothing with the
+day book. Python's numbers have no upper end.
 
 A component is code, quantity, flag, premium, discount, amount, and a fund a dict in the form of the vectors (vectors/README.md).
 """
 import hashlib
 
-from vector_files import numbers
+from vector_files import LISTS, numbers
 
-B, S = 1, 2  # the sides of a record
+B, S = 1, 2  # the sides of a record and of a report
 CEILING = 999_999_999_999
 E18 = 10**18
 
 ORDERS = ("create", "redeem")
-RECORD_WIDTH = 5
 
 # The flag table: the flags whose stock moves, whose shortage is paid in cash, whose cash is Shanghai's, and that are priced.
 MOVES, IN_CASH, SHANGHAI, PRICED = {0, 1}, {1}, {0, 1, 2}, {0, 1, 3}
@@ -31,8 +30,38 @@ def less_discount(x, rate):
     return rounded(x * (100_000 - rate), 100_000)
 
 
+def accepted(value=0, reports=0):
+    return [0, 0, value, reports]
+
+
+def refused(number, place=0):
+    return [number, place, 0, 0]
+
+
+def hand_in(lots, q):
+    """Takes q out of bought, and what is not there out of old."""
+    from_bought = min(q, lots[1])
+    lots[1] -= from_bought
+    lots[0] -= q - from_bought
+
+
+def sides(creates):
+    """The investor's side for the stock that moves, and for all the rest."""
+    return (S, B) if creates else (B, S)
+
+
+def turned(reports):
+    """The same reports with all sides opposite."""
+    return [[kind, {B: S, S: B}[side], *rest] for kind, side, *rest in reports]
+
+
+def is_too_short(rooms, lists):
+    """Whether one of the lists is longer than its room."""
+    return any(room < LISTS[name] * len(rows) for room, (name, rows) in zip(rooms, lists.items()))
+
+
 class Model:
-    """A day, its book and its prices. A call gives its reply, an order also its records."""
+    """A day, its book and its prices. A call gives its reply, an order also the lists that it writes."""
 
     def __init__(self, accounts, fund, parts, holdings):
         width = len(parts) + 2
@@ -60,31 +89,31 @@ class Model:
 
     def price(self, line, p):
         if line >= self.n:
-            return [6, 0, 0]
+            return refused(6)
         if not 1 <= p <= 9_999_999:
-            return [7, 0, 0]
+            return refused(7)
         self.prices[line] = p
-        return [0, 0, 0]
+        return accepted()
 
     def trade(self, line, q, p, seller, buyer):
         if line > self.n:
-            return [6, 0, 0]
+            return refused(6)
         if not (1 <= q <= 999_999_999 and 1 <= p <= 9_999_999):
-            return [7, 0, 0]
+            return refused(7)
         if not (1 <= seller < self.accounts and 1 <= buyer < self.accounts) or seller == buyer:
-            return [8, 0, 0]
+            return refused(8)
         lots = self.lots[seller][line]
         if q > lots[2] + lots[0]:
-            return [9, 0, 0]
+            return refused(9)
         if self.cash[buyer] < q * p:
-            return [10, 0, 0]
+            return refused(10)
         from_got = min(q, lots[2])
         lots[2] -= from_got
         lots[0] -= q - from_got
         self.lots[buyer][line][1] += q
         self.cash[buyer] -= q * p
         self.cash[seller] += q * p
-        return [0, 0, 0]
+        return accepted()
 
     def reference(self):
         """The reference value, None where it doesn't exist."""
@@ -100,7 +129,7 @@ class Model:
 
     def value(self):
         value = self.reference()
-        return [14, 0, 0] if value is None else [0, 0, value]
+        return refused(14) if value is None else accepted(value)
 
     def stopped(self, a, units, creates):
         """8, 11, 12, 13."""
@@ -119,9 +148,13 @@ class Model:
             return 13
         return 0
 
+    def lists(self, units, moved, cash, creates):
+        """What an order writes. moved: the stock of each component; cash: Shanghai and other."""
+        investor = self.reports(units, moved, cash, creates)
+        return dict(zip(LISTS, (self.records(units, moved, cash, creates), investor, turned(investor))))
+
     def records(self, units, moved, cash, creates):
-        """moved: the stock of each component; cash: Shanghai and other."""
-        g, stock, rest = self.fund["first_code"], S if creates else B, B if creates else S
+        g, (stock, rest) = self.fund["first_code"], sides(creates)
         out = [[g, rest, units, 0, 0]]
         out += [[part[0], stock, q, 0, 0] for part, q in zip(self.parts, moved) if q > 0]
         for code, c in ((g + 5, cash[False]), (g + 2, cash[True])):
@@ -129,15 +162,23 @@ class Model:
             out += [[code, rest, q, p, q * p] for q, p in split]
         return out + [[g + 1, rest, units, 0, 0]]
 
+    def reports(self, units, moved, cash, creates):
+        """The investor's: type 1 for the unit, type 2 for each component moved, type 3 for all cash, each with three groups."""
+        stock, rest = sides(creates)
+        out = [[1, rest, self.fund["first_code"], units, *[0] * 6]]
+        out += [[2, stock, part[0], q, *[0] * 6] for part, q in zip(self.parts, moved) if q > 0]
+        groups = numbers([kind, c] for kind, c in ((1, cash[True]), (2, cash[False])) if c > 0)
+        return out + ([[3, rest, 0, 0, *groups, *[0] * (6 - len(groups))]] if groups else [])
+
     def create(self, a, units, rooms):
         if number := self.stopped(a, units, True):
-            return [number, 0, 0], []
+            return refused(number), {}
         m = units // self.fund["basket_size"]
         moved, cash, missing = [0] * self.n, {True: 0, False: 0}, 0
         short = [max(0, m * q - self.lots[a][i][0] - self.lots[a][i][1]) for i, (_, q, *_) in enumerate(self.parts)]
         for i, (_, _, flag, *_) in enumerate(self.parts):
             if flag in MOVES and flag not in IN_CASH and short[i]:
-                return [9, i, 0], []
+                return refused(9, i), {}
         for i, (_, q, flag, premium, _, amount) in enumerate(self.parts):
             if flag in MOVES:
                 moved[i] = m * q - short[i]
@@ -149,34 +190,31 @@ class Model:
         if any(short[i] for i, part in enumerate(self.parts) if part[2] in IN_CASH):
             value = self.reference()
             if value is None:
-                return [14, 0, 0], []
+                return refused(14), {}
             if missing * 10**6 > units * value * self.fund["max_cash_ratio"]:
-                return [15, 0, 0], []
+                return refused(15), {}
         due = cash[True] + cash[False]
         if self.cash[a] < due:
-            return [10, 0, 0], []
-        records = self.records(units, moved, cash, True)
-        if rooms[0] < RECORD_WIDTH * len(records):
-            return [16, 0, 0], []
+            return refused(10), {}
+        lists = self.lists(units, moved, cash, True)
+        if is_too_short(rooms, lists):
+            return refused(16), {}
         for i, q in enumerate(moved):
-            lots = self.lots[a][i]
-            from_bought = min(q, lots[1])
-            lots[1] -= from_bought
-            lots[0] -= q - from_bought
+            hand_in(self.lots[a][i], q)
             self.lots[0][i][0] += q
         self.cash[a] -= due
         self.cash[0] += due
         self.created[a] += units
         self.lots[a][self.n][2] += units
-        return [0, 0, len(records)], records
+        return accepted(len(lists["records"]), len(lists["investor"])), lists
 
     def redeem(self, a, units, rooms):
         if number := self.stopped(a, units, False):
-            return [number, 0, 0], []
+            return refused(number), {}
         m = units // self.fund["basket_size"]
         lots = self.lots[a][self.n]
         if units > lots[0] + lots[1]:
-            return [9, 0, 0], []
+            return refused(9), {}
         moved, cash = [0] * self.n, {True: 0, False: 0}
         for i, (_, q, flag, _, discount, amount) in enumerate(self.parts):
             if flag in MOVES:
@@ -185,35 +223,33 @@ class Model:
                 cash[flag in SHANGHAI] += less_discount(m * amount, discount)
         for i, q in enumerate(moved):
             if self.lots[0][i][0] < q:
-                return [17, i, 0], []
+                return refused(17, i), {}
         paid = cash[True] + cash[False]
         if self.cash[0] < paid:
-            return [17, self.n, 0], []
-        records = self.records(units, moved, cash, False)
-        if rooms[0] < RECORD_WIDTH * len(records):
-            return [16, 0, 0], []
+            return refused(17, self.n), {}
+        lists = self.lists(units, moved, cash, False)
+        if is_too_short(rooms, lists):
+            return refused(16), {}
         for i, q in enumerate(moved):
             self.lots[0][i][0] -= q
             self.lots[a][i][2] += q
         self.cash[0] -= paid
         self.cash[a] += paid
-        from_bought = min(units, lots[1])
-        lots[1] -= from_bought
-        lots[0] -= units - from_bought
+        hand_in(lots, units)
         self.redeemed[a] += units
-        return [0, 0, len(records)], records
+        return accepted(len(lists["records"]), len(lists["investor"])), lists
 
     def played(self, calls):
-        """The calls in order, each with its reply and, of an accepted order, the numbers of its records."""
+        """The calls in order, each with its reply and, of an accepted order, the numbers of its lists."""
         for call in calls:
             name, *args = call
             answer = getattr(self, name)(*args)
-            reply, records = answer if name in ORDERS else (answer, [])
-            yield {"call": call, "reply": reply, **({"records": numbers(records)} if records else {})}
+            reply, lists = answer if name in ORDERS else (answer, {})
+            yield {"call": call, "reply": reply, **{key: numbers(rows) for key, rows in lists.items()}}
 
 
 def played(v):
-    """A day of the vectors, opened and played: its calls with replies and records, and the book and the prices at the end."""
+    """A day of the vectors, opened and played: its calls with replies and lists, and the book and the prices at the end."""
     model = Model(v["accounts"], v["fund"], v["components"], v["holdings"])
     calls = list(model.played([c["call"] for c in v["calls"]]))
     return {**v, "calls": calls, "book": model.book(), "prices": model.prices}
@@ -246,6 +282,6 @@ def is_short_form(day, v):
 
 
 def is_short_call(c, found):
-    """Whether a call has the same reply, and an accepted order the same records or their hash."""
-    records = {"records": found["records"], "records_sha256": sha256(found["records"])} if "records" in found else {}
-    return c.items() <= {**found, **records}.items() and len(c) == len(found)
+    """Whether a call has the same reply, and an accepted order the same lists or their hashes."""
+    hashes = {f"{name}_sha256": sha256(found[name]) for name in LISTS if name in found}
+    return c.items() <= {**found, **hashes}.items() and len(c) == len(found)

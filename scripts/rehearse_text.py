@@ -11,14 +11,16 @@ import copy
 import re
 import sys
 
-from day_model import CEILING, E18, ORDERS, PRICED, Model
+from day_model import CEILING, E18, ORDERS, PRICED, Model, accepted, refused
+from vector_files import LISTS
 
 HEAD = ("Fundid1 CreationRedemptionUnit MaxCashRatio Publish CreationRedemption Recordnum EstimateCashComponent TradingDay "
         "PreTradingDay CashComponent NAVperCU NAV CreationLimit RedemptionLimit CreationLimitPerUser RedemptionLimitPerUser "
         "NetCreationLimit NetRedemptionLimit NetCreationLimitPerUser NetRedemptionLimitPerUser").split()
 END = b"ENDENDEND\r\n"
 MOST = 2**64 - 1
-ALL = [1600]  # the rooms of lists that take the records of any order, in numbers
+ALL = [1530, 3020, 3020]  # the lengths of lists that take the records and the reports of any order
+PARTIES = {"investor": "investor", "fund": "fund_reports"}  # whose reports are printed, and their list
 SWITCHES = ("neither creation nor redemption", "creation and redemption", "creation only", "redemption only")
 SHAPES = {
     "accounts": "n", "cash": "nm", "hold": "ncn", "open": "", "price": "cm", "trade": "cnmnn",
@@ -57,12 +59,18 @@ def yuan(x, places=3):
     return f"{x // 10**places}.{x % 10**places:0{places}}"
 
 
+def report(party, kind, side, code, q, *groups):
+    """The line of a report, with the groups that are there."""
+    cash = "".join(f" {kind} {yuan(x)}" for kind, x in zip(groups[::2], groups[1::2]) if kind)
+    return f"{party} {kind} {side} {code:06} {q}{cash}"
+
+
 class Rehearsal:
     def __init__(self, fund, parts):
         self.fund, self.parts, self.n = fund, parts, len(parts)
         self.codes = [p[0] for p in parts] + [fund["first_code"]]
         self.accounts, self.held, self.faulty, self.tried, self.waits = None, {}, 0, None, None
-        self.day, self.since, self.out, self.last = None, None, [], None
+        self.day, self.since, self.out, self.last, self.tells = None, None, [], None, False
         self.counts = {"accepted": 0, "refused": 0, "not": 0, "met": 0, "unmet": 0}
 
     def line(self, code):
@@ -75,20 +83,20 @@ class Rehearsal:
         a, w = self.accounts or 0, self.n + 2
         if not 2 <= a <= 64:
             why = "there is no line `accounts` above" if self.accounts is None else f"accounts {a}: a day has 2 to 64"
-            return [1, 0, 0], why
+            return refused(1), why
         rows = [[self.held.get((b, i), 0) for i in range(w)] for b in range(a)]
         totals = [sum(r[i] for r in rows) for i in range(w)]
         for line in range(self.n + 1):
             if totals[line + 1] > E18:
-                return [4, line, 0], f"{self.codes[line]:06} totals {totals[line + 1]}, at most {E18}"
+                return refused(4, line), f"{self.codes[line]:06} totals {totals[line + 1]}, at most {E18}"
             if line == self.n and rows[0][line + 1]:
-                return [4, line, 0], f"the fund holds {rows[0][line + 1]} of {self.codes[line]:06}, it may hold no units"
+                return refused(4, line), f"the fund holds {rows[0][line + 1]} of {self.codes[line]:06}, it may hold no units"
         if totals[0] > 4 * E18:
-            return [4, self.n + 1, 0], f"cash totals {yuan(totals[0])}, at most {yuan(4 * E18)}"
+            return refused(4, self.n + 1), f"cash totals {yuan(totals[0])}, at most {yuan(4 * E18)}"
         self.day = Model(a, self.fund, self.parts, [x for r in rows for x in r])
         self.opened = [totals[i + 1] for i in range(self.n + 1)] + [totals[0]]
         self.moved = [[0, 0] for _ in self.opened]
-        return [0, 0, 0], ""
+        return accepted(), ""
 
     def open(self, k):
         self.tried, self.waits = self.faulty, None
@@ -99,7 +107,7 @@ class Rehearsal:
         reply, why = self.open_reply()
         if not reply[0]:
             self.since = k
-        return self.answered(k, "open", reply, [], why)
+        return self.answered(k, "open", reply, {}, why)
 
     def not_made(self, k, why):
         self.counts["not"] += 1
@@ -123,17 +131,17 @@ class Rehearsal:
     # Calls
 
     def call(self, name, *words):
-        """The reply, and the records of an order."""
+        """The reply, and the lists of an order. It has room for all reports."""
         if self.day is None:
-            return [5, 0, 0], []
+            return refused(5), {}
         if name in ("price", "trade"):
-            return getattr(self.day, name)(self.line(words[0]), *words[1:]), []
+            return getattr(self.day, name)(self.line(words[0]), *words[1:]), {}
         if name == "value":
-            return self.day.value(), []
+            return self.day.value(), {}
         account, units, *room = words
-        return getattr(self.day, name)(account, units, [5 * room[0]] if room else ALL)
+        return getattr(self.day, name)(account, units, [*(LISTS["records"] * x for x in room), *ALL[len(room):]])
 
-    def answered(self, k, name, reply, records, why):
+    def answered(self, k, name, reply, lists, why):
         self.last = (name, reply)
         self.counts["refused" if reply[0] else "accepted"] += 1
         if reply[0]:
@@ -141,15 +149,17 @@ class Rehearsal:
             return True
         ends = {"create": f" {reply[2]}", "redeem": f" {reply[2]}", "value": f" {yuan(reply[2], 4)}"}
         self.out.append(f"{k} {name} ok{ends.get(name, '')}")
-        self.out += [f"{c:06} {'_BS'[side]} {q} {yuan(p)} {yuan(x)}" for c, side, q, p, x in records]
+        self.out += [f"{c:06} {'_BS'[side]} {q} {yuan(p)} {yuan(x)}" for c, side, q, p, x in lists.get("records", [])]
+        if self.tells:
+            self.out += [report(word, *x) for word, key in PARTIES.items() for x in lists.get(key, [])]
         return True
 
     def made(self, k, name, *words):
-        reply, records = self.call(name, *words)
+        reply, lists = self.call(name, *words)
         why = self.reason(name, words, reply) if reply[0] else ""
         if not reply[0]:
-            self.move(name, words, records)
-        return self.answered(k, name, reply, records, why)
+            self.move(name, words, lists.get("records", []))
+        return self.answered(k, name, reply, lists, why)
 
     def move(self, name, words, records):
         """What came in and went out over the fund and all accounts: stock and cash go from one to another, units come and go."""
@@ -262,8 +272,8 @@ class Rehearsal:
         d = copy.deepcopy(self.day)
         if ample is not None:
             d.cash[a] = d.cash[0] = ample
-        reply, records = getattr(d, "create" if creates else "redeem")(a, units, ALL)
-        return reply[2], sum(r[4] for r in records)
+        reply, lists = getattr(d, "create" if creates else "redeem")(a, units, ALL)
+        return reply[2], sum(r[4] for r in lists["records"])
 
     # Lines that look
 
@@ -285,6 +295,13 @@ class Rehearsal:
             say = yuan if i > self.n else str
             name = f"{self.codes[i]:06}" if i <= self.n else "cash"
             self.out.append(f"{name} opened {say(opened)} in {say(came)} out {say(went)} holds {say(held)}")
+        return True
+
+    def tell(self, texts):
+        """Whether the reports of orders are printed from here on."""
+        if texts not in (["on"], ["off"]):
+            return False
+        self.tells = texts == ["on"]
         return True
 
     def expect(self, k, texts):
@@ -347,6 +364,8 @@ class Rehearsal:
         name, *texts = line
         if name == "expect":
             return self.expect(k, texts)
+        if name == "reports":
+            return self.tell(texts)
         shape = SHAPES.get(name)
         if shape is None or not (len(texts) == len(shape) or name in ORDERS and len(texts) == 3):
             return False
@@ -368,7 +387,7 @@ class Rehearsal:
             words = re.findall(r"[^ \t\r]+", line.split(b"#")[0].decode("latin-1"))
             if words and not self.understood(k, words):
                 self.counts["not"] += 1
-                opens = words[0] in ("accounts", "cash", "hold") or words[0] not in (*SHAPES, "expect")
+                opens = words[0] in ("accounts", "cash", "hold") or words[0] not in (*SHAPES, "expect", "reports")
                 self.faulty += opens and self.since is None
                 self.out.append(f"{k} not understood: column ..")
         if self.waits is not None:

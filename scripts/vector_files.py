@@ -8,6 +8,9 @@ import json
 # The numbers of a component.
 COMPONENT_WIDTH = 6
 
+# The lists that an order is lent, in the order of its rooms, and the numbers of each record or report there.
+LISTS = {"records": 5, "investor": 10, "fund_reports": 10}
+
 # The fields that are byte strings.
 BYTES = ("text", "letters", "names", "name", "front", "part", "tail")
 

@@ -21,7 +21,7 @@ from pathlib import Path
 import vector_files
 from day_model import ORDERS
 from list_model import COLUMNS, NAME
-from vector_files import component_room, is_held, numbers, opened_book, whole_text
+from vector_files import LISTS, component_room, is_held, numbers, opened_book, whole_text
 
 # ---- what a row is, and when it is right
 
@@ -54,7 +54,7 @@ abbrev pub lentRight : List ℕ → ℕ → List ℕ → Bool
 lentRight after room written = same after (written ++ drop (length written) (lent room))
 
 abbrev pub replyRight : Reply → List ℕ → Bool
-replyRight r want = same (r .number ∷ r .place ∷ r .value ∷ []) want
+replyRight r want = same (r .number ∷ r .place ∷ r .value ∷ r .reports ∷ []) want
 """
 
 DAY_ROWS = """\
@@ -70,8 +70,9 @@ use Rattle.layout.specs.declared.Fund.{Fund}
 use Rattle.layout.specs.declared.Component.{Component}
 use Rattle.layout.specs.Places.{dayWidth}
 use Rattle.layout.specs.Day.{Day}
+use Rattle.rules.specs.Lent.{Lent, lentOf}
 use Rattle.rules.specs.Opening.{Opening, openingReply, openedDay, openedBook, openedPrices}
-use Rattle.balance.specs.Calls.{State, Call, step}
+use Rattle.balance.specs.Calls.{State, Call, Result, step}
 
 """ + SHARED + """
 abbrev pub component : ℕ → ℕ → ℕ → ℕ → ℕ → ℕ → Component
@@ -86,9 +87,18 @@ opening a n f cs hs b ps =
 abbrev pub state : Day → List ℕ → List ℕ → State
 state d b ps = record { day = d; book = b; prices = ps }
 
--- a call, the length of the record list lent to it, its reply, and the numbers that it writes to that list
+-- a call, the lengths of the three lists lent to it, its reply, and the numbers that it writes to them
 pub data Made : Type 0 where
-  made : Call → ℕ → List ℕ → List ℕ → Made
+  made : Call → ℕ → ℕ → ℕ → List ℕ → Lent → Made
+
+-- what the definitions make of it on a state
+abbrev pub resultOf : State → Made → Result
+resultOf s (made c records investor fund want written) = step s c (lentOf (lent records) (lent investor) (lent fund))
+
+abbrev pub resultRight : Result → Made → Bool
+resultRight r (made c records investor fund want written) =
+    both (both (replyRight (r .reply) want) (lentRight (r .lent .records) records (written .records)))
+    (both (lentRight (r .lent .investor) investor (written .investor)) (lentRight (r .lent .fund) fund (written .fund)))
 
 -- what a call leaves in a run: what was there, or these numbers
 pub data Left : Type 0 where
@@ -118,14 +128,14 @@ openingRight o want book prices =
 
 abbrev pub dayRight : State → List Made → List ℕ → List ℕ → Bool
 dayRight s [] book prices = both (same (s .book) book) (same (s .prices) prices)
-dayRight s (made c room want written ∷ ms) book prices =
-    let r = step s c (record { records = lent room }) in
-    both (both (replyRight (r .reply) want) (lentRight (r .lent .records) room written)) (dayRight (r .after) ms book prices)
+dayRight s (m ∷ ms) book prices =
+    let r = resultOf s m in
+    both (resultRight r m) (dayRight (r .after) ms book prices)
 
 abbrev pub callRight : State → Met → Bool
-callRight s (met (made c room want written) book prices) =
-    let r = step s c (record { records = lent room }) in
-    both (both (replyRight (r .reply) want) (lentRight (r .lent .records) room written))
+callRight s (met m book prices) =
+    let r = resultOf s m in
+    both (resultRight r m)
     (both (leftRight (s .book) (r .after .book) book) (leftRight (s .prices) (r .after .prices) prices))
 
 abbrev pub right : Row → Bool
@@ -219,6 +229,7 @@ rows-right = refl
 """
 
 DAY_USES = """\
+use Rattle.rules.specs.Lent.{lentOf}
 use Rattle.balance.specs.Calls.{price, trade, create, redeem, value}
 use Rattle.rows.specs.Rows.{all, fund, component, opening, state, made, kept, holds, met, Row, opens, plays, meets, right}"""
 
@@ -245,12 +256,17 @@ def opening(v, book, prices):
             f"{listed(v['holdings'])} {book} {prices})")
 
 
+def reply(answer, value=0):
+    """The four numbers of a call that makes no reports."""
+    return listed([*answer, value, 0])
+
+
 def made(c):
-    """A call; an order's last argument is the length of the list that it is lent."""
+    """A call; an order's last argument is the lengths of the lists that it is lent."""
     kind, *args = c["call"]
-    [room] = args.pop() if kind in ORDERS else [0]
-    records = c["records"] if kind in ORDERS and c["reply"][0] == 0 else []
-    return f"(made ({' '.join(map(str, [kind, *args]))}) {room} {listed(c['reply'])} {listed(records)})"
+    rooms = args.pop() if kind in ORDERS else [0] * len(LISTS)
+    written = " ".join(listed(c.get(name, [])) for name in LISTS)
+    return f"(made ({' '.join(map(str, [kind, *args]))}) {' '.join(map(str, rooms))} {listed(c['reply'])} (lentOf {written}))"
 
 
 def left(after, name):
@@ -260,13 +276,13 @@ def left(after, name):
 def opening_row(v):
     given = opening(v, v["book_length"], v["prices_length"])
     after = {} if v["reply"][0] else {"book": opened_book(v), "prices": [0] * v["count"]}
-    return f"opens {given} {listed([*v['reply'], 0])} {left(after, 'book')} {left(after, 'prices')}"
+    return f"opens {given} {reply(v['reply'])} {left(after, 'book')} {left(after, 'prices')}"
 
 
 def day_row(v):
     given = opening(v, len(v["book"]), len(v["prices"]))
     calls = listed(map(made, v["calls"]), "\n      ")
-    return f"plays {given} {listed([*v['opening'], 0])}\n      {calls}\n      {listed(v['book'])} {listed(v['prices'])}"
+    return f"plays {given} {reply(v['opening'])}\n      {calls}\n      {listed(v['book'])} {listed(v['prices'])}"
 
 
 def broken_row(v):
@@ -286,19 +302,19 @@ def text_row(v):
     text = whole_text(v)
     given = f"{listed(text)} {component_room(v)}"
     if v["reply"][0]:
-        return f"fails {given} {listed([*v['reply'], 0])}"
+        return f"fails {given} {reply(v['reply'])}"
     start, width, _ = COLUMNS[NAME]
     places = v["name_places"]
     names = listed(listed(text[at:at + width]) for at in places)
-    return (f"reads {given} {listed([*v['reply'], v['count']])}\n      {fields(v)} {places[0] - start} "
+    return (f"reads {given} {reply(v['reply'], v['count'])}\n      {fields(v)} {places[0] - start} "
             f"{listed(numbers(v['components']))}\n      {listed(v['letters'])} {names}")
 
 
 def writing_row(v):
-    refused = v["reply"][0] != 0
+    number, place, *size = v["reply"]
     lists = " ".join(map(listed, (numbers(v["components"]), v["names"], v["letters"])))
-    reply, text = ([*v["reply"], 0], b"") if refused else (v["reply"], v["text"])
-    return f"writes {fields(v)} {lists}\n      {v['output_length']} {listed(reply)}\n      {listed(text)}"
+    text = b"" if number else v["text"]
+    return f"writes {fields(v)} {lists}\n      {v['output_length']} {reply((number, place), *size)}\n      {listed(text)}"
 
 
 # ---- crates

@@ -16,13 +16,15 @@ A row is an opening with what it is answered (openings.jsonl); an opening, its c
 the end (days.jsonl, big_days.jsonl); a state and calls that are each made on it anew (broken_days.jsonl); or a state, its
 calls in order, and `after`, the book and the prices at the end (chains.jsonl).
 
-Printed is, for each row, its number and then
+Printed is, for each row, its number and then replies, each as number, place, value and count of reports, and what is left:
 
-    opening NUMBER PLACE VALUE      the reply
+    opening ..                      the reply
     price, trade or value ..        the reply of a call
     test ..                         the reply of an order's test alone
     create or redeem ..             the reply of the order
-    list ..                         the whole lent list after the order, or `list same` where it is a long one, unchanged
+    records .., investor ..,        where it is accepted: the numbers that it wrote to each of its three lists
+    fund_reports ..
+    rest same                       the lists behind these, and where it is refused the whole lists, are what they were
     same                            where the call is refused: the book and the prices are what they were
     book .., prices ..              both, whole: behind an accepted opening with no calls, and at the end of a row in order;
                                     behind an accepted call that is made on a state anew, those that are other than before
@@ -34,14 +36,11 @@ from pathlib import Path
 
 import vector_files
 from day_model import ORDERS, unfolded
-from vector_files import is_held, numbers, opened_book
+from vector_files import LISTS, is_held, numbers, opened_book
 
 TAGS = {"opening": 1, "anew": 2, "state": 3, "price": 4, "trade": 5, "create": 6, "redeem": 7, "value": 8, "show": 9}
 
 FILES = ["openings", "days", "big_days", "broken_days", "chains"]
-
-# A refused order's list is printed whole up to this length.
-WHOLE = 100
 
 
 def line(*words):
@@ -67,9 +66,9 @@ def head(row, v, book, prices):
 
 
 def opening(row, v, reply, book, prices):
-    """An opening on lent runs of two lengths: the item, and what is printed."""
+    """An opening on lent runs of two lengths, with its number and place: the item, and what is printed."""
     into = item("opening", head(row, v, book, prices), *v["components"], *cut(v["holdings"], v["count"] + 2))
-    return into, [line("row", row), line("opening", *reply), *(["same"] if reply[0] else [])]
+    return into, [line("row", row), line("opening", *reply, 0, 0), *(["same"] if reply[0] else [])]
 
 
 def state(row, v, name):
@@ -78,14 +77,13 @@ def state(row, v, name):
     return into, [line("row", row)]
 
 
-def order_list(c, room):
-    """Whether the list is printed whole, and what is printed of it. Place k holds k + 1 before the call."""
-    is_refused = c["reply"][0] != 0
-    if is_refused and room > WHOLE:
-        return 0, ["list same"]
-    records = [] if is_refused else c["records"]
-    assert len(records) == 5 * c["reply"][2] <= room or is_refused
-    return 1, [line("list", *records, *range(len(records) + 1, room + 1))]
+def lists(c):
+    """The lists of an order: of each its name, its length, and the numbers that the order writes, as many as its reply says."""
+    _, _, records, reports = c["reply"]
+    for (name, width), room, count in zip(LISTS.items(), c["call"][-1], (records, reports, reports)):
+        written = c.get(name, [])
+        assert len(written) == width * count <= room
+        yield name, room, written
 
 
 def call(c):
@@ -94,9 +92,9 @@ def call(c):
     behind = ["same"] if reply[0] else [line(run, *c["after"][run]) for run in ("book", "prices") if run in c.get("after", {})]
     if name not in ORDERS:
         return item(name, args), [line(name, *reply), *behind]
-    [room] = args.pop()
-    shown, listed = order_list(c, room)
-    return item(name, [*args, room, shown]), [line("test", *reply), line(name, *reply), *listed, *behind]
+    account, units, rooms = args
+    printed = [line(run, *written) for run, _, written in lists(c) if written]
+    return item(name, [account, units, *rooms]), [line("test", *reply), line(name, *reply), *printed, "rest same", *behind]
 
 
 def show(book, prices):
@@ -109,11 +107,10 @@ def parts(file, row, v):
         return parts("days", row, unfolded(v))
     calls = [call(c) for c in v.get("calls", [])]
     if file == "openings":
-        reply = [*v["reply"], 0]
-        first = opening(row, v, reply, v["book_length"], v["prices_length"])
-        return [first] if reply[0] else [first, show(opened_book(v), [0] * v["count"])]
+        first = opening(row, v, v["reply"], v["book_length"], v["prices_length"])
+        return [first] if v["reply"][0] else [first, show(opened_book(v), [0] * v["count"])]
     if file == "days":
-        return [opening(row, v, [*v["opening"], 0], len(v["book"]), len(v["prices"])), *calls, show(v["book"], v["prices"])]
+        return [opening(row, v, v["opening"], len(v["book"]), len(v["prices"])), *calls, show(v["book"], v["prices"])]
     if file == "broken_days":
         return [state(row, v, "anew"), *calls]
     return [state(row, v, "state"), *calls, show(v["after"]["book"], v["after"]["prices"])]

@@ -1,4 +1,4 @@
-// A reply, the paper's number, place and value, as it is printed.
+// A reply, the paper's number, place, value and count of reports, as it is printed.
 use answers::Numbers;
 use program_io::output;
 
@@ -8,5 +8,6 @@ pub fn print(word: &[u8], r: Numbers) {
     output::number(r.number);
     output::number(r.place);
     output::number(r.value);
+    output::number(r.reports);
     output::end_line();
 }

@@ -144,9 +144,9 @@ fn print_row(item: &[u64]) {
     output::end_line();
 }
 
-// Whether a run has what `fill` put there; if not, the first other place is printed.
-fn is_as_filled(word: &[u8], run: &[u64]) -> bool {
-    let i = runs::first_marred(run);
+// Whether a run has from a place on what `fill` put there; if not, the first other place is printed.
+pub fn is_as_filled(word: &[u8], run: &[u64], from: usize) -> bool {
+    let i = runs::first_marred(run, from);
     if i < run.len() {
         output::place(word, i);
         return false;
@@ -156,9 +156,9 @@ fn is_as_filled(word: &[u8], run: &[u64]) -> bool {
 
 // What a refused opening leaves: the same, or for each run that differs the first such place.
 fn print_left(day: &[u64], book: &[u64], prices: &[u64]) {
-    let is_day = is_as_filled(b"day", day);
-    let is_book = is_as_filled(b"book", book);
-    let is_prices = is_as_filled(b"prices", prices);
+    let is_day = is_as_filled(b"day", day, 0);
+    let is_book = is_as_filled(b"book", book, 0);
+    let is_prices = is_as_filled(b"prices", prices, 0);
     if is_day && is_book && is_prices {
         output::text(b"same\n");
     }

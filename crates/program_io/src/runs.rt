@@ -37,9 +37,9 @@ pub fn clear(run: &mut [u64]) {
     }
 }
 
-// The first place that no longer has what `fill` left, and the length where there is none.
-pub fn first_marred(run: &[u64]) -> usize {
-    let mut i = 0;
+// The first place from one on that no longer has what `fill` left; where there is none, a place at the run's end or behind it.
+pub fn first_marred(run: &[u64], from: usize) -> usize {
+    let mut i = from;
     while i < run.len() && run[i] == mark(i) {
         i += 1;
     }

@@ -7,6 +7,8 @@ use day_items::state::Session;
 use program_io::output;
 use program_io::runs;
 use rules::Ask;
+use rules::Counts;
+use rules::OrderAnswer;
 
 const PRICE: u64 = 4;
 
@@ -18,23 +20,34 @@ const REDEEM: u64 = 7;
 
 const VALUE: u64 = 8;
 
-// Of an order: account, units, the length of the lent list, and whether that list is printed whole.
-const ROOM: usize = 2;
+// Of an order: account, units, and the lengths of the lists of records, of the investor's and of the fund's reports.
+const RECORDS: usize = 2;
 
-const SHOWN: usize = 3;
+const INVESTOR: usize = 3;
 
-// How long a list may be lent.
-const MOST_LIST: usize = 2048;
+const FUND: usize = 4;
+
+// How long a list of records may be lent, and one of reports.
+const MOST_RECORDS: usize = 2048;
+
+const MOST_REPORTS: usize = 4096;
 
 // Room for a copy of the book and the prices.
 const MOST_KEPT: usize = crate::MOST_BOOK + crate::MOST_PRICES;
 
-// Whether an item has as many numbers as a call of its tag takes, and there is room for its list.
+// Whether there is room for an order's lists.
+fn is_room(item: &[u64]) -> bool {
+    state::size_at(item, RECORDS) <= MOST_RECORDS
+        && state::size_at(item, INVESTOR) <= MOST_REPORTS
+        && state::size_at(item, FUND) <= MOST_REPORTS
+}
+
+// Whether an item has as many numbers as a call of its tag takes, and there is room for its lists.
 fn is_call(tag: u64, item: &[u64]) -> bool {
     match tag {
         PRICE => item.len() == 2,
         TRADE => item.len() == 5,
-        CREATE | REDEEM => item.len() == 4 && state::size_at(item, ROOM) <= MOST_LIST,
+        CREATE | REDEEM => item.len() == 5 && is_room(item),
         VALUE => item.len() == 0,
         _ => false,
     }
@@ -75,24 +88,56 @@ fn value(day: &[u64], book: &[u64], prices: &[u64]) -> Numbers {
     r
 }
 
-// The list after an order: whole where the item says so, else only where it was refused, and then whether it is the same.
-fn print_list(list: &[u64], is_whole: bool, number: u64) {
-    if is_whole {
-        output::run(b"list", list);
-        return;
+// How many numbers so many records take, and so many reports.
+fn records_length(count: usize) -> usize {
+    if rules::MOST_RECORDS < count {
+        return 0;
     }
-    if number == 0 {
-        return;
-    }
-    let i = runs::first_marred(list);
-    if i < list.len() {
-        output::place(b"list", i);
-        return;
-    }
-    output::text(b"list same\n");
+    layout::RECORD_WIDTH * count
 }
 
-// The test of an order alone, with the length of its list.
+fn reports_length(count: usize) -> usize {
+    if rules::MOST_REPORTS < count {
+        return 0;
+    }
+    layout::REPORT_WIDTH * count
+}
+
+// `rest same` where three lists have from a place on what they had, and for each that differs the first such place.
+fn print_rest(records: &[u64], investor: &[u64], fund: &[u64], n: usize, m: usize) {
+    let is_records = state::is_as_filled(b"records", records, n);
+    let is_investor = state::is_as_filled(b"investor", investor, m);
+    let is_fund = state::is_as_filled(b"fund_reports", fund, m);
+    if is_records && is_investor && is_fund {
+        output::text(b"rest same\n");
+    }
+}
+
+// The first numbers of a list.
+fn print_front(word: &[u8], list: &[u64], length: usize) {
+    let n = runs::cut(length, list);
+    output::run(word, &list[..n]);
+}
+
+// What an accepted order wrote, and whether its lists behind that are what they were.
+fn print_written(counts: Counts, records: &[u64], investor: &[u64], fund: &[u64]) {
+    let n = records_length(counts.records);
+    let m = reports_length(counts.reports);
+    print_front(b"records", records, n);
+    print_front(b"investor", investor, m);
+    print_front(b"fund_reports", fund, m);
+    print_rest(records, investor, fund, n, m);
+}
+
+// The lists after an order; where it was refused, whether they are what they were.
+fn print_lists(answer: OrderAnswer, records: &[u64], investor: &[u64], fund: &[u64]) {
+    match answer {
+        OrderAnswer::Made(counts) => print_written(counts, records, investor, fund),
+        OrderAnswer::Refused(_) => print_rest(records, investor, fund, 0, 0),
+    }
+}
+
+// The test of an order alone, with the lengths of its lists.
 fn print_test(
     tag: u64,
     a: usize,
@@ -100,11 +145,13 @@ fn print_test(
     day: &[u64],
     book: &[u64],
     prices: &[u64],
-    length: usize,
+    records: usize,
+    investor: usize,
+    fund: usize,
 ) {
     let answer = match tag {
-        CREATE => day::creation_test(day, book, prices, a, units, length),
-        _ => day::redemption_test(day, book, prices, a, units, length),
+        CREATE => day::creation_test(day, book, prices, a, units, records, investor, fund),
+        _ => day::redemption_test(day, book, prices, a, units, records, investor, fund),
     };
     replies::print(b"test", answers::of_order(answer));
 }
@@ -128,32 +175,60 @@ fn print_order(tag: u64, r: Numbers) {
     }
 }
 
-// The test alone, and then the order, with a list that holds other numbers.
+// The test alone, and then the order, with lists that hold other numbers.
 fn order_with(
     tag: u64,
     a: usize,
     units: u64,
-    is_whole: bool,
     day: &[u64],
     book: &mut [u64],
     prices: &[u64],
-    list: &mut [u64],
+    records: &mut [u64],
+    investor: &mut [u64],
+    fund: &mut [u64],
 ) -> Numbers {
-    runs::fill(list);
-    print_test(tag, a, units, day, book, prices, list.len());
-    let r = answers::of_order(structs::order(day, book, prices, ask_of(tag, a, units), list));
+    runs::fill(records);
+    runs::fill(investor);
+    runs::fill(fund);
+    print_test(
+        tag,
+        a,
+        units,
+        day,
+        book,
+        prices,
+        records.len(),
+        investor.len(),
+        fund.len(),
+    );
+    let ask = ask_of(tag, a, units);
+    let answer = structs::order(day, book, prices, ask, records, investor, fund);
+    let r = answers::of_order(answer);
     print_order(tag, r);
-    print_list(list, is_whole, r.number);
+    print_lists(answer, records, investor, fund);
     r
 }
 
 fn order(tag: u64, item: &[u64], day: &[u64], book: &mut [u64], prices: &[u64]) -> Numbers {
-    let mut list = [0u64; MOST_LIST];
-    let n = runs::cut(state::size_at(item, ROOM), &list);
+    let mut records = [0u64; MOST_RECORDS];
+    let mut investor = [0u64; MOST_REPORTS];
+    let mut fund = [0u64; MOST_REPORTS];
+    let n = runs::cut(state::size_at(item, RECORDS), &records);
+    let i = runs::cut(state::size_at(item, INVESTOR), &investor);
+    let f = runs::cut(state::size_at(item, FUND), &fund);
     let a = state::size_at(item, 0);
     let units = state::at(item, 1);
-    let is_whole = state::at(item, SHOWN) == 1;
-    order_with(tag, a, units, is_whole, day, book, prices, &mut list[..n])
+    order_with(
+        tag,
+        a,
+        units,
+        day,
+        book,
+        prices,
+        &mut records[..n],
+        &mut investor[..i],
+        &mut fund[..f],
+    )
 }
 
 fn make(tag: u64, item: &[u64], day: &[u64], book: &mut [u64], prices: &mut [u64]) -> Numbers {

@@ -1,4 +1,4 @@
-// Orders in the struct form: the lent list is unpacked to records, and packed again when the order is made.
+// Orders in the struct form: the lent list of records is unpacked to structs, and packed again when the order is made.
 use layout::Record;
 use rules::Ask;
 use rules::OrderAnswer;
@@ -50,17 +50,19 @@ fn pack(list: &mut [u64], records: [Record; order_structs::MOST_RECORDS]) {
     }
 }
 
-// An order whose list, a flat run, is unpacked to structs before it and packed again behind it.
+// An order whose records, a flat run, are unpacked to structs before it and packed again behind it. The reports are lent as runs.
 pub fn order(
     day: &[u64],
     book: &mut [u64],
     prices: &[u64],
     ask: Ask,
     list: &mut [u64],
+    investor: &mut [u64],
+    fund: &mut [u64],
 ) -> OrderAnswer {
     let records = unpacked(list);
     let room = list.len() / layout::RECORD_WIDTH;
-    let left = order_structs::order_by_value(day, book, prices, ask, room, records);
+    let left = order_structs::order_by_value(day, book, prices, ask, room, records, investor, fund);
     let after = left.records;
     let answer = left.answer;
     pack(list, after);

@@ -33,7 +33,7 @@ fn width_of(count: usize) -> usize {
 
 // What a refused reading leaves and hands back: `same`, or the first place that is not as it should be.
 fn print_refused(l: ListFields, first: usize, run: &[u64]) {
-    let i = runs::first_marred(run);
+    let i = runs::first_marred(run, 0);
     if i < run.len() {
         output::place(b"run", i);
         return;
@@ -52,12 +52,8 @@ fn print_refused(l: ListFields, first: usize, run: &[u64]) {
 
 // Whether the run past the last component has what it had.
 fn print_rest(run: &[u64], from: usize) {
-    let mut before = [0u64; crate::MOST_RUN];
-    runs::fill(&mut before);
-    let n = runs::cut(from, run);
-    let m = runs::cut(from, &before);
-    let i = runs::first_difference(&run[n..], &before[m..]);
-    if i < run.len() - n {
+    let i = runs::first_marred(run, from);
+    if i < run.len() {
         output::place(b"rest", i);
         return;
     }

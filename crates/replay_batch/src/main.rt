@@ -1,5 +1,5 @@
 // Plays days through the driver: a day's calls are one list of rows, made by `driver::run` and once more, from the same book,
-// prices, records and answers, by `driver::run_public`. `scripts/batch_text.py` writes the items, and what is to be printed.
+// prices, records, reports and answers, by `driver::run_public`. `scripts/batch_text.py` writes the items, and what is to be printed.
 use answers::Numbers;
 use day_items::replies;
 use day_items::state;
@@ -18,14 +18,19 @@ const STATE: u64 = 3;
 
 const BATCH: u64 = 10;
 
-// A batch starts with the lengths of the record run and of the answers. Behind them stand the rows.
-const HEAD: usize = 2;
-
+// A batch starts with the lengths of the runs of records, of the investor's and of the fund's reports, and of the answers. Behind them
+// stand the rows.
 const RECORDS_LENGTH: usize = 0;
 
-const ANSWERS_LENGTH: usize = 1;
+const INVESTOR_LENGTH: usize = 1;
 
-// For how many numbers there is room in an item, a book, prices, records and answers.
+const FUND_LENGTH: usize = 2;
+
+const ANSWERS_LENGTH: usize = 3;
+
+const HEAD: usize = 4;
+
+// For how many numbers there is room in an item, a book, prices, records, reports to one party, and answers.
 const MOST_ITEM: usize = 12_000;
 
 const MOST_BOOK: usize = 12_000;
@@ -34,22 +39,30 @@ const MOST_PRICES: usize = 400;
 
 const MOST_RECORDS: usize = 10_000;
 
+const MOST_REPORTS: usize = 10_000;
+
 const MOST_ANSWERS: usize = 400;
 
-// Where each run starts in a copy of all four. The book stands first.
+// Where each run starts in a copy of all six. The book stands first.
 const PRICES_AT: usize = MOST_BOOK;
 
 const RECORDS_AT: usize = PRICES_AT + MOST_PRICES;
 
-const ANSWERS_AT: usize = RECORDS_AT + MOST_RECORDS;
+const INVESTOR_AT: usize = RECORDS_AT + MOST_RECORDS;
+
+const FUND_AT: usize = INVESTOR_AT + MOST_REPORTS;
+
+const ANSWERS_AT: usize = FUND_AT + MOST_REPORTS;
 
 const ALL: usize = ANSWERS_AT + MOST_ANSWERS;
 
-// How long the four runs are that are lent to the driver.
+// How long the six runs are that are lent to the driver.
 struct Lengths {
     book: usize,
     prices: usize,
     records: usize,
+    investor: usize,
+    fund: usize,
     answers: usize,
 }
 
@@ -67,15 +80,17 @@ fn answer_of(
     book: &mut [u64],
     prices: &mut [u64],
     records: &mut [u64],
+    investor: &mut [u64],
+    fund: &mut [u64],
     answers: &mut [u64],
 ) -> Answer {
     if is_public {
-        return driver::run_public(day, book, prices, rows, records, answers);
+        return driver::run_public(day, book, prices, rows, records, investor, fund, answers);
     }
-    driver::run(day, book, prices, rows, records, answers)
+    driver::run(day, book, prices, rows, records, investor, fund, answers)
 }
 
-// Makes the calls on as much of the records and the answers as is lent to them.
+// Makes the calls on as much of the records, the reports and the answers as is lent to them.
 fn drive(
     is_public: bool,
     l: Lengths,
@@ -84,9 +99,13 @@ fn drive(
     book: &mut [u64],
     prices: &mut [u64],
     records: &mut [u64],
+    investor: &mut [u64],
+    fund: &mut [u64],
     answers: &mut [u64],
 ) -> Numbers {
     let n = runs::cut(l.records, records);
+    let i = runs::cut(l.investor, investor);
+    let f = runs::cut(l.fund, fund);
     let m = runs::cut(l.answers, answers);
     let answer = answer_of(
         is_public,
@@ -95,12 +114,30 @@ fn drive(
         book,
         prices,
         &mut records[..n],
+        &mut investor[..i],
+        &mut fund[..f],
         &mut answers[..m],
     );
     answers::of_answer(answer)
 }
 
-// Makes the calls with records and answers that hold other numbers, and copies all that is left.
+// Fills the runs that the calls write with other numbers.
+fn mark(records: &mut [u64], investor: &mut [u64], fund: &mut [u64], answers: &mut [u64]) {
+    runs::fill(records);
+    runs::fill(investor);
+    runs::fill(fund);
+    runs::fill(answers);
+}
+
+// Copies these runs.
+fn copy_lent(records: &[u64], investor: &[u64], fund: &[u64], answers: &[u64], left: &mut [u64]) {
+    copy_in(records, left, RECORDS_AT);
+    copy_in(investor, left, INVESTOR_AT);
+    copy_in(fund, left, FUND_AT);
+    copy_in(answers, left, ANSWERS_AT);
+}
+
+// Makes the calls with records, reports and answers that hold other numbers, and copies all that is left.
 fn make(
     is_public: bool,
     l: Lengths,
@@ -111,9 +148,10 @@ fn make(
     left: &mut [u64],
 ) -> Numbers {
     let mut records = [0u64; MOST_RECORDS];
+    let mut investor = [0u64; MOST_REPORTS];
+    let mut fund = [0u64; MOST_REPORTS];
     let mut answers = [0u64; MOST_ANSWERS];
-    runs::fill(&mut records);
-    runs::fill(&mut answers);
+    mark(&mut records, &mut investor, &mut fund, &mut answers);
     let r = drive(
         is_public,
         l,
@@ -122,12 +160,13 @@ fn make(
         book,
         prices,
         &mut records,
+        &mut investor,
+        &mut fund,
         &mut answers,
     );
     copy_in(book, left, 0);
     copy_in(prices, left, PRICES_AT);
-    copy_in(&records, left, RECORDS_AT);
-    copy_in(&answers, left, ANSWERS_AT);
+    copy_lent(&records, &investor, &fund, &answers, left);
     r
 }
 
@@ -169,6 +208,8 @@ fn part(all: &[u64], at: usize, length: usize) -> &[u64] {
 fn print_left(l: Lengths, left: &[u64]) {
     output::run(b"answers", part(left, ANSWERS_AT, l.answers));
     output::run(b"records", part(left, RECORDS_AT, l.records));
+    output::run(b"investor", part(left, INVESTOR_AT, l.investor));
+    output::run(b"fund_reports", part(left, FUND_AT, l.fund));
     output::run(b"book", part(left, 0, l.book));
     output::run(b"prices", part(left, PRICES_AT, l.prices));
 }
@@ -188,8 +229,10 @@ fn print_same(l: Lengths, left: &[u64], other: &[u64]) {
     let is_book = is_same(b"book", 0, l.book, left, other);
     let is_prices = is_same(b"prices", PRICES_AT, l.prices, left, other);
     let is_records = is_same(b"records", RECORDS_AT, l.records, left, other);
+    let is_investor = is_same(b"investor", INVESTOR_AT, l.investor, left, other);
+    let is_fund = is_same(b"fund_reports", FUND_AT, l.fund, left, other);
     let is_answers = is_same(b"answers", ANSWERS_AT, l.answers, left, other);
-    if is_book && is_prices && is_records && is_answers {
+    if is_book && is_prices && is_records && is_investor && is_fund && is_answers {
         output::text(b"same\n");
     }
 }
@@ -206,12 +249,14 @@ fn run_both(l: Lengths, day: &[u64], rows: &[u64], book: &mut [u64], prices: &mu
     print_same(l, &left, &other);
 }
 
-// Whether an item has the two lengths of a batch, and there is room for them.
+// Whether an item has the four lengths of a batch, and there is room for them.
 fn is_batch(item: &[u64]) -> bool {
     if item.len() < HEAD {
         return false;
     }
     state::size_at(item, RECORDS_LENGTH) <= MOST_RECORDS
+        && state::size_at(item, INVESTOR_LENGTH) <= MOST_REPORTS
+        && state::size_at(item, FUND_LENGTH) <= MOST_REPORTS
         && state::size_at(item, ANSWERS_LENGTH) <= MOST_ANSWERS
 }
 
@@ -232,6 +277,8 @@ fn batch_item(
         book: b,
         prices: p,
         records: state::size_at(item, RECORDS_LENGTH),
+        investor: state::size_at(item, INVESTOR_LENGTH),
+        fund: state::size_at(item, FUND_LENGTH),
         answers: state::size_at(item, ANSWERS_LENGTH),
     };
     run_both(l, day, &item[from..], &mut book[..b], &mut prices[..p]);

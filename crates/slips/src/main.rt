@@ -20,12 +20,26 @@ const MOST_HELD: usize = ACCOUNTS * (layout::MOST_COMPONENTS + 2);
 
 const MOST_BOOK: usize = ACCOUNTS * layout::MOST_WIDTH;
 
+// Room for the reports of an order to one party, which are not printed.
+const MOST_REPORTS: usize = layout::REPORT_WIDTH * rules::MOST_REPORTS;
+
 // Creates one basket.
 fn create(day: &[u64], units: u64, book: &mut [u64], prices: &[u64]) {
     let mut list = [0u64; printed::MOST_LIST];
-    let answer = day::create(day, book, prices, ACCOUNT, units, &mut list);
+    let mut investor = [0u64; MOST_REPORTS];
+    let mut fund = [0u64; MOST_REPORTS];
+    let answer = day::create(
+        day,
+        book,
+        prices,
+        ACCOUNT,
+        units,
+        &mut list,
+        &mut investor,
+        &mut fund,
+    );
     match answer {
-        OrderAnswer::Made(count) => printed::records(&list, count),
+        OrderAnswer::Made(counts) => printed::records(&list, counts.records),
         OrderAnswer::Refused(why) => printed::refusal(why),
     }
 }

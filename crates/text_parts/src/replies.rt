@@ -10,6 +10,7 @@ pub fn of_answer(answer: ListAnswer) -> Numbers {
             number: 0,
             place: 0,
             value: count as u64,
+            reports: 0,
         },
         ListAnswer::Refused(why) => answers::of_refusal(why),
     }
