@@ -2,7 +2,7 @@
 //! on.
 
 use crate::names::{name_of, report_name};
-use crate::said::{Answer, Entry, Said};
+use crate::said::{Entry, Said};
 use roffelaine::{List, Record, Report};
 use std::io::{self, Write};
 
@@ -32,9 +32,13 @@ impl Table {
         let Said::Answer(answer) = &entry.said else {
             return Ok(());
         };
+        let Some(order) = answer.call.order() else {
+            return Ok(());
+        };
+        let order = format!("{},{},{}", entry.line, answer.call.word(), order.account);
         let records = answer.records();
-        for (before, each) in records.iter().enumerate() {
-            start(out, entry.line, answer, before, records.len())?;
+        for (seq, each) in (1..).zip(records) {
+            write!(out, "{order},{seq},{},", records.len())?;
             record(out, list, each)?;
             match self.has_reports {
                 true => writeln!(out, ",records,,,,,,,")?,
@@ -45,26 +49,13 @@ impl Table {
             return Ok(());
         };
         for (party, reports) in reports.by_party() {
-            for (before, each) in reports.iter().enumerate() {
-                start(out, entry.line, answer, before, reports.len())?;
+            for (seq, each) in (1..).zip(reports) {
+                write!(out, "{order},{seq},{},", reports.len())?;
                 report(out, list, party, each)?;
             }
         }
         Ok(())
     }
-}
-
-/// The columns that say which one of how many it is, of which order.
-fn start(
-    out: &mut impl Write,
-    line: usize,
-    answer: &Answer,
-    before: usize,
-    of: usize,
-) -> io::Result<()> {
-    let (word, seq) = (answer.call.word(), before + 1);
-    let account = answer.call.order().map_or(0, |order| order.account);
-    write!(out, "{line},{word},{account},{seq},{of},")
 }
 
 fn record(out: &mut impl Write, list: &List<'_>, record: &Record) -> io::Result<()> {
