@@ -4,7 +4,8 @@ use super::book::{
     self, fund_and_account, handable, lots, lots_mut, stretch, CASH, CREATED, GOT, OLD,
 };
 use super::order_lists::{Lengths, Lists};
-use super::orders::{test_order, with_premium, Kind, OrderWriter, Terms};
+use super::order_writer::OrderWriter;
+use super::orders::{test_order, with_premium, Kind, Terms};
 use super::refusal::{Counts, Refusal, Reply, CASH_RATIO, SHORT_OF_CASH, SHORT_OF_STOCK};
 use super::soundness::test_day;
 use super::types::{Component, Day};
@@ -52,14 +53,13 @@ pub(super) fn create_on_sound_day(
     let terms = test_on_sound_day(day, book, prices, account, units, lengths)?;
     let width = book::stretch_width(day.count as usize);
     let (fund, own) = fund_and_account(book, width, account);
-    let mut writer = OrderWriter::new(Kind::Creation, lists);
-    writer.units(day.fund.first_code, units);
+    let mut writer = OrderWriter::start(Kind::Creation, day.fund.first_code, units, lists);
     hand_in_stock(day, terms.baskets, fund, own, &mut writer);
     own[CASH] -= terms.cash();
     fund[CASH] += terms.cash();
     own[CREATED] += units;
     lots_mut(own, day.count as usize)[GOT] += units;
-    Ok(writer.finish(day.fund.first_code, units, &terms))
+    Ok(writer.finish(&terms))
 }
 
 /// Moves what is there of the stock to the fund's old lots.

@@ -13,6 +13,7 @@ mod flags;
 pub mod list;
 mod opening;
 mod order_lists;
+mod order_writer;
 mod orders;
 mod price;
 mod records;

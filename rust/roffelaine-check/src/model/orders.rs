@@ -1,11 +1,11 @@
 //! What creation and redemption have in common.
 
 use super::book::{self, CREATED, REDEEMED};
-use super::order_lists::{Lengths, Lists};
+use super::order_lists::Lengths;
 use super::range;
-use super::records::{cash_record_count, RecordWriter, BUY, RECORD_NUMBERS, SELL};
+use super::records::{cash_record_count, RECORD_NUMBERS};
 use super::refusal::{Counts, Refusal, ACCOUNT, LIMIT, LIST_TOO_SHORT, NOT_WHOLE_BASKETS, SWITCH};
-use super::reports::{cash_report_count, ReportWriter, REPORT_NUMBERS, STOCK_REPORT, UNIT_REPORT};
+use super::reports::{cash_report_count, REPORT_NUMBERS};
 use super::types::Day;
 
 /// The rate one.
@@ -69,70 +69,6 @@ impl Terms {
         match fits {
             true => Ok(()),
             false => Err(Refusal::new(LIST_TOO_SHORT)),
-        }
-    }
-}
-
-/// The other side.
-fn opposite(side: u64) -> u64 {
-    match side {
-        BUY => SELL,
-        _ => BUY,
-    }
-}
-
-/// Writes the records of an order and the reports to both parties, in order:
-/// units, each component with stock moved, and cash.
-pub(super) struct OrderWriter<'a> {
-    records: RecordWriter<'a>,
-    investor: ReportWriter<'a>,
-    fund: ReportWriter<'a>,
-    /// The investor's side on stock, and on all else.
-    stock_side: u64,
-    side: u64,
-}
-
-impl<'a> OrderWriter<'a> {
-    pub(super) fn new(kind: Kind, lists: Lists<'a>) -> Self {
-        let side = match kind {
-            Kind::Creation => BUY,
-            Kind::Redemption => SELL,
-        };
-        OrderWriter {
-            records: RecordWriter::new(lists.records),
-            investor: ReportWriter::new(lists.investor),
-            fund: ReportWriter::new(lists.fund),
-            stock_side: opposite(side),
-            side,
-        }
-    }
-
-    pub(super) fn units(&mut self, first_code: u64, units: u64) {
-        let (side, other_side) = (self.side, opposite(self.side));
-        self.records.moved(first_code, side, units);
-        self.investor.moved(UNIT_REPORT, side, first_code, units);
-        self.fund.moved(UNIT_REPORT, other_side, first_code, units);
-    }
-
-    #[inline]
-    pub(super) fn stock(&mut self, code: u64, quantity: u64) {
-        let (side, other_side) = (self.stock_side, self.side);
-        self.records.moved(code, side, quantity);
-        self.investor.moved(STOCK_REPORT, side, code, quantity);
-        self.fund.moved(STOCK_REPORT, other_side, code, quantity);
-    }
-
-    /// The cash, and the unit's second record, behind which nothing stands.
-    pub(super) fn finish(mut self, first_code: u64, units: u64, terms: &Terms) -> Counts {
-        let (other, shanghai) = (terms.other_cash, terms.shanghai_cash);
-        self.records.cash(first_code + 5, self.side, other);
-        self.records.cash(first_code + 2, self.side, shanghai);
-        self.records.moved(first_code + 1, self.side, units);
-        self.investor.cash(self.side, shanghai, other);
-        self.fund.cash(opposite(self.side), shanghai, other);
-        Counts {
-            records: self.records.count(),
-            reports: self.investor.count(),
         }
     }
 }

@@ -4,7 +4,8 @@ use super::book::{
     self, fund_and_account, handable, lots, lots_mut, stretch, CASH, GOT, OLD, REDEEMED,
 };
 use super::order_lists::{Lengths, Lists};
-use super::orders::{less_discount, test_order, Kind, OrderWriter, Terms};
+use super::order_writer::OrderWriter;
+use super::orders::{less_discount, test_order, Kind, Terms};
 use super::refusal::{Counts, Refusal, Reply, FUND_SHORT, SHORT_OF_STOCK};
 use super::soundness::test_day;
 use super::types::{Component, Day};
@@ -50,14 +51,13 @@ pub(super) fn redeem_on_sound_day(
     let terms = test_on_sound_day(day, book, account, units, lengths)?;
     let width = book::stretch_width(day.count as usize);
     let (fund, own) = fund_and_account(book, width, account);
-    let mut writer = OrderWriter::new(Kind::Redemption, lists);
-    writer.units(day.fund.first_code, units);
+    let mut writer = OrderWriter::start(Kind::Redemption, day.fund.first_code, units, lists);
     deliver_stock(day, terms.baskets, fund, own, &mut writer);
     fund[CASH] -= terms.cash();
     own[CASH] += terms.cash();
     own[REDEEMED] += units;
     book::hand_in(lots_mut(own, day.count as usize), units);
-    Ok(writer.finish(day.fund.first_code, units, &terms))
+    Ok(writer.finish(&terms))
 }
 
 /// Moves the stock in full from the fund's old lots to the account's got lots.
