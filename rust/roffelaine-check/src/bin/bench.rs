@@ -6,7 +6,7 @@
 use roffelaine::lent;
 use roffelaine_check::archive::{self, lists_of, Archive};
 use roffelaine_check::engine::{Engine, LentList, Model, Runs};
-use roffelaine_check::flat::{answers_length, fund_numbers, rows_of, DAY_NUMBERS, FIELD_NUMBERS};
+use roffelaine_check::flat::{answers_length, fund_numbers, row_of, DAY_NUMBERS, FIELD_NUMBERS};
 use roffelaine_check::model::list::{Head, Writing};
 use roffelaine_check::model::{
     self, book_length, lengths_for, Call, Component, Counts, Day, Fund, Lengths, Opening, Order,
@@ -29,10 +29,12 @@ const MOST: Counts = Counts {
     records: COUNT as u64 + 6,
     reports: COUNT as u64 + 2,
 };
-/// Calls in a list: many trades, fewer orders for the sake of their records and
-/// reports.
+/// Calls in a list: many trades, fewer orders.
 const TRADES: usize = 2_000;
 const ORDERS: usize = 200;
+/// After so many orders their lists are used again, so that what they write,
+/// 60 KB each, stays in the cache.
+const LISTS: usize = 40;
 
 fn main() {
     println!("{}", table_heading());
@@ -130,15 +132,19 @@ const ROWS: &[Row] = &[
     },
     Row {
         name: TRADE_IN_LIST,
-        time: |side| time_list(side, trade(), TRADES),
+        time: |side| time_list(side, trade(), TRADES, LISTS),
     },
     Row {
         name: CREATION_IN_LIST,
-        time: |side| time_list(side, creation(), ORDERS),
+        time: |side| time_list(side, creation(), ORDERS, LISTS),
+    },
+    Row {
+        name: "the same, each with lists of its own, 12 MB",
+        time: |side| time_list(side, creation(), ORDERS, ORDERS),
     },
     Row {
         name: "redemption of 20 with reports, in a list of calls",
-        time: |side| time_list(side, redemption(), ORDERS),
+        time: |side| time_list(side, redemption(), ORDERS, LISTS),
     },
     Row {
         name: "opening",
@@ -306,10 +312,13 @@ fn time_call(side: Side, call: Call) -> f64 {
     })
 }
 
-/// One call among many in a list, the day tested once for all of them.
-fn time_list(side: Side, call: Call, length: usize) -> f64 {
-    let (rows, lengths) = rows_of(&vec![call; length]);
-    let mut day = side.opened(lengths);
+/// One call among many in a list, the day tested once for all of them; so many
+/// have lists of their own before these are used again.
+fn time_list(side: Side, call: Call, length: usize, lists: usize) -> f64 {
+    let starts = |at: usize| call.lengths().map(|length| length * (at % lists));
+    let rows = (0..length).filter_map(|at| row_of(&call, starts(at)));
+    let rows: Vec<u64> = rows.flatten().collect();
+    let mut day = side.opened(call.lengths().map(|length| length * lists));
     let mut answers = vec![0; answers_length(&rows)];
     let list = median_nanos(RUNS, 1, || {
         black_box(day.run(black_box(&rows), black_box(&mut answers)));
