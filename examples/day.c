@@ -1,7 +1,8 @@
 /*
  * A day of one fund from C (or C++). The fund's list is read from its text, the day is opened with two accounts, prices are set,
- * and account 1 creates one basket, whose records are printed. It may not redeem that basket on the same day: the refusal is
- * printed with its reason. Then the same calls are made as one list. Last a damaged list text is refused, with line and column.
+ * and account 1 creates one basket, whose records are printed, and its reports to the investor and to the fund's manager. Account 1
+ * may not redeem that basket on the same day: the refusal is printed with its reason. Then the same calls are made as one list. Last
+ * a damaged list text is refused, with line and column.
  *
  *     cc -std=c99 day.c $(pkg-config --cflags --libs roffelaine) -o day
  */
@@ -57,6 +58,8 @@ static uint64_t day[ROFFELAINE_DAY_WIDTH];
 static uint64_t book[ROFFELAINE_BOOK_LENGTH(ACCOUNTS, ROFFELAINE_MOST_COMPONENTS)];
 static uint64_t prices[ROFFELAINE_MOST_COMPONENTS];
 static uint64_t records[ROFFELAINE_RECORD_WIDTH * ROFFELAINE_MOST_RECORDS(ROFFELAINE_MOST_COMPONENTS)];
+static uint64_t investor[ROFFELAINE_REPORT_WIDTH * ROFFELAINE_MOST_REPORTS(ROFFELAINE_MOST_COMPONENTS)];
+static uint64_t fund[ROFFELAINE_REPORT_WIDTH * ROFFELAINE_MOST_REPORTS(ROFFELAINE_MOST_COMPONENTS)];
 
 /* The prices of the day, in thousandths of a yuan. */
 static const struct {
@@ -146,12 +149,35 @@ static void print_records(size_t count)
     }
 }
 
+/* The reports to one party: type, side, code, quantity, then kind and amount of each group that is there. */
+static void print_reports(const char *party, const uint64_t *list, size_t count)
+{
+    size_t k, group;
+    for (k = 0; k < count; k++) {
+        const struct roffelaine_report report = roffelaine_report_at(list, k);
+        printf("%s %" PRIu64 " %" PRIu64 " %06" PRIu64 " %" PRIu64, party, report.type, report.side, report.code, report.quantity);
+        for (group = 0; group < ROFFELAINE_MOST_GROUPS && report.groups[group].kind != 0; group++) {
+            printf(" %" PRIu64, report.groups[group].kind);
+            print_money(report.groups[group].amount);
+        }
+        printf("\n");
+    }
+}
+
+/* What an accepted order made. */
+static void print_order(size_t record_count, size_t report_count)
+{
+    print_records(record_count);
+    print_reports("investor", investor, report_count);
+    print_reports("fund", fund, report_count);
+}
+
 /* The calls one by one; each tests the whole day. */
 static int call_by_call(uint64_t units)
 {
     const size_t book_length = ROFFELAINE_BOOK_LENGTH(ACCOUNTS, components);
-    const size_t room = ROFFELAINE_RECORD_WIDTH * ROFFELAINE_MOST_RECORDS(components);
-    uint64_t number, place, value;
+    const struct roffelaine_order_lists lists = roffelaine_ample_lists(components, 0);
+    uint64_t number, place, value, reports;
     size_t k;
     for (k = 0; k < PRICED_COUNT; k++) {
         const size_t line = roffelaine_line_of(day, ROFFELAINE_DAY_WIDTH, PRICED[k].code);
@@ -161,12 +187,14 @@ static int call_by_call(uint64_t units)
             return said("price", number, place, value);
     }
     number = roffelaine_create(
-        day, ROFFELAINE_DAY_WIDTH, book, book_length, prices, components, HOLDER, units, records, room, &place, &value);
+        day, ROFFELAINE_DAY_WIDTH, book, book_length, prices, components, HOLDER, units, records, lists.records.length,
+        investor, lists.investor.length, fund, lists.fund.length, &place, &value, &reports);
     if (number != ROFFELAINE_ACCEPTED)
         return said("create", number, place, value);
-    print_records((size_t)value);
+    print_order((size_t)value, (size_t)reports);
     number = roffelaine_redeem(
-        day, ROFFELAINE_DAY_WIDTH, book, book_length, prices, components, HOLDER, units, records, room, &place, &value);
+        day, ROFFELAINE_DAY_WIDTH, book, book_length, prices, components, HOLDER, units, records, lists.records.length,
+        investor, lists.investor.length, fund, lists.fund.length, &place, &value, &reports);
     said("redeem", number, place, value);
     return 1;
 }
@@ -174,29 +202,32 @@ static int call_by_call(uint64_t units)
 /* The same calls, and the reference value, as one list: the day is tested once. */
 static int as_one_list(uint64_t units)
 {
-    enum { ROWS = PRICED_COUNT + 3 };
+    enum { ROWS = PRICED_COUNT + 3, CREATION = PRICED_COUNT + 1 };
     static const char *const names[ROWS] = {"price", "price", "price", "value", "create", "redeem"};
-    const size_t room = ROFFELAINE_RECORD_WIDTH * ROFFELAINE_MOST_RECORDS(components);
+    /* lists of no numbers: the last order is not expected to make records and reports */
+    static const struct roffelaine_order_lists no_lists = {{0, 0}, {0, 0}, {0, 0}};
+    const struct roffelaine_order_lists lists = roffelaine_ample_lists(components, 0);
     uint64_t rows[ROFFELAINE_ROW_WIDTH * ROWS], answers[ROFFELAINE_ANSWER_WIDTH * ROWS];
     uint64_t number, place, value;
+    struct roffelaine_answer answer;
     size_t k;
     for (k = 0; k < PRICED_COUNT; k++)
         roffelaine_row_price(rows, k, roffelaine_line_of(day, ROFFELAINE_DAY_WIDTH, PRICED[k].code), PRICED[k].price);
     roffelaine_row_value(rows, PRICED_COUNT);
-    roffelaine_row_create(rows, PRICED_COUNT + 1, HOLDER, units, 0, room);
-    /* a list of no numbers: this order is not expected to make records */
-    roffelaine_row_redeem(rows, PRICED_COUNT + 2, HOLDER, units, 0, 0);
+    roffelaine_row_create(rows, CREATION, HOLDER, units, lists);
+    roffelaine_row_redeem(rows, CREATION + 1, HOLDER, units, no_lists);
     number = roffelaine_run(
         day, ROFFELAINE_DAY_WIDTH, book, ROFFELAINE_BOOK_LENGTH(ACCOUNTS, components), prices, components,
-        rows, ROFFELAINE_ROW_WIDTH * ROWS, records, room, answers, ROFFELAINE_ANSWER_WIDTH * ROWS,
-        &place, &value);
+        rows, ROFFELAINE_ROW_WIDTH * ROWS, records, lists.records.length, investor, lists.investor.length,
+        fund, lists.fund.length, answers, ROFFELAINE_ANSWER_WIDTH * ROWS, &place, &value);
     if (number != ROFFELAINE_ACCEPTED)
         return said("run", number, place, value);
     for (k = 0; k < ROWS; k++) {
-        const struct roffelaine_answer answer = roffelaine_answer_at(answers, k);
+        answer = roffelaine_answer_at(answers, k);
         said(names[k], answer.number, answer.place, answer.value);
     }
-    print_records((size_t)roffelaine_answer_at(answers, PRICED_COUNT + 1).value);
+    answer = roffelaine_answer_at(answers, CREATION);
+    print_order((size_t)answer.value, (size_t)answer.reports);
     return 1;
 }
 

@@ -4,15 +4,16 @@
  * the calls, and `examples/day.c` is a whole program.
  *
  * Every call takes numbers and lent runs of numbers and returns on every input. All but `roffelaine_name` and `roffelaine_letters`,
- * which refuse nothing, answer three numbers: such a call returns the refusal's number, ROFFELAINE_ACCEPTED where there is none,
- * puts the refusal's place at `place` (0 where it has none) and the value of an accepted call at `value` (0 where it has none). A
- * refused call changes nothing lent but these two. What each call answers and leaves is proved, for the same call of the Rattle
+ * which refuse nothing, answer three numbers, an order and the tests of one alone four: such a call returns the refusal's number,
+ * ROFFELAINE_ACCEPTED where there is none, puts the refusal's place at `place` (0 where it has none), the value of an accepted call
+ * at `value` (0 where it has none) and the count of an accepted order's reports to each party at `reports` (0 where it is refused).
+ * A refused call changes nothing lent but these. What each call answers and leaves is proved, for the same call of the Rattle
  * crates `day`, `driver`, `list_reading` and `list_writing` on the day and the fields that the runs say.
  *
  * A run is a pointer and a count of its numbers (of its bytes for text). The caller sees to it that the pointer points to so many
- * numbers, and that a run lent for writing, `place`, `value` and `first_row` overlap no other argument. A run with a count of 0 may
- * have any pointer, also null, as an empty `std::vector` gives: nothing is read or written through it, and it overlaps nothing.
- * `place`, `value` and `first_row` must not be null.
+ * numbers, and that a run lent for writing, `place`, `value`, `reports` and `first_row` overlap no other argument. A run with a
+ * count of 0 may have any pointer, also null, as an empty `std::vector` gives: nothing is read or written through it, and it
+ * overlaps nothing. `place`, `value`, `reports` and `first_row` must not be null.
  *
  * The proof is about runs, not about pointers: that a call reaches no number of a run that is not there is proved, that the pointer
  * of an empty run may be null is not. That rests on how the library is compiled, with no pointer declared to the compiler as not
@@ -52,6 +53,13 @@
  * The prices, N numbers; 0 is no price.
  * The holdings that an opening takes, N + 2 numbers for each account: cash, and the holding of each line, the unit last.
  * A record, 5 numbers: code, side, quantity, price, amount.
+ * A report, 10 numbers: type, side, code, quantity, and three groups of kind and amount. An accepted order makes as many to the
+ * investor as to the fund's manager, in this order: type 1 for the unit (the fund's first code, and the units), type 2 for each
+ * component of which stock moved (its code and quantity, as in its record), type 3 for all cash, none where there is none. Types 1
+ * and 2 use code and quantity, type 3 the groups: kind 1, cash for Shanghai components, then kind 2, other cash; a kind without cash
+ * is left out and the next moves up. What a type does not use is 0, and the third group is 0 for now. A creation has the investor on
+ * side 1 for types 1 and 3 and on side 2 for type 2, a redemption turns each, and the fund has the opposite side of each. The
+ * amounts of all groups of a party's reports add up to the amounts of the order's records.
  * A list's fields, 22 numbers:
  *    0 to 13 the fund   14 Publish   15 TradingDay   16 PreTradingDay, dates as year, month and day in eight digits
  *    17, 18 CashComponent, signed   19 NAVperCU, in hundredths   20 NAV, in ten-thousandths   21 N
@@ -70,9 +78,9 @@ extern "C" {
 #endif
 
 /* The version of this header and of the library that it came with. */
-#define ROFFELAINE_VERSION "0.3.0"
+#define ROFFELAINE_VERSION "0.4.0"
 #define ROFFELAINE_VERSION_MAJOR 0 /* with the next one, part of the shared library's name */
-#define ROFFELAINE_VERSION_MINOR 3 /* raised where calls, names or widths change */
+#define ROFFELAINE_VERSION_MINOR 4 /* raised where calls, names or widths change */
 #define ROFFELAINE_VERSION_PATCH 0 /* raised where none does */
 
 /* How many numbers each takes. */
@@ -81,8 +89,9 @@ extern "C" {
 #define ROFFELAINE_FIELDS_WIDTH 22
 #define ROFFELAINE_COMPONENT_WIDTH 6
 #define ROFFELAINE_RECORD_WIDTH 5
-#define ROFFELAINE_ROW_WIDTH 6
-#define ROFFELAINE_ANSWER_WIDTH 3
+#define ROFFELAINE_REPORT_WIDTH 10
+#define ROFFELAINE_ROW_WIDTH 9
+#define ROFFELAINE_ANSWER_WIDTH 4
 #define ROFFELAINE_PART_WIDTH 2
 
 #define ROFFELAINE_MOST_ACCOUNTS 64
@@ -92,8 +101,9 @@ extern "C" {
 #define ROFFELAINE_BOOK_LENGTH(accounts, components) ((size_t)(accounts) * ROFFELAINE_STRETCH_WIDTH(components))
 #define ROFFELAINE_HOLDINGS_LENGTH(accounts, components) ((size_t)(accounts) * ((size_t)(components) + 2))
 
-/* An order makes at most 1 + N + 4 + 1 records. */
+/* An order makes at most 1 + N + 4 + 1 records, and at most 1 + N + 1 reports to each party. */
 #define ROFFELAINE_MOST_RECORDS(components) ((size_t)(components) + 6)
+#define ROFFELAINE_MOST_REPORTS(components) ((size_t)(components) + 2)
 
 /* Bytes of a name. */
 #define ROFFELAINE_NAME_WIDTH 8
@@ -124,22 +134,38 @@ enum roffelaine_refusal {
     ROFFELAINE_LIMIT = 13,
     ROFFELAINE_NO_REFERENCE_VALUE = 14,
     ROFFELAINE_CASH_RATIO = 15,
-    ROFFELAINE_LIST_TOO_SHORT = 16,    /* the lent record list, component run or output */
+    ROFFELAINE_LIST_TOO_SHORT = 16,    /* a lent list of records or reports, component run or output */
     ROFFELAINE_FUND_SHORT = 17,        /* place: the component, N for cash */
     ROFFELAINE_TEXT_LINE = 18,         /* place: the line's first byte */
     ROFFELAINE_TEXT_FIELD = 19,        /* place: the field's first byte */
     ROFFELAINE_RECORD_COUNT = 20
 };
 
-/* The sides of a record. */
+/* The sides of a record and of a report. */
 enum roffelaine_side { ROFFELAINE_SIDE_B = 1, ROFFELAINE_SIDE_S = 2 };
 
-/* What a row of `roffelaine_run` names. */
+/* The types of a report. */
+enum roffelaine_report_type {
+    ROFFELAINE_REPORT_UNIT = 1,
+    ROFFELAINE_REPORT_STOCK = 2, /* a component of which stock moved */
+    ROFFELAINE_REPORT_CASH = 3   /* all cash of the order */
+};
+
+/* The kinds of cash in a report's groups. */
+enum roffelaine_cash_kind {
+    ROFFELAINE_CASH_SHANGHAI = 1, /* for Shanghai components */
+    ROFFELAINE_CASH_OTHER = 2
+};
+
+/*
+ * What a row of `roffelaine_run` names. The parts of an order are six numbers: start and length of its part of the record run, of the
+ * run of the investor's reports and of the run of the fund's.
+ */
 enum roffelaine_call {
     ROFFELAINE_CALL_PRICE = 1,  /* line, price */
     ROFFELAINE_CALL_TRADE = 2,  /* line, quantity, price, seller, buyer */
-    ROFFELAINE_CALL_CREATE = 3, /* account, units, start and length of its part of the record run */
-    ROFFELAINE_CALL_REDEEM = 4, /* account, units, start and length of its part of the record run */
+    ROFFELAINE_CALL_CREATE = 3, /* account, units, parts */
+    ROFFELAINE_CALL_REDEEM = 4, /* account, units, parts */
     ROFFELAINE_CALL_VALUE = 5
 };
 
@@ -181,47 +207,55 @@ uint64_t roffelaine_reference_value(
     uint64_t *place, uint64_t *value);
 
 /*
- * Creates units for an account. The records go to the front of the list, their count to `value`; what is past them stays.
- * Refusals: 5, 8, 11, 12, 13, 9, 14, 15, 10, 16.
+ * Creates units for an account. The records go to the front of `records`, their count to `value`; the reports to the investor go to
+ * the front of `investor`, those to the fund's manager to the front of `fund`, the count of each to `reports`; what is past the last
+ * stays. Refusals: 5, 8, 11, 12, 13, 9, 14, 15, 10, and 16 where any of the three lists is too short.
  */
 uint64_t roffelaine_create(
     const uint64_t *day, size_t day_length,
     uint64_t *book, size_t book_length,
     const uint64_t *prices, size_t prices_length,
     size_t account, uint64_t units,
-    uint64_t *list, size_t list_length,
-    uint64_t *place, uint64_t *value);
+    uint64_t *records, size_t records_length,
+    uint64_t *investor, size_t investor_length,
+    uint64_t *fund, size_t fund_length,
+    uint64_t *place, uint64_t *value, uint64_t *reports);
 
-/* Redeems units of an account; the records as with a creation. Refusals: 5, 8, 11, 12, 13, 9, 17, 16. */
+/* Redeems units of an account; records and reports as with a creation. Refusals: 5, 8, 11, 12, 13, 9, 17, 16. */
 uint64_t roffelaine_redeem(
     const uint64_t *day, size_t day_length,
     uint64_t *book, size_t book_length,
     const uint64_t *prices, size_t prices_length,
     size_t account, uint64_t units,
-    uint64_t *list, size_t list_length,
-    uint64_t *place, uint64_t *value);
+    uint64_t *records, size_t records_length,
+    uint64_t *investor, size_t investor_length,
+    uint64_t *fund, size_t fund_length,
+    uint64_t *place, uint64_t *value, uint64_t *reports);
 
-/* What the creation would answer with a list of so many numbers; nothing changes. */
+/* What the creation would answer with lists of so many numbers; nothing changes. */
 uint64_t roffelaine_creation_test(
     const uint64_t *day, size_t day_length,
     const uint64_t *book, size_t book_length,
     const uint64_t *prices, size_t prices_length,
-    size_t account, uint64_t units, size_t list_length,
-    uint64_t *place, uint64_t *value);
+    size_t account, uint64_t units,
+    size_t records_length, size_t investor_length, size_t fund_length,
+    uint64_t *place, uint64_t *value, uint64_t *reports);
 
-/* What the redemption would answer with a list of so many numbers; nothing changes. */
+/* What the redemption would answer with lists of so many numbers; nothing changes. */
 uint64_t roffelaine_redemption_test(
     const uint64_t *day, size_t day_length,
     const uint64_t *book, size_t book_length,
     const uint64_t *prices, size_t prices_length,
-    size_t account, uint64_t units, size_t list_length,
-    uint64_t *place, uint64_t *value);
+    size_t account, uint64_t units,
+    size_t records_length, size_t investor_length, size_t fund_length,
+    uint64_t *place, uint64_t *value, uint64_t *reports);
 
 /*
- * Makes a list of calls, one after the other: each row has six numbers, its kind (enum roffelaine_call), its arguments and zeros,
- * and gets three in the answers: number, place, value. The list of an order is a part of the record run; a part outside the run
- * is the empty list. A row of another kind is answered with 1. The day is tested once, where every call keeps it sound, as on each
- * day that an opening and calls have led to. Refusal 1 of the whole: the rows are not whole, or have not an answer each.
+ * Makes a list of calls, one after the other: each row has nine numbers, its kind (enum roffelaine_call), its arguments and then any
+ * numbers, and gets four in the answers: number, place, value, count of reports. The lists of an order are parts of the record run,
+ * of the investor's and of the fund's; a part outside its run is the empty list. A row of another kind is answered with 1. The day
+ * is tested once, where every call keeps it sound, as on each day that an opening and calls have led to. Refusal 1 of the whole: the
+ * rows are not whole, or have not an answer each.
  */
 uint64_t roffelaine_run(
     const uint64_t *day, size_t day_length,
@@ -229,6 +263,8 @@ uint64_t roffelaine_run(
     uint64_t *prices, size_t prices_length,
     const uint64_t *rows, size_t rows_length,
     uint64_t *records, size_t records_length,
+    uint64_t *investor, size_t investor_length,
+    uint64_t *fund, size_t fund_length,
     uint64_t *answers, size_t answers_length,
     uint64_t *place, uint64_t *value);
 
@@ -239,6 +275,8 @@ uint64_t roffelaine_run_public(
     uint64_t *prices, size_t prices_length,
     const uint64_t *rows, size_t rows_length,
     uint64_t *records, size_t records_length,
+    uint64_t *investor, size_t investor_length,
+    uint64_t *fund, size_t fund_length,
     uint64_t *answers, size_t answers_length,
     uint64_t *place, uint64_t *value);
 

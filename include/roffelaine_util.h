@@ -244,47 +244,120 @@ static inline char roffelaine_side_letter(uint64_t side)
     return side == ROFFELAINE_SIDE_B ? 'B' : side == ROFFELAINE_SIDE_S ? 'S' : '?';
 }
 
+/* ---- Reports ---- */
+
+/* The most groups of a report. */
+#define ROFFELAINE_MOST_GROUPS 3
+
+/* A group of a report; both are 0 where there is none. */
+struct roffelaine_group {
+    uint64_t kind; /* enum roffelaine_cash_kind */
+    uint64_t amount;
+};
+
+/* A report. */
+struct roffelaine_report {
+    uint64_t type; /* enum roffelaine_report_type */
+    uint64_t side; /* enum roffelaine_side */
+    uint64_t code;
+    uint64_t quantity;
+    struct roffelaine_group groups[ROFFELAINE_MOST_GROUPS];
+};
+
+/* Report k of a list that has it. */
+static inline struct roffelaine_report roffelaine_report_at(const uint64_t *list, size_t k)
+{
+    const uint64_t *numbers = list + ROFFELAINE_REPORT_WIDTH * k;
+    struct roffelaine_report report;
+    size_t group;
+    report.type = numbers[0];
+    report.side = numbers[1];
+    report.code = numbers[2];
+    report.quantity = numbers[3];
+    for (group = 0; group < ROFFELAINE_MOST_GROUPS; group++) {
+        report.groups[group].kind = numbers[4 + 2 * group];
+        report.groups[group].amount = numbers[4 + 2 * group + 1];
+    }
+    return report;
+}
+
 /* ---- The rows of `roffelaine_run`, each put at row k of a run that has it, and its answers ---- */
 
+/* A row of a kind with so many arguments, and 0 behind them. */
 static inline void roffelaine_put_row(
-    uint64_t *rows, size_t k, uint64_t kind, uint64_t a, uint64_t b, uint64_t c, uint64_t d, uint64_t e)
+    uint64_t *rows, size_t k, uint64_t kind, const uint64_t *arguments, size_t count)
 {
     uint64_t *row = rows + ROFFELAINE_ROW_WIDTH * k;
+    size_t at;
     row[0] = kind;
-    row[1] = a;
-    row[2] = b;
-    row[3] = c;
-    row[4] = d;
-    row[5] = e;
+    for (at = 1; at < ROFFELAINE_ROW_WIDTH; at++)
+        row[at] = at <= count ? arguments[at - 1] : 0;
 }
 
 static inline void roffelaine_row_price(uint64_t *rows, size_t k, size_t line, uint64_t price)
 {
-    roffelaine_put_row(rows, k, ROFFELAINE_CALL_PRICE, line, price, 0, 0, 0);
+    const uint64_t arguments[] = {line, price};
+    roffelaine_put_row(rows, k, ROFFELAINE_CALL_PRICE, arguments, 2);
 }
 
 static inline void roffelaine_row_trade(
     uint64_t *rows, size_t k, size_t line, uint64_t quantity, uint64_t price, size_t seller, size_t buyer)
 {
-    roffelaine_put_row(rows, k, ROFFELAINE_CALL_TRADE, line, quantity, price, seller, buyer);
+    const uint64_t arguments[] = {line, quantity, price, seller, buyer};
+    roffelaine_put_row(rows, k, ROFFELAINE_CALL_TRADE, arguments, 5);
 }
 
-/* The order's list is the part of the record run that starts at number `start` and has `length` numbers. */
-static inline void roffelaine_row_create(
-    uint64_t *rows, size_t k, size_t account, uint64_t units, size_t start, size_t length)
+/* A part of a run: it starts at number `start` and has `length` numbers. */
+struct roffelaine_span {
+    size_t start;
+    size_t length;
+};
+
+/* The lists of an order: its parts of the record run, of the investor's reports and of the fund's. */
+struct roffelaine_order_lists {
+    struct roffelaine_span records;
+    struct roffelaine_span investor;
+    struct roffelaine_span fund;
+};
+
+/* The lists of the k-th of orders whose lists follow each other in the runs, with room for any order on so many components. */
+static inline struct roffelaine_order_lists roffelaine_ample_lists(size_t components, size_t k)
 {
-    roffelaine_put_row(rows, k, ROFFELAINE_CALL_CREATE, account, units, start, length, 0);
+    struct roffelaine_order_lists lists;
+    lists.records.length = ROFFELAINE_RECORD_WIDTH * ROFFELAINE_MOST_RECORDS(components);
+    lists.investor.length = ROFFELAINE_REPORT_WIDTH * ROFFELAINE_MOST_REPORTS(components);
+    lists.fund.length = lists.investor.length;
+    lists.records.start = k * lists.records.length;
+    lists.investor.start = k * lists.investor.length;
+    lists.fund.start = k * lists.fund.length;
+    return lists;
+}
+
+/* An order's row, of kind ROFFELAINE_CALL_CREATE or ROFFELAINE_CALL_REDEEM. */
+static inline void roffelaine_put_order_row(
+    uint64_t *rows, size_t k, uint64_t kind, size_t account, uint64_t units, struct roffelaine_order_lists lists)
+{
+    const uint64_t arguments[] = {
+        account, units, lists.records.start, lists.records.length, lists.investor.start, lists.investor.length,
+        lists.fund.start, lists.fund.length};
+    roffelaine_put_row(rows, k, kind, arguments, 8);
+}
+
+static inline void roffelaine_row_create(
+    uint64_t *rows, size_t k, size_t account, uint64_t units, struct roffelaine_order_lists lists)
+{
+    roffelaine_put_order_row(rows, k, ROFFELAINE_CALL_CREATE, account, units, lists);
 }
 
 static inline void roffelaine_row_redeem(
-    uint64_t *rows, size_t k, size_t account, uint64_t units, size_t start, size_t length)
+    uint64_t *rows, size_t k, size_t account, uint64_t units, struct roffelaine_order_lists lists)
 {
-    roffelaine_put_row(rows, k, ROFFELAINE_CALL_REDEEM, account, units, start, length, 0);
+    roffelaine_put_order_row(rows, k, ROFFELAINE_CALL_REDEEM, account, units, lists);
 }
 
 static inline void roffelaine_row_value(uint64_t *rows, size_t k)
 {
-    roffelaine_put_row(rows, k, ROFFELAINE_CALL_VALUE, 0, 0, 0, 0, 0);
+    roffelaine_put_row(rows, k, ROFFELAINE_CALL_VALUE, NULL, 0);
 }
 
 /* An answer. */
@@ -292,6 +365,7 @@ struct roffelaine_answer {
     uint64_t number; /* enum roffelaine_refusal */
     uint64_t place;
     uint64_t value;
+    uint64_t reports; /* the count of an order's, to each party */
 };
 
 /* Answer k of a run that has it. */
@@ -302,6 +376,7 @@ static inline struct roffelaine_answer roffelaine_answer_at(const uint64_t *answ
     answer.number = numbers[0];
     answer.place = numbers[1];
     answer.value = numbers[2];
+    answer.reports = numbers[3];
     return answer;
 }
 

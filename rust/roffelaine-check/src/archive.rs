@@ -4,20 +4,38 @@ use crate::engine::{Engine, Lent, LentList};
 use crate::flat::{day_numbers, day_of, field_numbers, fund_numbers};
 use crate::model::list::Writing;
 use crate::model::refusal::NO_SUCH_LINE;
-use crate::model::{Call, Opening, Reply};
+use crate::model::{Call, Lengths, Lists, Opening, Reply};
 use roffelaine::lent;
 
 /// The proved library, called through the runs that it is lent.
 pub struct Archive;
 
-/// The three numbers of the archive's answer are those of the model's.
+/// The four numbers of the archive's answer are those of the model's.
 impl From<lent::Reply> for Reply {
     fn from(reply: lent::Reply) -> Self {
         Reply {
             number: reply.number,
             place: reply.place,
             value: reply.value,
+            reports: reply.reports,
         }
+    }
+}
+
+/// The model's lists as the library takes them.
+pub fn lists_of(lists: Lists<'_>) -> lent::Lists<'_> {
+    lent::Lists {
+        records: lists.records,
+        investor: lists.investor,
+        fund: lists.fund,
+    }
+}
+
+fn lengths_of(lengths: Lengths) -> lent::Lengths {
+    lent::Lengths {
+        records: lengths.records,
+        investor: lengths.investor,
+        fund: lengths.fund,
     }
 }
 
@@ -43,9 +61,10 @@ impl Engine for Archive {
             day,
             book,
             prices,
-            records,
+            runs,
         } = lent;
-        self::call(&day_numbers(day), book, prices, records, call)
+        let lists = runs.front(call.lengths());
+        self::call(&day_numbers(day), book, prices, lists, call)
     }
 
     fn run(&self, rows: &[u64], lent: &mut Lent, answers: &mut [u64]) -> Reply {
@@ -53,9 +72,10 @@ impl Engine for Archive {
             day,
             book,
             prices,
-            records,
+            runs,
         } = lent;
-        lent::run(&day_numbers(day), book, prices, rows, records, answers).into()
+        let (day, lists) = (day_numbers(day), lists_of(runs.lend()));
+        lent::run(&day, book, prices, rows, lists, answers).into()
     }
 
     fn run_one_by_one(&self, rows: &[u64], lent: &mut Lent, answers: &mut [u64]) -> Reply {
@@ -63,9 +83,10 @@ impl Engine for Archive {
             day,
             book,
             prices,
-            records,
+            runs,
         } = lent;
-        lent::run_one_by_one(&day_numbers(day), book, prices, rows, records, answers).into()
+        let (day, lists) = (day_numbers(day), lists_of(runs.lend()));
+        lent::run_one_by_one(&day, book, prices, rows, lists, answers).into()
     }
 
     fn read(&self, text: &[u8], lent: &mut LentList) -> Reply {
@@ -91,16 +112,16 @@ impl Engine for Archive {
     }
 }
 
-/// Makes one call on a day given as its numbers; an order is lent the first
-/// `room` numbers of `records`.
+/// Makes one call on a day given as its numbers; an order is lent all of its
+/// lists.
 pub fn call(
     day: &[u64],
     book: &mut [u64],
     prices: &mut [u64],
-    records: &mut [u64],
+    lists: Lists<'_>,
     call: &Call,
 ) -> Reply {
-    let list = &mut records[..call.room()];
+    let lists = lists_of(lists);
     let reply = match *call {
         Call::Price { line, price } => lent::price(day, book, prices, line, price),
         Call::Trade(trade) => lent::trade(
@@ -113,15 +134,17 @@ pub fn call(
             trade.seller,
             trade.buyer,
         ),
-        Call::Create(order) => lent::create(day, book, prices, order.account, order.units, list),
-        Call::Redeem(order) => lent::redeem(day, book, prices, order.account, order.units, list),
+        Call::Create(order) => lent::create(day, book, prices, order.account, order.units, lists),
+        Call::Redeem(order) => lent::redeem(day, book, prices, order.account, order.units, lists),
         Call::Value => lent::reference_value(day, book, prices),
         Call::TestDay => test_day(day, book, prices),
         Call::TestCreation(order) => {
-            lent::creation_test(day, book, prices, order.account, order.units, order.room)
+            let lengths = lengths_of(order.lengths);
+            lent::creation_test(day, book, prices, order.account, order.units, lengths)
         }
         Call::TestRedemption(order) => {
-            lent::redemption_test(day, book, prices, order.account, order.units, order.room)
+            let lengths = lengths_of(order.lengths);
+            lent::redemption_test(day, book, prices, order.account, order.units, lengths)
         }
     };
     reply.into()
@@ -135,6 +158,7 @@ fn test_day(day: &[u64], book: &[u64], prices: &mut [u64]) -> lent::Reply {
             number: NO_SUCH_LINE,
             place: 0,
             value: 0,
+            reports: 0,
         } => lent::Reply::default(),
         other => other,
     }

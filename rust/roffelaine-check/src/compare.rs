@@ -74,11 +74,11 @@ fn kind_of_row(row: &[u64]) -> &'static str {
 
 /// Gathers what differs between the answers to one call.
 #[derive(Default)]
-struct Report {
+struct Findings {
     lines: String,
 }
 
-impl Report {
+impl Findings {
     fn value<T: PartialEq + Debug>(&mut self, what: &str, first: &T, second: &T) {
         if first != second {
             let _ = writeln!(self.lines, "{what}: {first:?} and {second:?}");
@@ -105,7 +105,11 @@ impl Report {
         self.run("components", &one.components, &other.components);
         self.run("book", &first.book, &second.book);
         self.run("prices", &first.prices, &second.prices);
-        self.run("record run", &first.records, &second.records);
+        let runs = first.runs.as_ref().zip(second.runs.as_ref()).each();
+        let names = ["record run", "investor's run", "fund's run"];
+        for (name, (one, other)) in names.into_iter().zip(runs) {
+            self.run(name, one, other);
+        }
     }
 
     /// Says with what the first, tested once, was compared, if it differed.
@@ -133,16 +137,16 @@ fn state(lent: &Lent) -> String {
         day,
         book,
         prices,
-        records,
+        runs,
     } = lent;
     let listed = prices.len().min(day.components.len());
     format!(
-        "accounts {}, count {}, {:?}, components {:?}, book {book:?}, prices {prices:?}, record list of {}",
+        "accounts {}, count {}, {:?}, components {:?}, book {book:?}, prices {prices:?}, runs of {:?}",
         day.accounts,
         day.count,
         day.fund,
         &day.components[..listed],
-        records.len(),
+        runs.lengths(),
     )
 }
 
@@ -178,10 +182,10 @@ impl<'e> Comparison<'e> {
         let second = self.second.open(&case.opening(), &mut other);
         self.calls += 1;
         self.tally.add("opening", reply.number);
-        let mut report = Report::default();
-        report.value("reply", &reply, &second);
-        report.lent(lent, &other);
-        report.finish(|| format!("opening {case:?}"))?;
+        let mut findings = Findings::default();
+        findings.value("reply", &reply, &second);
+        findings.lent(lent, &other);
+        findings.finish(|| format!("opening {case:?}"))?;
         Ok(reply)
     }
 
@@ -192,10 +196,10 @@ impl<'e> Comparison<'e> {
         let second = self.second.call(call, &mut other);
         self.calls += 1;
         self.tally.add(kind_of(call), reply.number);
-        let mut report = Report::default();
-        report.value("reply", &reply, &second);
-        report.lent(lent, &other);
-        report.finish(|| format!("{call:?} on {}", state(&before)))?;
+        let mut findings = Findings::default();
+        findings.value("reply", &reply, &second);
+        findings.lent(lent, &other);
+        findings.finish(|| format!("{call:?} on {}", state(&before)))?;
         Ok(reply)
     }
 
@@ -216,7 +220,7 @@ impl<'e> Comparison<'e> {
             let reply = run(engine, rows, &mut lent, &mut answers);
             (reply, answers, lent)
         };
-        let mut report = Report::default();
+        let mut findings = Findings::default();
         let (reply, answers, lent) = outcome(self.first, tested_once);
         for (which, engine, run) in [
             ("the second, tested once", self.second, tested_once),
@@ -228,12 +232,12 @@ impl<'e> Comparison<'e> {
             ),
         ] {
             let (second, answers_left, left) = outcome(engine, run);
-            report.value("reply", &reply, &second);
-            report.run("answers", &answers, &answers_left);
-            report.lent(&lent, &left);
-            report.against(which);
+            findings.value("reply", &reply, &second);
+            findings.run("answers", &answers, &answers_left);
+            findings.lent(&lent, &left);
+            findings.against(which);
         }
-        report.finish(|| format!("rows {rows:?} on {}", state(start)))?;
+        findings.finish(|| format!("rows {rows:?} on {}", state(start)))?;
         self.count_rows(rows, reply, &answers);
         Ok((answers, lent))
     }
@@ -259,13 +263,13 @@ impl<'e> Comparison<'e> {
         let second = self.second.read(&case.text, &mut other);
         self.texts += 1;
         self.tally.add("reading", reply.number);
-        let mut report = Report::default();
-        report.value("reply", &reply, &second);
-        report.run("components", &lent.components, &other.components);
-        report.run("fields", &lent.fields, &other.fields);
-        report.value("first row", &lent.first_row, &other.first_row);
-        self.parts(&mut report, &case.text, lent.first_row, reply.value);
-        report.finish(|| {
+        let mut findings = Findings::default();
+        findings.value("reply", &reply, &second);
+        findings.run("components", &lent.components, &other.components);
+        findings.run("fields", &lent.fields, &other.fields);
+        findings.value("first row", &lent.first_row, &other.first_row);
+        self.parts(&mut findings, &case.text, lent.first_row, reply.value);
+        findings.finish(|| {
             let (room, shown) = (case.room, case.text.escape_ascii());
             format!("reading with {room} numbers lent of text \"{shown}\"")
         })?;
@@ -276,9 +280,9 @@ impl<'e> Comparison<'e> {
     /// and one past the last, from where the first component line starts; as
     /// if that line were the text's first, up to the text's end; and far past
     /// it.
-    fn parts(&self, report: &mut Report, text: &[u8], first_row: u64, count: u64) {
+    fn parts(&self, findings: &mut Findings, text: &[u8], first_row: u64, count: u64) {
         self.part(
-            report,
+            findings,
             |engine, part| engine.letters(text, part),
             || "letters".to_string(),
         );
@@ -289,7 +293,7 @@ impl<'e> Comparison<'e> {
         let behind = [end, end + 1, u64::MAX].map(|from| (from, 0));
         for (from, at) in of_components.chain(from_start).chain(far).chain(behind) {
             self.part(
-                report,
+                findings,
                 |engine, part| engine.name(text, from, at, part),
                 || format!("name {at} from place {from}"),
             );
@@ -300,7 +304,7 @@ impl<'e> Comparison<'e> {
     /// more than a part takes.
     fn part(
         &self,
-        report: &mut Report,
+        findings: &mut Findings,
         ask: impl Fn(&dyn Engine, &mut [u64]) -> u64,
         what: impl Fn() -> String,
     ) {
@@ -313,7 +317,7 @@ impl<'e> Comparison<'e> {
             let (first, second) = (outcome(self.first), outcome(self.second));
             if first != second {
                 let what = format!("{} with {room} numbers lent", what());
-                report.value(&what, &first, &second);
+                findings.value(&what, &first, &second);
             }
         }
     }
@@ -325,10 +329,10 @@ impl<'e> Comparison<'e> {
         let second = self.second.write(&case.list(), &mut other);
         self.texts += 1;
         self.tally.add("writing", reply.number);
-        let mut report = Report::default();
-        report.value("reply", &reply, &second);
-        report.run("output", &lent, &other);
-        report.finish(|| format!("writing {case:?}"))?;
+        let mut findings = Findings::default();
+        findings.value("reply", &reply, &second);
+        findings.run("output", &lent, &other);
+        findings.finish(|| format!("writing {case:?}"))?;
         Ok(reply)
     }
 }

@@ -3,7 +3,7 @@
 use crate::compare::{Comparison, Difference};
 use crate::engine::{Engine, Lent, LentList, Model};
 use crate::flat::{answers_length, row_of, rows_of};
-use crate::model::{Call, Reply};
+use crate::model::{Call, PerList, Reply};
 use crate::random::{self, OpeningCase, Rng, Scale, Size, TextCase, WritingCase};
 
 /// How many cases of each sort to make from a seed.
@@ -64,7 +64,7 @@ fn whole_day(rng: &mut Rng, comparison: &mut Comparison<'_>) -> Result<(), Diffe
     wild_rows(rng, comparison, start, scale)
 }
 
-/// The same calls in one go, each order with its own part of the record run.
+/// The same calls in one go, each order with its own parts of the runs.
 fn whole_list(
     rng: &mut Rng,
     comparison: &mut Comparison<'_>,
@@ -72,14 +72,14 @@ fn whole_list(
     calls: &[Call],
     expected: (&[Reply], &Lent),
 ) -> Result<(), Difference> {
-    let (rows, length) = rows_of(calls);
+    let (rows, lengths) = rows_of(calls);
     let start = Lent {
-        records: rng.numbers(length),
+        runs: lengths.map(|length| rng.numbers(length)),
         ..start.clone()
     };
     let noise = rng.numbers(answers_length(&rows));
     let (answers, left) = comparison.rows(&rows, &start, &noise)?;
-    let has_row = |(call, _): &(&Call, &Reply)| row_of(call, 0).is_some();
+    let has_row = |(call, _): &(&Call, &Reply)| row_of(call, PerList::default()).is_some();
     let listed = calls.iter().zip(expected.0).filter(has_row);
     let expected_answers: Vec<u64> = listed.flat_map(|(_, reply)| reply.numbers()).collect();
     let same = answers == expected_answers
@@ -93,7 +93,7 @@ fn whole_list(
     )))
 }
 
-/// Rows with any parts of the record run, among them some that name no call.
+/// Rows with any parts of the runs, among them some that name no call.
 fn wild_rows(
     rng: &mut Rng,
     comparison: &mut Comparison<'_>,

@@ -2,7 +2,7 @@
 
 use crate::flat::{field_numbers, part_numbers, FIELD_NUMBERS, PART_NUMBERS};
 use crate::model::list::{self, Writing};
-use crate::model::{self, Call, Day, Opening, Reply, Work};
+use crate::model::{self, Call, Day, Lengths, Lists, Opening, PerList, Reply, Work};
 use std::ops::Range;
 
 /// The day and all that calls on it are lent.
@@ -11,9 +11,29 @@ pub struct Lent {
     pub day: Day,
     pub book: Vec<u64>,
     pub prices: Vec<u64>,
-    /// The record run. An order called alone is lent its first `room`
-    /// numbers, one in the driver the part that its row names.
-    pub records: Vec<u64>,
+    /// The runs of records and of reports to both parties. An order called
+    /// alone is lent the front of each, one in the driver the parts that its
+    /// row names.
+    pub runs: Runs,
+}
+
+/// The three runs that orders are lent.
+pub type Runs = PerList<Vec<u64>>;
+
+impl Runs {
+    pub fn lengths(&self) -> Lengths {
+        self.as_ref().map(Vec::len)
+    }
+
+    pub fn lend(&mut self) -> Lists<'_> {
+        self.as_mut().map(|run| &mut run[..])
+    }
+
+    /// Lists of such lengths at the front of the runs, which must have them.
+    pub fn front(&mut self, lengths: Lengths) -> Lists<'_> {
+        let lists = self.lend().zip(lengths);
+        lists.map(|(run, length)| &mut run[..length])
+    }
 }
 
 /// What reading a list is lent, besides the text.
@@ -67,7 +87,7 @@ impl Lent {
             day: &self.day,
             book: &mut self.book,
             prices: &mut self.prices,
-            records: &mut self.records,
+            runs: self.runs.lend(),
         }
     }
 }
@@ -98,9 +118,9 @@ impl Engine for Model {
             day,
             book,
             prices,
-            records,
+            runs,
         } = lent;
-        model::call(day, book, prices, records, call)
+        model::call(day, book, prices, runs.front(call.lengths()), call)
     }
 
     fn run(&self, rows: &[u64], lent: &mut Lent, answers: &mut [u64]) -> Reply {

@@ -3,8 +3,8 @@
 
 use crate::model::list::Head;
 use crate::model::{
-    Call, Component, Day, Fund, Trade, ANSWER_NUMBERS, COMPONENT_NUMBERS, MAX_COMPONENTS,
-    ROW_NUMBERS,
+    Call, Component, Day, Fund, Lengths, Order, PerList, Trade, ANSWER_NUMBERS, COMPONENT_NUMBERS,
+    MAX_COMPONENTS, ROW_NUMBERS,
 };
 use std::ops::Range;
 
@@ -130,35 +130,58 @@ pub fn part_of(text: &[u8], numbers: [u64; PART_NUMBERS]) -> &[u8] {
     &text[place..][..length]
 }
 
-/// The row of a call whose records go to the part of the record run that
-/// starts at `start`; none for the tests called alone, which have no row.
-pub fn row_of(call: &Call, start: usize) -> Option<[u64; ROW_NUMBERS]> {
-    let (start, room) = (start as u64, call.room() as u64);
+/// The row of a call whose lists are the parts of the runs that start there;
+/// none for the tests called alone, which have no row.
+pub fn row_of(call: &Call, starts: PerList<usize>) -> Option<[u64; ROW_NUMBERS]> {
     Some(match *call {
-        Call::Price { line, price } => [1, line, price, 0, 0, 0],
+        Call::Price { line, price } => row([1, line, price]),
         Call::Trade(Trade {
             line,
             quantity,
             price,
             seller,
             buyer,
-        }) => [2, line, quantity, price, seller, buyer],
-        Call::Create(order) => [3, order.account, order.units, start, room, 0],
-        Call::Redeem(order) => [4, order.account, order.units, start, room, 0],
-        Call::Value => [5, 0, 0, 0, 0, 0],
+        }) => row([2, line, quantity, price, seller, buyer]),
+        Call::Create(order) => order_row(3, &order, starts),
+        Call::Redeem(order) => order_row(4, &order, starts),
+        Call::Value => row([5]),
         Call::TestDay | Call::TestCreation(_) | Call::TestRedemption(_) => return None,
     })
 }
 
-/// Rows of calls one after another, each order with its own part of the
-/// record run, and the length of that run.
-pub fn rows_of<'c>(calls: impl IntoIterator<Item = &'c Call>) -> (Vec<u64>, usize) {
-    let (mut rows, mut length) = (Vec::new(), 0);
+/// A row with these numbers in front and zeros behind them.
+fn row<const COUNT: usize>(numbers: [u64; COUNT]) -> [u64; ROW_NUMBERS] {
+    let mut row = [0; ROW_NUMBERS];
+    row[..COUNT].copy_from_slice(&numbers);
+    row
+}
+
+fn order_row(kind: u64, order: &Order, starts: PerList<usize>) -> [u64; ROW_NUMBERS] {
+    let parts = starts.zip(order.lengths).each();
+    let [records, investor, fund] = parts.map(|(start, length)| [start as u64, length as u64]);
+    row([
+        kind,
+        order.account,
+        order.units,
+        records[0],
+        records[1],
+        investor[0],
+        investor[1],
+        fund[0],
+        fund[1],
+    ])
+}
+
+/// Rows of calls one after another, each order with its own parts of the runs,
+/// and the lengths of these runs.
+pub fn rows_of<'c>(calls: impl IntoIterator<Item = &'c Call>) -> (Vec<u64>, Lengths) {
+    let (mut rows, mut lengths) = (Vec::new(), Lengths::default());
     for call in calls {
-        rows.extend(row_of(call, length).into_iter().flatten());
-        length += call.room();
+        rows.extend(row_of(call, lengths).into_iter().flatten());
+        let parts = lengths.zip(call.lengths());
+        lengths = parts.map(|(length, part)| length + part);
     }
-    (rows, length)
+    (rows, lengths)
 }
 
 /// Numbers of the answers to some rows.

@@ -90,7 +90,7 @@ fn micros(nanos: f64) -> String {
 }
 
 fn table_line([name, archive, model, ratio]: [&str; 4]) -> String {
-    format!("{name:<44}{archive:>12}{model:>12}{ratio:>9}")
+    format!("{name:<52}{archive:>12}{model:>12}{ratio:>9}")
 }
 
 /// The heading of the table; times are in microseconds.

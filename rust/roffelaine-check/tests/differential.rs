@@ -1,18 +1,22 @@
 //! The differential test at a smaller count: the archive and the model agree
 //! and every refusal is reached. It finds engines that are wrong.
 
+#[path = "differential/misreporting.rs"]
+mod misreporting;
+
+use misreporting::Misreporting;
 use roffelaine_check::archive::Archive;
 use roffelaine_check::compare::Comparison;
 use roffelaine_check::differential::Plan;
 use roffelaine_check::engine::{Engine, Lent, LentList, Model};
 use roffelaine_check::model::list::{self, Writing};
 use roffelaine_check::model::{
-    range, Call, Component, Opening, Reply, COMPONENT_NUMBERS, RECORD_NUMBERS,
+    range, Call, Component, Opening, Reply, ANSWER_NUMBERS, COMPONENT_NUMBERS, RECORD_NUMBERS,
 };
 use std::cell::Cell;
 use std::ops::Range;
 
-/// Enough cases to reach every refusal, and to find faults that few cases show.
+/// Enough cases to reach every refusal.
 const FULL: Plan = Plan {
     seed: 5,
     days: 250,
@@ -23,6 +27,17 @@ const SHORT: Plan = Plan {
     seed: 6,
     days: 30,
     texts: 300,
+};
+/// Enough days, or texts, to find faults that few cases show.
+const MANY_DAYS: Plan = Plan {
+    seed: 7,
+    days: 1_500,
+    texts: 0,
+};
+const MANY_TEXTS: Plan = Plan {
+    seed: 8,
+    days: 0,
+    texts: 30_000,
 };
 
 #[test]
@@ -120,19 +135,11 @@ impl Faulty {
         match self.fault {
             Fault::AnswersShort if order => {
                 *lent = before;
-                *reply = Reply {
-                    number: 9,
-                    place: 0,
-                    value: 0,
-                };
+                *reply = Reply::refused(9, 0);
             }
             Fault::RefusesAll => {
                 *lent = before;
-                *reply = Reply {
-                    number: 5,
-                    place: 0,
-                    value: 0,
-                };
+                *reply = Reply::refused(5, 0);
             }
             Fault::MovesNothing => lent.book = before.book,
             Fault::MovesTheFirstOrderOnly if order && self.orders.get() > 1 => {
@@ -142,7 +149,7 @@ impl Faulty {
             Fault::CountOff if order => reply.value += 1,
             Fault::WritesPastTheLast if order => {
                 let end = RECORD_NUMBERS * reply.value as usize;
-                if let Some(past) = lent.records[..call.room()].get_mut(end) {
+                if let Some(past) = lent.runs.front(call.lengths()).records.get_mut(end) {
                     *past = 0;
                 }
             }
@@ -252,15 +259,15 @@ impl Engine for Faulty {
 
     fn run(&self, rows: &[u64], lent: &mut Lent, answers: &mut [u64]) -> Reply {
         let before = lent.clone();
-        let last = answers.last().copied();
+        let last = answers.last_chunk::<ANSWER_NUMBERS>().copied();
         let reply = Model.run(rows, lent, answers);
         match self.fault {
             Fault::ListForgetsAnAnswer => {
-                if let (Some(answer), Some(last)) = (answers.last_mut(), last) {
+                if let (Some(answer), Some(last)) = (answers.last_chunk_mut(), last) {
                     *answer = last;
                 }
             }
-            Fault::ListLeavesTheRecords => lent.records = before.records,
+            Fault::ListLeavesTheRecords => lent.runs.records = before.runs.records,
             _ => {}
         }
         reply
@@ -342,9 +349,13 @@ impl Engine for Faulty {
     }
 }
 
+/// Whether the test tells an engine from the model.
+fn differs(engine: &dyn Engine, plan: Plan) -> bool {
+    plan.run(&mut Comparison::new(&Model, engine)).is_err()
+}
+
 fn is_found(fault: Fault, plan: Plan) -> bool {
-    let engine = Faulty::new(fault);
-    plan.run(&mut Comparison::new(&Model, &engine)).is_err()
+    differs(&Faulty::new(fault), plan)
 }
 
 #[test]
@@ -382,16 +393,31 @@ fn faulty_engines_are_found() {
     }
 }
 
+/// The lists of orders: reports that are wrong, and lists of another length
+/// than the engine takes them for, each one number short.
+#[test]
+fn engines_that_report_wrongly_are_found() {
+    let without_texts = Plan { texts: 0, ..SHORT };
+    assert!(!differs(
+        &Misreporting(misreporting::Fault::None),
+        without_texts
+    ));
+    for fault in misreporting::Fault::ALL {
+        let is_found = differs(&Misreporting(fault), without_texts);
+        assert!(is_found, "{fault:?} is not found");
+    }
+}
+
 #[test]
 fn engines_that_let_a_discount_pass_are_found() {
     let faults = [
-        Fault::OpensWithAnyDiscount,
-        Fault::SoundWithAnyDiscount,
-        Fault::ReadsLinesWithoutDiscount,
-        Fault::ReadsUnusedDiscounts,
-        Fault::ReadsDiscountsAboveOne,
+        (Fault::OpensWithAnyDiscount, MANY_DAYS),
+        (Fault::SoundWithAnyDiscount, MANY_DAYS),
+        (Fault::ReadsLinesWithoutDiscount, MANY_TEXTS),
+        (Fault::ReadsUnusedDiscounts, MANY_TEXTS),
+        (Fault::ReadsDiscountsAboveOne, MANY_TEXTS),
     ];
-    for fault in faults {
-        assert!(is_found(fault, FULL), "{fault:?} is not found");
+    for (fault, plan) in faults {
+        assert!(is_found(fault, plan), "{fault:?} is not found");
     }
 }

@@ -1,5 +1,5 @@
 //! The declarations of `roffelaine/src/lent.rs`, the widths, the refusals and
-//! the numbers of rows and sides are those of the C header
+//! the numbers of rows, sides, reports and cash are those of the C header
 //! `include/roffelaine.h`, of the Rattle crates and of the model.
 
 #[path = "support/longest_list.rs"]
@@ -9,14 +9,15 @@ mod rattle;
 
 use longest_list::{longest_list, LONGEST};
 use rattle::{block, constant_name, constants, numbered, variants};
-use roffelaine::{Day, Holdings, Refusal, Side, REFUSALS};
+use roffelaine::{CashKind, Day, Holdings, Refusal, ReportType, Side, REFUSALS};
 use roffelaine_check::flat::{row_of, DAY_NUMBERS, FIELD_NUMBERS, FUND_NUMBERS, PART_NUMBERS};
 use roffelaine_check::library_types;
 use roffelaine_check::model::list::NAME_BYTES;
 use roffelaine_check::model::{
-    book_length, holdings_length, range, stretch_width, Call, Component, Fund, Order, Trade,
-    ANSWER_NUMBERS, BUY, COMPONENT_NUMBERS, LOTS, MAX_COMPONENTS, RECORD_NUMBERS, ROW_NUMBERS,
-    SELL, STRETCH_HEAD,
+    book_length, holdings_length, range, stretch_width, Call, Component, Counts, Fund, Order,
+    PerList, Trade, ANSWER_NUMBERS, BUY, CASH_REPORT, COMPONENT_NUMBERS, LOTS, MAX_COMPONENTS,
+    OTHER_KIND, RECORD_NUMBERS, REPORT_NUMBERS, ROW_NUMBERS, SELL, SHANGHAI_KIND, STOCK_REPORT,
+    STRETCH_HEAD, UNIT_REPORT,
 };
 use std::collections::{BTreeMap, BTreeSet};
 use std::path::Path;
@@ -93,7 +94,7 @@ fn functions_are_declared_as_in_the_header() {
 
 /// The widths by the model: the name in the header, the crate that has it too,
 /// the library's name, and the width.
-const WIDTHS: [(&str, &str, &str, usize); 10] = [
+const WIDTHS: [(&str, &str, &str, usize); 11] = [
     ("FUND_WIDTH", "layout", "FUND_NUMBERS", FUND_NUMBERS),
     ("DAY_WIDTH", "layout", "DAY_NUMBERS", DAY_NUMBERS),
     (
@@ -109,6 +110,7 @@ const WIDTHS: [(&str, &str, &str, usize); 10] = [
         COMPONENT_NUMBERS,
     ),
     ("RECORD_WIDTH", "layout", "RECORD_NUMBERS", RECORD_NUMBERS),
+    ("REPORT_WIDTH", "layout", "REPORT_NUMBERS", REPORT_NUMBERS),
     ("ROW_WIDTH", "layout", "ROW_NUMBERS", ROW_NUMBERS),
     ("ANSWER_WIDTH", "layout", "ANSWER_NUMBERS", ANSWER_NUMBERS),
     ("PART_WIDTH", "flat_calls", "PART_NUMBERS", PART_NUMBERS),
@@ -263,9 +265,16 @@ fn lengths_are_those_of_the_header() {
         assert_eq!(length("BOOK_LENGTH"), book_length(accounts, count));
         assert_eq!(length("HOLDINGS_LENGTH"), holdings_length(accounts, count));
         let day = day_of_size(count);
-        let most_records = day.ample_list().records(usize::MAX).len();
-        assert_eq!(length("MOST_RECORDS"), most_records);
-        assert_eq!(most_records, 1 + count + 4 + 1);
+        let all = roffelaine::Counts {
+            records: usize::MAX,
+            reports: usize::MAX,
+        };
+        let most = day.ample_lists().execution(all);
+        assert_eq!(length("MOST_RECORDS"), most.records.len());
+        assert_eq!(most.records.len(), 1 + count + 4 + 1);
+        assert_eq!(length("MOST_REPORTS"), most.investor.len());
+        assert_eq!(most.investor.len(), 1 + count + 1);
+        assert_eq!(most.fund.len(), most.investor.len());
         assert_eq!(day.book().numbers().len(), book_length(2, count));
     }
 }
@@ -330,7 +339,7 @@ fn refusals_are_the_same_everywhere() {
 
 #[test]
 fn rows_have_the_same_kinds_everywhere() {
-    let order = Order::with_places(0, 0, 0);
+    let order = Order::with_places(0, 0, Counts::default());
     let trade = Trade {
         line: 0,
         quantity: 0,
@@ -345,7 +354,7 @@ fn rows_have_the_same_kinds_everywhere() {
         ("REDEEM", Call::Redeem(order)),
         ("VALUE", Call::Value),
     ];
-    let kind = |call: &Call| row_of(call, 0).expect("a row")[0];
+    let kind = |call: &Call| row_of(call, PerList::default()).expect("a row")[0];
     let expected = calls.map(|(name, call)| (name.to_string(), kind(&call)));
     let expected = BTreeMap::from(expected);
     let batch = library("batch.rs");
@@ -361,10 +370,55 @@ fn rows_have_the_same_kinds_everywhere() {
     assert_eq!(header, expected, "header");
 }
 
+/// The numbers of a block of the header, and those of the crate `rules` whose
+/// names have an end.
+fn in_header_and_rules(
+    (block_start, prefix): (&str, &str),
+    ending: &str,
+) -> [BTreeMap<String, u64>; 2] {
+    let (header, rules) = (header(), crate_source("rules"));
+    let block = block(&header, block_start, "};");
+    let lines: Vec<&str> = rules.lines().collect();
+    let ending = format!("{ending}: u64 = ");
+    [
+        named_numbers(&block, prefix, " = "),
+        named_numbers(&lines, "pub const ", &ending),
+    ]
+}
+
+#[test]
+fn types_of_reports_have_the_same_numbers_everywhere() {
+    let model = [UNIT_REPORT, STOCK_REPORT, CASH_REPORT];
+    let named = ReportType::ALL.map(|each| (constant_name(&format!("{each:?}")), each.number()));
+    assert_eq!(named.clone().map(|(_, number)| number), model);
+    let block = ("enum roffelaine_report_type {", "ROFFELAINE_REPORT_");
+    let expected = BTreeMap::from(named);
+    assert_eq!(
+        in_header_and_rules(block, "_REPORT"),
+        [expected.clone(), expected]
+    );
+}
+
+#[test]
+fn kinds_of_cash_have_the_same_numbers_everywhere() {
+    let model = [SHANGHAI_KIND, OTHER_KIND];
+    let named = CashKind::ALL.map(|each| (constant_name(&format!("{each:?}")), each.number()));
+    assert_eq!(named.clone().map(|(_, number)| number), model);
+    let block = ("enum roffelaine_cash_kind {", "ROFFELAINE_CASH_");
+    let expected = BTreeMap::from(named);
+    assert_eq!(
+        in_header_and_rules(block, "_KIND"),
+        [expected.clone(), expected]
+    );
+}
+
 #[test]
 fn sides_have_the_same_numbers_everywhere() {
     let sides = [(Side::Buy, BUY), (Side::Sell, SELL)];
-    let expected = sides.map(|(side, number)| (side.letter().to_string(), number));
+    let expected = sides.map(|(side, number)| {
+        assert_eq!(side.number(), number);
+        (side.letter().to_string(), number)
+    });
     let expected = BTreeMap::from(expected);
     let header = header();
     let (_, header) = header.split_once("enum roffelaine_side {").expect("sides");

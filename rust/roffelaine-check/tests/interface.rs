@@ -1,32 +1,28 @@
 //! What the archive does with runs that no safe type would lend it.
 
 use roffelaine::lent;
-use roffelaine_check::archive::{call, Archive};
+use roffelaine_check::archive::{call, lists_of, Archive};
 use roffelaine_check::engine::{Engine, Lent, LentList, Model};
 use roffelaine_check::flat::{
     answers_length, day_numbers, field_numbers, fund_numbers, rows_of, DAY_NUMBERS, FIELD_NUMBERS,
     FUND_NUMBERS, PART_NUMBERS,
 };
 use roffelaine_check::model::{
-    book_length, Call, Day, Fund, Opening, Order, Refusal, Reply, Trade, COMPONENT_NUMBERS,
-    MAX_COMPONENTS,
+    book_length, Call, Counts, Day, Fund, Lengths, Opening, Order, PerList, Refusal, Reply, Trade,
+    ANSWER_NUMBERS, COMPONENT_NUMBERS, MAX_COMPONENTS, ROW_NUMBERS,
 };
 use roffelaine_check::random::{OpeningCase, Rng, Scale, Size, TextCase, WritingCase};
 
 fn refused(number: u64) -> Reply {
-    Reply {
-        number,
-        place: 0,
-        value: 0,
-    }
+    Reply::refused(number, 0)
 }
 
-/// One call of each kind, orders with a list of so many numbers.
-fn calls(room: usize) -> [Call; 8] {
+/// One call of each kind, orders with lists of such lengths.
+fn calls(lengths: Lengths) -> [Call; 8] {
     let order = Order {
         account: 1,
         units: 1,
-        room,
+        lengths,
     };
     let trade = Trade {
         line: 0,
@@ -135,9 +131,9 @@ fn a_day_of_another_length_is_not_sound() {
         let length = rng.pick(&[0, 2, DAY_NUMBERS - 1, DAY_NUMBERS + 1, 2 * DAY_NUMBERS]);
         day.resize(length, 0);
         let mut lent = before.clone();
-        for asked in calls(lent.records.len()) {
+        for asked in calls(lent.runs.lengths()) {
             let (book, prices) = (&mut lent.book, &mut lent.prices);
-            let reply = call(&day, book, prices, &mut lent.records, &asked);
+            let reply = call(&day, book, prices, lent.runs.lend(), &asked);
             assert_eq!((reply, &lent), (refused(5), &before));
         }
         check_rows_refused(&day, &before);
@@ -146,14 +142,16 @@ fn a_day_of_another_length_is_not_sound() {
 
 /// Both ways of running rows answer 5 to each and change nothing else.
 fn check_rows_refused(day: &[u64], before: &Lent) {
-    let (rows, _) = rows_of(&calls(0));
+    let (rows, _) = rows_of(&calls(Lengths::default()));
     for run in [lent::run, lent::run_one_by_one] {
         let mut lent = before.clone();
         let mut answers = vec![7; answers_length(&rows)];
         let (book, prices) = (&mut lent.book, &mut lent.prices);
-        let reply = run(day, book, prices, &rows, &mut lent.records, &mut answers);
+        let lists = lists_of(lent.runs.lend());
+        let reply = run(day, book, prices, &rows, lists, &mut answers);
         assert_eq!((reply.into(), &lent), (Reply::accepted(0), before));
-        assert!(answers.chunks_exact(3).all(|answer| answer == [5, 0, 0]));
+        let mut answers = answers.chunks_exact(ANSWER_NUMBERS);
+        assert!(answers.all(|answer| answer == refused(5).numbers()));
     }
 }
 
@@ -161,12 +159,13 @@ fn check_rows_refused(day: &[u64], before: &Lent) {
 fn empty_runs_are_refused() {
     let reply = lent::open(2, 1, &[], &[], &[], &mut [], &mut [], &mut []);
     assert_eq!(Reply::from(reply), refused(1));
-    for asked in calls(0) {
-        let reply = call(&[], &mut [], &mut [], &mut [], &asked);
+    for asked in calls(Lengths::default()) {
+        let reply = call(&[], &mut [], &mut [], PerList::default(), &asked);
         assert_eq!(reply, refused(5));
     }
     for run in [lent::run, lent::run_one_by_one] {
-        let reply = run(&[], &mut [], &mut [], &[], &mut [], &mut []);
+        let lists = lent::Lists::default();
+        let reply = run(&[], &mut [], &mut [], &[], lists, &mut []);
         assert_eq!(Reply::from(reply), Reply::accepted(0));
     }
     let mut first_row = 7;
@@ -265,13 +264,40 @@ fn noise_is_refused_and_left_alone() {
     };
     for _ in 0..2_000 {
         let (day, book, prices) = (noise(DAY_NUMBERS), noise(4_000), noise(300));
-        let records = noise(60);
-        for asked in calls(records.len()) {
-            let (mut lent, mut list) = ((book.clone(), prices.clone()), records.clone());
-            let reply = call(&day, &mut lent.0, &mut lent.1, &mut list, &asked);
+        let runs = PerList::from([60, 80, 80]).map(&mut noise);
+        for asked in calls(runs.lengths()) {
+            let (mut lent, mut left) = ((book.clone(), prices.clone()), runs.clone());
+            let reply = call(&day, &mut lent.0, &mut lent.1, left.lend(), &asked);
             assert_eq!(reply, refused(5));
-            assert_eq!((&lent.0, &lent.1, &list), (&book, &prices, &records));
+            assert_eq!((&lent.0, &lent.1, &left), (&book, &prices, &runs));
         }
+    }
+}
+
+/// What stands in a row behind the arguments of its call makes no difference.
+#[test]
+fn the_rest_of_a_row_is_ignored() {
+    let mut rng = Rng::new(37);
+    let lent = opened(&mut rng);
+    let calls = [
+        Call::Price { line: 0, price: 1 },
+        calls(Lengths::default())[1],
+        Call::Value,
+    ];
+    let arguments = [3, 6, 1];
+    let (rows, _) = rows_of(&calls);
+    let mut other = rows.clone();
+    for (row, used) in other.chunks_exact_mut(ROW_NUMBERS).zip(arguments) {
+        row[used..].fill_with(|| rng.number());
+    }
+    for engine in [&Model as &dyn Engine, &Archive] {
+        let outcome = |rows: &[u64]| {
+            let (mut lent, mut answers) = (lent.clone(), vec![7; answers_length(rows)]);
+            let reply = engine.run(rows, &mut lent, &mut answers);
+            assert!(reply.is_accepted());
+            (lent, answers)
+        };
+        assert_eq!(outcome(&rows), outcome(&other));
     }
 }
 
@@ -291,21 +317,26 @@ fn a_creation_may_break_a_day_at_its_bound() {
         components: &[600_000, 3, 0, 0, 0, 0],
         holdings: &[0, 0, 0, 0, 9, 1_000_000_000_000_000_000],
     };
-    let (creation, sale) = (Order::with_places(1, 1, 3), calls(0)[1]);
-    let (rows, length) = rows_of(&[Call::Create(creation), Call::Value, sale]);
+    let places = Counts {
+        records: 3,
+        reports: 2,
+    };
+    let creation = Call::Create(Order::with_places(1, 1, places));
+    let sale = calls(Lengths::default())[1];
+    let (rows, lengths) = rows_of(&[creation, Call::Value, sale]);
     for engine in [&Model as &dyn Engine, &Archive] {
         let mut lent = Lent {
             day: Day::blank(),
             book: vec![0; book_length(2, 1)],
             prices: vec![0],
-            records: vec![0; length],
+            runs: lengths.map(|length| vec![0; length]),
         };
         assert!(engine.open(&opening, &mut lent).is_accepted());
         let units = &mut lent.book[15];
         assert_eq!(*units, 1_000_000_000_000_000_000);
         *units *= 2;
-        let expected = [0, 0, 3, 5, 0, 0, 5, 0, 0];
-        let (mut other, mut answers) = (lent.clone(), [7; 9]);
+        let expected = [0, 0, 3, 2, 5, 0, 0, 0, 5, 0, 0, 0];
+        let (mut other, mut answers) = (lent.clone(), [7; 12]);
         engine.run(&rows, &mut lent, &mut answers);
         assert_eq!(answers, expected);
         engine.run_one_by_one(&rows, &mut other, &mut answers);

@@ -7,8 +7,8 @@ mod paper_list;
 use paper_list::LIST;
 use roffelaine_check::model::list::{self, List};
 use roffelaine_check::model::{
-    book_length, call, open, Call, Component, Day, Opening, Order, Reply, BUY, COMPONENT_NUMBERS,
-    RECORD_NUMBERS, SELL,
+    book_length, call, lengths_for, open, Call, Component, Counts, Day, Opening, Order, PerList,
+    Reply, BUY, COMPONENT_NUMBERS, RECORD_NUMBERS, REPORT_NUMBERS, SELL,
 };
 
 const COUNT: usize = 5;
@@ -29,8 +29,14 @@ struct Setup {
     day: Day,
     book: Vec<u64>,
     prices: Vec<u64>,
-    records: Vec<u64>,
+    lists: PerList<Vec<u64>>,
 }
+
+/// Records and reports that the lists have places for.
+const PLACES: Counts = Counts {
+    records: 20,
+    reports: 20,
+};
 
 impl Setup {
     /// Account 1 has this much of 600000 and 600036, ample cash and units.
@@ -62,7 +68,7 @@ impl Setup {
             day,
             book,
             prices,
-            records: vec![0; RECORD_NUMBERS * 20],
+            lists: lengths_for(PLACES).map(|length| vec![0; length]),
         };
         for (line, price) in [(0, 12_000), (2, 10_000), (3, 40_000)] {
             setup.price(line, price);
@@ -75,7 +81,7 @@ impl Setup {
             &self.day,
             &mut self.book,
             &mut self.prices,
-            &mut self.records,
+            self.lists.as_mut().map(|list| &mut list[..]),
             &asked,
         )
     }
@@ -85,28 +91,34 @@ impl Setup {
     }
 
     fn create(&mut self) -> Reply {
-        self.call(Call::Create(Order::with_places(1, BASKET, 20)))
+        self.call(Call::Create(Order::with_places(1, BASKET, PLACES)))
     }
 
     fn redeem(&mut self) -> Reply {
-        self.call(Call::Redeem(Order::with_places(1, BASKET, 20)))
+        self.call(Call::Redeem(Order::with_places(1, BASKET, PLACES)))
     }
 
     fn written(&self, reply: Reply) -> Vec<[u64; RECORD_NUMBERS]> {
-        let records = self
-            .records
-            .chunks_exact(RECORD_NUMBERS)
-            .take(reply.value as usize);
-        records.map(|record| record.try_into().unwrap()).collect()
+        first(&self.lists.records, reply.value)
+    }
+
+    /// The reports to the investor and to the fund's manager.
+    fn reported(&self, reply: Reply) -> [Reports; 2] {
+        let lists = [&self.lists.investor, &self.lists.fund];
+        lists.map(|list| first(list, reply.reports))
     }
 }
 
+type Reports = Vec<[u64; REPORT_NUMBERS]>;
+
+/// So many places at the front of a list.
+fn first<const WIDTH: usize>(list: &[u64], count: u64) -> Vec<[u64; WIDTH]> {
+    let places = list.chunks_exact(WIDTH).take(count as usize);
+    places.map(|place| place.try_into().unwrap()).collect()
+}
+
 fn refused(number: u64, place: u64) -> Reply {
-    Reply {
-        number,
-        place,
-        value: 0,
-    }
+    Reply::refused(number, place)
 }
 
 #[test]
@@ -181,6 +193,92 @@ fn e_the_creation() {
 #[test]
 fn f_the_redemption() {
     assert_eq!(redeemed(|_| {}), the_redemption(94_400_000));
+}
+
+/// A report of the unit or of stock.
+fn moved(report_type: u64, side: u64, code: u64, quantity: u64) -> [u64; REPORT_NUMBERS] {
+    [report_type, side, code, quantity, 0, 0, 0, 0, 0, 0]
+}
+
+/// A report of cash, by kind and amount.
+fn paid(side: u64, groups: [u64; 4]) -> [u64; REPORT_NUMBERS] {
+    let [kind, amount, next_kind, next_amount] = groups;
+    [3, side, 0, 0, kind, amount, next_kind, next_amount, 0, 0]
+}
+
+/// The same with each side turned.
+fn turned(reports: &Reports) -> Reports {
+    let turn = |report: &[u64; REPORT_NUMBERS]| {
+        let mut report = *report;
+        report[1] = 3 - report[1];
+        report
+    };
+    reports.iter().map(turn).collect()
+}
+
+#[test]
+fn e_the_reports_of_the_creation() {
+    let mut setup = Setup::new(3_072, 3_000);
+    let reply = setup.create();
+    assert_eq!((reply.value, reply.reports), (8, 4));
+    let investor = vec![
+        moved(1, 1, 510_300, 1_000_000),
+        moved(2, 2, 600_000, 3_072),
+        moved(2, 2, 600_036, 3_000),
+        paid(1, [1, 173_408_000, 2, 113_600_000]),
+    ];
+    let fund = turned(&investor);
+    assert_eq!(setup.reported(reply), [investor, fund]);
+}
+
+#[test]
+fn f_the_reports_of_the_redemption() {
+    let mut setup = Setup::new(0, 0);
+    let reply = setup.redeem();
+    assert_eq!((reply.value, reply.reports), (8, 4));
+    let investor = vec![
+        moved(1, 2, 510_300, 1_000_000),
+        moved(2, 1, 600_000, 5_200),
+        moved(2, 1, 600_036, 3_000),
+        paid(2, [1, 150_000_000, 2, 94_400_000]),
+    ];
+    let fund = turned(&investor);
+    assert_eq!(setup.reported(reply), [investor, fund]);
+}
+
+/// The investor's last report of a redemption after a change, and the count of
+/// all.
+fn last_report(change: Change) -> ([u64; REPORT_NUMBERS], u64) {
+    let mut setup = Setup::with_components(0, 0, change);
+    let reply = setup.redeem();
+    let [investor, _] = setup.reported(reply);
+    (*investor.last().unwrap(), reply.reports)
+}
+
+#[test]
+fn a_kind_without_cash_is_left_out_without_a_gap() {
+    let other_alone = last_report(|components| components[GZMT].amount = 0);
+    assert_eq!(other_alone, (paid(2, [2, 94_400_000, 0, 0]), 4));
+    let shanghai_alone = last_report(|components| {
+        (components[PAYH].amount, components[WKA].amount) = (0, 0);
+    });
+    assert_eq!(shanghai_alone, (paid(2, [1, 150_000_000, 0, 0]), 4));
+    let none = last_report(|components| {
+        (components[PAYH].amount, components[WKA].amount) = (0, 0);
+        components[GZMT].amount = 0;
+    });
+    assert_eq!(none, (moved(2, 1, 600_036, 3_000), 3));
+}
+
+/// Nothing of 600000 is there, and nothing of it moves.
+#[test]
+fn a_component_of_which_nothing_moves_has_no_report() {
+    let mut setup = Setup::with_components(0, 3_000, |_| {});
+    setup.price(PFYH as u64, 1);
+    let reply = setup.create();
+    let [investor, _] = setup.reported(reply);
+    let codes: Vec<u64> = investor.iter().map(|report| report[2]).collect();
+    assert_eq!(codes, [510_300, 600_036, 0]);
 }
 
 /// 96,000 yuan less a discount of 0.05 are 91,200, and 8,000 of 000002.
@@ -277,6 +375,45 @@ fn the_discount_is_rounded() {
         (components[PAYH].premium, components[PAYH].discount) = (10_000, 10_001);
     });
     assert_eq!(below, [[510_305, SELL, 1, 4, 4]]);
+}
+
+/// 16 comes last, and for each of the three lists; a refused order writes in
+/// none of them.
+#[test]
+fn any_list_may_be_too_short() {
+    let needed = lengths_for(Counts {
+        records: 8,
+        reports: 4,
+    });
+    let orders = |lengths| {
+        let mut order = Order::with_places(1, BASKET, PLACES);
+        order.lengths = lengths;
+        [Call::Create(order), Call::Redeem(order)]
+    };
+    let short: [fn(&mut PerList<usize>); 3] = [
+        |lengths| lengths.records -= 1,
+        |lengths| lengths.investor -= 1,
+        |lengths| lengths.fund -= 1,
+    ];
+    for shorten in short {
+        let mut lengths = needed;
+        shorten(&mut lengths);
+        for order in orders(lengths) {
+            let mut setup = Setup::new(3_072, 3_000);
+            setup.lists = lengths.map(|length| vec![7; length]);
+            assert_eq!(setup.call(order), refused(16, 0));
+            assert_eq!(setup.lists, lengths.map(|length| vec![7; length]));
+            let mut poor = Setup::new(3_072, 2_999);
+            poor.book[book_length(1, COUNT)..].fill(0);
+            poor.lists = lengths.map(|length| vec![7; length]);
+            assert_eq!(poor.call(order).number, 9);
+        }
+    }
+    for order in orders(needed) {
+        let mut setup = Setup::new(3_072, 3_000);
+        setup.lists = needed.map(|length| vec![7; length]);
+        assert!(setup.call(order).is_accepted());
+    }
 }
 
 #[test]

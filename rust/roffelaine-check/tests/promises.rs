@@ -5,7 +5,7 @@ use roffelaine_check::engine::{Engine, Lent, Model};
 use roffelaine_check::model::list;
 use roffelaine_check::model::{
     range, stretch_width, Call, Component, Reply, Trade, COMPONENT_NUMBERS, FLAG_TABLE, LOTS,
-    RECORD_NUMBERS, SELL, STRETCH_HEAD,
+    RECORD_NUMBERS, REPORT_NUMBERS, SELL, SHANGHAI_KIND, STRETCH_HEAD,
 };
 use roffelaine_check::random::{
     any_call, break_day, price_calls, OpeningCase, Rng, Scale, Size, TextCase, WritingCase,
@@ -68,7 +68,7 @@ impl Counted {
             Call::Create(order) => {
                 self.created[order.account as usize] += order.units;
                 self.of(order.account, self.lines - 1).got += order.units;
-                let records = lent.records.chunks_exact(RECORD_NUMBERS);
+                let records = lent.runs.records.chunks_exact(RECORD_NUMBERS);
                 let records = records.take(reply.value as usize);
                 for record in records.filter(|record| record[1] == SELL) {
                     let line = line_of(lent, record[0]);
@@ -198,8 +198,88 @@ fn unread_rate<'c>(call: &Call, component: &'c mut Component) -> &'c mut u64 {
     }
 }
 
-/// Days that differ in discounts alone give a creation the same answer, records
-/// and book; days that differ in premiums alone give a redemption the same.
+/// The amounts of the groups of one kind, or of all others, of some reports.
+fn reported(reports: &[&[u64]], is_kind: impl Fn(u64) -> bool) -> u64 {
+    let groups = reports
+        .iter()
+        .flat_map(|report| report[4..].chunks_exact(2));
+    let such = groups.filter(|group| is_kind(group[0]));
+    such.map(|group| group[1]).sum()
+}
+
+/// Both parties' reports of an accepted order: the amounts of Shanghai groups
+/// add up to the records of g+2, the others to those of g+5; the fund's are the
+/// investor's with each side turned; there are as many as the records tell.
+fn check_reports(lent: &Lent, reply: Reply) {
+    let records = lent.runs.records.chunks_exact(RECORD_NUMBERS);
+    let records: Vec<&[u64]> = records.take(reply.value as usize).collect();
+    let first_code = lent.day.fund.first_code;
+    let amounts = |code: u64| -> u64 {
+        let such = records.iter().filter(|record| record[0] == code);
+        such.map(|record| record[4]).sum()
+    };
+    let (shanghai, other) = (amounts(first_code + 2), amounts(first_code + 5));
+    let [investor, fund] = [&lent.runs.investor, &lent.runs.fund].map(|run| {
+        let reports = run.chunks_exact(REPORT_NUMBERS);
+        reports.take(reply.reports as usize).collect::<Vec<_>>()
+    });
+    for reports in [&investor, &fund] {
+        assert_eq!(reported(reports, |kind| kind == SHANGHAI_KIND), shanghai);
+        assert_eq!(reported(reports, |kind| kind != SHANGHAI_KIND), other);
+    }
+    for (one, turned) in investor.iter().zip(&fund) {
+        assert_eq!(one[1] + turned[1], 3);
+        assert_eq!((one[0], &one[2..]), (turned[0], &turned[2..]));
+    }
+    let moved = records
+        .iter()
+        .filter(|record| !is_of_group(first_code + 1, record[0]));
+    let moved: Vec<&[u64]> = moved.map(|record| &record[..3]).collect();
+    let told = investor.iter().filter(|report| report[0] < 3);
+    let told: Vec<[u64; 3]> = told
+        .map(|report| [report[2], report[1], report[3]])
+        .collect();
+    assert_eq!(told, moved);
+    let cash = u64::from(shanghai + other > 0);
+    assert_eq!(reply.reports, told.len() as u64 + cash);
+}
+
+/// Whether a code is one of the fund's group from one of its codes on.
+fn is_of_group(from: u64, code: u64) -> bool {
+    (from..from + 5).contains(&code)
+}
+
+#[test]
+fn reports_tell_what_the_records_tell() {
+    let mut rng = Rng::new(16);
+    let mut accepted = [0; 2];
+    for _ in 0..300 {
+        let (size, scale) = (Size::any(&mut rng), Scale::any(&mut rng));
+        let case = OpeningCase::sound(&mut rng, size, scale);
+        let mut lent = case.lent(&mut rng);
+        assert!(Model.open(&case.opening(), &mut lent).is_accepted());
+        for call in price_calls(&mut rng, &lent, scale) {
+            Model.call(&call, &mut lent);
+        }
+        for _ in 0..40 {
+            let call = any_call(&mut rng, &lent, scale);
+            let mut left = lent.clone();
+            let reply = Archive.call(&call, &mut left);
+            assert_eq!(Model.call(&call, &mut lent), reply, "{call:?}");
+            let is_order = matches!(call, Call::Create(_) | Call::Redeem(_));
+            if is_order && reply.is_accepted() {
+                check_reports(&left, reply);
+                check_reports(&lent, reply);
+                accepted[usize::from(matches!(call, Call::Redeem(_)))] += 1;
+            }
+        }
+    }
+    assert!(accepted.iter().all(|&count| count > 100), "{accepted:?}");
+}
+
+/// Days that differ in discounts alone give a creation the same answer, records,
+/// reports and book; days that differ in premiums alone give a redemption the
+/// same.
 #[test]
 fn an_order_reads_its_own_rate_alone() {
     let mut rng = Rng::new(15);
@@ -229,7 +309,7 @@ fn an_order_reads_its_own_rate_alone() {
             for engine in [&Model as &dyn Engine, &Archive] {
                 let mut left = other.clone();
                 assert_eq!(engine.call(&call, &mut left), reply, "{call:?}");
-                assert_eq!(left.records, lent.records, "{call:?}");
+                assert_eq!(left.runs, lent.runs, "{call:?}");
                 assert_eq!(left.book, lent.book, "{call:?}");
             }
             accepted[usize::from(matches!(call, Call::Redeem(_)))] += 1;

@@ -1,13 +1,15 @@
 //! The library's types on random days: the model makes the same calls, and
-//! answers, records, books and prices are compared.
+//! answers, records, reports, books and prices are compared.
 
-use roffelaine::{Batch, Day, Holdings, Money, Record, RecordList, Refusal, Units};
-use roffelaine_check::engine::{Engine, Lent, Model};
+use roffelaine::{
+    Batch, Day, Execution, Holdings, Money, OrderLists, Refusal, Report, Rooms, Units,
+};
+use roffelaine_check::engine::{Engine, Lent, Model, Runs};
 use roffelaine_check::flat::row_of;
-use roffelaine_check::library_types::{self, record, reply};
+use roffelaine_check::library_types::{self, order_reply, record, reply, report};
 use roffelaine_check::model::{
-    self, book_length, stretch_width, Call, Opening, Order, Reply, COMPONENT_NUMBERS, LOTS,
-    RECORD_NUMBERS, STRETCH_HEAD,
+    self, book_length, lengths_for, stretch_width, Call, Counts, Lengths, Opening, Order, PerList,
+    Reply, COMPONENT_NUMBERS, LOTS, RECORD_NUMBERS, REPORT_NUMBERS, STRETCH_HEAD,
 };
 use roffelaine_check::random::{any_call, price_calls, OpeningCase, Rng, Scale, Size};
 use std::collections::BTreeSet;
@@ -70,7 +72,7 @@ impl Asked {
             day: model::Day::blank(),
             book: vec![0; book_length(accounts, count)],
             prices: vec![0; count],
-            records: vec![0; RECORD_NUMBERS * most_records(count)],
+            runs: ample_runs(count),
         };
         match Model.open(&opening, &mut lent) {
             reply if reply.is_accepted() => Ok(lent),
@@ -91,10 +93,19 @@ impl Asked {
     }
 }
 
-/// The most records that the paper's orders make: two of units, one of each
-/// component, and two each of Shanghai and of other cash.
-fn most_records(components: usize) -> usize {
-    2 + components + 2 + 2
+/// Lists with room for the most that the paper's orders make. Records: two of
+/// units, one of each component, and two each of Shanghai and of other cash.
+/// Reports: one of units, one of each component and one of all cash.
+fn most_lengths(components: usize) -> Lengths {
+    let components = components as u64;
+    lengths_for(Counts {
+        records: 2 + components + 2 + 2,
+        reports: 1 + components + 1,
+    })
+}
+
+fn ample_runs(components: usize) -> Runs {
+    most_lengths(components).map(|length| vec![0; length])
 }
 
 /// The order of a call; one that asks for nothing where it has none.
@@ -102,66 +113,84 @@ fn order_of(call: &Call) -> Order {
     match *call {
         Call::Create(order) | Call::Redeem(order) => order,
         Call::TestCreation(order) | Call::TestRedemption(order) => order,
-        _ => Order::with_places(0, 0, 0),
+        _ => Order::with_places(0, 0, Counts::default()),
     }
 }
 
-/// An order as the library takes it: account, units and places for records.
-fn asked(order: Order) -> (usize, Units, usize) {
-    let places = order.room / RECORD_NUMBERS;
-    (order.account as usize, Units(order.units), places)
+/// An order as the library takes it: account, units and rooms.
+fn asked(order: Order) -> (usize, Units, Rooms) {
+    let rooms = library_types::rooms(order.lengths);
+    (order.account as usize, Units(order.units), rooms)
 }
 
-/// How many records a call with this reply has made.
-fn made_count(call: &Call, reply: Reply) -> usize {
-    match call {
-        Call::Create(_) | Call::Redeem(_) => reply.value as usize,
-        _ => 0,
+/// What a call of the model with this reply left in its lists.
+fn model_execution(call: &Call, reply: Reply, lent: &Lent) -> Execution {
+    if !matches!(call, Call::Create(_) | Call::Redeem(_)) {
+        return Execution::default();
+    }
+    let reports = |run: &[u64]| -> Vec<Report> {
+        let reports = run.chunks_exact(REPORT_NUMBERS);
+        let reports = reports.take(reply.reports as usize);
+        reports
+            .map(|each| report(each).expect("a report"))
+            .collect()
+    };
+    let records = lent.runs.records.chunks_exact(RECORD_NUMBERS);
+    let records = records.take(reply.value as usize);
+    Execution {
+        records: records.map(|each| record(each).expect("a side")).collect(),
+        investor: reports(&lent.runs.investor),
+        fund: reports(&lent.runs.fund),
     }
 }
 
-/// The records that a call of the model left in its list.
-fn model_records(call: &Call, reply: Reply, lent: &Lent) -> Vec<Record> {
-    let records = lent.records.chunks_exact(RECORD_NUMBERS);
-    let records = records.take(made_count(call, reply));
-    records
-        .map(|numbers| record(numbers).expect("a side"))
-        .collect()
-}
-
-/// Makes a call on the library's day: the reply, and the records of an order.
-fn make(call: &Call, day: &mut Day) -> (Reply, Vec<Record>) {
-    let (account, units, places) = asked(order_of(call));
-    let mut list = RecordList::with_room(places);
-    let count = |count: usize| count as u64;
+/// Makes a call on the library's day: the reply, and what an order made.
+fn make(call: &Call, day: &mut Day) -> (Reply, Execution) {
+    let (account, units, rooms) = asked(order_of(call));
+    let mut lists = OrderLists::with_rooms(rooms);
+    let mut made = Execution::default();
     let found = match call {
         Call::Price { line, price } => reply(day.set_price(*line as usize, Money(*price)), |()| 0),
         Call::Trade(trade) => reply(day.trade(&library_types::trade(trade)), |()| 0),
         Call::Value => reply(day.reference_value(), |value| value.0),
-        Call::Create(_) => reply(day.create_into(account, units, &mut list), count),
-        Call::Redeem(_) => reply(day.redeem_into(account, units, &mut list), count),
-        Call::TestCreation(_) => reply(day.test_creation(account, units, places), count),
-        Call::TestRedemption(_) => reply(day.test_redemption(account, units, places), count),
+        Call::Create(_) | Call::Redeem(_) => {
+            let counts = match call {
+                Call::Create(_) => day.create_into(account, units, &mut lists),
+                _ => day.redeem_into(account, units, &mut lists),
+            };
+            made = lists.execution(counts.unwrap_or_default());
+            order_reply(counts)
+        }
+        Call::TestCreation(_) => order_reply(day.test_creation(account, units, rooms)),
+        Call::TestRedemption(_) => order_reply(day.test_redemption(account, units, rooms)),
         Call::TestDay => unreachable!("the library has no such call"),
     };
-    (found, list.records(made_count(call, found)))
+    (found, made)
 }
 
-/// An order whose list is the library's own, with room for any order, and the
+/// An order whose lists are the library's own, with room for any order, and the
 /// same by the model; the day is left as it is.
-fn check_own_list(call: &Call, day: &Day, lent: &Lent) {
+fn check_own_lists(call: &Call, day: &Day, lent: &Lent) {
     let (mut day, mut lent) = (day.clone(), lent.clone());
-    let (account, units, _) = asked(order_of(call));
-    let ample = Order::with_places(account as u64, units.0, most_records(lent.prices.len()));
+    let order = Order {
+        lengths: most_lengths(lent.prices.len()),
+        ..order_of(call)
+    };
+    let (account, units, rooms) = asked(order);
+    assert_eq!(day.ample_rooms(), rooms);
     let (call, found) = match call {
-        Call::Create(_) => (Call::Create(ample), day.create(account, units)),
-        Call::Redeem(_) => (Call::Redeem(ample), day.redeem(account, units)),
+        Call::Create(_) => (Call::Create(order), day.create(account, units)),
+        Call::Redeem(_) => (Call::Redeem(order), day.redeem(account, units)),
         _ => return,
     };
     let expected = Model.call(&call, &mut lent);
-    let records = found.clone().unwrap_or_default();
-    assert_eq!(reply(found, |records| records.len() as u64), expected);
-    assert_eq!(records, model_records(&call, expected, &lent));
+    let made = found.clone().unwrap_or_default();
+    let counts = found.map(|made| roffelaine::Counts {
+        records: made.records.len(),
+        reports: made.investor.len(),
+    });
+    assert_eq!(order_reply(counts), expected);
+    assert_eq!(made, model_execution(&call, expected, &lent));
     assert_same_numbers(&day, &lent);
 }
 
@@ -206,11 +235,16 @@ fn check_codes(day: &Day, lent: &Lent) {
     assert_eq!(day.code_of(count + 1), None);
 }
 
-/// Any call that the library's types can say: its list has whole places.
+/// Any call that the library's types can say: its lists have whole places.
 fn sayable_call(rng: &mut Rng, lent: &Lent, scale: Scale) -> Call {
     let call = any_call(rng, lent, scale);
-    let (account, units, places) = asked(order_of(&call));
-    let whole = Order::with_places(account as u64, units.0, places);
+    let order = order_of(&call);
+    let widths = PerList::from([RECORD_NUMBERS, REPORT_NUMBERS, REPORT_NUMBERS]);
+    let lengths = order.lengths.zip(widths);
+    let whole = Order {
+        lengths: lengths.map(|(length, width)| length - length % width),
+        ..order
+    };
     match call {
         Call::Create(_) => Call::Create(whole),
         Call::Redeem(_) => Call::Redeem(whole),
@@ -221,41 +255,41 @@ fn sayable_call(rng: &mut Rng, lent: &Lent, scale: Scale) -> Call {
     }
 }
 
-/// A call with its reply and records, by the model.
+/// A call with its reply and what it made, by the model.
 struct Made {
     call: Call,
     reply: Reply,
-    records: Vec<Record>,
+    execution: Execution,
 }
 
 /// Makes a call on both, which must agree.
 fn same_call(call: Call, day: &mut Day, lent: &mut Lent) -> Made {
-    check_own_list(&call, day, lent);
+    check_own_lists(&call, day, lent);
     let reply = Model.call(&call, lent);
-    let records = model_records(&call, reply, lent);
-    let (found, found_records) = make(&call, day);
+    let execution = model_execution(&call, reply, lent);
+    let (found, found_execution) = make(&call, day);
     assert_eq!(found, reply, "{call:?}");
-    assert_eq!(found_records, records, "{call:?}");
+    assert_eq!(found_execution, execution, "{call:?}");
     assert_same_numbers(day, lent);
     Made {
         call,
         reply,
-        records,
+        execution,
     }
 }
 
 /// The calls that have a row, in one batch on the day as it was opened.
 fn check_batch(mut day: Day, made: &[Made], left: &Lent) {
-    let has_row = |made: &&Made| row_of(&made.call, 0).is_some();
+    let has_row = |made: &&Made| row_of(&made.call, PerList::default()).is_some();
     let made: Vec<&Made> = made.iter().filter(has_row).collect();
     let mut batch = Batch::default();
     for made in &made {
-        let (account, units, places) = asked(order_of(&made.call));
+        let (account, units, rooms) = asked(order_of(&made.call));
         match made.call {
             Call::Price { line, price } => batch.set_price(line as usize, Money(price)),
             Call::Trade(trade) => batch.trade(&library_types::trade(&trade)),
-            Call::Create(_) => batch.create(account, units, places),
-            Call::Redeem(_) => batch.redeem(account, units, places),
+            Call::Create(_) => batch.create(account, units, rooms),
+            Call::Redeem(_) => batch.redeem(account, units, rooms),
             _ => batch.reference_value(),
         }
     }
@@ -264,8 +298,8 @@ fn check_batch(mut day: Day, made: &[Made], left: &Lent) {
     assert_eq!((batch.len(), answers.len()), (made.len(), made.len()));
     for (at, made) in made.into_iter().enumerate() {
         assert_eq!(outcome.answer(at), answers[at]);
-        assert_eq!(reply(answers[at], |value| value), made.reply);
-        assert_eq!(outcome.records(at), made.records);
+        assert_eq!(order_reply(outcome.counts(at)), made.reply);
+        assert_eq!(outcome.execution(at), made.execution);
     }
     assert_same_numbers(&day, left);
 }
@@ -349,7 +383,7 @@ fn openings_are_refused_as_by_the_model() {
 
 #[test]
 fn a_closed_day_answers_as_the_model() {
-    let order = Order::with_places(1, 1, 0);
+    let order = Order::with_places(1, 1, Counts::default());
     let trade = model::Trade {
         line: 0,
         quantity: 1,
@@ -361,7 +395,7 @@ fn a_closed_day_answers_as_the_model() {
         day: model::Day::blank(),
         book: Vec::new(),
         prices: Vec::new(),
-        records: vec![0; RECORD_NUMBERS * most_records(0)],
+        runs: ample_runs(0),
     };
     let mut day = Day::closed();
     for call in [

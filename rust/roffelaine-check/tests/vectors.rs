@@ -4,15 +4,15 @@ mod support;
 
 use roffelaine::List;
 use roffelaine_check::archive::Archive;
-use roffelaine_check::engine::{Engine, Lent, LentList, Model};
+use roffelaine_check::engine::{Engine, Lent, LentList, Model, Runs};
 use roffelaine_check::flat::{
     answers_length, field_numbers, part_of, rows_of, FIELD_NUMBERS, PART_NUMBERS,
 };
 use roffelaine_check::library_types;
 use roffelaine_check::model::list::{self, Head, Writing};
 use roffelaine_check::model::{
-    book_length, stretch_width, Call, Component, Day, Fund, Opening, Order, Reply, Trade,
-    COMPONENT_NUMBERS, LOTS, MAX_COMPONENTS, RECORD_NUMBERS,
+    book_length, lengths_for, stretch_width, Call, Component, Counts, Day, Fund, Opening, Order,
+    PerList, Reply, Trade, COMPONENT_NUMBERS, LOTS, MAX_COMPONENTS,
 };
 use support::json::Json;
 use support::rows;
@@ -21,8 +21,14 @@ use support::sha256::hash_of_numbers;
 /// What lent runs and outputs hold beforehand, to see what is written.
 const FILLER: u64 = 0x5A5A;
 const FILLER_BYTE: u8 = 0x5A;
-/// Room for the records of any order in the vectors.
-const RECORD_ROOM: usize = 4096;
+/// The length of runs that take the records or the reports of any order in the
+/// vectors.
+const RUN: usize = 4096;
+
+/// Runs of such a length with nothing written.
+fn blank_runs() -> Runs {
+    PerList::from([RUN; 3]).map(|length| vec![FILLER; length])
+}
 
 /// Both engines with a row of a vector file, which has these fields besides its
 /// cause. What is printed last, where one fails, is the cause.
@@ -71,17 +77,20 @@ fn fund(row: &Json) -> Fund {
     }
 }
 
-/// A reply of a number and a place, and of a value where the row has one.
+/// A reply of a number and a place, and of a value and a count of reports where
+/// the row has them.
 fn reply(value: &Json) -> Reply {
-    let (number, place, value) = match value.run()[..] {
-        [number, place] => (number, place, 0),
-        [number, place, value] => (number, place, value),
+    let (number, place, value, reports) = match value.run()[..] {
+        [number, place] => (number, place, 0, 0),
+        [number, place, value] => (number, place, value, 0),
+        [number, place, value, reports] => (number, place, value, reports),
         _ => panic!("{value:?} is no reply"),
     };
     Reply {
         number,
         place,
         value,
+        reports,
     }
 }
 
@@ -89,12 +98,16 @@ fn call_of(value: &Json) -> Call {
     let (kind, arguments) = value.list().split_first().expect("a call");
     let order = || match arguments {
         [account, units, rooms] => match rooms.list() {
-            [records] => Order {
+            [records, investor, fund] => Order {
                 account: account.number(),
                 units: units.number(),
-                room: records.number(),
+                lengths: PerList {
+                    records: records.number(),
+                    investor: investor.number(),
+                    fund: fund.number(),
+                },
             },
-            _ => panic!("{rooms:?} is not the room of one list"),
+            _ => panic!("{rooms:?} are not the rooms of three lists"),
         },
         _ => panic!("{arguments:?} is no order"),
     };
@@ -143,7 +156,7 @@ fn check_opening(engine: &dyn Engine, row: &Json, holdings: &[u64], expected: Re
         day: Day::blank(),
         book: vec![FILLER; length("book_length", &needed)],
         prices: vec![FILLER; length("prices_length", &|| count as usize)],
-        records: vec![FILLER; RECORD_ROOM],
+        runs: blank_runs(),
     };
     let components = row.get("components").run();
     let opening = Opening {
@@ -199,21 +212,32 @@ fn openings() {
     });
 }
 
-/// The records that an accepted order wrote, all of them, and that the rest of
-/// its list holds the filler.
-fn check_records(made: &Json, call: &Call, list: &[u64], found: Reply) {
+/// What an accepted order wrote to each list, all of it, and that the rest of
+/// the list holds the filler. The fields are those of the numbers written, and
+/// of their hash.
+fn check_lists(made: &Json, call: &Call, lists: PerList<&[u64]>, found: Reply) {
     let is_order = matches!(call, Call::Create(_) | Call::Redeem(_));
-    let count = match is_order && found.is_accepted() {
-        true => found.value as usize,
-        false => 0,
+    let written = match is_order {
+        true => lengths_for(Counts {
+            records: found.value,
+            reports: found.reports,
+        }),
+        false => PerList::default(),
     };
-    let (written, rest) = list.split_at(RECORD_NUMBERS * count);
-    assert!(is_filler(rest), "written past the last record");
-    match (made.find("records"), made.find("records_sha256")) {
-        (Some(records), None) => assert_eq!(written, records.run()),
-        (None, Some(hash)) => assert_eq!(hash_of_numbers(written), hash.text()),
-        (None, None) => assert!(written.is_empty(), "the row has no records"),
-        _ => panic!("the row has its records twice"),
+    let fields = PerList {
+        records: ["records", "records_sha256"],
+        investor: ["investor", "investor_sha256"],
+        fund: ["fund_reports", "fund_reports_sha256"],
+    };
+    for ((list, written), [numbers, hash]) in lists.zip(written).zip(fields).each() {
+        let (written, rest) = list.split_at(written);
+        assert!(is_filler(rest), "{numbers}: written past the last");
+        match (made.find(numbers), made.find(hash)) {
+            (Some(expected), None) => assert_eq!(written, expected.run(), "{numbers}"),
+            (None, Some(hash)) => assert_eq!(hash_of_numbers(written), hash.text(), "{numbers}"),
+            (None, None) => assert!(written.is_empty(), "the row has no {numbers}"),
+            _ => panic!("the row has its {numbers} twice"),
+        }
     }
 }
 
@@ -230,19 +254,29 @@ fn check_test_alone(engine: &dyn Engine, made: &Call, before: &Lent, expected: R
     assert_eq!(lent, *before, "{alone:?}");
 }
 
-const CALL_FIELDS: [&str; 5] = ["call", "reply", "records", "records_sha256", "after"];
+const CALL_FIELDS: [&str; 9] = [
+    "call",
+    "reply",
+    "records",
+    "records_sha256",
+    "investor",
+    "investor_sha256",
+    "fund_reports",
+    "fund_reports_sha256",
+    "after",
+];
 
-/// Makes a call, and compares its reply, its records, and that it changes no
-/// more than a call of its kind may.
+/// Makes a call, and compares its reply, its records and reports, and that it
+/// changes no more than a call of its kind may.
 fn check_call(engine: &dyn Engine, made: &Json, lent: &mut Lent) -> Reply {
     assert_known(made, &CALL_FIELDS);
     let (call, expected) = (call_of(made.get("call")), reply(made.get("reply")));
-    lent.records.fill(FILLER);
+    lent.runs = blank_runs();
     check_test_alone(engine, &call, lent, expected);
     let before = lent.clone();
     let found = engine.call(&call, lent);
     assert_eq!(found, expected, "{call:?}");
-    check_records(made, &call, &lent.records, found);
+    check_lists(made, &call, lent.runs.as_ref().map(|run| &run[..]), found);
     let is_price = matches!(call, Call::Price { .. });
     assert_eq!(lent.day, before.day, "{call:?}");
     assert!(is_price || lent.prices == before.prices, "{call:?}");
@@ -292,10 +326,10 @@ fn run_in_the_driver(engine: &dyn Engine, row: &Json, holdings: &[u64]) -> Lent 
     let calls: Vec<Call> = made.iter().map(|made| call_of(made.get("call"))).collect();
     let replies: Vec<Reply> = made.iter().map(|made| reply(made.get("reply"))).collect();
     let expected: Vec<u64> = replies.iter().flat_map(|reply| reply.numbers()).collect();
-    let (rows, length) = rows_of(&calls);
+    let (rows, lengths) = rows_of(&calls);
     let ways = [run, run_one_by_one].map(|run| {
         let mut lent = Lent {
-            records: vec![FILLER; length],
+            runs: lengths.map(|length| vec![FILLER; length]),
             ..opened.clone()
         };
         let mut answers = vec![FILLER; answers_length(&rows)];
@@ -306,11 +340,12 @@ fn run_in_the_driver(engine: &dyn Engine, row: &Json, holdings: &[u64]) -> Lent 
     });
     let [lent, one_by_one] = ways;
     assert_eq!(lent, one_by_one);
-    let mut rest = &lent.records[..];
+    let mut rest = lent.runs.as_ref().map(|run| &run[..]);
     for ((made, call), reply) in made.iter().zip(&calls).zip(replies) {
-        let (list, after) = rest.split_at(call.room());
-        check_records(made, call, list, reply);
-        rest = after;
+        let parts = rest.zip(call.lengths());
+        let parts = parts.map(|(run, length)| run.split_at(length));
+        check_lists(made, call, parts.map(|(list, _)| list), reply);
+        rest = parts.map(|(_, after)| after);
     }
     lent
 }
@@ -413,7 +448,7 @@ fn broken_days() {
             day: day_of(row),
             book: row.get("book").run(),
             prices: row.get("prices").run(),
-            records: vec![FILLER; RECORD_ROOM],
+            runs: blank_runs(),
         };
         for made in row.get("calls").list() {
             let mut lent = before.clone();

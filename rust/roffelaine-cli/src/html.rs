@@ -6,13 +6,14 @@ mod limits;
 mod looks;
 mod positions;
 mod records;
+mod reports;
 mod runs;
 mod text;
 mod totals;
 mod words;
 
 use crate::posting::Posting;
-use crate::report::{Answer, Entry, Said};
+use crate::said::{Answer, Entry, Said};
 use crate::session::Session;
 use crate::statement::Call;
 use roffelaine::Refusal;

@@ -1,10 +1,11 @@
-//! A rehearsal as one JSON object: all answers, with the records of orders.
+//! A rehearsal as one JSON object: all answers, with the records of orders, and
+//! with their reports where they are on.
 
-use crate::names::text_name;
-use crate::report::{Answer, Counts, Entry, Made, Position, Said, Total};
+use crate::names::{text_name, text_report_name};
+use crate::said::{Answer, Counts, Entry, Made, Position, Said, Total};
 use crate::statement::Call;
 use crate::text::figures;
-use roffelaine::List;
+use roffelaine::{List, Report};
 use std::fmt::{self, Display};
 use std::io::{self, Write};
 
@@ -128,7 +129,13 @@ fn answer(list: &List<'_>, answer: &Answer) -> Members {
             match made {
                 Made::Done => {}
                 Made::Value(value) => members.push(("value", string(value))),
-                Made::Records(_) => members.push(("records", records(list, answer))),
+                Made::Order { reports, .. } => {
+                    members.push(("records", records(list, answer)));
+                    if let Some(both) = reports {
+                        members.push(("investor_reports", self::reports(list, &both.investor)));
+                        members.push(("fund_reports", self::reports(list, &both.fund)));
+                    }
+                }
             }
         }
     }
@@ -165,6 +172,27 @@ fn records(list: &List<'_>, answer: &Answer) -> String {
             ("quantity", record.quantity.to_string()),
             ("price", string(&record.price)),
             ("amount", string(&record.amount)),
+        ])
+    }))
+}
+
+fn reports(list: &List<'_>, reports: &[Report]) -> String {
+    array(reports.iter().enumerate().map(|(before, report)| {
+        let groups = report.groups.iter().flatten().map(|group| {
+            object([
+                ("kind", group.kind.number().to_string()),
+                ("amount", string(&group.amount)),
+            ])
+        });
+        object([
+            ("seq", (before + 1).to_string()),
+            ("of", reports.len().to_string()),
+            ("type", report.report_type.number().to_string()),
+            ("side", report.side.number().to_string()),
+            ("code", code(report.code)),
+            ("name", string(&text_report_name(list, report))),
+            ("quantity", report.quantity.to_string()),
+            ("groups", array(groups)),
         ])
     }))
 }

@@ -13,7 +13,7 @@ mod posting;
 mod reasons;
 mod reconcile;
 mod rehearse;
-mod report;
+mod said;
 #[cfg(test)]
 mod sample;
 mod session;

@@ -1,16 +1,18 @@
 //! `roffelaine reconcile`: positions as posted from the records of a day, as
-//! its book has them, and as they are given.
+//! its book has them, and as they are given; and the reports of orders, where
+//! they are on, against their records.
 
 mod calls;
 mod compare;
 mod differences;
 mod parting;
+mod reports;
 mod search;
 mod track;
 
 use crate::input::Input;
 use crate::positions::{GivenFile, Positions};
-use crate::report::{Answer, Counts, Entry, Said};
+use crate::said::{Answer, Counts, Entry, Said};
 use crate::session::Session;
 use crate::statement::Call;
 use crate::{output_error, text};
@@ -20,7 +22,7 @@ use roffelaine::List;
 use search::Search;
 use std::ffi::OsStr;
 use std::io::{self, Write};
-use track::{Parted, Track};
+use track::{Misreported, Parted, Track};
 
 /// Reconciles a day with positions; whether all was clean and agrees.
 pub fn run(
@@ -51,7 +53,7 @@ fn reconcile(
     let mut session = Session::new(list);
     let mut track = Track::of(&positions);
     rehearse(input, &mut session, |session, entry| {
-        track.entry(entry, session.posting(), &session.day().book());
+        track.entry(list, entry, session.posting(), &session.day().book());
         match is_printed(&entry.said) {
             true => text::entry(out, entry),
             false => Ok(()),
@@ -59,6 +61,9 @@ fn reconcile(
     })?;
     if let Some(parted) = track.parted() {
         part(out, list, parted)?;
+    }
+    if let Some(Misreported { by, why }) = track.misreported() {
+        writeln!(out, "{by}: {why}")?;
     }
     let book = session.day().book();
     if let Some(why) = obstacle(out, book.accounts(), &positions, &given.name)? {
@@ -71,7 +76,7 @@ fn reconcile(
         writeln!(out, "{}", difference.words(list))?;
     }
     summary(out, &found, positions.count(), &track, session.counts())?;
-    let is_clean = session.counts().is_clean(false) && track.parted().is_none();
+    let is_clean = session.counts().is_clean(false) && track.is_clean();
     Ok(is_clean && found.is_empty())
 }
 
@@ -187,6 +192,16 @@ fn summary(
             "; posted and book agree after each of {all} orders and trades"
         )?,
     }
+    match (track.misreported(), track.reported_orders()) {
+        (_, 0) => {}
+        (Some(Misreported { by, .. }), _) => {
+            write!(out, "; reports and records part in {by}")?;
+        }
+        (None, orders) => {
+            let orders = counted(orders, "order", "orders");
+            write!(out, "; reports agree with the records of {orders}")?;
+        }
+    }
     if counts.not_understood > 0 {
         let lines = counted(counts.not_understood, "line", "lines");
         write!(out, "; {lines} of the day not understood")?;
@@ -206,9 +221,9 @@ fn counted(number: usize, one: &str, many: &str) -> String {
 mod tests {
     use super::*;
     use crate::posting::Posting;
-    use crate::report::Made;
+    use crate::said::{Made, Reports};
     use crate::sample;
-    use calls::tests::{accepted, creation};
+    use calls::tests::{accepted, creation, made};
     use roffelaine::Units;
 
     const PARTED: &str = "\
@@ -225,15 +240,54 @@ line 43 create: account 1 cash posted 500000.000, book 212992.000
     #[test]
     fn a_creation_that_is_not_posted_is_named() {
         let mut day = sample::day();
-        let records = day.create(1, Units(1_000_000)).expect("records");
-        let created = accepted(43, creation(), Made::Records(records));
+        let records = day.create(1, Units(1_000_000)).expect("records").records;
+        let created = accepted(43, creation(), made(records));
         let positions = Positions::default();
         let mut track = Track::of(&positions);
-        track.entry(&created, &Posting::of(&sample::holdings()), &day.book());
+        let posting = Posting::of(&sample::holdings());
+        track.entry(&sample::list(), &created, &posting, &day.book());
         let mut out = Vec::new();
         let parted = track.parted().expect("a parting");
         part(&mut out, &sample::list(), parted).expect("written");
         summary(&mut out, &[], 0, &track, &Counts::default()).expect("written");
         assert_eq!(String::from_utf8_lossy(&out), PARTED);
+    }
+
+    /// The last line for a creation whose reports have been changed.
+    fn last_line(change: impl Fn(&mut Reports)) -> String {
+        let list = sample::list();
+        let (mut day, mut posting) = (sample::day(), Posting::of(&sample::holdings()));
+        let created = day.create(1, Units(1_000_000)).expect("records");
+        posting.post(&list, &creation(), &created.records);
+        let mut reports = Reports {
+            investor: created.investor,
+            fund: created.fund,
+        };
+        change(&mut reports);
+        let outcome = Made::Order {
+            records: created.records,
+            reports: Some(reports),
+        };
+        let positions = Positions::default();
+        let mut track = Track::of(&positions);
+        let created = accepted(43, creation(), outcome);
+        track.entry(&list, &created, &posting, &day.book());
+        let mut out = Vec::new();
+        summary(&mut out, &[], 0, &track, &Counts::default()).expect("written");
+        String::from_utf8_lossy(&out).into_owned()
+    }
+
+    #[test]
+    fn the_last_line_says_whether_reports_agree() {
+        let start =
+            "0 positions given, 0 agree, 0 differ; posted and book agree after 1 order or trade; ";
+        assert_eq!(
+            last_line(|_| {}),
+            format!("{start}reports agree with the records of 1 order\n")
+        );
+        assert_eq!(
+            last_line(|reports| reports.investor[0].quantity = 0),
+            format!("{start}reports and records part in line 43 create\n")
+        );
     }
 }

@@ -1,12 +1,14 @@
 //! `roffelaine rehearse`: a day, line by line, in the form that is asked for.
 
 use crate::args::Form;
+use crate::csv::Table;
 use crate::html::{self, Kept, Page};
 use crate::input::{Input, RefusedList};
 use crate::output_error;
-use crate::report::Entry;
+use crate::said::Entry;
 use crate::session::Session;
-use crate::{csv, json, text};
+use crate::statement::{statement, Statement};
+use crate::{json, text};
 use roffelaine::List;
 use std::ffi::OsStr;
 use std::io::{self, Write};
@@ -27,7 +29,7 @@ pub fn run(
         }
         Ok(list) => {
             let mut session = Session::new(&list);
-            let mut printer = Printer::new(out, form, &input.name, &list);
+            let mut printer = Printer::new(out, form, &input, &list);
             rehearse(&input, &mut session, &mut printer).map_err(output_error)?;
             Ok(session.counts().is_clean(strict))
         }
@@ -56,24 +58,34 @@ fn rehearse(
     printer.end(session)
 }
 
+/// Whether a line of the day turns reports on.
+fn turns_reports_on(input: &Input) -> bool {
+    let on = Ok(Some(Statement::Reports { on: true }));
+    input.texts().any(|(_, text)| statement(&text) == on)
+}
+
 /// Prints a rehearsal in one of its forms.
 struct Printer<'p, W> {
     out: &'p mut W,
     form: Form,
     file: &'p str,
     list: &'p List<'p>,
+    table: Table,
     printed: usize,
     /// What a page shows, which is written at the end.
     kept: Vec<Kept>,
 }
 
 impl<'p, W: Write> Printer<'p, W> {
-    fn new(out: &'p mut W, form: Form, file: &'p str, list: &'p List<'p>) -> Self {
+    fn new(out: &'p mut W, form: Form, input: &'p Input, list: &'p List<'p>) -> Self {
         Printer {
             out,
             form,
-            file,
+            file: &input.name,
             list,
+            table: Table {
+                has_reports: form == Form::Csv && turns_reports_on(input),
+            },
             printed: 0,
             kept: Vec::new(),
         }
@@ -82,7 +94,7 @@ impl<'p, W: Write> Printer<'p, W> {
     fn start(&mut self) -> io::Result<()> {
         match self.form {
             Form::Text | Form::Html => Ok(()),
-            Form::Csv => csv::header(self.out),
+            Form::Csv => self.table.header(self.out),
             Form::Json => json::start(self.out, self.file, self.list),
         }
     }
@@ -91,7 +103,7 @@ impl<'p, W: Write> Printer<'p, W> {
         match self.form {
             Form::Text => text::entry(self.out, entry)?,
             Form::Csv => {
-                csv::entry(self.out, self.list, entry)?;
+                self.table.entry(self.out, self.list, entry)?;
                 complain(self.file, entry);
             }
             Form::Json => json::entry(self.out, self.list, entry, self.printed)?,
@@ -127,7 +139,7 @@ impl<'p, W: Write> Printer<'p, W> {
 /// Says on standard error what a table of records does not show: lines that
 /// were not understood or not expected.
 fn complain(file: &str, entry: &Entry) {
-    use crate::report::Said;
+    use crate::said::Said;
     if let Said::NotUnderstood { .. } | Said::NotMade { .. } | Said::NotMet { .. } = entry.said {
         let mut line = Vec::new();
         if text::entry(&mut line, entry).is_ok() {

@@ -6,7 +6,7 @@ mod together;
 
 use crate::posting::{held, Posting};
 use crate::reasons::{self, Situation};
-use crate::report::{Answer, Counts, Entry, Made, Position, Refused, Said, Total};
+use crate::said::{Answer, Counts, Entry, Made, Position, Refused, Said, Total};
 use crate::statement::{column_of_word, statement, Call, Fault, Statement};
 use opening::{Opening, CASH};
 use roffelaine::{Day, List, Refusal};
@@ -17,6 +17,8 @@ pub struct Session<'l> {
     day: Day,
     opening: Opening,
     posting: Posting,
+    /// Whether orders say their reports.
+    reports_on: bool,
     /// The last answer, for what is expected of it.
     last: Option<Answer>,
     counts: Counts,
@@ -29,6 +31,7 @@ impl<'l> Session<'l> {
             day: Day::closed(),
             opening: Opening::default(),
             posting: Posting::default(),
+            reports_on: false,
             last: None,
             counts: Counts::default(),
         }
@@ -114,6 +117,10 @@ impl<'l> Session<'l> {
             Statement::Call(call) => {
                 let answer = self.answers(&[call]).pop();
                 Ok(answer.map(|answer| self.answer(answer)))
+            }
+            Statement::Reports { on } => {
+                self.reports_on = on;
+                Ok(None)
             }
             Statement::Show { account } => self.show(account).map(Some),
             Statement::Totals => self.totals().map(Some),

@@ -17,6 +17,10 @@ pub enum Statement {
         quantity: u64,
     },
     Call(Call),
+    /// Whether orders say their reports from here on.
+    Reports {
+        on: bool,
+    },
     Show {
         account: u64,
     },
@@ -141,6 +145,7 @@ pub fn statement(line: &str) -> Result<Option<Statement>, Fault> {
         "create" => order(&mut words).map(|order| Statement::Call(Call::Create(order))),
         "redeem" => order(&mut words).map(|order| Statement::Call(Call::Redeem(order))),
         "value" => Ok(Statement::Call(Call::Value)),
+        "reports" => reports(&mut words),
         "show" => words
             .whole("ACCOUNT")
             .map(|account| Statement::Show { account }),
@@ -161,9 +166,9 @@ pub fn statement(line: &str) -> Result<Option<Statement>, Fault> {
 }
 
 /// The words that a line of a day starts with.
-const FIRST_WORDS: [&str; 12] = [
-    "accounts", "cash", "hold", "open", "price", "trade", "create", "redeem", "value", "show",
-    "totals", "expect",
+const FIRST_WORDS: [&str; 13] = [
+    "accounts", "cash", "hold", "open", "price", "trade", "create", "redeem", "value", "reports",
+    "show", "totals", "expect",
 ];
 
 fn unknown_word(word: &str) -> String {
@@ -216,6 +221,18 @@ fn order(words: &mut Words<'_>) -> Result<Order, Fault> {
         units: words.amount("UNITS")?,
         room: words.last_whole("ROOM")?,
     })
+}
+
+fn reports(words: &mut Words<'_>) -> Result<Statement, Fault> {
+    let (column, word) = words.named("on or off")?;
+    match word {
+        "on" => Ok(Statement::Reports { on: true }),
+        "off" => Ok(Statement::Reports { on: false }),
+        other => Err(fault(
+            column,
+            format!("{other:?}: on or off is expected here"),
+        )),
+    }
 }
 
 fn expectation(words: &mut Words<'_>) -> Result<Expectation, Fault> {
@@ -413,6 +430,16 @@ mod tests {
                 true,
             ),
             ("  Open", 3, "\"Open\" is written open", true),
+            ("reports", 8, "on or off is missing", false),
+            (
+                "reports yes",
+                9,
+                "\"yes\": on or off is expected here",
+                false,
+            ),
+            ("reports ON", 9, "\"ON\": on or off is expected here", false),
+            ("reports on off", 12, "\"off\" is one word too many", false),
+            ("Reports on", 1, "\"Reports\" is written reports", true),
             (
                 "expect never",
                 8,
@@ -433,6 +460,15 @@ mod tests {
                 "{line:?}"
             );
         }
+    }
+
+    #[test]
+    fn reports_are_on_or_off() {
+        assert_eq!(said("reports on"), Statement::Reports { on: true });
+        assert_eq!(
+            said("\treports  off # now"),
+            Statement::Reports { on: false }
+        );
     }
 
     #[test]

@@ -1,6 +1,6 @@
 //! A rehearsal as plain lines.
 
-use crate::report::{Answer, Counts, Entry, Made, Position, Said, Total};
+use crate::said::{Answer, Counts, Entry, Made, Position, Reports, Said, Total};
 use std::io::{self, Write};
 
 /// Writes what a line came to.
@@ -24,9 +24,12 @@ fn answer(out: &mut impl Write, line: usize, answer: &Answer) -> io::Result<()> 
     match &answer.outcome {
         Ok(Made::Done) => writeln!(out, "{line} {word} ok"),
         Ok(Made::Value(value)) => writeln!(out, "{line} {word} ok {value}"),
-        Ok(Made::Records(records)) => {
+        Ok(Made::Order { records, reports }) => {
             writeln!(out, "{line} {word} ok {}", records.len())?;
-            records.iter().try_for_each(|each| writeln!(out, "{each}"))
+            records
+                .iter()
+                .try_for_each(|each| writeln!(out, "{each}"))?;
+            reports.iter().try_for_each(|each| self::reports(out, each))
         }
         Err(refused) => {
             let (number, place) = (refused.refusal.number(), refused.refusal.place());
@@ -34,6 +37,16 @@ fn answer(out: &mut impl Write, line: usize, answer: &Answer) -> io::Result<()> 
             writeln!(out, "{line} {word} refused {number} {place}: {reason}")
         }
     }
+}
+
+/// Each report in a line, behind the name of the party that gets it.
+fn reports(out: &mut impl Write, reports: &Reports) -> io::Result<()> {
+    for (party, reports) in reports.by_party() {
+        for report in reports {
+            writeln!(out, "{party} {report}")?;
+        }
+    }
+    Ok(())
 }
 
 fn position(out: &mut impl Write, line: usize, position: &Position) -> io::Result<()> {

@@ -1,12 +1,13 @@
 //! Random days as files: what the command answers is what the independent model
-//! answers to the same calls, records and positions too.
+//! answers to the same calls, records, reports and positions too.
 
 mod support;
 
 use roffelaine_check::engine::{Engine, Lent, Model};
 use roffelaine_check::model::list::{write, Head, Writing, NAME_BYTES};
 use roffelaine_check::model::{
-    stretch_width, Call, Order, Reply, COMPONENT_NUMBERS, LOTS, RECORD_NUMBERS, STRETCH_HEAD,
+    stretch_width, Call, Lengths, Order, Reply, COMPONENT_NUMBERS, LOTS, RECORD_NUMBERS,
+    REPORT_NUMBERS, STRETCH_HEAD,
 };
 use roffelaine_check::random::{any_call, price_calls, OpeningCase, Rng, Scale, Size};
 use std::collections::BTreeSet;
@@ -20,6 +21,9 @@ struct Rehearsed {
     lines: usize,
     expected: Vec<String>,
     refusals: BTreeSet<u64>,
+    /// Whether reports are on, and how many were expected.
+    reports_on: bool,
+    reports: usize,
 }
 
 fn money(thousandths: u64) -> String {
@@ -59,6 +63,8 @@ impl Rehearsed {
             lines,
             expected: Vec::new(),
             refusals: BTreeSet::new(),
+            reports_on: false,
+            reports: 0,
         };
         rehearsed.say(&format!("accounts {}", case.accounts));
         let codes = codes(case);
@@ -102,6 +108,10 @@ impl Rehearsed {
             Call::Create(_) | Call::Redeem(_) => {
                 self.expect(&format!("{word} ok {}", reply.value));
                 self.records(reply, lent);
+                if self.reports_on {
+                    self.reports("investor", reply, &lent.runs.investor);
+                    self.reports("fund", reply, &lent.runs.fund);
+                }
             }
             Call::Value => {
                 let (whole, part) = (reply.value / 10_000, reply.value % 10_000);
@@ -112,13 +122,37 @@ impl Rehearsed {
     }
 
     fn records(&mut self, reply: Reply, lent: &Lent) {
-        let records = lent.records.chunks_exact(RECORD_NUMBERS);
+        let records = lent.runs.records.chunks_exact(RECORD_NUMBERS);
         for record in records.take(reply.value as usize) {
             let side = if record[1] == 1 { 'B' } else { 'S' };
             let (price, amount) = (money(record[3]), money(record[4]));
             let (code, quantity) = (record[0], record[2]);
             let line = format!("{code:06} {side} {quantity} {price} {amount}");
             self.expected.push(line);
+        }
+    }
+
+    fn turn_reports(&mut self) {
+        self.reports_on = !self.reports_on;
+        self.say(if self.reports_on {
+            "reports on"
+        } else {
+            "reports off"
+        });
+    }
+
+    fn reports(&mut self, party: &str, reply: Reply, run: &[u64]) {
+        let reports = run.chunks_exact(REPORT_NUMBERS);
+        for report in reports.take(reply.reports as usize) {
+            let &[kind, side, code, quantity, ref groups @ ..] = report else {
+                panic!("{report:?}");
+            };
+            let mut line = format!("{party} {kind} {side} {code:06} {quantity}");
+            for group in groups.chunks_exact(2).filter(|group| group[0] > 0) {
+                write!(line, " {} {}", group[0], money(group[1])).expect("a string");
+            }
+            self.expected.push(line);
+            self.reports += 1;
         }
     }
 
@@ -160,7 +194,8 @@ fn line_of(codes: &[u64], call: &Call) -> String {
     };
     let order = |word: &str, order: &Order| {
         let mut line = format!("{word} {} {}", order.account, order.units);
-        write!(line, " {}", order.room / RECORD_NUMBERS).expect("a string");
+        let room = order.lengths.records / RECORD_NUMBERS;
+        write!(line, " {room}").expect("a string");
         line
     };
     match call {
@@ -176,9 +211,20 @@ fn line_of(codes: &[u64], call: &Call) -> String {
     }
 }
 
-/// Any call that a line can say: the tests called alone have none.
+/// Any call that a line can say: the tests called alone have none, and an order
+/// has room for all its reports.
 fn sayable(rng: &mut Rng, lent: &Lent, scale: Scale) -> Call {
+    let most = lent.runs.lengths();
+    let with_room = |order: Order| Order {
+        lengths: Lengths {
+            records: order.lengths.records,
+            ..most
+        },
+        ..order
+    };
     match any_call(rng, lent, scale) {
+        Call::Create(order) => Call::Create(with_room(order)),
+        Call::Redeem(order) => Call::Redeem(with_room(order)),
         Call::TestDay | Call::TestCreation(_) | Call::TestRedemption(_) => Call::Value,
         call => call,
     }
@@ -196,6 +242,9 @@ fn day(rng: &mut Rng) -> Rehearsed {
         rehearsed.call(&codes, &call, &mut lent);
     }
     for _ in 0..60 {
+        if rng.one_in(12) {
+            rehearsed.turn_reports();
+        }
         let call = sayable(rng, &lent, scale);
         rehearsed.call(&codes, &call, &mut lent);
     }
@@ -206,7 +255,7 @@ fn day(rng: &mut Rng) -> Rehearsed {
 #[test]
 fn random_days_answer_as_the_model() {
     let mut rng = Rng::new(12);
-    let mut refusals = BTreeSet::new();
+    let (mut refusals, mut reports) = (BTreeSet::new(), 0);
     for _ in 0..150 {
         let rehearsed = day(&mut rng);
         let file = scratch("day.txt", &rehearsed.file);
@@ -223,8 +272,10 @@ fn random_days_answer_as_the_model() {
             assert!(fits, "{}: {line:?}, expected {expected:?}", file.display());
         }
         refusals.extend(rehearsed.refusals);
+        reports += rehearsed.reports;
         std::fs::remove_file(&file).expect("removed");
     }
     let made: Vec<u64> = refusals.into_iter().collect();
     assert_eq!(made, Vec::from_iter(6..=17), "refusals that were made");
+    assert!(reports > 10_000, "{reports} reports");
 }

@@ -416,7 +416,9 @@ fn the_example_agrees_with_what_it_shows() {
         1,cash,1567740.000\n1,510300,1600000\n\
         2,cash,1801252.500\n2,600000,10000\n2,600036,3000\n2,510300,500000\n\
         3,cash,1228000.000\n3,600000,10400\n3,600036,9000\n3,510300,400000\n";
-    let all = "; posted and book agree after each of 6 orders and trades\n";
+    // The example has its reports on for one order.
+    let all = "; posted and book agree after each of 6 orders and trades; \
+        reports agree with the records of 1 order\n";
     let ran = run(["day.txt", "positions.csv"], &day, positions);
     let expected = format!("13 positions given, 13 agree, 0 differ{all}");
     assert_eq!((ran.status, ran.out), (0, expected));
@@ -425,6 +427,24 @@ fn the_example_agrees_with_what_it_shows() {
     let ran = Ran::of(&output.expect("the command runs"));
     let expected = format!("10 positions given, 10 agree, 0 differ{all}");
     assert_eq!((ran.status, ran.out), (0, expected));
+}
+
+/// The creation and the redemption, with reports on for one of them, for both,
+/// and for neither.
+#[test]
+fn reports_are_compared_with_records_where_they_are_on() {
+    let agree = format!("2 positions given, 2 agree, 0 differ; {CALLS}");
+    let on = |line: &str| LINES.replace(line, &format!("reports on\n{line}reports off\n"));
+    let (create, redeem) = ("create 1 1000000\n", "redeem 2 1000000\n");
+    let both = [create, redeem].concat();
+    for (lines, said) in [
+        (on(create), "; reports agree with the records of 1 order"),
+        (on(redeem), "; reports agree with the records of 1 order"),
+        (on(&both), "; reports agree with the records of 2 orders"),
+        (on("open\n"), ""),
+    ] {
+        assert_eq!(reconcile(&lines, THIRD), (0, format!("{agree}{said}\n")));
+    }
 }
 
 #[test]

@@ -1,9 +1,10 @@
 //! A list of calls for the driver, and what came of them.
 
 use crate::layout::{ANSWER_NUMBERS, ROW_NUMBERS};
-use crate::lent::Reply;
-use crate::records::{records_of, room_numbers};
-use crate::{Money, Record, Refusal, Trade, Units};
+use crate::lent::{Lengths, Lists, Reply};
+use crate::records::records_of;
+use crate::reports::reports_of;
+use crate::{Counts, Execution, Money, Record, Refusal, Report, Rooms, Trade, Units};
 
 /// The kinds of the driver's rows.
 const PRICE: u64 = 1;
@@ -13,7 +14,7 @@ const REDEEM: u64 = 4;
 const VALUE: u64 = 5;
 
 /// Calls to make in one go, with one pass over the book for all of them. Each
-/// order has its own list of records.
+/// order has its own lists of records and of reports.
 ///
 /// ```
 /// use roffelaine::{Batch, Component, Day, Fund, Holdings, Money, Refusal, Trade};
@@ -36,9 +37,10 @@ const VALUE: u64 = 5;
 #[derive(Clone, Debug, Default, PartialEq, Eq)]
 pub struct Batch {
     rows: Vec<u64>,
-    /// Where each call's list starts in the record run, and the run's length.
-    starts: Vec<usize>,
-    length: usize,
+    /// How long the three runs are before each call's parts, which start
+    /// there, and behind the last.
+    starts: Vec<Lengths>,
+    lengths: Lengths,
 }
 
 impl Batch {
@@ -52,59 +54,74 @@ impl Batch {
         self.starts.is_empty()
     }
 
+    /// The calls as the driver takes them.
+    pub(crate) fn rows(&self) -> &[u64] {
+        &self.rows
+    }
+
     /// Sets a component's price.
     pub fn set_price(&mut self, line: usize, price: Money) {
-        self.push([PRICE, line as u64, price.0, 0, 0, 0], 0);
+        self.push(&[PRICE, line as u64, price.0], Lengths::default());
     }
 
     /// Moves stock or units from seller to buyer.
     pub fn trade(&mut self, trade: &Trade) {
         let (line, quantity, price) = (trade.line as u64, trade.quantity, trade.price.0);
         let (seller, buyer) = (trade.seller as u64, trade.buyer as u64);
-        self.push([TRADE, line, quantity, price, seller, buyer], 0);
+        let row = [TRADE, line, quantity, price, seller, buyer];
+        self.push(&row, Lengths::default());
     }
 
-    /// Creates units, with room for so many records.
-    pub fn create(&mut self, account: usize, units: Units, room: usize) {
-        self.order(CREATE, account, units, room);
+    /// Creates units, with lists of such rooms.
+    pub fn create(&mut self, account: usize, units: Units, rooms: Rooms) {
+        self.order(CREATE, account, units, rooms);
     }
 
-    /// Redeems units, with room for so many records.
-    pub fn redeem(&mut self, account: usize, units: Units, room: usize) {
-        self.order(REDEEM, account, units, room);
+    /// Redeems units, with lists of such rooms.
+    pub fn redeem(&mut self, account: usize, units: Units, rooms: Rooms) {
+        self.order(REDEEM, account, units, rooms);
     }
 
     /// Asks for the reference value.
     pub fn reference_value(&mut self) {
-        self.push([VALUE, 0, 0, 0, 0, 0], 0);
+        self.push(&[VALUE], Lengths::default());
     }
 
-    fn order(&mut self, kind: u64, account: usize, units: Units, room: usize) {
-        let (start, length) = (self.length, room_numbers(room));
-        let row = [
-            kind,
-            account as u64,
-            units.0,
-            start as u64,
-            length as u64,
-            0,
+    fn order(&mut self, kind: u64, account: usize, units: Units, rooms: Rooms) {
+        let (starts, lengths) = (self.lengths, rooms.lengths());
+        let parts = [
+            starts.records,
+            lengths.records,
+            starts.investor,
+            lengths.investor,
+            starts.fund,
+            lengths.fund,
         ];
-        self.push(row, length);
+        let mut row = vec![kind, account as u64, units.0];
+        row.extend(parts.map(|number| number as u64));
+        self.push(&row, lengths);
     }
 
-    fn push(&mut self, row: [u64; ROW_NUMBERS], length: usize) {
-        self.rows.extend(row);
-        self.starts.push(self.length);
-        self.length += length;
+    /// Adds a row with these numbers in front, and parts of these lengths to
+    /// the runs.
+    fn push(&mut self, row: &[u64], lengths: Lengths) {
+        self.rows.extend_from_slice(row);
+        self.starts.push(self.lengths);
+        self.rows.resize(ROW_NUMBERS * self.starts.len(), 0);
+        self.lengths.records += lengths.records;
+        self.lengths.investor += lengths.investor;
+        self.lengths.fund += lengths.fund;
     }
 }
 
-/// The answers to a batch, and the records that its orders made.
+/// The answers to a batch, and the records and reports that its orders made.
 #[derive(Clone, Debug, PartialEq, Eq)]
 pub struct Outcome {
     answers: Vec<u64>,
-    starts: Vec<usize>,
+    starts: Vec<Lengths>,
     records: Vec<u64>,
+    investor: Vec<u64>,
+    fund: Vec<u64>,
 }
 
 impl Outcome {
@@ -113,13 +130,20 @@ impl Outcome {
         Outcome {
             answers: vec![0; batch.len() * ANSWER_NUMBERS],
             starts: batch.starts.clone(),
-            records: vec![0; batch.length],
+            records: vec![0; batch.lengths.records],
+            investor: vec![0; batch.lengths.investor],
+            fund: vec![0; batch.lengths.fund],
         }
     }
 
-    /// What the driver is lent.
-    pub(crate) fn lent<'b>(&mut self, batch: &'b Batch) -> (&'b [u64], &mut [u64], &mut [u64]) {
-        (&batch.rows, &mut self.records, &mut self.answers)
+    /// What the driver is lent: the three runs, and the answers.
+    pub(crate) fn lent(&mut self) -> (Lists<'_>, &mut [u64]) {
+        let lists = Lists {
+            records: &mut self.records,
+            investor: &mut self.investor,
+            fund: &mut self.fund,
+        };
+        (lists, &mut self.answers)
     }
 
     /// The answer to each call: the count of records or the reference value in
@@ -136,13 +160,26 @@ impl Outcome {
     ///
     /// Where the batch has no such call.
     pub fn answer(&self, call: usize) -> Result<u64, Refusal> {
+        self.reply(call).outcome()
+    }
+
+    /// How much the order of a call made.
+    ///
+    /// # Panics
+    ///
+    /// Where the batch has no such call.
+    pub fn counts(&self, call: usize) -> Result<Counts, Refusal> {
+        self.reply(call).counts()
+    }
+
+    fn reply(&self, call: usize) -> Reply {
         let numbers = &self.answers[ANSWER_NUMBERS * call..][..ANSWER_NUMBERS];
-        let reply = Reply {
+        Reply {
             number: numbers[0],
             place: numbers[1],
             value: numbers[2],
-        };
-        reply.outcome()
+            reports: numbers[3],
+        }
     }
 
     /// The records of a call; none where it was refused or is no order.
@@ -151,9 +188,57 @@ impl Outcome {
     ///
     /// Where the batch has no such call.
     pub fn records(&self, call: usize) -> Vec<Record> {
-        let start = self.starts[call];
-        let end = self.starts.get(call + 1).copied();
-        let part = &self.records[start..end.unwrap_or(self.records.len())];
-        records_of(part, self.answer(call).unwrap_or(0) as usize)
+        let list = &self.records[self.part(call, |lengths| lengths.records)];
+        records_of(list, self.made(call).records)
+    }
+
+    /// The reports of a call to the investor; none where it was refused or is
+    /// no order.
+    ///
+    /// # Panics
+    ///
+    /// Where the batch has no such call.
+    pub fn investor_reports(&self, call: usize) -> Vec<Report> {
+        let list = &self.investor[self.part(call, |lengths| lengths.investor)];
+        reports_of(list, self.made(call).reports)
+    }
+
+    /// The reports of a call to the fund's manager; none where it was refused
+    /// or is no order.
+    ///
+    /// # Panics
+    ///
+    /// Where the batch has no such call.
+    pub fn fund_reports(&self, call: usize) -> Vec<Report> {
+        let list = &self.fund[self.part(call, |lengths| lengths.fund)];
+        reports_of(list, self.made(call).reports)
+    }
+
+    /// All that a call made.
+    ///
+    /// # Panics
+    ///
+    /// Where the batch has no such call.
+    pub fn execution(&self, call: usize) -> Execution {
+        Execution {
+            records: self.records(call),
+            investor: self.investor_reports(call),
+            fund: self.fund_reports(call),
+        }
+    }
+
+    /// How much a call made: nothing where it was refused.
+    fn made(&self, call: usize) -> Counts {
+        self.counts(call).unwrap_or_default()
+    }
+
+    /// A call's part of one of the runs.
+    fn part(&self, call: usize, of: fn(&Lengths) -> usize) -> std::ops::Range<usize> {
+        let whole = Lengths {
+            records: self.records.len(),
+            investor: self.investor.len(),
+            fund: self.fund.len(),
+        };
+        of(&self.starts[call])..of(self.starts.get(call + 1).unwrap_or(&whole))
     }
 }

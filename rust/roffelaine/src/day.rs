@@ -1,11 +1,10 @@
 //! An open day that owns its book and prices.
 
-use crate::layout::{component_run, fund_numbers, most_records, stretch_width, DAY_NUMBERS};
-use crate::lent::{self, Reply};
-use crate::records::room_numbers;
+use crate::layout::{component_run, fund_numbers, stretch_width, DAY_NUMBERS};
+use crate::lent::{self, Lengths, Lists, Reply};
 use crate::{
-    Batch, Book, Component, Fund, Money, Outcome, Record, RecordList, ReferenceValue, Refusal,
-    Units, MOST_ACCOUNTS, MOST_COMPONENTS,
+    Batch, Book, Component, Counts, Execution, Fund, Money, OrderLists, Outcome, ReferenceValue,
+    Refusal, Rooms, Units, MOST_ACCOUNTS, MOST_COMPONENTS,
 };
 
 /// What an account opens with.
@@ -39,8 +38,8 @@ pub struct Trade {
 }
 
 /// A creation or a redemption over lent runs, and the test of one.
-type LentOrder = fn(&[u64], &mut [u64], &[u64], u64, u64, &mut [u64]) -> Reply;
-type LentTest = fn(&[u64], &[u64], &[u64], u64, u64, usize) -> Reply;
+type LentOrder = fn(&[u64], &mut [u64], &[u64], u64, u64, Lists<'_>) -> Reply;
+type LentTest = fn(&[u64], &[u64], &[u64], u64, u64, Lengths) -> Reply;
 
 /// An open day. Lines and accounts count from 0; the line behind the last
 /// component is the unit, and account 0 the fund. A refused call changes
@@ -64,8 +63,10 @@ type LentTest = fn(&[u64], &[u64], &[u64], u64, u64, usize) -> Reply;
 /// ];
 /// let mut day = Day::open(&fund, &[stock], &accounts)?;
 ///
-/// let records = day.create(1, Units(2_000))?;
-/// assert_eq!((records[1].code, records[1].quantity), (600_036, 60));
+/// let made = day.create(1, Units(2_000))?;
+/// assert_eq!((made.records[1].code, made.records[1].quantity), (600_036, 60));
+/// assert_eq!(made.investor[1].to_string(), "2 2 600036 60");
+/// assert_eq!(made.fund[1], made.investor[1].opposite());
 ///
 /// let units = day.line_of(510_300).expect("the unit's line");
 /// assert_eq!(day.book().account(1).expect("account 1").lots(units).got, 2_000);
@@ -181,50 +182,50 @@ impl Day {
         reply.outcome().map(ReferenceValue)
     }
 
-    /// Creates units for an account, and gives the records.
-    pub fn create(&mut self, account: usize, units: Units) -> Result<Vec<Record>, Refusal> {
-        let mut list = self.ample_list();
-        let count = self.create_into(account, units, &mut list)?;
-        Ok(list.records(count))
+    /// Creates units for an account, and gives the records and the reports.
+    pub fn create(&mut self, account: usize, units: Units) -> Result<Execution, Refusal> {
+        let mut lists = self.ample_lists();
+        let counts = self.create_into(account, units, &mut lists)?;
+        Ok(lists.execution(counts))
     }
 
-    /// Redeems units of an account, and gives the records.
-    pub fn redeem(&mut self, account: usize, units: Units) -> Result<Vec<Record>, Refusal> {
-        let mut list = self.ample_list();
-        let count = self.redeem_into(account, units, &mut list)?;
-        Ok(list.records(count))
+    /// Redeems units of an account, and gives the records and the reports.
+    pub fn redeem(&mut self, account: usize, units: Units) -> Result<Execution, Refusal> {
+        let mut lists = self.ample_lists();
+        let counts = self.redeem_into(account, units, &mut lists)?;
+        Ok(lists.execution(counts))
     }
 
-    /// The most records that an order of the day makes.
-    pub fn most_records(&self) -> usize {
-        most_records(self.prices.len())
+    /// Room for the records and the reports of any order of the day.
+    pub fn ample_rooms(&self) -> Rooms {
+        Rooms::ample(self.prices.len())
     }
 
-    /// A list that takes the records of any order of the day.
-    pub fn ample_list(&self) -> RecordList {
-        RecordList::with_room(self.most_records())
+    /// Lists that take the records and the reports of any order of the day.
+    pub fn ample_lists(&self) -> OrderLists {
+        OrderLists::with_rooms(self.ample_rooms())
     }
 
-    /// Creates units for an account; the records go to the lent list, and their
-    /// count is the answer.
+    /// Creates units for an account; the records and the reports go to the lent
+    /// lists, and their counts are the answer.
     pub fn create_into(
         &mut self,
         account: usize,
         units: Units,
-        list: &mut RecordList,
-    ) -> Result<usize, Refusal> {
-        self.order(lent::create, account, units, list)
+        lists: &mut OrderLists,
+    ) -> Result<Counts, Refusal> {
+        self.order(lent::create, account, units, lists)
     }
 
-    /// Redeems units of an account; the records go to the lent list, and their
-    /// count is the answer.
+    /// Redeems units of an account; the records and the reports go to the lent
+    /// lists, and their counts are the answer.
     pub fn redeem_into(
         &mut self,
         account: usize,
         units: Units,
-        list: &mut RecordList,
-    ) -> Result<usize, Refusal> {
-        self.order(lent::redeem, account, units, list)
+        lists: &mut OrderLists,
+    ) -> Result<Counts, Refusal> {
+        self.order(lent::redeem, account, units, lists)
     }
 
     fn order(
@@ -232,36 +233,35 @@ impl Day {
         make: LentOrder,
         account: usize,
         units: Units,
-        list: &mut RecordList,
-    ) -> Result<usize, Refusal> {
+        lists: &mut OrderLists,
+    ) -> Result<Counts, Refusal> {
         let Day {
             day, book, prices, ..
         } = self;
-        let (account, list) = (account as u64, &mut list.run);
-        let reply = make(&day[..], book, prices, account, units.0, list);
-        reply.outcome().map(|count| count as usize)
+        let (account, lists) = (account as u64, lists.lent());
+        make(&day[..], book, prices, account, units.0, lists).counts()
     }
 
-    /// How many records a creation with room for so many would make, or why it
-    /// would be refused. Nothing changes.
+    /// How much a creation with such rooms would make, or why it would be
+    /// refused. Nothing changes.
     pub fn test_creation(
         &self,
         account: usize,
         units: Units,
-        room: usize,
-    ) -> Result<usize, Refusal> {
-        self.test(lent::creation_test, account, units, room)
+        rooms: Rooms,
+    ) -> Result<Counts, Refusal> {
+        self.test(lent::creation_test, account, units, rooms)
     }
 
-    /// How many records a redemption with room for so many would make, or why
-    /// it would be refused. Nothing changes.
+    /// How much a redemption with such rooms would make, or why it would be
+    /// refused. Nothing changes.
     pub fn test_redemption(
         &self,
         account: usize,
         units: Units,
-        room: usize,
-    ) -> Result<usize, Refusal> {
-        self.test(lent::redemption_test, account, units, room)
+        rooms: Rooms,
+    ) -> Result<Counts, Refusal> {
+        self.test(lent::redemption_test, account, units, rooms)
     }
 
     fn test(
@@ -269,12 +269,11 @@ impl Day {
         make: LentTest,
         account: usize,
         units: Units,
-        room: usize,
-    ) -> Result<usize, Refusal> {
+        rooms: Rooms,
+    ) -> Result<Counts, Refusal> {
         let (day, book, prices) = (&self.day[..], &self.book, &self.prices);
-        let length = room_numbers(room);
-        let reply = make(day, book, prices, account as u64, units.0, length);
-        reply.outcome().map(|count| count as usize)
+        let lengths = rooms.lengths();
+        make(day, book, prices, account as u64, units.0, lengths).counts()
     }
 
     /// Makes all calls of a batch, in order, with one pass over the book for
@@ -284,8 +283,8 @@ impl Day {
         let Day {
             day, book, prices, ..
         } = self;
-        let (rows, records, answers) = outcome.lent(batch);
-        lent::run(&day[..], book, prices, rows, records, answers);
+        let (lists, answers) = outcome.lent();
+        lent::run(&day[..], book, prices, batch.rows(), lists, answers);
         outcome
     }
 

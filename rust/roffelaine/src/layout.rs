@@ -17,10 +17,13 @@ pub const FIELD_NUMBERS: usize = FUND_NUMBERS + 8;
 pub const PART_NUMBERS: usize = 2;
 /// Numbers of a record: code, side, quantity, price, amount.
 pub const RECORD_NUMBERS: usize = 5;
+/// Numbers of a report: type, side, code, quantity, three groups of kind and
+/// amount.
+pub const REPORT_NUMBERS: usize = 10;
 /// Numbers of a row of the driver: the kind of the call, and its arguments.
-pub const ROW_NUMBERS: usize = 6;
-/// Numbers of an answer: number, place, value.
-pub const ANSWER_NUMBERS: usize = 3;
+pub const ROW_NUMBERS: usize = 9;
+/// Numbers of an answer: number, place, value, count of reports.
+pub const ANSWER_NUMBERS: usize = 4;
 /// Bytes of a component's name.
 pub const NAME_BYTES: usize = 8;
 /// Numbers of an account before its lots: cash, created, redeemed.
@@ -39,6 +42,12 @@ pub const fn stretch_width(components: usize) -> usize {
 /// two codes, stock, and two records each of Shanghai and of other cash.
 pub const fn most_records(components: usize) -> usize {
     components + 6
+}
+
+/// The most reports that an order makes to each party on so many components:
+/// the unit, stock, and all cash.
+pub const fn most_reports(components: usize) -> usize {
+    components + 2
 }
 
 /// A number that may be below zero: 1 where it is, and its size.

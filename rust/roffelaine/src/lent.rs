@@ -9,7 +9,7 @@
 //! every input, to stay within what they are lent and to return; they keep no
 //! pointer, allocate nothing and hold no state.
 
-use crate::Refusal;
+use crate::{Counts, Refusal};
 
 // Lines, accounts and counts of 64 bits cross as `usize`.
 const _: () = assert!(usize::BITS == 64);
@@ -85,10 +85,15 @@ mod exported {
             prices_length: usize,
             account: usize,
             units: u64,
-            list: *mut u64,
-            list_length: usize,
+            records: *mut u64,
+            records_length: usize,
+            investor: *mut u64,
+            investor_length: usize,
+            fund: *mut u64,
+            fund_length: usize,
             place: &mut u64,
             value: &mut u64,
+            reports: &mut u64,
         ) -> u64;
 
         pub fn roffelaine_redeem(
@@ -100,10 +105,15 @@ mod exported {
             prices_length: usize,
             account: usize,
             units: u64,
-            list: *mut u64,
-            list_length: usize,
+            records: *mut u64,
+            records_length: usize,
+            investor: *mut u64,
+            investor_length: usize,
+            fund: *mut u64,
+            fund_length: usize,
             place: &mut u64,
             value: &mut u64,
+            reports: &mut u64,
         ) -> u64;
 
         pub fn roffelaine_creation_test(
@@ -115,9 +125,12 @@ mod exported {
             prices_length: usize,
             account: usize,
             units: u64,
-            length: usize,
+            records_length: usize,
+            investor_length: usize,
+            fund_length: usize,
             place: &mut u64,
             value: &mut u64,
+            reports: &mut u64,
         ) -> u64;
 
         pub fn roffelaine_redemption_test(
@@ -129,9 +142,12 @@ mod exported {
             prices_length: usize,
             account: usize,
             units: u64,
-            length: usize,
+            records_length: usize,
+            investor_length: usize,
+            fund_length: usize,
             place: &mut u64,
             value: &mut u64,
+            reports: &mut u64,
         ) -> u64;
 
         pub fn roffelaine_run(
@@ -145,6 +161,10 @@ mod exported {
             rows_length: usize,
             records: *mut u64,
             records_length: usize,
+            investor: *mut u64,
+            investor_length: usize,
+            fund: *mut u64,
+            fund_length: usize,
             answers: *mut u64,
             answers_length: usize,
             place: &mut u64,
@@ -162,6 +182,10 @@ mod exported {
             rows_length: usize,
             records: *mut u64,
             records_length: usize,
+            investor: *mut u64,
+            investor_length: usize,
+            fund: *mut u64,
+            fund_length: usize,
             answers: *mut u64,
             answers_length: usize,
             place: &mut u64,
@@ -213,8 +237,9 @@ mod exported {
     }
 }
 
-/// The answer to a call as three numbers. Number 0 is accepted; the value is
-/// the count of records, components or bytes, or the reference value, else 0.
+/// The answer to a call as four numbers. Number 0 is accepted; the value is
+/// the count of records, components or bytes, or the reference value, else 0;
+/// the count of reports is 0 for every call that is no order.
 #[derive(Clone, Copy, Debug, Default, PartialEq, Eq)]
 pub struct Reply {
     /// The refusal's number, 0 for none.
@@ -223,6 +248,8 @@ pub struct Reply {
     pub place: u64,
     /// The value of an accepted call.
     pub value: u64,
+    /// How many reports an accepted order makes to each party.
+    pub reports: u64,
 }
 
 impl Reply {
@@ -233,16 +260,56 @@ impl Reply {
             Some(refusal) => Err(refusal),
         }
     }
+
+    /// How much an accepted order makes, or its refusal.
+    pub const fn counts(&self) -> Result<Counts, Refusal> {
+        match self.outcome() {
+            Ok(records) => Ok(Counts {
+                records: records as usize,
+                reports: self.reports as usize,
+            }),
+            Err(refusal) => Err(refusal),
+        }
+    }
+}
+
+/// The lists that an order is lent, or the runs of which a row of the driver
+/// names a part each: a record has 5 numbers, a report 10.
+#[derive(Debug, Default, PartialEq, Eq)]
+pub struct Lists<'l> {
+    /// The records.
+    pub records: &'l mut [u64],
+    /// The reports to the investor.
+    pub investor: &'l mut [u64],
+    /// The reports to the fund's manager.
+    pub fund: &'l mut [u64],
+}
+
+/// The lengths of the three lists, in numbers.
+#[derive(Clone, Copy, Debug, Default, PartialEq, Eq)]
+pub struct Lengths {
+    /// Of the list of records.
+    pub records: usize,
+    /// Of the list of reports to the investor.
+    pub investor: usize,
+    /// Of the list of reports to the fund's manager.
+    pub fund: usize,
 }
 
 /// The reply of a call that puts its place and value where it is told to.
 fn reply(call: impl FnOnce(&mut u64, &mut u64) -> u64) -> Reply {
-    let (mut place, mut value) = (0, 0);
-    let number = call(&mut place, &mut value);
+    order_reply(|place, value, _| call(place, value))
+}
+
+/// The reply of an order, which puts the count of its reports there too.
+fn order_reply(call: impl FnOnce(&mut u64, &mut u64, &mut u64) -> u64) -> Reply {
+    let (mut place, mut value, mut reports) = (0, 0, 0);
+    let number = call(&mut place, &mut value, &mut reports);
     Reply {
         number,
         place,
         value,
+        reports,
     }
 }
 
@@ -349,17 +416,23 @@ pub fn reference_value(day: &[u64], book: &[u64], prices: &[u64]) -> Reply {
     })
 }
 
-/// Creates units for an account; the records go to the lent list.
+/// Creates units for an account; the records and the reports to both
+/// parties go to the lent lists.
 pub fn create(
     day: &[u64],
     book: &mut [u64],
     prices: &[u64],
     account: u64,
     units: u64,
-    list: &mut [u64],
+    lists: Lists<'_>,
 ) -> Reply {
+    let Lists {
+        records,
+        investor,
+        fund,
+    } = lists;
     // SAFETY: each pointer stands beside the length of its own slice.
-    reply(|place, value| unsafe {
+    order_reply(|place, value, reports| unsafe {
         exported::roffelaine_create(
             day.as_ptr(),
             day.len(),
@@ -369,25 +442,36 @@ pub fn create(
             prices.len(),
             account as usize,
             units,
-            list.as_mut_ptr(),
-            list.len(),
+            records.as_mut_ptr(),
+            records.len(),
+            investor.as_mut_ptr(),
+            investor.len(),
+            fund.as_mut_ptr(),
+            fund.len(),
             place,
             value,
+            reports,
         )
     })
 }
 
-/// Redeems units of an account; the records go to the lent list.
+/// Redeems units of an account; the records and the reports to both
+/// parties go to the lent lists.
 pub fn redeem(
     day: &[u64],
     book: &mut [u64],
     prices: &[u64],
     account: u64,
     units: u64,
-    list: &mut [u64],
+    lists: Lists<'_>,
 ) -> Reply {
+    let Lists {
+        records,
+        investor,
+        fund,
+    } = lists;
     // SAFETY: each pointer stands beside the length of its own slice.
-    reply(|place, value| unsafe {
+    order_reply(|place, value, reports| unsafe {
         exported::roffelaine_redeem(
             day.as_ptr(),
             day.len(),
@@ -397,26 +481,31 @@ pub fn redeem(
             prices.len(),
             account as usize,
             units,
-            list.as_mut_ptr(),
-            list.len(),
+            records.as_mut_ptr(),
+            records.len(),
+            investor.as_mut_ptr(),
+            investor.len(),
+            fund.as_mut_ptr(),
+            fund.len(),
             place,
             value,
+            reports,
         )
     })
 }
 
-/// What a creation with a list of `length` numbers would answer.
+/// What a creation with lists of such lengths would answer.
 pub fn creation_test(
     day: &[u64],
     book: &[u64],
     prices: &[u64],
     account: u64,
     units: u64,
-    length: usize,
+    lengths: Lengths,
 ) -> Reply {
-    // SAFETY: each pointer stands beside the length of its own slice; `length`
-    // goes with none.
-    reply(|place, value| unsafe {
+    // SAFETY: each pointer stands beside the length of its own slice; the
+    // lengths of the lists go with none.
+    order_reply(|place, value, reports| unsafe {
         exported::roffelaine_creation_test(
             day.as_ptr(),
             day.len(),
@@ -426,25 +515,28 @@ pub fn creation_test(
             prices.len(),
             account as usize,
             units,
-            length,
+            lengths.records,
+            lengths.investor,
+            lengths.fund,
             place,
             value,
+            reports,
         )
     })
 }
 
-/// What a redemption with a list of `length` numbers would answer.
+/// What a redemption with lists of such lengths would answer.
 pub fn redemption_test(
     day: &[u64],
     book: &[u64],
     prices: &[u64],
     account: u64,
     units: u64,
-    length: usize,
+    lengths: Lengths,
 ) -> Reply {
-    // SAFETY: each pointer stands beside the length of its own slice; `length`
-    // goes with none.
-    reply(|place, value| unsafe {
+    // SAFETY: each pointer stands beside the length of its own slice; the
+    // lengths of the lists go with none.
+    order_reply(|place, value, reports| unsafe {
         exported::roffelaine_redemption_test(
             day.as_ptr(),
             day.len(),
@@ -454,9 +546,12 @@ pub fn redemption_test(
             prices.len(),
             account as usize,
             units,
-            length,
+            lengths.records,
+            lengths.investor,
+            lengths.fund,
             place,
             value,
+            reports,
         )
     })
 }
@@ -468,9 +563,14 @@ pub fn run(
     book: &mut [u64],
     prices: &mut [u64],
     rows: &[u64],
-    records: &mut [u64],
+    lists: Lists<'_>,
     answers: &mut [u64],
 ) -> Reply {
+    let Lists {
+        records,
+        investor,
+        fund,
+    } = lists;
     // SAFETY: each pointer stands beside the length of its own slice.
     reply(|place, value| unsafe {
         exported::roffelaine_run(
@@ -484,6 +584,10 @@ pub fn run(
             rows.len(),
             records.as_mut_ptr(),
             records.len(),
+            investor.as_mut_ptr(),
+            investor.len(),
+            fund.as_mut_ptr(),
+            fund.len(),
             answers.as_mut_ptr(),
             answers.len(),
             place,
@@ -498,9 +602,14 @@ pub fn run_one_by_one(
     book: &mut [u64],
     prices: &mut [u64],
     rows: &[u64],
-    records: &mut [u64],
+    lists: Lists<'_>,
     answers: &mut [u64],
 ) -> Reply {
+    let Lists {
+        records,
+        investor,
+        fund,
+    } = lists;
     // SAFETY: each pointer stands beside the length of its own slice.
     reply(|place, value| unsafe {
         exported::roffelaine_run_public(
@@ -514,6 +623,10 @@ pub fn run_one_by_one(
             rows.len(),
             records.as_mut_ptr(),
             records.len(),
+            investor.as_mut_ptr(),
+            investor.len(),
+            fund.as_mut_ptr(),
+            fund.len(),
             answers.as_mut_ptr(),
             answers.len(),
             place,

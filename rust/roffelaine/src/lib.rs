@@ -2,7 +2,8 @@
 //!
 //! One exchange-traded fund, one day: [`Day`] is opened with what each account
 //! holds and takes prices, trades, creations and redemptions of baskets; an
-//! order gives the [`Record`]s that brokers and the fund's manager post from.
+//! order gives the [`Record`]s that brokers and the fund's manager post from, and
+//! the execution [`Report`]s to the investor and to the fund's manager.
 //! [`Batch`] makes many calls at once, [`List`] is the fund's list as text.
 //! [`lent`] has the same calls over runs of numbers that the caller owns.
 //!
@@ -30,8 +31,12 @@
 //! let line = day.line_of(600_036).expect("a component");
 //! day.set_price(line, Money::from_yuan(40))?;
 //! assert_eq!(day.reference_value()?.to_string(), "1.2000");
-//! for record in day.create(1, Units(2_000))? {
+//! let made = day.create(1, Units(2_000))?;
+//! for record in &made.records {
 //!     println!("{:06} {} {}", record.code, record.side.letter(), record.quantity);
+//! }
+//! for (investor, fund) in made.investor.iter().zip(&made.fund) {
+//!     println!("{investor}, to the fund {fund}");
 //! }
 //! # Ok(())
 //! # }
@@ -49,8 +54,10 @@ mod layout;
 pub mod lent;
 mod list;
 mod list_fault;
+mod orders;
 mod records;
 mod refusal;
+mod reports;
 
 pub use amounts::{decimal, AmountError, Cents, Money, Rate, ReferenceValue, Units};
 pub use batch::{Batch, Outcome};
@@ -60,5 +67,7 @@ pub use fund::{Component, Fund, Head, Limits, Switch, MOST_ACCOUNTS, MOST_COMPON
 pub use layout::NAME_BYTES;
 pub use list::{List, LONGEST_TEXT};
 pub use list_fault::{lines_in_lf, list_end, position, with_crlf, ListFault, Position};
+pub use orders::{Counts, Execution, OrderLists, Rooms};
 pub use records::{Record, RecordList, Side};
 pub use refusal::{Meaning, Refusal, REFUSALS};
+pub use reports::{CashGroup, CashKind, Report, ReportList, ReportType};

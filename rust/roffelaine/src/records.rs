@@ -4,12 +4,12 @@ use crate::layout::{most_records, RECORD_NUMBERS};
 use crate::{Money, MOST_COMPONENTS};
 use std::fmt;
 
-/// The side of a record, B or S.
+/// The side of a record, B or S, and of a report, 1 or 2.
 #[derive(Clone, Copy, Debug, PartialEq, Eq, Hash)]
 pub enum Side {
-    /// B.
+    /// B, 1.
     Buy,
-    /// S.
+    /// S, 2.
     Sell,
 }
 
@@ -19,6 +19,29 @@ impl Side {
         match self {
             Side::Buy => 'B',
             Side::Sell => 'S',
+        }
+    }
+
+    /// Its number, 1 or 2.
+    pub const fn number(self) -> u64 {
+        match self {
+            Side::Buy => 1,
+            Side::Sell => 2,
+        }
+    }
+
+    /// The other side.
+    pub const fn opposite(self) -> Self {
+        match self {
+            Side::Buy => Side::Sell,
+            Side::Sell => Side::Buy,
+        }
+    }
+
+    pub(crate) const fn from_number(number: u64) -> Self {
+        match number {
+            1 => Side::Buy,
+            _ => Side::Sell,
         }
     }
 }
@@ -40,13 +63,9 @@ pub struct Record {
 
 impl Record {
     fn from_numbers(numbers: &[u64]) -> Self {
-        let side = match numbers[1] {
-            1 => Side::Buy,
-            _ => Side::Sell,
-        };
         Record {
             code: numbers[0],
-            side,
+            side: Side::from_number(numbers[1]),
             quantity: numbers[2],
             price: Money(numbers[3]),
             amount: Money(numbers[4]),

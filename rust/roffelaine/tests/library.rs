@@ -5,8 +5,9 @@ mod paper_list;
 
 use paper_list::LIST;
 use roffelaine::{
-    Batch, Cents, Component, Day, Fund, Holdings, List, Lots, Money, Rate, Record, RecordList,
-    ReferenceValue, Refusal, Side, Trade, Units,
+    Batch, CashGroup, CashKind, Cents, Component, Counts, Day, Execution, Fund, Holdings, List,
+    Lots, Money, OrderLists, Rate, Record, ReferenceValue, Refusal, Report, ReportType, Rooms,
+    Side, Trade, Units,
 };
 use Side::{Buy, Sell};
 
@@ -72,9 +73,58 @@ fn record(code: u64, side: Side, quantity: u64, price: u64) -> Record {
     }
 }
 
+/// A report of the unit or of stock.
+fn moved(report_type: ReportType, side: Side, code: u64, quantity: u64) -> Report {
+    Report {
+        report_type,
+        side,
+        code,
+        quantity,
+        groups: [None; 3],
+    }
+}
+
+/// A report of Shanghai and of other cash, in yuan.
+fn paid(side: Side, shanghai: u64, other: u64) -> Report {
+    let group = |kind, yuan| {
+        let amount = Money::from_yuan(yuan);
+        Some(CashGroup { kind, amount })
+    };
+    Report {
+        groups: [
+            group(CashKind::Shanghai, shanghai),
+            group(CashKind::Other, other),
+            None,
+        ],
+        ..moved(ReportType::Cash, side, 0, 0)
+    }
+}
+
+/// What each order of the day makes: records, and reports to each party.
+const MADE: Counts = Counts {
+    records: 8,
+    reports: 4,
+};
+
+/// An execution whose fund gets the investor's reports on the opposite sides.
+fn execution(records: &[Record], investor: &[Report]) -> Execution {
+    let fund = investor.iter().map(|report| Report {
+        side: match report.side {
+            Buy => Sell,
+            Sell => Buy,
+        },
+        ..*report
+    });
+    Execution {
+        records: records.to_vec(),
+        investor: investor.to_vec(),
+        fund: fund.collect(),
+    }
+}
+
 /// Case (e).
-fn the_creation() -> [Record; 8] {
-    [
+fn the_creation() -> Execution {
+    let records = [
         record(510_300, Buy, 1_000_000, 0),
         record(600_000, Sell, 3_072, 0),
         record(600_036, Sell, 3_000, 0),
@@ -83,12 +133,19 @@ fn the_creation() -> [Record; 8] {
         record(510_302, Buy, 1_000_000, 173),
         record(510_302, Buy, 1, 408_000),
         record(510_301, Buy, 1_000_000, 0),
-    ]
+    ];
+    let investor = [
+        moved(ReportType::Unit, Buy, 510_300, 1_000_000),
+        moved(ReportType::Stock, Sell, 600_000, 3_072),
+        moved(ReportType::Stock, Sell, 600_036, 3_000),
+        paid(Buy, 173_408, 113_600),
+    ];
+    execution(&records, &investor)
 }
 
 /// Case (f).
-fn the_redemption() -> [Record; 8] {
-    [
+fn the_redemption() -> Execution {
+    let records = [
         record(510_300, Sell, 1_000_000, 0),
         record(600_000, Buy, 5_200, 0),
         record(600_036, Buy, 3_000, 0),
@@ -97,6 +154,29 @@ fn the_redemption() -> [Record; 8] {
         record(510_302, Sell, 1_000_000, 150),
         record(510_302, Sell, 1, 0),
         record(510_301, Sell, 1_000_000, 0),
+    ];
+    let investor = [
+        moved(ReportType::Unit, Sell, 510_300, 1_000_000),
+        moved(ReportType::Stock, Buy, 600_000, 5_200),
+        moved(ReportType::Stock, Buy, 600_036, 3_000),
+        paid(Sell, 150_000, 94_400),
+    ];
+    execution(&records, &investor)
+}
+
+/// Rooms with one place less in each of the three lists by turns.
+fn short_rooms() -> [Rooms; 3] {
+    let enough = Rooms::of(MADE);
+    [
+        Rooms {
+            records: 7,
+            ..enough
+        },
+        Rooms {
+            investor: 3,
+            ..enough
+        },
+        Rooms { fund: 3, ..enough },
     ]
 }
 
@@ -193,14 +273,18 @@ fn a_day_without_prices_has_no_reference_value() {
 }
 
 #[test]
-fn orders_make_their_records_and_move() {
+fn orders_make_their_records_and_reports_and_move() {
     let mut day = priced(3_072, 3_000);
-    assert_eq!(day.test_redemption(1, BASKET, 10), Ok(8));
-    let short = day.test_redemption(1, BASKET, 7);
-    assert_eq!(short, Err(Refusal::ListTooShort));
-    assert_eq!(day.redeem(1, BASKET), Ok(the_redemption().to_vec()));
-    assert_eq!(day.test_creation(1, BASKET, 8), Ok(8));
-    assert_eq!(day.create(1, BASKET), Ok(the_creation().to_vec()));
+    let ample = day.ample_rooms();
+    assert_eq!(day.test_redemption(1, BASKET, ample), Ok(MADE));
+    for short in short_rooms() {
+        let refused = Err(Refusal::ListTooShort);
+        assert_eq!(day.test_redemption(1, BASKET, short), refused);
+        assert_eq!(day.test_creation(1, BASKET, short), refused);
+    }
+    assert_eq!(day.redeem(1, BASKET), Ok(the_redemption()));
+    assert_eq!(day.test_creation(1, BASKET, Rooms::of(MADE)), Ok(MADE));
+    assert_eq!(day.create(1, BASKET), Ok(the_creation()));
     let again = day.redeem(1, BASKET);
     assert_eq!(again, Err(Refusal::ShortOfStock { place: 0 }));
 
@@ -225,8 +309,8 @@ fn other_cash(premium: Rate, discount: Rate) -> [Vec<Record>; 2] {
     (list.components[0].premium, list.components[0].discount) = (premium, discount);
     let day = || with_prices(opened_on(&list, 3_072, 3_000));
     let orders = [day().create(1, BASKET), day().redeem(1, BASKET)];
-    orders.map(|records| {
-        let records = records.expect("it is taken").into_iter();
+    orders.map(|made| {
+        let records = made.expect("it is taken").records.into_iter();
         records.filter(|record| record.code == 510_305).collect()
     })
 }
@@ -255,18 +339,24 @@ fn creation_takes_the_premium_and_redemption_the_discount() {
 }
 
 #[test]
-fn a_lent_list_takes_the_records() {
+fn lent_lists_take_the_records_and_reports() {
     let mut day = priced(3_072, 3_000);
     let before = day.clone();
-    let mut short = RecordList::with_room(7);
-    let refused = day.redeem_into(1, BASKET, &mut short);
-    assert_eq!(refused, Err(Refusal::ListTooShort));
-    assert_eq!((&day, short), (&before, RecordList::with_room(7)));
-    let mut list = RecordList::with_room(8);
-    let count = day.redeem_into(1, BASKET, &mut list).expect("it redeems");
-    assert_eq!(list.records(count), the_redemption());
-    let count = day.create_into(1, BASKET, &mut list).expect("it creates");
-    assert_eq!(list.records(count), the_creation());
+    for rooms in short_rooms() {
+        let mut short = OrderLists::with_rooms(rooms);
+        let refused = day.redeem_into(1, BASKET, &mut short);
+        assert_eq!(refused, Err(Refusal::ListTooShort));
+        assert_eq!((&day, short), (&before, OrderLists::with_rooms(rooms)));
+    }
+    let mut lists = OrderLists::with_rooms(Rooms::of(MADE));
+    let counts = day.redeem_into(1, BASKET, &mut lists);
+    assert_eq!(counts, Ok(MADE));
+    assert_eq!(lists.execution(MADE), the_redemption());
+    let counts = day.create_into(1, BASKET, &mut lists);
+    assert_eq!(counts, Ok(MADE));
+    assert_eq!(lists.execution(MADE), the_creation());
+    assert_eq!(lists.records.records(1), the_creation().records[..1]);
+    assert_eq!(lists.fund.reports(2), the_creation().fund[..2]);
 }
 
 #[test]
@@ -307,9 +397,11 @@ fn a_batch_does_what_its_calls_do() {
         batch.set_price(line, price);
     }
     batch.reference_value();
-    batch.redeem(1, BASKET, 8);
-    batch.create(1, BASKET, 7);
-    batch.create(1, BASKET, 9);
+    batch.redeem(1, BASKET, Rooms::of(MADE));
+    for short in short_rooms() {
+        batch.create(1, BASKET, short);
+    }
+    batch.create(1, BASKET, day.ample_rooms());
     let sale = Trade {
         line: UNIT,
         quantity: 1,
@@ -326,14 +418,18 @@ fn a_batch_does_what_its_calls_do() {
         Ok(4_257),
         Ok(8),
         Err(Refusal::ListTooShort),
+        Err(Refusal::ListTooShort),
+        Err(Refusal::ListTooShort),
         Ok(8),
         Err(Refusal::Account),
     ];
-    assert_eq!((outcome.answers(), batch.len()), (expected.to_vec(), 8));
-    assert_eq!(outcome.records(4), the_redemption());
-    assert_eq!(outcome.records(6), the_creation());
-    for other in [0, 3, 5, 7] {
-        assert_eq!(outcome.records(other), []);
+    assert_eq!((outcome.answers(), batch.len()), (expected.to_vec(), 10));
+    assert_eq!(outcome.counts(4), Ok(MADE));
+    assert_eq!(outcome.execution(4), the_redemption());
+    assert_eq!(outcome.execution(8), the_creation());
+    assert_eq!(outcome.fund_reports(8), the_creation().fund);
+    for other in [0, 3, 5, 6, 7, 9] {
+        assert_eq!(outcome.execution(other), Execution::default());
     }
     let mut one_by_one = priced(3_072, 3_000);
     one_by_one.redeem(1, BASKET).expect("it redeems");

@@ -1,31 +1,44 @@
 //! Calls as values.
 
 use super::creation::{create, test_creation};
+use super::order_lists::{Lengths, Lists, PerList};
 use super::price::set_price;
 use super::records::RECORD_NUMBERS;
 use super::redemption::{redeem, test_redemption};
-use super::refusal::Reply;
+use super::refusal::{Counts, Reply};
+use super::reports::REPORT_NUMBERS;
 use super::soundness::test_day;
 use super::trade::{trade, Trade};
 use super::types::Day;
 use super::value::reference_value;
 
-/// An order with the length of its lent record list, in numbers.
+/// An order with the lengths of its lent lists, in numbers.
 #[derive(Clone, Copy, Debug, PartialEq, Eq)]
 pub struct Order {
     pub account: u64,
     pub units: u64,
-    pub room: usize,
+    pub lengths: Lengths,
 }
 
 impl Order {
-    /// An order whose list has places for `records` records.
-    pub fn with_places(account: u64, units: u64, records: usize) -> Self {
+    /// An order whose lists have just the places for so much.
+    pub fn with_places(account: u64, units: u64, counts: Counts) -> Self {
         Order {
             account,
             units,
-            room: RECORD_NUMBERS * records,
+            lengths: lengths_for(counts),
         }
+    }
+}
+
+/// The lengths of lists that just take so many records, and so many reports to
+/// each party.
+pub fn lengths_for(counts: Counts) -> Lengths {
+    let reports = REPORT_NUMBERS * counts.reports as usize;
+    PerList {
+        records: RECORD_NUMBERS * counts.records as usize,
+        investor: reports,
+        fund: reports,
     }
 }
 
@@ -43,57 +56,35 @@ pub enum Call {
 }
 
 impl Call {
-    /// Numbers of the record list that the call is lent.
-    pub fn room(&self) -> usize {
+    /// Lengths of the lists that the call is lent.
+    pub fn lengths(&self) -> Lengths {
         match self {
-            Call::Create(order) | Call::Redeem(order) => order.room,
-            _ => 0,
+            Call::Create(order) | Call::Redeem(order) => order.lengths,
+            _ => Lengths::default(),
         }
     }
 }
 
-/// Makes one call with the test of the day; an order is lent the first `room`
-/// numbers of `records`.
+/// Makes one call with the test of the day; an order is lent all of its lists.
 pub fn call(
     day: &Day,
     book: &mut [u64],
     prices: &mut [u64],
-    records: &mut [u64],
-    call: &Call,
-) -> Reply {
-    call_with_list(day, book, prices, &mut records[..call.room()], call)
-}
-
-/// Makes one call with the test of the day; an order is lent all of `list`.
-pub(super) fn call_with_list(
-    day: &Day,
-    book: &mut [u64],
-    prices: &mut [u64],
-    list: &mut [u64],
+    lists: Lists<'_>,
     call: &Call,
 ) -> Reply {
     match *call {
         Call::Price { line, price } => set_price(day, book, prices, line, price),
         Call::Trade(ref terms) => trade(day, book, prices, terms),
-        Call::Create(order) => create(day, book, prices, order.account, order.units, list),
-        Call::Redeem(order) => redeem(day, book, prices, order.account, order.units, list),
+        Call::Create(order) => create(day, book, prices, order.account, order.units, lists),
+        Call::Redeem(order) => redeem(day, book, prices, order.account, order.units, lists),
         Call::Value => reference_value(day, book, prices),
         Call::TestDay => test_day(day, book, prices).map(|()| 0).into(),
-        Call::TestCreation(order) => test_creation(
-            day,
-            book,
-            prices,
-            order.account,
-            order.units,
-            order.room as u64,
-        ),
-        Call::TestRedemption(order) => test_redemption(
-            day,
-            book,
-            prices,
-            order.account,
-            order.units,
-            order.room as u64,
-        ),
+        Call::TestCreation(order) => {
+            test_creation(day, book, prices, order.account, order.units, order.lengths)
+        }
+        Call::TestRedemption(order) => {
+            test_redemption(day, book, prices, order.account, order.units, order.lengths)
+        }
     }
 }

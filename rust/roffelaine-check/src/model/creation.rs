@@ -3,40 +3,41 @@
 use super::book::{
     self, fund_and_account, handable, lots, lots_mut, stretch, CASH, CREATED, GOT, OLD,
 };
+use super::order_lists::{Lengths, Lists};
+use super::order_writer::OrderWriter;
 use super::orders::{test_order, with_premium, Kind, Terms};
-use super::records::{RecordWriter, BUY, SELL};
-use super::refusal::{Refusal, Reply, CASH_RATIO, SHORT_OF_CASH, SHORT_OF_STOCK};
+use super::refusal::{Counts, Refusal, Reply, CASH_RATIO, SHORT_OF_CASH, SHORT_OF_STOCK};
 use super::soundness::test_day;
 use super::types::{Component, Day};
 use super::value::value_on_sound_day;
 
-/// Creates `units` for the account and writes the records to the lent list;
-/// the value of the reply is their count.
+/// Creates `units` for the account and writes the records and the reports to
+/// the lent lists; the reply has their counts.
 pub fn create(
     day: &Day,
     book: &mut [u64],
     prices: &[u64],
     account: u64,
     units: u64,
-    records: &mut [u64],
+    lists: Lists<'_>,
 ) -> Reply {
     test_day(day, book, prices)
-        .and_then(|()| create_on_sound_day(day, book, prices, account, units, records))
+        .and_then(|()| create_on_sound_day(day, book, prices, account, units, lists))
         .into()
 }
 
-/// The reply that a creation with a list of `room` numbers would give.
+/// The reply that a creation with lists of such lengths would give.
 pub fn test_creation(
     day: &Day,
     book: &[u64],
     prices: &[u64],
     account: u64,
     units: u64,
-    room: u64,
+    lengths: Lengths,
 ) -> Reply {
     test_day(day, book, prices)
-        .and_then(|()| test_on_sound_day(day, book, prices, account, units, room))
-        .map(|terms| terms.record_count())
+        .and_then(|()| test_on_sound_day(day, book, prices, account, units, lengths))
+        .map(|terms| terms.counts())
         .into()
 }
 
@@ -46,23 +47,19 @@ pub(super) fn create_on_sound_day(
     prices: &[u64],
     account: u64,
     units: u64,
-    records: &mut [u64],
-) -> Result<u64, Refusal> {
-    let room = records.len() as u64;
-    let terms = test_on_sound_day(day, book, prices, account, units, room)?;
+    lists: Lists<'_>,
+) -> Result<Counts, Refusal> {
+    let lengths = lists.as_ref().map(|list| list.len());
+    let terms = test_on_sound_day(day, book, prices, account, units, lengths)?;
     let width = book::stretch_width(day.count as usize);
     let (fund, own) = fund_and_account(book, width, account);
-    let mut writer = RecordWriter::new(records);
-    writer.moved(day.fund.first_code, BUY, units);
+    let mut writer = OrderWriter::start(Kind::Creation, day.fund.first_code, units, lists);
     hand_in_stock(day, terms.baskets, fund, own, &mut writer);
-    writer.cash(day.fund.first_code + 5, BUY, terms.other_cash);
-    writer.cash(day.fund.first_code + 2, BUY, terms.shanghai_cash);
-    writer.moved(day.fund.first_code + 1, BUY, units);
     own[CASH] -= terms.cash();
     fund[CASH] += terms.cash();
     own[CREATED] += units;
     lots_mut(own, day.count as usize)[GOT] += units;
-    Ok(writer.count())
+    Ok(writer.finish(&terms))
 }
 
 /// Moves what is there of the stock to the fund's old lots.
@@ -71,7 +68,7 @@ fn hand_in_stock(
     baskets: u64,
     fund: &mut [u64],
     own: &mut [u64],
-    writer: &mut RecordWriter<'_>,
+    writer: &mut OrderWriter<'_>,
 ) {
     for (line, component) in day.listed().iter().enumerate() {
         if !component.flag_row().moves_stock {
@@ -82,7 +79,7 @@ fn hand_in_stock(
         if handed > 0 {
             book::hand_in(lots, handed);
             lots_mut(fund, line)[OLD] += handed;
-            writer.moved(component.code, SELL, handed);
+            writer.stock(component.code, handed);
         }
     }
 }
@@ -93,7 +90,7 @@ pub(super) fn test_on_sound_day(
     prices: &[u64],
     account: u64,
     units: u64,
-    room: u64,
+    lengths: Lengths,
 ) -> Result<Terms, Refusal> {
     let baskets = test_order(day, book, Kind::Creation, account, units)?;
     let own = stretch(book, book::stretch_width(day.count as usize), account);
@@ -107,7 +104,7 @@ pub(super) fn test_on_sound_day(
     if own[CASH] < terms.cash() {
         return Err(Refusal::new(SHORT_OF_CASH));
     }
-    terms.test_room(room)?;
+    terms.test_room(lengths)?;
     Ok(terms)
 }
 
@@ -129,7 +126,7 @@ fn add_up(
         }
         let need = baskets * component.quantity;
         let there = handable(lots(own, line));
-        terms.stock_records += u64::from(need.min(there) > 0);
+        terms.stock_lines += u64::from(need.min(there) > 0);
         if there < need {
             if !row.shortage_in_cash {
                 return Err(Refusal::at(SHORT_OF_STOCK, line));

@@ -1,7 +1,8 @@
 //! The driver: a list of calls as rows of numbers.
 
-use super::calls::{call_with_list, Call, Order};
+use super::calls::{call, Call, Order};
 use super::creation::create_on_sound_day;
+use super::order_lists::{Lengths, Lists, PerList};
 use super::price::set_price_on_sound_day;
 use super::redemption::redeem_on_sound_day;
 use super::refusal::{Refusal, Reply, SIZES};
@@ -11,19 +12,20 @@ use super::types::Day;
 use super::value::value_on_sound_day;
 
 /// Numbers of a row: 1 price: line, price; 2 trade: line, quantity, price,
-/// seller, buyer; 3 create and 4 redeem: account, units, start and length of
-/// the part of the record run that is its list; 5 value.
-pub const ROW_NUMBERS: usize = 6;
-/// Numbers of an answer: number, place, value.
-pub const ANSWER_NUMBERS: usize = 3;
+/// seller, buyer; 3 create and 4 redeem: account, units, and start and length
+/// of the parts that are its lists, of the record run, of the run of the
+/// investor's reports and of that of the fund's; 5 value.
+pub const ROW_NUMBERS: usize = 9;
+/// Numbers of an answer: number, place, value, count of reports.
+pub const ANSWER_NUMBERS: usize = 4;
 
 /// What the rows work on.
 pub struct Work<'a> {
     pub day: &'a Day,
     pub book: &'a mut [u64],
     pub prices: &'a mut [u64],
-    /// The record run; each order's list is a part of it.
-    pub records: &'a mut [u64],
+    /// The three runs; each order's lists are parts of them.
+    pub runs: Lists<'a>,
 }
 
 /// Makes the calls that the rows name and puts an answer to each. The day is
@@ -40,8 +42,8 @@ pub fn run(work: &mut Work<'_>, rows: &[u64], answers: &mut [u64]) -> Reply {
 /// The same calls, each with its own test of the day.
 pub fn run_one_by_one(work: &mut Work<'_>, rows: &[u64], answers: &mut [u64]) -> Reply {
     run_rows(work, rows, answers, |work, row| {
-        let list = part(work.records, row.start, row.call.room());
-        call_with_list(work.day, work.book, work.prices, list, &row.call)
+        let lists = parts(&mut work.runs, row);
+        call(work.day, work.book, work.prices, lists, &row.call)
     })
 }
 
@@ -63,19 +65,20 @@ fn run_rows(
     Reply::accepted(0)
 }
 
-/// A call and where its part of the record run starts.
+/// A call and where its parts of the runs start.
 struct Row {
     call: Call,
-    start: usize,
+    starts: PerList<usize>,
 }
 
 impl Row {
     /// What the numbers of a row name, if anything.
     fn of(numbers: &[u64]) -> Option<Self> {
+        let cells = |places: [usize; 3]| PerList::from(places.map(|at| numbers[at] as usize));
         let order = || Order {
             account: numbers[1],
             units: numbers[2],
-            room: numbers[4] as usize,
+            lengths: cells([4, 6, 8]),
         };
         let call = match numbers[0] {
             1 => Call::Price {
@@ -96,16 +99,24 @@ impl Row {
         };
         Some(Row {
             call,
-            start: numbers[3] as usize,
+            starts: cells([3, 5, 7]),
         })
     }
 }
 
-/// A part of the record run, empty where it does not lie in the run.
-fn part(records: &mut [u64], start: usize, length: usize) -> &mut [u64] {
+/// The lists of a row's call: its parts of the runs.
+fn parts<'w>(runs: &'w mut Lists<'_>, row: &Row) -> Lists<'w> {
+    let lengths: Lengths = row.call.lengths();
+    runs.as_mut()
+        .zip(row.starts.zip(lengths))
+        .map(|(run, (start, length))| part(run, start, length))
+}
+
+/// A part of a run, empty where it does not lie in the run.
+fn part(run: &mut [u64], start: usize, length: usize) -> &mut [u64] {
     start
         .checked_add(length)
-        .and_then(|end| records.get_mut(start..end))
+        .and_then(|end| run.get_mut(start..end))
         .unwrap_or_default()
 }
 
@@ -114,20 +125,22 @@ fn call_on_sound_day(work: &mut Work<'_>, row: &Row) -> Reply {
         day,
         book,
         prices,
-        records,
+        runs,
     } = work;
-    let list = part(records, row.start, row.call.room());
     match row.call {
-        Call::Price { line, price } => set_price_on_sound_day(day, prices, line, price),
-        Call::Trade(ref terms) => trade_on_sound_day(day, book, terms),
+        Call::Price { line, price } => set_price_on_sound_day(day, prices, line, price).into(),
+        Call::Trade(ref terms) => trade_on_sound_day(day, book, terms).into(),
         Call::Create(order) => {
-            create_on_sound_day(day, book, prices, order.account, order.units, list)
+            let lists = parts(runs, row);
+            create_on_sound_day(day, book, prices, order.account, order.units, lists).into()
         }
-        Call::Redeem(order) => redeem_on_sound_day(day, book, order.account, order.units, list),
-        Call::Value => value_on_sound_day(day, prices),
+        Call::Redeem(order) => {
+            let lists = parts(runs, row);
+            redeem_on_sound_day(day, book, order.account, order.units, lists).into()
+        }
+        Call::Value => value_on_sound_day(day, prices).into(),
         Call::TestDay | Call::TestCreation(_) | Call::TestRedemption(_) => {
             unreachable!("no row names a test")
         }
     }
-    .into()
 }

@@ -12,26 +12,33 @@ mod driver;
 mod flags;
 pub mod list;
 mod opening;
+mod order_lists;
+mod order_writer;
 mod orders;
 mod price;
 mod records;
 mod redemption;
 pub mod refusal;
+mod reports;
 mod soundness;
 mod trade;
 mod types;
 mod value;
 
 pub use book::{book_length, holdings_length, stretch_width, LOTS, STRETCH_HEAD};
-pub use calls::{call, Call, Order};
+pub use calls::{call, lengths_for, Call, Order};
 pub use creation::{create, test_creation};
 pub use driver::{run, run_one_by_one, Work, ANSWER_NUMBERS, ROW_NUMBERS};
 pub use flags::{FlagRow, FLAG_TABLE};
 pub use opening::{open, Opening};
+pub use order_lists::{Lengths, Lists, PerList};
 pub use price::set_price;
 pub use records::{BUY, RECORD_NUMBERS, SELL};
 pub use redemption::{redeem, test_redemption};
-pub use refusal::{Refusal, Reply};
+pub use refusal::{Counts, Refusal, Reply};
+pub use reports::{
+    CASH_REPORT, OTHER_KIND, REPORT_NUMBERS, SHANGHAI_KIND, STOCK_REPORT, UNIT_REPORT,
+};
 pub use soundness::test_day;
 pub use trade::{trade, Trade};
 pub use types::{Component, Day, Fund, COMPONENT_NUMBERS, MAX_COMPONENTS};

@@ -1,9 +1,11 @@
 //! What creation and redemption have in common.
 
 use super::book::{self, CREATED, REDEEMED};
+use super::order_lists::Lengths;
 use super::range;
 use super::records::{cash_record_count, RECORD_NUMBERS};
-use super::refusal::{Refusal, ACCOUNT, LIMIT, LIST_TOO_SHORT, NOT_WHOLE_BASKETS, SWITCH};
+use super::refusal::{Counts, Refusal, ACCOUNT, LIMIT, LIST_TOO_SHORT, NOT_WHOLE_BASKETS, SWITCH};
+use super::reports::{cash_report_count, REPORT_NUMBERS};
 use super::types::Day;
 
 /// The rate one.
@@ -22,7 +24,8 @@ pub(super) struct Terms {
     pub(super) baskets: u64,
     pub(super) other_cash: u64,
     pub(super) shanghai_cash: u64,
-    pub(super) stock_records: u64,
+    /// Components of which stock moves.
+    pub(super) stock_lines: u64,
 }
 
 impl Terms {
@@ -46,19 +49,27 @@ impl Terms {
         self.other_cash + self.shanghai_cash
     }
 
-    /// Two unit records, the stock records and those of the cash.
-    pub(super) fn record_count(&self) -> u64 {
-        2 + self.stock_records
-            + cash_record_count(self.other_cash)
-            + cash_record_count(self.shanghai_cash)
+    /// Records: two of the unit, those of stock and those of cash. Reports to
+    /// each party: one of the unit, those of stock and one of all cash.
+    pub(super) fn counts(&self) -> Counts {
+        let (other, shanghai) = (self.other_cash, self.shanghai_cash);
+        Counts {
+            records: 2 + self.stock_lines + cash_record_count(other) + cash_record_count(shanghai),
+            reports: 1 + self.stock_lines + cash_report_count(self.cash()),
+        }
     }
 
-    /// Refusal 16: `room` is the length of the lent list in numbers.
-    pub(super) fn test_room(&self, room: u64) -> Result<(), Refusal> {
-        if room / (RECORD_NUMBERS as u64) < self.record_count() {
-            return Err(Refusal::new(LIST_TOO_SHORT));
+    /// Refusal 16: a list of such a length is too short.
+    pub(super) fn test_room(&self, lengths: Lengths) -> Result<(), Refusal> {
+        let Counts { records, reports } = self.counts();
+        let has_room = |length: usize, width: usize, count: u64| (length / width) as u64 >= count;
+        let fits = has_room(lengths.records, RECORD_NUMBERS, records)
+            && has_room(lengths.investor, REPORT_NUMBERS, reports)
+            && has_room(lengths.fund, REPORT_NUMBERS, reports);
+        match fits {
+            true => Ok(()),
+            false => Err(Refusal::new(LIST_TOO_SHORT)),
         }
-        Ok(())
     }
 }
 
@@ -91,19 +102,19 @@ pub(super) fn test_order(
 }
 
 /// Units of the order's kind after it, and units of the other kind.
-struct Counts {
+struct UnitCounts {
     after: u64,
     reverse: u64,
 }
 
-impl Counts {
+impl UnitCounts {
     fn new(kind: Kind, units: u64, created: u64, redeemed: u64) -> Self {
         match kind {
-            Kind::Creation => Counts {
+            Kind::Creation => UnitCounts {
                 after: created + units,
                 reverse: redeemed,
             },
-            Kind::Redemption => Counts {
+            Kind::Redemption => UnitCounts {
                 after: redeemed + units,
                 reverse: created,
             },
@@ -120,9 +131,9 @@ impl Counts {
 fn passes_a_limit(day: &Day, book: &[u64], kind: Kind, account: u64, units: u64) -> bool {
     let width = book::stretch_width(day.count as usize);
     let (created, redeemed) = fund_wide_counts(book, width);
-    let fund_wide = Counts::new(kind, units, created, redeemed);
+    let fund_wide = UnitCounts::new(kind, units, created, redeemed);
     let stretch = book::stretch(book, width, account);
-    let own = Counts::new(kind, units, stretch[CREATED], stretch[REDEEMED]);
+    let own = UnitCounts::new(kind, units, stretch[CREATED], stretch[REDEEMED]);
     // The list text has the limits of creation at even places.
     let at = if kind == Kind::Creation { 0 } else { 1 };
     let limits = &day.fund.limits;

@@ -3,39 +3,40 @@
 use super::book::{
     self, fund_and_account, handable, lots, lots_mut, stretch, CASH, GOT, OLD, REDEEMED,
 };
+use super::order_lists::{Lengths, Lists};
+use super::order_writer::OrderWriter;
 use super::orders::{less_discount, test_order, Kind, Terms};
-use super::records::{RecordWriter, BUY, SELL};
-use super::refusal::{Refusal, Reply, FUND_SHORT, SHORT_OF_STOCK};
+use super::refusal::{Counts, Refusal, Reply, FUND_SHORT, SHORT_OF_STOCK};
 use super::soundness::test_day;
 use super::types::{Component, Day};
 
-/// Redeems `units` of the account and writes the records to the lent list;
-/// the value of the reply is their count.
+/// Redeems `units` of the account and writes the records and the reports to
+/// the lent lists; the reply has their counts.
 pub fn redeem(
     day: &Day,
     book: &mut [u64],
     prices: &[u64],
     account: u64,
     units: u64,
-    records: &mut [u64],
+    lists: Lists<'_>,
 ) -> Reply {
     test_day(day, book, prices)
-        .and_then(|()| redeem_on_sound_day(day, book, account, units, records))
+        .and_then(|()| redeem_on_sound_day(day, book, account, units, lists))
         .into()
 }
 
-/// The reply that a redemption with a list of `room` numbers would give.
+/// The reply that a redemption with lists of such lengths would give.
 pub fn test_redemption(
     day: &Day,
     book: &[u64],
     prices: &[u64],
     account: u64,
     units: u64,
-    room: u64,
+    lengths: Lengths,
 ) -> Reply {
     test_day(day, book, prices)
-        .and_then(|()| test_on_sound_day(day, book, account, units, room))
-        .map(|terms| terms.record_count())
+        .and_then(|()| test_on_sound_day(day, book, account, units, lengths))
+        .map(|terms| terms.counts())
         .into()
 }
 
@@ -44,22 +45,19 @@ pub(super) fn redeem_on_sound_day(
     book: &mut [u64],
     account: u64,
     units: u64,
-    records: &mut [u64],
-) -> Result<u64, Refusal> {
-    let terms = test_on_sound_day(day, book, account, units, records.len() as u64)?;
+    lists: Lists<'_>,
+) -> Result<Counts, Refusal> {
+    let lengths = lists.as_ref().map(|list| list.len());
+    let terms = test_on_sound_day(day, book, account, units, lengths)?;
     let width = book::stretch_width(day.count as usize);
     let (fund, own) = fund_and_account(book, width, account);
-    let mut writer = RecordWriter::new(records);
-    writer.moved(day.fund.first_code, SELL, units);
+    let mut writer = OrderWriter::start(Kind::Redemption, day.fund.first_code, units, lists);
     deliver_stock(day, terms.baskets, fund, own, &mut writer);
-    writer.cash(day.fund.first_code + 5, SELL, terms.other_cash);
-    writer.cash(day.fund.first_code + 2, SELL, terms.shanghai_cash);
-    writer.moved(day.fund.first_code + 1, SELL, units);
     fund[CASH] -= terms.cash();
     own[CASH] += terms.cash();
     own[REDEEMED] += units;
     book::hand_in(lots_mut(own, day.count as usize), units);
-    Ok(writer.count())
+    Ok(writer.finish(&terms))
 }
 
 /// Moves the stock in full from the fund's old lots to the account's got lots.
@@ -68,14 +66,14 @@ fn deliver_stock(
     baskets: u64,
     fund: &mut [u64],
     own: &mut [u64],
-    writer: &mut RecordWriter<'_>,
+    writer: &mut OrderWriter<'_>,
 ) {
     for (line, component) in day.listed().iter().enumerate() {
         let delivered = baskets * component.quantity;
         if component.flag_row().moves_stock && delivered > 0 {
             lots_mut(fund, line)[OLD] -= delivered;
             lots_mut(own, line)[GOT] += delivered;
-            writer.moved(component.code, BUY, delivered);
+            writer.stock(component.code, delivered);
         }
     }
 }
@@ -85,7 +83,7 @@ pub(super) fn test_on_sound_day(
     book: &[u64],
     account: u64,
     units: u64,
-    room: u64,
+    lengths: Lengths,
 ) -> Result<Terms, Refusal> {
     let baskets = test_order(day, book, Kind::Redemption, account, units)?;
     let width = book::stretch_width(day.count as usize);
@@ -98,7 +96,7 @@ pub(super) fn test_on_sound_day(
     if fund[CASH] < terms.cash() {
         return Err(Refusal::at(FUND_SHORT, day.count as usize));
     }
-    terms.test_room(room)?;
+    terms.test_room(lengths)?;
     Ok(terms)
 }
 
@@ -115,7 +113,7 @@ fn add_up(day: &Day, fund: &[u64], baskets: u64) -> Result<Terms, Refusal> {
         if lots(fund, line)[OLD] < need {
             return Err(Refusal::at(FUND_SHORT, line));
         }
-        terms.stock_records += u64::from(need > 0);
+        terms.stock_lines += u64::from(need > 0);
     }
     Ok(terms)
 }

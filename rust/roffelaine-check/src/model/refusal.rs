@@ -32,7 +32,7 @@ pub const LIMIT: u64 = 13;
 pub const NO_REFERENCE_VALUE: u64 = 14;
 /// The maximum cash ratio would be passed.
 pub const CASH_RATIO: u64 = 15;
-/// The lent record list, component list or output is too short.
+/// A lent list of records or reports, component list or output is too short.
 pub const LIST_TOO_SHORT: u64 = 16;
 /// The fund is short of stock or cash.
 pub const FUND_SHORT: u64 = 17;
@@ -71,13 +71,23 @@ impl fmt::Display for Refusal {
 
 impl std::error::Error for Refusal {}
 
-/// The answer to a call as three numbers. Number 0 is accepted; the value is
-/// the count of records or bytes, or the reference value, else 0.
+/// How many records an accepted order makes, and how many reports to each
+/// party.
+#[derive(Clone, Copy, Debug, Default, PartialEq, Eq)]
+pub struct Counts {
+    pub records: u64,
+    pub reports: u64,
+}
+
+/// The answer to a call as four numbers. Number 0 is accepted; the value is
+/// the count of records or bytes, or the reference value, else 0; the count of
+/// reports is 0 but for orders.
 #[derive(Clone, Copy, Debug, Default, PartialEq, Eq)]
 pub struct Reply {
     pub number: u64,
     pub place: u64,
     pub value: u64,
+    pub reports: u64,
 }
 
 impl Reply {
@@ -86,6 +96,26 @@ impl Reply {
             number: 0,
             place: 0,
             value,
+            reports: 0,
+        }
+    }
+
+    /// An order that made so much.
+    pub const fn made(counts: Counts) -> Self {
+        Reply {
+            number: 0,
+            place: 0,
+            value: counts.records,
+            reports: counts.reports,
+        }
+    }
+
+    pub const fn refused(number: u64, place: u64) -> Self {
+        Reply {
+            number,
+            place,
+            value: 0,
+            reports: 0,
         }
     }
 
@@ -94,8 +124,8 @@ impl Reply {
     }
 
     /// As an answer of the driver.
-    pub const fn numbers(&self) -> [u64; 3] {
-        [self.number, self.place, self.value]
+    pub const fn numbers(&self) -> [u64; 4] {
+        [self.number, self.place, self.value, self.reports]
     }
 
     /// The value of an accepted call, or its refusal.
@@ -112,19 +142,18 @@ impl Reply {
 
 impl From<Refusal> for Reply {
     fn from(refusal: Refusal) -> Self {
-        Reply {
-            number: refusal.number,
-            place: refusal.place,
-            value: 0,
-        }
+        Reply::refused(refusal.number, refusal.place)
     }
 }
 
 impl From<Result<u64, Refusal>> for Reply {
     fn from(answer: Result<u64, Refusal>) -> Self {
-        match answer {
-            Ok(value) => Reply::accepted(value),
-            Err(refusal) => refusal.into(),
-        }
+        answer.map_or_else(Reply::from, Reply::accepted)
+    }
+}
+
+impl From<Result<Counts, Refusal>> for Reply {
+    fn from(answer: Result<Counts, Refusal>) -> Self {
+        answer.map_or_else(Reply::from, Reply::made)
     }
 }

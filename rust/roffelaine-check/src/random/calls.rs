@@ -3,8 +3,8 @@
 use super::{Rng, Scale};
 use crate::engine::Lent;
 use crate::model::{
-    range, stretch_width, test_creation, test_redemption, Call, Day, Order, Reply, Trade, LOTS,
-    RECORD_NUMBERS, STRETCH_HEAD,
+    lengths_for, range, stretch_width, test_creation, test_redemption, Call, Counts, Day, Lengths,
+    Order, PerList, Reply, Trade, LOTS, RECORD_NUMBERS, REPORT_NUMBERS, STRETCH_HEAD,
 };
 
 /// A price for nearly every component, so that there is a reference value.
@@ -133,24 +133,17 @@ fn account(rng: &mut Rng, lent: &Lent) -> u64 {
 }
 
 /// The test of an order, called alone.
-type OrderTest = fn(&Day, &[u64], &[u64], u64, u64, u64) -> Reply;
+type OrderTest = fn(&Day, &[u64], &[u64], u64, u64, Lengths) -> Reply;
 
 fn order(rng: &mut Rng, lent: &Lent, make: fn(Order) -> Call, test: OrderTest) -> Call {
     let account = account(rng, lent);
     let units = units(rng, lent.day.fund.basket_size);
-    let reply = test(
-        &lent.day,
-        &lent.book,
-        &lent.prices,
-        account,
-        units,
-        u64::MAX,
-    );
-    let room = record_room(rng, reply.value as usize, lent.records.len());
+    let most = lent.runs.lengths();
+    let reply = test(&lent.day, &lent.book, &lent.prices, account, units, most);
     make(Order {
         account,
         units,
-        room,
+        lengths: list_lengths(rng, reply, most),
     })
 }
 
@@ -170,17 +163,41 @@ fn units(rng: &mut Rng, basket_size: u64) -> u64 {
     }
 }
 
-/// A length for the record list of an order that makes `count` records: just
-/// enough, a number off, too short or all there is.
-pub(super) fn record_room(rng: &mut Rng, count: usize, most: usize) -> usize {
-    let needed = RECORD_NUMBERS * count;
-    let room = match rng.below(12) {
-        0 => needed.saturating_sub(1),
-        1 => needed + 1,
-        2 => rng.index(needed + 1),
-        3 => 0,
-        4..=6 => needed,
-        _ => most,
+/// Lengths for the lists of an order that has this reply where it is lent the
+/// most: each just enough or all there is, and at times one or all of another
+/// length.
+pub(super) fn list_lengths(rng: &mut Rng, reply: Reply, most: Lengths) -> Lengths {
+    let needed = lengths_for(Counts {
+        records: reply.value,
+        reports: reply.reports,
+    });
+    let widths = PerList::from([RECORD_NUMBERS, REPORT_NUMBERS, REPORT_NUMBERS]);
+    let odd = match rng.below(24) {
+        0..=1 => [true; 3],
+        2..=8 => {
+            let one = rng.index(3);
+            std::array::from_fn(|list| list == one)
+        }
+        _ => [false; 3],
     };
-    room.min(most)
+    let lists = needed.zip(widths).zip(odd.into());
+    let lengths = lists.map(|((needed, width), is_odd)| match is_odd {
+        true => odd_length(rng, needed, width),
+        false if rng.one_in(3) => needed,
+        false => usize::MAX,
+    });
+    let lengths = lengths.zip(most);
+    lengths.map(|(length, most)| length.min(most))
+}
+
+/// A length about that which a list needs, or shorter.
+fn odd_length(rng: &mut Rng, needed: usize, width: usize) -> usize {
+    match rng.below(7) {
+        0..=1 => needed.saturating_sub(1),
+        2 => needed.saturating_sub(width),
+        3 => needed + 1,
+        4 => needed + width - 1,
+        5 => rng.index(needed + 1),
+        _ => 0,
+    }
 }

@@ -12,7 +12,7 @@ pub fn edge_call(rng: &mut Rng, lent: &mut Lent) -> Call {
     let order = Order {
         account: rng.between(1, lent.day.accounts - 1),
         units: lent.day.fund.basket_size * rng.between(1, 4),
-        room: lent.records.len(),
+        lengths: lent.runs.lengths(),
     };
     let make: fn(Order) -> Call = if rng.one_in(2) {
         Call::Create
@@ -256,9 +256,9 @@ fn tune_value(rng: &mut Rng, lent: &mut Lent) -> Call {
     Call::Value
 }
 
-/// The record list is just long enough, or nearly.
+/// The lists are just long enough, or nearly.
 fn tune_room(rng: &mut Rng, lent: &Lent, make: fn(Order) -> Call, order: Order) -> Call {
     let (reply, _) = outcome(lent, &make(order));
-    let room = calls::record_room(rng, reply.value as usize, lent.records.len());
-    make(Order { room, ..order })
+    let lengths = calls::list_lengths(rng, reply, lent.runs.lengths());
+    make(Order { lengths, ..order })
 }

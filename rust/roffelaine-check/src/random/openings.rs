@@ -3,7 +3,7 @@
 use super::damage::{damage_component_run, damage_fund, damage_length};
 use super::{lists, Rng, Scale, Size};
 use crate::engine::Lent;
-use crate::model::{book_length, range, Component, Day, Fund, Opening, RECORD_NUMBERS};
+use crate::model::{book_length, lengths_for, range, Component, Counts, Day, Fund, Opening};
 
 /// An opening with what its book and prices hold beforehand.
 #[derive(Clone, Debug)]
@@ -60,13 +60,18 @@ impl OpeningCase {
         }
     }
 
-    /// The runs to lend, with a record list long enough for any order.
+    /// The runs to lend, with lists long enough for any order.
     pub fn lent(&self, rng: &mut Rng) -> Lent {
+        let count = self.prices.len() as u64;
+        let most = lengths_for(Counts {
+            records: count + 6,
+            reports: count + 2,
+        });
         Lent {
             day: Day::blank(),
             book: self.book.clone(),
             prices: self.prices.clone(),
-            records: rng.numbers(RECORD_NUMBERS * (self.prices.len() + 6) + 16),
+            runs: most.map(|length| rng.numbers(length + 16)),
         }
     }
 

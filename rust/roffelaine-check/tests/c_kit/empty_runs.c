@@ -9,7 +9,7 @@
 
 #include "paper_day.h"
 
-enum { MOST_RUNS = 6, ROWS = 3, ORDERS = 2 };
+enum { MOST_RUNS = 8, ROWS = 3, ORDERS = 2 };
 
 /* A run that a call is lent: where its numbers are kept, how many bytes one takes, and what is passed. */
 struct run {
@@ -27,11 +27,13 @@ struct call {
     struct run runs[MOST_RUNS];
 };
 
-static uint64_t list[ORDERS * ROFFELAINE_RECORD_WIDTH * ROFFELAINE_MOST_RECORDS(N)];
+static uint64_t records[ORDERS * ROFFELAINE_RECORD_WIDTH * ROFFELAINE_MOST_RECORDS(N)];
+static uint64_t investor[ORDERS * ROFFELAINE_REPORT_WIDTH * ROFFELAINE_MOST_REPORTS(N)];
+static uint64_t fund[ORDERS * ROFFELAINE_REPORT_WIDTH * ROFFELAINE_MOST_REPORTS(N)];
 static uint64_t rows[ROFFELAINE_ROW_WIDTH * ROWS];
 static uint64_t answers[ROFFELAINE_ANSWER_WIDTH * ROWS];
 static uint64_t part[ROFFELAINE_PART_WIDTH];
-static uint64_t row_read;
+static uint64_t row_read, reports;
 static uint8_t names[ROFFELAINE_NAME_WIDTH * N + 1] = "ONE     TWO     THREE   FOUR    FIVE    ";
 static uint8_t letters[] = "510300";
 static uint8_t output[ROFFELAINE_LONGEST_TEXT];
@@ -67,32 +69,38 @@ static uint64_t make_reference_value(const struct run *runs, uint64_t *place, ui
 
 static uint64_t make_create(const struct run *runs, uint64_t *place, uint64_t *value)
 {
-    return roffelaine_create(NUMBERS(0), NUMBERS(1), NUMBERS(2), 1, BASKET, NUMBERS(3), place, value);
+    return roffelaine_create(
+        NUMBERS(0), NUMBERS(1), NUMBERS(2), 1, BASKET, NUMBERS(3), NUMBERS(4), NUMBERS(5), place, value, &reports);
 }
 
 static uint64_t make_redeem(const struct run *runs, uint64_t *place, uint64_t *value)
 {
-    return roffelaine_redeem(NUMBERS(0), NUMBERS(1), NUMBERS(2), 1, BASKET, NUMBERS(3), place, value);
+    return roffelaine_redeem(
+        NUMBERS(0), NUMBERS(1), NUMBERS(2), 1, BASKET, NUMBERS(3), NUMBERS(4), NUMBERS(5), place, value, &reports);
 }
 
 static uint64_t make_creation_test(const struct run *runs, uint64_t *place, uint64_t *value)
 {
-    return roffelaine_creation_test(NUMBERS(0), NUMBERS(1), NUMBERS(2), 1, BASKET, 1000, place, value);
+    return roffelaine_creation_test(
+        NUMBERS(0), NUMBERS(1), NUMBERS(2), 1, BASKET, 1000, 1000, 1000, place, value, &reports);
 }
 
 static uint64_t make_redemption_test(const struct run *runs, uint64_t *place, uint64_t *value)
 {
-    return roffelaine_redemption_test(NUMBERS(0), NUMBERS(1), NUMBERS(2), 1, BASKET, 1000, place, value);
+    return roffelaine_redemption_test(
+        NUMBERS(0), NUMBERS(1), NUMBERS(2), 1, BASKET, 1000, 1000, 1000, place, value, &reports);
 }
 
 static uint64_t make_run(const struct run *runs, uint64_t *place, uint64_t *value)
 {
-    return roffelaine_run(NUMBERS(0), NUMBERS(1), NUMBERS(2), NUMBERS(3), NUMBERS(4), NUMBERS(5), place, value);
+    return roffelaine_run(
+        NUMBERS(0), NUMBERS(1), NUMBERS(2), NUMBERS(3), NUMBERS(4), NUMBERS(5), NUMBERS(6), NUMBERS(7), place, value);
 }
 
 static uint64_t make_run_public(const struct run *runs, uint64_t *place, uint64_t *value)
 {
-    return roffelaine_run_public(NUMBERS(0), NUMBERS(1), NUMBERS(2), NUMBERS(3), NUMBERS(4), NUMBERS(5), place, value);
+    return roffelaine_run_public(
+        NUMBERS(0), NUMBERS(1), NUMBERS(2), NUMBERS(3), NUMBERS(4), NUMBERS(5), NUMBERS(6), NUMBERS(7), place, value);
 }
 
 static uint64_t make_read(const struct run *runs, uint64_t *place, uint64_t *value)
@@ -119,6 +127,7 @@ static uint64_t make_write(const struct run *runs, uint64_t *place, uint64_t *va
 
 #define NUMBER_RUN(name) {#name, name, sizeof name[0], sizeof name / sizeof name[0], NULL}
 #define DAY_RUNS NUMBER_RUN(day), NUMBER_RUN(book), NUMBER_RUN(prices)
+#define LIST_RUNS NUMBER_RUN(records), NUMBER_RUN(investor), NUMBER_RUN(fund)
 #define BYTE_RUN(name, count) {#name, name, 1, count, NULL}
 
 #define OPENING_RUNS \
@@ -132,12 +141,12 @@ static struct call calls[] = {
     {"price", make_price, 3, {DAY_RUNS}},
     {"trade", make_trade, 3, {DAY_RUNS}},
     {"reference_value", make_reference_value, 3, {DAY_RUNS}},
-    {"create", make_create, 4, {DAY_RUNS, NUMBER_RUN(list)}},
-    {"redeem", make_redeem, 4, {DAY_RUNS, NUMBER_RUN(list)}},
+    {"create", make_create, 6, {DAY_RUNS, LIST_RUNS}},
+    {"redeem", make_redeem, 6, {DAY_RUNS, LIST_RUNS}},
     {"creation_test", make_creation_test, 3, {DAY_RUNS}},
     {"redemption_test", make_redemption_test, 3, {DAY_RUNS}},
-    {"run", make_run, 6, {DAY_RUNS, NUMBER_RUN(rows), NUMBER_RUN(list), NUMBER_RUN(answers)}},
-    {"run_public", make_run_public, 6, {DAY_RUNS, NUMBER_RUN(rows), NUMBER_RUN(list), NUMBER_RUN(answers)}},
+    {"run", make_run, 8, {DAY_RUNS, NUMBER_RUN(rows), LIST_RUNS, NUMBER_RUN(answers)}},
+    {"run_public", make_run_public, 8, {DAY_RUNS, NUMBER_RUN(rows), LIST_RUNS, NUMBER_RUN(answers)}},
     {"read", make_read, 3, {BYTE_RUN(text, 0), NUMBER_RUN(component_run), NUMBER_RUN(fields)}},
     {"name", make_name, 2, {BYTE_RUN(text, 0), NUMBER_RUN(part)}},
     {"letters", make_letters, 2, {BYTE_RUN(text, 0), NUMBER_RUN(part)}},
@@ -147,9 +156,12 @@ static struct call calls[] = {
 };
 enum { CALLS = sizeof calls / sizeof calls[0] };
 
-/* What a call answers and leaves: its three numbers, and all numbers of its runs, those that were not passed too. */
+/*
+ * What a call answers and leaves: its three numbers, the row of a reading and the reports of an order, and all numbers of its runs,
+ * those that were not passed too.
+ */
 struct outcome {
-    uint64_t answer[4];
+    uint64_t answer[5];
     size_t length;
     uint8_t left[1 << 16];
 };
@@ -189,9 +201,10 @@ static void make(const struct call *call, unsigned empty, int own, void *pointer
         runs[k].pointer = is_empty && !own ? pointer : runs[k].kept;
         runs[k].count = is_empty ? 0 : runs[k].count;
     }
-    row_read = 7;
+    row_read = reports = 7;
     outcome->answer[0] = call->make(runs, &outcome->answer[1], &outcome->answer[2]);
     outcome->answer[3] = row_read;
+    outcome->answer[4] = reports;
     keep(call, outcome);
     put_back(call, &before);
 }
@@ -231,15 +244,14 @@ static void try_call(const struct call *call, void *untouchable)
 
 int main(int count, char **words)
 {
-    const size_t room = ROFFELAINE_RECORD_WIDTH * ROFFELAINE_MOST_RECORDS(N);
     void *untouchable = mmap(NULL, 4096, PROT_NONE, MAP_PRIVATE | MAP_ANONYMOUS, -1, 0);
     size_t at, k;
     must(count == 2, "the list text is named");
     must(untouchable != MAP_FAILED, "there is memory that may not be touched");
     open_paper_day(words[1]);
     roffelaine_row_price(rows, 0, 2, 10002);
-    roffelaine_row_create(rows, 1, 1, BASKET, 0, room);
-    roffelaine_row_redeem(rows, 2, 1, BASKET, room, room);
+    roffelaine_row_create(rows, 1, 1, BASKET, roffelaine_ample_lists(N, 0));
+    roffelaine_row_redeem(rows, 2, 1, BASKET, roffelaine_ample_lists(N, 1));
     for (at = 0; at < CALLS; at++)
         for (k = 0; k < calls[at].count; k++)
             if (calls[at].runs[k].kept == text)

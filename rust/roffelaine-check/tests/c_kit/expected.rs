@@ -10,6 +10,14 @@ pub const EXAMPLE: &str = "\
 510302 B 1000000 0.173 173000.000
 510302 B 1 408.000 408.000
 510301 B 1000000 0.000 0.000
+investor 1 1 510300 1000000
+investor 2 2 600000 3072
+investor 2 2 600036 3000
+investor 3 1 000000 0 1 173408.000 2 113600.000
+fund 1 2 510300 1000000
+fund 2 1 600000 3072
+fund 2 1 600036 3000
+fund 3 2 000000 0 1 173408.000 2 113600.000
 redeem refused 9 0: short of stock or units
 units old 0 bought 0 got 1000000
 price ok 0
@@ -26,6 +34,14 @@ redeem refused 9 0: short of stock or units
 510302 B 1000000 0.173 173000.000
 510302 B 1 408.000 408.000
 510301 B 1000000 0.000 0.000
+investor 1 1 510300 1000000
+investor 2 2 600000 3072
+investor 2 2 600036 3000
+investor 3 1 000000 0 1 173408.000 2 113600.000
+fund 1 2 510300 1000000
+fund 2 1 600000 3072
+fund 2 1 600036 3000
+fund 3 2 000000 0 1 173408.000 2 113600.000
 line 4, column 14: a field of the list is not written as it must be
 ";
 
@@ -37,12 +53,12 @@ open, no account 1, fund 1, component_run 1, holdings 1, book 1, prices 1, day 1
 price 0, day 5, book 5, prices 5, all 5
 trade 0, day 5, book 5, prices 5, all 5
 reference_value 0, day 5, book 5, prices 5, all 5
-create 0, day 5, book 5, prices 5, list 16, all 5
-redeem 0, day 5, book 5, prices 5, list 16, all 5
+create 0, day 5, book 5, prices 5, records 16, investor 16, fund 16, all 5
+redeem 0, day 5, book 5, prices 5, records 16, investor 16, fund 16, all 5
 creation_test 0, day 5, book 5, prices 5, all 5
 redemption_test 0, day 5, book 5, prices 5, all 5
-run 0, day 0, book 0, prices 0, rows 1, list 0, answers 1, all 0
-run_public 0, day 0, book 0, prices 0, rows 1, list 0, answers 1, all 0
+run 0, day 0, book 0, prices 0, rows 1, records 0, investor 0, fund 0, answers 1, all 0
+run_public 0, day 0, book 0, prices 0, rows 1, records 0, investor 0, fund 0, answers 1, all 0
 read 0, text 18, component_run 16, fields 1, all 1
 name 8, text 0, part 8, all 0
 letters 6, text 0, part 6, all 0
@@ -51,12 +67,12 @@ not open
 price 5, day 5, book 5, prices 5, all 5
 trade 5, day 5, book 5, prices 5, all 5
 reference_value 5, day 5, book 5, prices 5, all 5
-create 5, day 5, book 5, prices 5, list 5, all 5
-redeem 5, day 5, book 5, prices 5, list 5, all 5
+create 5, day 5, book 5, prices 5, records 5, investor 5, fund 5, all 5
+redeem 5, day 5, book 5, prices 5, records 5, investor 5, fund 5, all 5
 creation_test 5, day 5, book 5, prices 5, all 5
 redemption_test 5, day 5, book 5, prices 5, all 5
-run 0, day 0, book 0, prices 0, rows 1, list 0, answers 1, all 0
-run_public 0, day 0, book 0, prices 0, rows 1, list 0, answers 1, all 0
+run 0, day 0, book 0, prices 0, rows 1, records 0, investor 0, fund 0, answers 1, all 0
+run_public 0, day 0, book 0, prices 0, rows 1, records 0, investor 0, fund 0, answers 1, all 0
 ";
 
 /// `vectors.cpp`: every call in the header's order with all its runs empty.
@@ -147,11 +163,11 @@ Recordnum 5
 component 1 8000 3 10000 10000 96000000
 component 7 8 9 10 11 12
 signed -1000000000000000000 5
-answer 0 0 8
-answer 0 0 8
-answer 0 0 0
-answer 0 0 4257
-answer 6 0 0
+answer 0 0 8 4
+answer 0 0 8 4
+answer 0 0 0 0
+answer 0 0 4257 0
+answer 6 0 0 0
 510300 S 1000000 0 0
 600000 B 5200 0 0
 600036 B 3000 0 0
@@ -160,7 +176,20 @@ answer 6 0 0
 510302 S 1000000 150 150000000
 510302 S 1 0 0
 510301 S 1000000 0 0
+investor 1 2 510300 1000000 0 0 0 0 0 0
+investor 2 1 600000 5200 0 0 0 0 0 0
+investor 2 1 600036 3000 0 0 0 0 0 0
+investor 3 2 0 0 1 150000000 2 94400000 0 0
+fund 1 1 510300 1000000 0 0 0 0 0 0
+fund 2 2 600000 5200 0 0 0 0 0 0
+fund 2 2 600036 3000 0 0 0 0 0 0
+fund 3 1 0 0 1 150000000 2 94400000 0 0
 side ?
+row 1 2 3 0 0 0 0 0 0
+row 2 4 5 6 7 8 0 0 0
+row 3 9 10 11 12 13 14 15 16
+row 4 9 10 11 12 13 14 15 16
+row 5 0 0 0 0 0 0 0 0
 account 1: cash 957818000 created 1000000 redeemed 1000000
 0 0 0
 0 0 0

@@ -105,35 +105,75 @@ static void print_account(size_t account)
     }
 }
 
+static void print_reports(const char *party, const uint64_t *list, size_t count)
+{
+    size_t k, group;
+    for (k = 0; k < count; k++) {
+        const struct roffelaine_report report = roffelaine_report_at(list, k);
+        printf("%s %" PRIu64 " %" PRIu64 " %" PRIu64 " %" PRIu64, party, report.type, report.side, report.code, report.quantity);
+        for (group = 0; group < ROFFELAINE_MOST_GROUPS; group++)
+            printf(" %" PRIu64 " %" PRIu64, report.groups[group].kind, report.groups[group].amount);
+        printf("\n");
+    }
+}
+
 /* A trade, an order of each kind, the value and a price that is refused, as one list. */
 static void print_run(void)
 {
-    enum { ROWS = 5 };
-    const size_t room = ROFFELAINE_RECORD_WIDTH * ROFFELAINE_MOST_RECORDS(N);
-    uint64_t list[2 * ROFFELAINE_RECORD_WIDTH * ROFFELAINE_MOST_RECORDS(N)];
+    enum { ROWS = 5, ORDERS = 2 };
+    const struct roffelaine_order_lists second = roffelaine_ample_lists(N, 1);
+    uint64_t records[ORDERS * ROFFELAINE_RECORD_WIDTH * ROFFELAINE_MOST_RECORDS(N)];
+    uint64_t investor[ORDERS * ROFFELAINE_REPORT_WIDTH * ROFFELAINE_MOST_REPORTS(N)];
+    uint64_t fund[ORDERS * ROFFELAINE_REPORT_WIDTH * ROFFELAINE_MOST_REPORTS(N)];
     uint64_t rows[ROFFELAINE_ROW_WIDTH * ROWS], answers[ROFFELAINE_ANSWER_WIDTH * ROWS], place, value;
+    struct roffelaine_answer answer;
     size_t k;
-    roffelaine_row_create(rows, 0, 1, BASKET, 0, room);
-    roffelaine_row_redeem(rows, 1, 1, BASKET, room, room);
+    roffelaine_row_create(rows, 0, 1, BASKET, roffelaine_ample_lists(N, 0));
+    roffelaine_row_redeem(rows, 1, 1, BASKET, second);
     roffelaine_row_trade(rows, 2, N, 1000, 426, 1, 2);
     roffelaine_row_value(rows, 3);
     roffelaine_row_price(rows, 4, N, 426);
     must(
         roffelaine_run(
             day, ROFFELAINE_DAY_WIDTH, book, ROFFELAINE_BOOK_LENGTH(ACCOUNTS, N), prices, N, rows, ROFFELAINE_ROW_WIDTH * ROWS,
-            list, 2 * room, answers, ROFFELAINE_ANSWER_WIDTH * ROWS, &place, &value) == ROFFELAINE_ACCEPTED,
+            records, sizeof records / sizeof records[0], investor, sizeof investor / sizeof investor[0],
+            fund, sizeof fund / sizeof fund[0], answers, ROFFELAINE_ANSWER_WIDTH * ROWS, &place, &value) == ROFFELAINE_ACCEPTED,
         "the list of calls is made");
     for (k = 0; k < ROWS; k++) {
-        const struct roffelaine_answer answer = roffelaine_answer_at(answers, k);
-        printf("answer %" PRIu64 " %" PRIu64 " %" PRIu64 "\n", answer.number, answer.place, answer.value);
+        answer = roffelaine_answer_at(answers, k);
+        printf("answer %" PRIu64 " %" PRIu64 " %" PRIu64 " %" PRIu64 "\n", answer.number, answer.place, answer.value, answer.reports);
     }
-    for (k = 0; k < roffelaine_answer_at(answers, 1).value; k++) {
-        const struct roffelaine_record record = roffelaine_record_at(list + room, k);
+    answer = roffelaine_answer_at(answers, 1);
+    for (k = 0; k < answer.value; k++) {
+        const struct roffelaine_record record = roffelaine_record_at(records + second.records.start, k);
         printf(
             "%" PRIu64 " %c %" PRIu64 " %" PRIu64 " %" PRIu64 "\n", record.code, roffelaine_side_letter(record.side),
             record.quantity, record.price, record.amount);
     }
+    print_reports("investor", investor + second.investor.start, (size_t)answer.reports);
+    print_reports("fund", fund + second.fund.start, (size_t)answer.reports);
     printf("side %c\n", roffelaine_side_letter(0));
+}
+
+/* A row of each kind with arguments that count on; what the run held before stands nowhere. */
+static void print_rows(void)
+{
+    enum { ROWS = 5 };
+    static const struct roffelaine_order_lists lists = {{11, 12}, {13, 14}, {15, 16}};
+    uint64_t rows[ROFFELAINE_ROW_WIDTH * ROWS];
+    size_t k, at;
+    memset(rows, 0xff, sizeof rows);
+    roffelaine_row_price(rows, 0, 2, 3);
+    roffelaine_row_trade(rows, 1, 4, 5, 6, 7, 8);
+    roffelaine_row_create(rows, 2, 9, 10, lists);
+    roffelaine_row_redeem(rows, 3, 9, 10, lists);
+    roffelaine_row_value(rows, 4);
+    for (k = 0; k < ROWS; k++) {
+        printf("row");
+        for (at = 0; at < ROFFELAINE_ROW_WIDTH; at++)
+            printf(" %" PRIu64, rows[ROFFELAINE_ROW_WIDTH * k + at]);
+        printf("\n");
+    }
 }
 
 int main(int count, char **words)
@@ -145,6 +185,7 @@ int main(int count, char **words)
     print_lines();
     print_fields();
     print_run();
+    print_rows();
     print_account(1);
     print_account(2);
     return 0;

@@ -14,18 +14,18 @@ static std::vector<uint8_t> bytes;
 
 int main()
 {
-    uint64_t place, value, first_row;
+    uint64_t place, value, reports, first_row;
     const uint64_t answers[] = {
         roffelaine_open(0, 0, NUMBERS, NUMBERS, NUMBERS, NUMBERS, NUMBERS, NUMBERS, &place, &value),
         roffelaine_price(NUMBERS, NUMBERS, NUMBERS, 0, 1, &place, &value),
         roffelaine_trade(NUMBERS, NUMBERS, NUMBERS, 0, 1, 1, 1, 2, &place, &value),
         roffelaine_reference_value(NUMBERS, NUMBERS, NUMBERS, &place, &value),
-        roffelaine_create(NUMBERS, NUMBERS, NUMBERS, 1, 1, NUMBERS, &place, &value),
-        roffelaine_redeem(NUMBERS, NUMBERS, NUMBERS, 1, 1, NUMBERS, &place, &value),
-        roffelaine_creation_test(NUMBERS, NUMBERS, NUMBERS, 1, 1, 0, &place, &value),
-        roffelaine_redemption_test(NUMBERS, NUMBERS, NUMBERS, 1, 1, 0, &place, &value),
-        roffelaine_run(NUMBERS, NUMBERS, NUMBERS, NUMBERS, NUMBERS, NUMBERS, &place, &value),
-        roffelaine_run_public(NUMBERS, NUMBERS, NUMBERS, NUMBERS, NUMBERS, NUMBERS, &place, &value),
+        roffelaine_create(NUMBERS, NUMBERS, NUMBERS, 1, 1, NUMBERS, NUMBERS, NUMBERS, &place, &value, &reports),
+        roffelaine_redeem(NUMBERS, NUMBERS, NUMBERS, 1, 1, NUMBERS, NUMBERS, NUMBERS, &place, &value, &reports),
+        roffelaine_creation_test(NUMBERS, NUMBERS, NUMBERS, 1, 1, 0, 0, 0, &place, &value, &reports),
+        roffelaine_redemption_test(NUMBERS, NUMBERS, NUMBERS, 1, 1, 0, 0, 0, &place, &value, &reports),
+        roffelaine_run(NUMBERS, NUMBERS, NUMBERS, NUMBERS, NUMBERS, NUMBERS, NUMBERS, NUMBERS, &place, &value),
+        roffelaine_run_public(NUMBERS, NUMBERS, NUMBERS, NUMBERS, NUMBERS, NUMBERS, NUMBERS, NUMBERS, &place, &value),
         roffelaine_read(BYTES, NUMBERS, NUMBERS, &first_row, &place, &value),
         roffelaine_name(BYTES, 0, 0, NUMBERS),
         roffelaine_letters(BYTES, NUMBERS),

@@ -3,9 +3,9 @@
 use super::looks::How;
 use super::text::{account_name, code, counted, shortened, Escaped};
 use super::words::arguments;
-use super::{positions, records, runs, totals, Kept};
+use super::{positions, records, reports, runs, totals, Kept};
 use crate::posting::Posting;
-use crate::report::{Answer, Made, Position, Refused, Said, Total};
+use crate::said::{Answer, Made, Position, Refused, Said, Total};
 use crate::statement::Call;
 use roffelaine::List;
 use std::io::{self, Write};
@@ -112,7 +112,8 @@ impl<W: Write> Calls<'_, W> {
                 self.start(line, How::Plain, &said, &format!("{value} yuan for a unit"))
             }
             Ok(made) => {
-                let how = How::of_rows(answer.records().len());
+                let reports = answer.reports().map_or(0, reports::rows);
+                let how = How::of_rows(answer.records().len() + reports);
                 self.start(line, how, &said, "accepted")?;
                 self.post(call, made, opened)
             }
@@ -135,14 +136,17 @@ impl<W: Write> Calls<'_, W> {
         }
     }
 
-    /// Posts an accepted call, and writes its records.
+    /// Posts an accepted call, and writes its records, and its reports where
+    /// they are on.
     fn post(&mut self, call: &Call, made: &Made, opened: Option<&Posting>) -> io::Result<()> {
         if let Some(opened) = opened {
             self.posting = opened.clone();
         }
-        match made {
-            Made::Records(made) => {
-                records::records(self.out, self.list, &mut self.posting, call, made)
+        match (made, call.order()) {
+            (Made::Order { records, reports }, Some(order)) => {
+                records::records(self.out, self.list, &mut self.posting, call, records)?;
+                let mut reports = reports.iter();
+                reports.try_for_each(|both| reports::reports(self.out, self.list, order, both))
             }
             _ => {
                 self.posting.post(self.list, call, &[]);

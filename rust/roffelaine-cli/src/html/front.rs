@@ -2,7 +2,7 @@
 
 use super::text::{counted, grouped, Escaped};
 use super::{Kept, Page};
-use crate::report::{Counts, Said};
+use crate::said::{Counts, Said};
 use roffelaine::List;
 use std::io::{self, Write};
 

@@ -3,7 +3,7 @@
 use super::looks::How;
 use super::text::{grouped, Escaped};
 use crate::names::text_name;
-use crate::report::Position;
+use crate::said::Position;
 use crate::session::Session;
 use roffelaine::List;
 use std::io::{self, Write};

@@ -4,7 +4,7 @@ use super::looks::How;
 use super::text::{code, grouped, Escaped};
 use super::Kept;
 use crate::names::text_name;
-use crate::report::{Answer, Said};
+use crate::said::{Answer, Said};
 use crate::statement::Call;
 use crate::text::yuan;
 use roffelaine::{List, Money};

@@ -2,7 +2,7 @@
 
 use super::text::{counted, grouped, Escaped};
 use crate::names::text_name;
-use crate::report::Total;
+use crate::said::Total;
 use crate::text::figures;
 use roffelaine::List;
 use std::io::{self, Write};

@@ -151,11 +151,12 @@ impl Situation<'_> {
 
     fn records_needed(&self, kind: Kind, order: &Order) -> Option<usize> {
         let (account, units) = (order.account as usize, order.units);
-        let ample = self.day.most_records();
-        match kind {
-            Kind::Creation => self.day.test_creation(account, units, ample).ok(),
-            Kind::Redemption => self.day.test_redemption(account, units, ample).ok(),
-        }
+        let ample = self.day.ample_rooms();
+        let counts = match kind {
+            Kind::Creation => self.day.test_creation(account, units, ample),
+            Kind::Redemption => self.day.test_redemption(account, units, ample),
+        };
+        counts.ok().map(|counts| counts.records)
     }
 
     /// The cash that the order takes or pays: the day book makes the same order
@@ -163,11 +164,11 @@ impl Situation<'_> {
     /// missing.
     fn cash_of(&self, kind: Kind, order: &Order) -> Option<Money> {
         let mut day = self.ample_day(kind, order)?;
-        let records = match kind {
+        let made = match kind {
             Kind::Creation => day.create(1, order.units),
             Kind::Redemption => day.redeem(1, order.units),
         };
-        Some(paid(&records.ok()?))
+        Some(paid(&made.ok()?.records))
     }
 
     /// A day with the fund and one account, which has the order's stock as it is

@@ -1,7 +1,7 @@
 //! The orders and trades of a day that were accepted.
 
 use crate::posting::FUND;
-use crate::report::{Answer, Entry, Said};
+use crate::said::{Answer, Entry, Reports, Said};
 use crate::statement::Call;
 use roffelaine::{Record, Side};
 use std::fmt;
@@ -32,7 +32,9 @@ pub struct Moving<'e> {
     /// The accounts that it moves, the lower one first: for an order the
     /// fund's and its own.
     pub accounts: [usize; 2],
-    records: &'e [Record],
+    pub records: &'e [Record],
+    /// Those of an order, where they are on.
+    pub reports: Option<&'e Reports>,
 }
 
 impl<'e> Effect<'e> {
@@ -57,6 +59,7 @@ impl<'e> Effect<'e> {
             },
             accounts,
             records: answer.records(),
+            reports: answer.reports(),
         }))
     }
 }
@@ -85,7 +88,7 @@ impl Moving<'_> {
 #[cfg(test)]
 pub mod tests {
     use super::*;
-    use crate::report::Made;
+    use crate::said::Made;
     use crate::sample;
     use crate::statement::{Order, Trade};
     use roffelaine::{Money, Units};
@@ -98,6 +101,12 @@ pub mod tests {
 
     pub fn opening(line: usize) -> Entry {
         accepted(line, Call::Open, Made::Done)
+    }
+
+    /// What an order made, with its reports off.
+    pub fn made(records: Vec<Record>) -> Made {
+        let reports = None;
+        Made::Order { records, reports }
     }
 
     /// One basket for account 1.
@@ -131,7 +140,7 @@ pub mod tests {
     fn accepted_orders_and_trades_move_two_accounts() {
         let traded = accepted(7, trade(3, 2), Made::Done);
         assert_eq!(moving(&traded).accounts, [2, 3]);
-        let created = accepted(8, creation(), Made::Records(Vec::new()));
+        let created = accepted(8, creation(), made(Vec::new()));
         assert_eq!(moving(&created).accounts, [0, 1]);
         assert_eq!(moving(&created).by.to_string(), "line 8 create");
         assert!(matches!(Effect::of(&opening(9)), Some(Effect::Opens)));
@@ -142,8 +151,8 @@ pub mod tests {
     /// The paper's creation: 113,000 and 600 yuan, 173,000 and 408.
     #[test]
     fn cash_has_its_records_and_their_sums() {
-        let records = sample::day().create(1, Units(1_000_000)).expect("records");
-        let created = accepted(8, creation(), Made::Records(records));
+        let created = sample::day().create(1, Units(1_000_000)).expect("records");
+        let created = accepted(8, creation(), made(created.records));
         let yuan = [113_000, 600, 173_000, 408, 113_600, 173_408];
         let paid = moving(&created);
         assert_eq!(paid.cash_parts(0), yuan.map(|yuan| yuan * 1_000));

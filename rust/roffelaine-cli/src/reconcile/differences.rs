@@ -105,7 +105,7 @@ mod tests {
         let posting = Posting::of(&posted_holdings);
         let positions = Positions::read(&list, rows.as_bytes());
         let mut track = Track::of(&positions);
-        track.entry(&opening(39), &posting, &day.book());
+        track.entry(&list, &opening(39), &posting, &day.book());
         let found = differences(&posting, &day.book(), &positions, &track);
         found.iter().map(|each| each.words(&list)).collect()
     }

@@ -4,7 +4,7 @@
 use super::calls::{CallLine, Effect, Moving};
 use super::parting::{CallLines, Move, Part, Parting};
 use crate::posting::Posting;
-use crate::report::Entry;
+use crate::said::Entry;
 use std::collections::BTreeMap;
 
 /// The positions that differ, by account and place.
@@ -98,9 +98,9 @@ impl Wanted {
 
 #[cfg(test)]
 mod tests {
-    use super::super::calls::tests::{accepted, creation, opening, trade};
+    use super::super::calls::tests::{accepted, creation, made, opening, trade};
     use super::*;
-    use crate::report::Made;
+    use crate::said::Made;
     use crate::sample::{day, holdings, list, CASH, CMB, UNIT};
     use roffelaine::Units;
 
@@ -111,9 +111,9 @@ mod tests {
         search.want(1, place, missing);
         let mut posting = Posting::of(&holdings());
         search.entry(&opening(39), &posting);
-        let records = day().create(1, Units(1_000_000)).expect("records");
+        let records = day().create(1, Units(1_000_000)).expect("records").records;
         posting.post(&list(), &creation(), &records);
-        let created = accepted(43, creation(), Made::Records(records));
+        let created = accepted(43, creation(), made(records));
         search.entry(&created, &posting);
         for line in [44, 45] {
             posting.post(&list(), &trade(1, 2), &[]);

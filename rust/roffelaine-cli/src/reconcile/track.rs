@@ -1,13 +1,14 @@
-//! Posted against book after each order and trade, and the positions of the
-//! accounts that are given followed through the day.
+//! Posted against book after each order and trade, reports against records, and
+//! the positions of the accounts that are given followed through the day.
 
 use super::calls::{CallLine, Effect, Moving};
 use super::compare::{compared, Compared};
 use super::parting::Parting;
+use super::reports;
 use crate::positions::Positions;
 use crate::posting::Posting;
-use crate::report::Entry;
-use roffelaine::Book;
+use crate::said::Entry;
+use roffelaine::{Book, List};
 use std::collections::BTreeMap;
 
 /// What is kept of a day while it is rehearsed.
@@ -17,6 +18,15 @@ pub struct Track<'p> {
     followed: BTreeMap<usize, Vec<Followed>>,
     orders_and_trades: usize,
     parted: Option<Parted>,
+    reported_orders: usize,
+    misreported: Option<Misreported>,
+}
+
+/// The first order whose reports are not those that its records tell of.
+#[derive(Clone, Debug, PartialEq, Eq)]
+pub struct Misreported {
+    pub by: CallLine,
+    pub why: String,
 }
 
 /// The first call after which posted and book part, and where they do.
@@ -33,6 +43,8 @@ impl<'p> Track<'p> {
             followed: BTreeMap::new(),
             orders_and_trades: 0,
             parted: None,
+            reported_orders: 0,
+            misreported: None,
         }
     }
 
@@ -45,6 +57,20 @@ impl<'p> Track<'p> {
         self.parted.as_ref()
     }
 
+    /// How many orders had their reports on.
+    pub fn reported_orders(&self) -> usize {
+        self.reported_orders
+    }
+
+    pub fn misreported(&self) -> Option<&Misreported> {
+        self.misreported.as_ref()
+    }
+
+    /// Whether posted and book, and reports and records, agree all day.
+    pub fn is_clean(&self) -> bool {
+        self.parted.is_none() && self.misreported.is_none()
+    }
+
     /// Where a position of a given account parts from what is given for it.
     pub fn parting(&self, account: usize, place: usize) -> Option<Parting> {
         let followed = self.followed.get(&account)?.get(place)?;
@@ -52,11 +78,27 @@ impl<'p> Track<'p> {
     }
 
     /// Takes what a line of the day came to.
-    pub fn entry(&mut self, entry: &Entry, posting: &Posting, book: &Book<'_>) {
+    pub fn entry(&mut self, list: &List<'_>, entry: &Entry, posting: &Posting, book: &Book<'_>) {
         match Effect::of(entry) {
             None => {}
             Some(Effect::Opens) => self.open(posting),
-            Some(Effect::Moves(moving)) => self.after(&moving, posting, book),
+            Some(Effect::Moves(moving)) => {
+                self.after(&moving, posting, book);
+                self.compare_reports(list, &moving);
+            }
+        }
+    }
+
+    /// Compares the reports of an order with its records, where they are on.
+    fn compare_reports(&mut self, list: &List<'_>, moving: &Moving<'_>) {
+        let Some(both) = moving.reports else {
+            return;
+        };
+        self.reported_orders += 1;
+        if self.misreported.is_none() {
+            let why = reports::difference(list, moving.records, both);
+            let by = moving.by;
+            self.misreported = why.map(|why| Misreported { by, why });
         }
     }
 
@@ -128,9 +170,9 @@ impl Followed {
 
 #[cfg(test)]
 mod tests {
-    use super::super::calls::tests::{accepted, creation, opening, trade};
+    use super::super::calls::tests::{accepted, creation, made, opening, trade};
     use super::*;
-    use crate::report::Made;
+    use crate::said::{Made, Reports};
     use crate::sample::{day, holdings, list, CASH, SPDB, UNIT};
     use roffelaine::{Money, Record, Trade, Units};
 
@@ -143,13 +185,13 @@ mod tests {
     fn tracked(positions: &Positions, post: impl Fn(&mut Vec<Record>)) -> Track<'_> {
         let (mut day, mut posting) = (day(), Posting::of(&holdings()));
         let mut track = Track::of(positions);
-        track.entry(&opening(39), &posting, &day.book());
-        let records = day.create(1, Units(1_000_000)).expect("records");
-        let mut posted = records.clone();
+        track.entry(&list(), &opening(39), &posting, &day.book());
+        let created = day.create(1, Units(1_000_000)).expect("records");
+        let mut posted = created.records.clone();
         post(&mut posted);
         posting.post(&list(), &creation(), &posted);
-        let created = accepted(43, creation(), Made::Records(records));
-        track.entry(&created, &posting, &day.book());
+        let created = accepted(43, creation(), made(created.records));
+        track.entry(&list(), &created, &posting, &day.book());
         let units = Trade {
             line: UNIT,
             quantity: 100,
@@ -160,7 +202,7 @@ mod tests {
         day.trade(&units).expect("a trade");
         posting.post(&list(), &trade(1, 2), &[]);
         let traded = accepted(44, trade(1, 2), Made::Done);
-        track.entry(&traded, &posting, &day.book());
+        track.entry(&list(), &traded, &posting, &day.book());
         track
     }
 
@@ -204,6 +246,41 @@ mod tests {
         assert_eq!(parted.positions[1].book, 500_000_000 - 287_008_000);
     }
 
+    /// The creation of line 43 with its reports, of which the fund has one less
+    /// where it is said so.
+    fn reported(positions: &Positions, is_short: bool) -> Track<'_> {
+        let (mut day, mut posting) = (day(), Posting::of(&holdings()));
+        let mut track = Track::of(positions);
+        let mut created = day.create(1, Units(1_000_000)).expect("records");
+        posting.post(&list(), &creation(), &created.records);
+        if is_short {
+            created.fund.pop();
+        }
+        let outcome = Made::Order {
+            records: created.records,
+            reports: Some(Reports {
+                investor: created.investor,
+                fund: created.fund,
+            }),
+        };
+        let created = accepted(43, creation(), outcome);
+        track.entry(&list(), &created, &posting, &day.book());
+        track
+    }
+
+    #[test]
+    fn reports_are_compared_where_they_are_on() {
+        let positions = positions();
+        let off = tracked(&positions, |_| {});
+        assert_eq!((off.reported_orders(), off.misreported()), (0, None));
+        let on = reported(&positions, false);
+        assert_eq!((on.reported_orders(), on.misreported()), (1, None));
+        let short = reported(&positions, true);
+        let misreported = short.misreported().expect("a report is missing");
+        assert_eq!(misreported.by.to_string(), "line 43 create");
+        assert!(misreported.why.starts_with("fund report 4 is none"));
+    }
+
     #[test]
     fn given_accounts_are_followed_from_the_last_opening() {
         let positions = positions();
@@ -217,7 +294,7 @@ mod tests {
         assert_eq!(track.parting(2, SPDB), None);
         assert_eq!(track.parting(9, CASH), None);
         let posting = Posting::of(&holdings());
-        track.entry(&opening(50), &posting, &day().book());
+        track.entry(&list(), &opening(50), &posting, &day().book());
         assert_eq!(track.parting(1, SPDB), Some(Parting::NeverMoved));
     }
 

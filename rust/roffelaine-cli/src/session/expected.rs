@@ -1,7 +1,7 @@
 //! What a line expects of the call before it, or of the book.
 
 use super::Session;
-use crate::report::{Answer, Made, Refused, Said};
+use crate::said::{Answer, Made, Refused, Said};
 use crate::statement::{Call, Expectation};
 
 impl Session<'_> {
@@ -22,7 +22,7 @@ impl Session<'_> {
             }),
             Expectation::Ok { count } => self.unexpected_answer(|outcome| {
                 let records = match outcome.as_ref().ok()? {
-                    Made::Records(records) => Some(records.len() as u64),
+                    Made::Order { records, .. } => Some(records.len() as u64),
                     _ => None,
                 };
                 (count.is_none() || count == records).then_some(())
@@ -66,7 +66,7 @@ impl Session<'_> {
         Some(match outcome {
             Ok(Made::Done) => format!("{word} answered ok"),
             Ok(Made::Value(value)) => format!("{word} answered ok {value}"),
-            Ok(Made::Records(records)) => format!("{word} answered ok {}", records.len()),
+            Ok(Made::Order { records, .. }) => format!("{word} answered ok {}", records.len()),
             Err(refused) => {
                 let (number, place) = (refused.refusal.number(), refused.refusal.place());
                 format!("{word} answered refused {number} {place}")

@@ -2,9 +2,9 @@
 //! book once for all of them.
 
 use super::Session;
-use crate::report::{Answer, Entry, Made, Refused};
+use crate::said::{Answer, Entry, Made, Refused, Reports};
 use crate::statement::{statement, Call, Order, Statement};
-use roffelaine::{Batch, Day, Outcome};
+use roffelaine::{Batch, Day, Outcome, Rooms};
 use std::borrow::Cow;
 use std::io;
 
@@ -68,7 +68,7 @@ impl Session<'_> {
         let mut reasons = self.reasons(calls, &outcome, before);
         let answers = calls.iter().enumerate().map(|(at, call)| Answer {
             call: *call,
-            outcome: answered(&outcome, at, call, reasons[at].take()),
+            outcome: self.answered(&outcome, at, call, reasons[at].take()),
         });
         let answers: Vec<Answer> = answers.collect();
         let accepted = answers.iter().filter(|answer| answer.outcome.is_ok());
@@ -109,10 +109,14 @@ impl Session<'_> {
 
     fn batch(&self, calls: &[Call]) -> Batch {
         let mut batch = Batch::default();
-        let ample = self.day.most_records();
-        let room = |order: &Order| {
+        let ample = self.day.ample_rooms();
+        // A line says the room for records alone: reports have all they need.
+        let rooms = |order: &Order| {
             let room = order.room.and_then(|room| usize::try_from(room).ok());
-            room.map_or(ample, |room| room.min(ample))
+            Rooms {
+                records: room.map_or(ample.records, |room| room.min(ample.records)),
+                ..ample
+            }
         };
         for call in calls {
             match *call {
@@ -125,32 +129,39 @@ impl Session<'_> {
                     buyer: trade.buyer as usize,
                 }),
                 Call::Create(order) => {
-                    batch.create(order.account as usize, order.units, room(&order));
+                    batch.create(order.account as usize, order.units, rooms(&order));
                 }
                 Call::Redeem(order) => {
-                    batch.redeem(order.account as usize, order.units, room(&order));
+                    batch.redeem(order.account as usize, order.units, rooms(&order));
                 }
                 Call::Value | Call::Open => batch.reference_value(),
             }
         }
         batch
     }
-}
 
-/// What the day book answered to one of the calls.
-fn answered(
-    outcome: &Outcome,
-    at: usize,
-    call: &Call,
-    reason: Option<String>,
-) -> Result<Made, Refused> {
-    let value = outcome.answer(at).map_err(|refusal| Refused {
-        refusal,
-        reason: reason.unwrap_or_default(),
-    })?;
-    Ok(match call {
-        Call::Create(_) | Call::Redeem(_) => Made::Records(outcome.records(at)),
-        Call::Value => Made::Value(roffelaine::ReferenceValue(value)),
-        Call::Price { .. } | Call::Trade(_) | Call::Open => Made::Done,
-    })
+    /// What the day book answered to one of the calls.
+    fn answered(
+        &self,
+        outcome: &Outcome,
+        at: usize,
+        call: &Call,
+        reason: Option<String>,
+    ) -> Result<Made, Refused> {
+        let value = outcome.answer(at).map_err(|refusal| Refused {
+            refusal,
+            reason: reason.unwrap_or_default(),
+        })?;
+        Ok(match call {
+            Call::Create(_) | Call::Redeem(_) => Made::Order {
+                records: outcome.records(at),
+                reports: self.reports_on.then(|| Reports {
+                    investor: outcome.investor_reports(at),
+                    fund: outcome.fund_reports(at),
+                }),
+            },
+            Call::Value => Made::Value(roffelaine::ReferenceValue(value)),
+            Call::Price { .. } | Call::Trade(_) | Call::Open => Made::Done,
+        })
+    }
 }

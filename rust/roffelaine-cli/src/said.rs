@@ -1,7 +1,7 @@
 //! What a rehearsal says of its lines, for the forms that print it.
 
 use crate::statement::Call;
-use roffelaine::{Lots, Money, Record, ReferenceValue, Refusal, Units};
+use roffelaine::{Lots, Money, Record, ReferenceValue, Refusal, Report, Units};
 
 /// What a line of a day came to; lines with nothing to say have none.
 #[derive(Clone, Debug, PartialEq, Eq)]
@@ -42,7 +42,25 @@ pub struct Answer {
 pub enum Made {
     Done,
     Value(ReferenceValue),
-    Records(Vec<Record>),
+    Order {
+        records: Vec<Record>,
+        /// None where reports are off.
+        reports: Option<Reports>,
+    },
+}
+
+/// The execution reports of an order.
+#[derive(Clone, Debug, PartialEq, Eq)]
+pub struct Reports {
+    pub investor: Vec<Report>,
+    pub fund: Vec<Report>,
+}
+
+impl Reports {
+    /// Each party's name with its reports, the investor's first.
+    pub fn by_party(&self) -> [(&'static str, &[Report]); 2] {
+        [("investor", &self.investor), ("fund", &self.fund)]
+    }
 }
 
 /// A refusal, and the reason with its figures.
@@ -56,8 +74,16 @@ impl Answer {
     /// The records that the call made.
     pub fn records(&self) -> &[Record] {
         match &self.outcome {
-            Ok(Made::Records(records)) => records,
+            Ok(Made::Order { records, .. }) => records,
             _ => &[],
+        }
+    }
+
+    /// The reports that the call made, where they are on.
+    pub fn reports(&self) -> Option<&Reports> {
+        match &self.outcome {
+            Ok(Made::Order { reports, .. }) => reports.as_ref(),
+            _ => None,
         }
     }
 }
