@@ -175,6 +175,31 @@ fn print_order(tag: u64, r: Numbers) {
     }
 }
 
+// Fills three lists with other numbers.
+fn mark(records: &mut [u64], investor: &mut [u64], fund: &mut [u64]) {
+    runs::fill(records);
+    runs::fill(investor);
+    runs::fill(fund);
+}
+
+// The order, with its answer and its lists printed.
+fn print_made(
+    tag: u64,
+    ask: Ask,
+    day: &[u64],
+    book: &mut [u64],
+    prices: &[u64],
+    records: &mut [u64],
+    investor: &mut [u64],
+    fund: &mut [u64],
+) -> Numbers {
+    let answer = structs::order(day, book, prices, ask, records, investor, fund);
+    let r = answers::of_order(answer);
+    print_order(tag, r);
+    print_lists(answer, records, investor, fund);
+    r
+}
+
 // The test alone, and then the order, with lists that hold other numbers.
 fn order_with(
     tag: u64,
@@ -187,9 +212,7 @@ fn order_with(
     investor: &mut [u64],
     fund: &mut [u64],
 ) -> Numbers {
-    runs::fill(records);
-    runs::fill(investor);
-    runs::fill(fund);
+    mark(records, investor, fund);
     print_test(
         tag,
         a,
@@ -202,11 +225,7 @@ fn order_with(
         fund.len(),
     );
     let ask = ask_of(tag, a, units);
-    let answer = structs::order(day, book, prices, ask, records, investor, fund);
-    let r = answers::of_order(answer);
-    print_order(tag, r);
-    print_lists(answer, records, investor, fund);
-    r
+    print_made(tag, ask, day, book, prices, records, investor, fund)
 }
 
 fn order(tag: u64, item: &[u64], day: &[u64], book: &mut [u64], prices: &[u64]) -> Numbers {
