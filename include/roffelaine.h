@@ -25,10 +25,10 @@
  * What a call costs: every call of an open day first tests the whole day (refusal 5), in one pass over the whole book, and that is
  * most of its time, whatever the call does. With 64 accounts and 300 components it is about 10 microseconds. `roffelaine_run` makes
  * this pass once for a whole list of calls: a trade in the list then takes about 0.01 microseconds, a creation with 300 components
- * about 2. So a program that has many calls at hand gives them to `roffelaine_run`; one that needs an answer before it can make the
- * next call makes single calls, which answer and leave the same. An opening makes a pass over the holdings, about 17 microseconds;
- * the calls on list texts make none, and take about 12 microseconds to read 300 components and 10 to write them. All times are
- * measured on one machine.
+ * about 3, with its reports to both parties. So a program that has many calls at hand gives them to `roffelaine_run`; one that needs
+ * an answer before it can make the next call makes single calls, which answer and leave the same. An opening makes a pass over the
+ * holdings, about 17 microseconds; the calls on list texts make none, and take about 12 microseconds to read 300 components and 10 to
+ * write them. All times are measured on one machine.
  *
  * Money counts thousandths of a yuan, a rate hundred-thousandths, a reference value ten-thousandths of a yuan, estimated cash and a
  * cash component hundredths of a yuan. Accounts, lines, components and places count from 0. Account 0 is the fund, and line N,
