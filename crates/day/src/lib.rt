@@ -124,7 +124,7 @@ pub fn creation_test(
     ensures { λ r. ⌜ orderAnswerReply r ≡ creationReply (dayAt (now (day .entry))) (now (book .entry)) (now (prices .entry)) account units (roomsOf records investor fund) ⌝ }
 {
     let ask = rules::creation(account, units);
-    order_calls::order_test(day, book, prices, ask, records, investor, fund)
+    tests_alone::order_test(day, book, prices, ask, records, investor, fund)
 }
 
 // The tests of a redemption alone.
@@ -141,5 +141,5 @@ pub fn redemption_test(
     ensures { λ r. ⌜ orderAnswerReply r ≡ redemptionReply (dayAt (now (day .entry))) (now (book .entry)) (now (prices .entry)) account units (roomsOf records investor fund) ⌝ }
 {
     let ask = rules::redemption(account, units);
-    order_calls::order_test(day, book, prices, ask, records, investor, fund)
+    tests_alone::order_test(day, book, prices, ask, records, investor, fund)
 }

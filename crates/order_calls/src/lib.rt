@@ -4,7 +4,7 @@ ghost use Prim.Native.Nat.{_<_};
 ghost use mathlib.Core.Bool.{true};
 ghost use Rattle.layout.specs.Day.{dayAt};
 ghost use Rattle.rules.specs.Replies.{orderAnswerReply};
-ghost use Rattle.rules.specs.Lent.{lentOf, roomsOf, roomsIn};
+ghost use Rattle.rules.specs.Lent.{lentOf, roomsIn};
 ghost use Rattle.rules.specs.Kinds.{askedReply, askedBook, askedLists};
 ghost use Rattle.rules.specs.Sound.{isSound};
 use rules::Ask;
@@ -42,26 +42,4 @@ pub fn order(
         investor,
         fund,
     )
-}
-
-// The tests of an order alone, with the lengths of the lists: the answer that the order would give.
-pub fn order_test(
-    day: &[u64],
-    book: &[u64],
-    prices: &[u64],
-    ask: Ask,
-    records: usize,
-    investor: usize,
-    fund: usize,
-) -> OrderAnswer
-    requires { ⌜ ask .kind < 2 ⌝ }
-    ensures { λ r. ⌜ orderAnswerReply r ≡ askedReply (dayAt (now (day .entry))) (now (book .entry)) (now (prices .entry)) ask (roomsOf records investor fund) ⌝ }
-{
-    if !calls::is_sound(day, book, prices) {
-        return OrderAnswer::Refused(Refusal::UnsoundDay);
-    }
-    let rooms = rules::rooms_of(records, investor, fund);
-    let head = layout::head_of(day);
-    let t = orders::order_tested(head, layout::basket_of(day), book, prices, ask, rooms);
-    t.answer
 }

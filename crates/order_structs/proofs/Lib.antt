@@ -1,6 +1,5 @@
 pub mod Local
 pub mod OrderLocals
-pub mod RecordArray
 pub mod Room
 pub mod Flat
 pub mod Laws

@@ -1,9 +1,8 @@
 // Creation and redemption, by the kind of order, whose records go to a lent list of structs, and whose reports go to lent runs of
 // numbers. The order is made into a flat run, and a writer over the list (`record_writer`) takes the records of that run.
 ghost use mathlib.Core.Path.{_≡_};
-ghost use Prim.Native.Nat.{_*_, _≤_, _<_};
-ghost use mathlib.Core.List.{_++_};
-ghost use lib.ListN.{length, take, drop};
+ghost use Prim.Native.Nat.{_*_};
+ghost use lib.ListN.{length};
 ghost use Rattle.layout.specs.Places.{recordWidth};
 ghost use Rattle.layout.specs.Day.{dayAt};
 ghost use Rattle.rules.specs.Replies.{orderAnswerReply};
@@ -51,7 +50,7 @@ fn made_count(answer: OrderAnswer) -> usize
 }
 
 // The fewer of a list's room and the most records of an order.
-fn records_lent(room: usize) -> usize
+pub fn records_lent(room: usize) -> usize
     ensures { λ r. ⌜ r ≡ lentRecords room ⌝ }
 {
     if room < MOST_RECORDS {
@@ -116,52 +115,4 @@ pub fn order(
     );
     record_writer::fill(list, &flat, s.count);
     s.answer
-}
-
-// An order that is made with its list by value: its answer, and the list that it leaves.
-pub struct Listed {
-    pub answer: OrderAnswer,
-    pub records: [Record; MOST_RECORDS],
-}
-
-// The same order on the first `room` records of a list by value.
-fn order_in_room(
-    day: &[u64],
-    book: &mut [u64],
-    prices: &[u64],
-    ask: Ask,
-    room: usize,
-    records: [Record; MOST_RECORDS],
-    investor: &mut [u64],
-    fund: &mut [u64],
-) -> Listed
-    requires { ⌜ room ≤ mostRecords ⌝ }
-    ensures { λ r. ⌜ (orderAnswerReply (r .answer) ≡ askedReply (dayAt (now (day .entry))) (now (book .entry)) (now (prices .entry)) ask (roomsBeside room (now (investor .entry)) (now (fund .entry)))) × (now (book .exit) ≡ askedBook (dayAt (now (day .entry))) (now (book .entry)) (now (prices .entry)) ask (roomsBeside room (now (investor .entry)) (now (fund .entry)))) × (r .records ≡ madeRecords (dayAt (now (day .entry))) (now (book .entry)) (now (prices .entry)) ask (roomsBeside room (now (investor .entry)) (now (fund .entry))) (take room records) ++ drop room records) × ((now (investor .exit), now (fund .exit)) ≡ madeReports (dayAt (now (day .entry))) (now (book .entry)) (now (prices .entry)) ask (roomsBeside room (now (investor .entry)) (now (fund .entry))) (now (investor .entry)) (now (fund .entry))) ⌝ }
-{
-    let mut list = records;
-    let answer = order(day, book, prices, ask, &mut list[..room], investor, fund);
-    Listed {
-        answer,
-        records: list,
-    }
-}
-
-// The same order for a caller that lends no structs: the list has room for as many records as it says, and no more than the most.
-pub fn order_by_value(
-    day: &[u64],
-    book: &mut [u64],
-    prices: &[u64],
-    ask: Ask,
-    room: usize,
-    records: [Record; MOST_RECORDS],
-    investor: &mut [u64],
-    fund: &mut [u64],
-) -> Listed
-    ensures { λ r. ⌜ orderAnswerReply (r .answer) ≡ askedReply (dayAt (now (day .entry))) (now (book .entry)) (now (prices .entry)) ask (roomsBeside (lentRecords room) (now (investor .entry)) (now (fund .entry))) ⌝ }
-    ensures { λ r. ⌜ r .records ≡ madeRecords (dayAt (now (day .entry))) (now (book .entry)) (now (prices .entry)) ask (roomsBeside (lentRecords room) (now (investor .entry)) (now (fund .entry))) (take (lentRecords room) records) ++ drop (lentRecords room) records ⌝ }
-    ensures book { λ r. ⌜ now (book .exit) ≡ askedBook (dayAt (now (day .entry))) (now (book .entry)) (now (prices .entry)) ask (roomsBeside (lentRecords room) (now (investor .entry)) (now (fund .entry))) ⌝ }
-    ensures reports { λ r. ⌜ (now (investor .exit), now (fund .exit)) ≡ madeReports (dayAt (now (day .entry))) (now (book .entry)) (now (prices .entry)) ask (roomsBeside (lentRecords room) (now (investor .entry)) (now (fund .entry))) (now (investor .entry)) (now (fund .entry)) ⌝ }
-{
-    let n = records_lent(room);
-    order_in_room(day, book, prices, ask, n, records, investor, fund)
 }

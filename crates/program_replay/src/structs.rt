@@ -62,7 +62,16 @@ pub fn order(
 ) -> OrderAnswer {
     let records = unpacked(list);
     let room = list.len() / layout::RECORD_WIDTH;
-    let left = order_structs::order_by_value(day, book, prices, ask, room, records, investor, fund);
+    let left = program_orders::order_by_value(
+        day,
+        book,
+        prices,
+        ask,
+        room,
+        records,
+        investor,
+        fund,
+    );
     let after = left.records;
     let answer = left.answer;
     pack(list, after);

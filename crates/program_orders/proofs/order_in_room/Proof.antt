@@ -1,4 +1,4 @@
--- `order_structs::order_in_room` meets its contract: a walk of its MIR, by hand. The list is copied to a local, whose front is lent to `order`.
+-- `program_orders::order_in_room` meets its contract: a walk of its MIR, by hand. The list is copied to a local, whose front is lent to `order`.
 use mathlib.Core.Path.{_≡_, refl, sym, ap, subst, _∙_}
 use Prim.Native.Nat.{ℕ, _+_, _<_, _≤_, _^_}
 use native.Mathlib.Omega.{arith}
@@ -58,24 +58,25 @@ use Rattle.rules.proofs.Ask.Laws as As′
 use Rattle.rules.proofs.OrderAnswer as OA
 use Rattle.rules.proofs.OrderAnswer.Laws as OA′
 use Rattle.layout.specs.Day.{dayAt}
-use Rattle.order_structs.specs.declared.Listed.{Listed}
+use Rattle.program_orders.specs.declared.Listed.{Listed}
 use Rattle.rules.specs.Kinds.{askedReply, askedBook}
 use Rattle.order_structs.specs.Made.{roomsBeside, madeRecords, madeReports}
 use Rattle.order_structs.specs.Settling.{mostRecords}
-use Rattle.order_structs.proofs.Listed as Li
-use Rattle.order_structs.proofs.Listed.Laws as Li′
+use Rattle.program_orders.proofs.Listed as Li
+use Rattle.program_orders.proofs.Listed.Laws as Li′
 use Rattle.order_structs.proofs.OrderLocals.{askVal, word, dl, ml, pl, bm, rf}
-use Rattle.order_structs.proofs.RecordArray.{av, is-field, tells-l, is-value}
-use Rattle.order_structs.proofs.Local.{Elements, Behind, array-in, array-out, lends-front, front-back}
-use Rattle.order_structs.proofs.order_in_room.Key.{name as #order_structs·order-in-room}
-use Rattle.order_structs.proofs.order_in_room as order-in-room′
-use Rattle.order_structs.proofs.order_in_room.Statement as stated
-use Rattle.order_structs.proofs.order_in_room.Code as code
-use Rattle.order_structs.proofs.order_in_room.Code.Mir as part
+use Rattle.program_orders.proofs.RecordArray.{av, is-field, tells-l, is-value}
+use Rattle.order_structs.proofs.Local.{Elements, array-in, array-out}
+use Rattle.program_orders.proofs.Front.{Behind, lends-front, front-back}
+use Rattle.program_orders.proofs.order_in_room.Key.{name as #program_orders·order-in-room}
+use Rattle.program_orders.proofs.order_in_room as order-in-room′
+use Rattle.program_orders.proofs.order_in_room.Statement as stated
+use Rattle.program_orders.proofs.order_in_room.Code as code
+use Rattle.program_orders.proofs.order_in_room.Code.Mir as part
 use Rattle.order_structs.proofs.order as order
 use Rattle.order_structs.proofs.order.Symbol as order-def
 use Rattle.order_structs.proofs.order.Symbol.{name as #order_structs·order}
 use Rattle.order_structs.proofs.order.Met as order-thm
 
 -- the length of the list
 abbrev N : ℕ
@@ -464,6 +465,6 @@ pub order-in-room-spec : {M : Type 1} → stated.statement M
 unfolding code.routine tablesOf
 order-in-room-spec 𝓤 H 𝓜 𝓖 𝓡 =
     entered 𝓤 H (tripleOf 𝓤 H (𝓖 .A) order-in-room′.signature (order-in-room′.spec 𝓤 H (𝓖 .A) (𝓜 .mem) (𝓡 .run)))
-    (tables 𝓤 H 𝓜 𝓡 code.env .C) (tables 𝓤 H 𝓜 𝓡 code.env .Λ) #order_structs·order-in-room code.function (code.unfolded 𝓤 H 𝓜 𝓡)
+    (tables 𝓤 H 𝓜 𝓡 code.env .C) (tables 𝓤 H 𝓜 𝓡 code.env .Λ) #program_orders·order-in-room code.function (code.unfolded 𝓤 H 𝓜 𝓡)
     (room-meets 𝓤 H (𝓖 .A) (givenOf 𝓤 H 𝓜 𝓖) (𝓜 .mem) (𝓡 .run) (tablesOf 𝓤 H 𝓜 (tables 𝓤 H 𝓜 𝓡 code.env))
     (cited 𝓤 H (Ordering 𝓤 H (𝓖 .A) (𝓜 .mem) (𝓡 .run)) 𝓜 𝓡 code.env #order_structs·order order-def.routine code.calls-order-structs·order (order-thm.met 𝓤 H 𝓜 𝓖 𝓡)))

@@ -1,9 +1,9 @@
--- `order_structs::order_by_value` meets its contract: the order in a room that is no larger than the list.
+-- `program_orders::order_by_value` meets its contract: the order in a room that is no larger than the list.
 use mathlib.Core.Path.{sym}
 use borrow.Author.Needs.{needs}
 use Rattle.order_structs.proofs.Room.{lent-bound}
-use Rattle.order_structs.proofs.order_by_value.Statement.{statement}
-use Rattle.order_structs.proofs.order_by_value.Tie as tie
+use Rattle.program_orders.proofs.order_by_value.Statement.{statement}
+use Rattle.program_orders.proofs.order_by_value.Tie as tie
 
 order-in-room-requires : tie.Need-order-in-room-requires
 order-in-room-requires c κs = lent-bound _ _ (c .before .before .before .records-lent .ensures)

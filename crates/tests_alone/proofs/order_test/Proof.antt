@@ -1,20 +1,20 @@
--- `order_calls::order_test` meets its contract: 5 where the day is not sound, and else what the core answers.
+-- `tests_alone::order_test` meets its contract: 5 where the day is not sound, and else what the core answers.
 use mathlib.Core.Path.{_≡_, sym, _∙_}
-use mathlib.Core.Bool.{true}
+use mathlib.Core.Bool.{true, false≢true}
 use borrow.Author.Needs.{needs}
 use borrow.Author.Tests.{not-true, not-false}
 use Rattle.layout.specs.Day.{dayAt}
 use Rattle.rules.specs.Sound.{isSound}
 use Rattle.order_calls.proofs.Laws.{order-five, order-own}
 use Rattle.calls.proofs.Run.{sound-width, run-parts, basket-wide}
-use Rattle.order_calls.proofs.order_test.Statement.{statement}
-use Rattle.order_calls.proofs.order_test.Tie as tie
+use Rattle.tests_alone.proofs.order_test.Statement.{statement}
+use Rattle.tests_alone.proofs.order_test.Tie as tie
 
 sound : (c : tie.Else1) → let a = c .before .before .before .before .before .args in isSound (dayAt (a .day .now)) (a .book .now) (a .prices .now) ≡ true
-sound c = sym (c .before .is-sound .ensures) ∙ not-false _ (c .if1 .left)
+sound c = sym (c .before .sound-day .ensures) ∙ not-false _ (c .if1 .left)
 
 returns : tie.Need-returns
-returns c = order-five _ _ _ (sym (c .before .is-sound .ensures) ∙ not-true _ (c .if1 .taken)) _ _
+returns c = order-five _ _ _ (sym (c .before .sound-day .ensures) ∙ not-true _ (c .if1 .taken)) _ _
 
 order-tested-requires : tie.Need-order-tested-requires
 order-tested-requires c κs =
@@ -37,7 +37,7 @@ pub order-test-spec : {M : Type 1} → statement M
 order-test-spec =
     tie.close
     (tie.spec
-    (λ c κs. search needs)
+    (λ c κs q. absurd (false≢true q))
     returns
     (λ c κs. search needs)
     (λ c κs. sound-width _ _ _ (sound (c .before)))
