@@ -4,10 +4,11 @@
     vector_rows.py VECTORS SCRATCH [--chunk ROWS] [--largest NUMBERS]
 
 SCRATCH is a copy of the repository (crates.txt and crates/). The script adds two crates to it: `rows`, the lines of
-openings.jsonl, days.jsonl and broken_days.jsonl of VECTORS, and `rows_of_texts`, those of texts.jsonl and writings.jsonl. Each
-has its lines as rows in specs/, and in each file one theorem, `rows-right : all right rows ≡ true`, by `refl`. `rt check rows`
-and `rt check rows_of_texts` in SCRATCH then compute the definitions on every row, and refuse each file that has a row which
-differs. The tests of an order alone are computed as the order's reply with lists of the lengths that they are told; the state stays.
+openings.jsonl, days.jsonl, broken_days.jsonl and chains.jsonl of VECTORS, and `rows_of_texts`, those of texts.jsonl and
+writings.jsonl. Each has its lines as rows in specs/, and in each file one theorem, `rows-right : all right rows ≡ true`, by
+`refl`. `rt check rows` and `rt check rows_of_texts` in SCRATCH then compute the definitions on every row, and refuse each file that
+has a row which differs. The tests of an order alone are computed as the order's reply with lists of the lengths that they are told;
+the state stays.
 
 --chunk is the most rows to a module: with 1 a refusal names its row. --largest leaves out rows whose book or text has more
 numbers or bytes than that: the checker takes a limited number of steps for each theorem. A state that no day's run can hold is
@@ -131,6 +132,8 @@ pub data Row : Type 0 where
   plays : Opening → List ℕ → List Made → List ℕ → List ℕ → Row
   -- a state, and calls that are each made on it anew
   meets : State → List Met → Row
+  -- a state, calls in order, and the book and the prices at the end
+  follows : State → List Made → List ℕ → List ℕ → Row
 
 abbrev pub leftRight : List ℕ → List ℕ → Left → Bool
 leftRight before after kept = same after before
@@ -158,6 +161,7 @@ right (opens o want book prices) = openingRight o want book prices
 right (plays o want ms book prices) =
     both (replyRight (openingReply o) want) (dayRight (state (openedDay o) (openedBook o) (openedPrices o)) ms book prices)
 right (meets s ms) = all (callRight s) ms
+right (follows s ms book prices) = dayRight s ms book prices
 """
 
 TEXT_ROWS = """\
@@ -247,7 +251,7 @@ DAY_USES = """\
 use Rattle.rules.specs.Lent.{lentOf}
 use Rattle.balance.specs.Calls.{price, trade, create, redeem, value}
 use Rattle.rows.specs.Rows.{all, fund, component, opening, state, made, testsCreation, testsRedemption}
-use Rattle.rows.specs.Rows.{kept, holds, met, Row, opens, plays, meets, right}"""
+use Rattle.rows.specs.Rows.{kept, holds, met, Row, opens, plays, meets, follows, right}"""
 
 TEXT_USES = "use Rattle.rows_of_texts.specs.Rows.{all, fund, fields, Row, fails, reads, writes, right}"
 
@@ -308,12 +312,21 @@ def day_row(v):
     return f"plays {given} {reply(v['opening'])}\n      {calls}\n      {listed(v['book'])} {listed(v['prices'])}"
 
 
-def broken_row(v):
+def state(v):
     parts = listed("component " + " ".join(map(str, c)) for c in v["components"])
     day = f"record {{ accounts = {v['accounts']}; count = {v['count']}; fund = {fund(v['fund'])}; components = {parts} }}"
+    return f"(state ({day}) {listed(v['book'])} {listed(v['prices'])})"
+
+
+def broken_row(v):
     calls = listed((f"met {made(c)} {left(c.get('after', {}), 'book')} {left(c.get('after', {}), 'prices')}" for c in v["calls"]),
                    "\n      ")
-    return f"meets (state ({day}) {listed(v['book'])} {listed(v['prices'])})\n      {calls}"
+    return f"meets {state(v)}\n      {calls}"
+
+
+def chain_row(v):
+    calls = listed(map(made, v["calls"]), "\n      ")
+    return f"follows {state(v)}\n      {calls}\n      {listed(v['after']['book'])} {listed(v['after']['prices'])}"
 
 
 def fields(v):
@@ -345,7 +358,7 @@ def writing_row(v):
 # Each crate: what it may use, what a row is, what a module of rows uses, and how a line of each file becomes a row.
 CRATES = {
     "rows": ("sequences units lots flags digits layout fund rules balance", DAY_ROWS, DAY_USES,
-             {"openings": opening_row, "days": day_row, "broken_days": broken_row}),
+             {"openings": opening_row, "days": day_row, "broken_days": broken_row, "chains": chain_row}),
     "rows_of_texts": ("sequences units lots flags digits layout fund rules lines text_rules list_rules", TEXT_ROWS, TEXT_USES,
                       {"texts": text_row, "writings": writing_row}),
 }
