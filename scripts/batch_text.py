@@ -9,6 +9,7 @@ comes from the vectors alone; of the few rows that they have not, from what is s
 The input is items, as in vector_text.py: an opening or a state, and behind it a batch, tag 10: the lengths of the runs of records,
 of the investor's and of the fund's reports and of the answers, and then the rows of nine numbers (1 price, 2 trade, 3 create,
 4 redeem, 5 value). An order's row has behind account and units the start and the length of its part of each of the three runs.
+The driver has no row for an order's tests alone: they change nothing, and are left out, and so is a state with no other call.
 
 days.jsonl: all calls of a day are one batch. broken_days.jsonl: each call is answered on the state as given, so the calls that
 change nothing (the refused ones, and values) and behind them the first that does are one batch, and each further one that does
@@ -99,6 +100,11 @@ def outside(n, room, at):
     return [(n + 1, 0), (n - room + 1, room), (0, n + 1), (n, room), (MOST, MOST), (1, MOST)][at % 6]
 
 
+def rows_of(v):
+    """The calls that are rows of the driver."""
+    return [c for c in v["calls"] if c["call"][0] in KINDS]
+
+
 def without_room(batch, row):
     """An order's row, once for each list with that list empty; the part that it names is filled in when the run's length is known.
 
@@ -120,7 +126,7 @@ def day_batch(row, v):
     """All calls of a day, a row of no kind first and last, and those without room before the first accepted order of a kind."""
     batch, seen = Batch(), set()
     unknown(batch, row)
-    for c in v["calls"]:
+    for c in rows_of(v):
         name, *_ = c["call"]
         given = batch.row(c)
         if name in ORDERS and c["reply"][0] == 0 and name not in seen:
@@ -136,8 +142,8 @@ def day_batch(row, v):
 
 def broken_parts(row, v):
     """The calls that change nothing and behind them the first that does, then each further one that does, on the state anew."""
-    still, moving = ([c for c in v["calls"] if ("after" in c) == changes] for changes in (False, True))
-    for calls in [still + moving[:1], *([c] for c in moving[1:])]:
+    still, moving = ([c for c in rows_of(v) if ("after" in c) == changes] for changes in (False, True))
+    for calls in filter(None, [still + moving[:1], *([c] for c in moving[1:])]):
         batch = Batch()
         for c in calls:
             batch.call(c)

@@ -1,4 +1,4 @@
-"""A model of a day after an accepted opening, written from document 01 and change requests 1 and 2 alone; it shares nothing with the
+"""A model of a day after an accepted opening, written from document 01 and change requests 1 to 3 alone; it shares nothing with the
 day book. Python's numbers have no upper end.
 
 A component is code, quantity, flag, premium, discount, amount, and a fund a dict in the form of the vectors (vectors/README.md).
@@ -12,6 +12,12 @@ CEILING = 999_999_999_999
 E18 = 10**18
 
 ORDERS = ("create", "redeem")
+
+# The tests alone of each order. They take what the order takes.
+TESTS = ("test-create", "test-redeem")
+
+# The calls that change nothing, whatever they are answered.
+READS = ("value", *TESTS)
 
 # The flag table: the flags whose stock moves, whose shortage is paid in cash, whose cash is Shanghai's, and that are priced.
 MOVES, IN_CASH, SHANGHAI, PRICED = {0, 1}, {1}, {0, 1, 2}, {0, 1, 3}
@@ -38,6 +44,11 @@ def refused(number, place=0):
     return [number, place, 0, 0]
 
 
+def refused_order(*answer):
+    """A refused order's answer; it writes and moves nothing."""
+    return refused(*answer), {}, [], 0
+
+
 def hand_in(lots, q):
     """Takes q out of bought, and what is not there out of old."""
     from_bought = min(q, lots[1])
@@ -53,6 +64,11 @@ def sides(creates):
 def turned(reports):
     """The same reports with all sides opposite."""
     return [[kind, {B: S, S: B}[side], *rest] for kind, side, *rest in reports]
+
+
+def answer_of(lists):
+    """What an order is answered that writes these lists: the count of records, and that of each party's reports."""
+    return accepted(len(lists["records"]), len(lists["investor"]))
 
 
 def is_too_short(rooms, lists):
@@ -170,15 +186,16 @@ class Model:
         groups = numbers([kind, c] for kind, c in ((1, cash[True]), (2, cash[False])) if c > 0)
         return out + ([[3, rest, 0, 0, *groups, *[0] * (6 - len(groups))]] if groups else [])
 
-    def create(self, a, units, rooms):
+    def creation(self, a, units, rooms):
+        """What a creation is answered; where it is accepted its lists, the stock of each component that it moves, and its cash."""
         if number := self.stopped(a, units, True):
-            return refused(number), {}
+            return refused_order(number)
         m = units // self.fund["basket_size"]
         moved, cash, missing = [0] * self.n, {True: 0, False: 0}, 0
         short = [max(0, m * q - self.lots[a][i][0] - self.lots[a][i][1]) for i, (_, q, *_) in enumerate(self.parts)]
         for i, (_, _, flag, *_) in enumerate(self.parts):
             if flag in MOVES and flag not in IN_CASH and short[i]:
-                return refused(9, i), {}
+                return refused_order(9, i)
         for i, (_, q, flag, premium, _, amount) in enumerate(self.parts):
             if flag in MOVES:
                 moved[i] = m * q - short[i]
@@ -190,15 +207,19 @@ class Model:
         if any(short[i] for i, part in enumerate(self.parts) if part[2] in IN_CASH):
             value = self.reference()
             if value is None:
-                return refused(14), {}
+                return refused_order(14)
             if missing * 10**6 > units * value * self.fund["max_cash_ratio"]:
-                return refused(15), {}
+                return refused_order(15)
         due = cash[True] + cash[False]
         if self.cash[a] < due:
-            return refused(10), {}
+            return refused_order(10)
         lists = self.lists(units, moved, cash, True)
-        if is_too_short(rooms, lists):
-            return refused(16), {}
+        return refused_order(16) if is_too_short(rooms, lists) else (answer_of(lists), lists, moved, due)
+
+    def create(self, a, units, rooms):
+        reply, lists, moved, due = self.creation(a, units, rooms)
+        if reply[0]:
+            return reply, lists
         for i, q in enumerate(moved):
             hand_in(self.lots[a][i], q)
             self.lots[0][i][0] += q
@@ -206,15 +227,20 @@ class Model:
         self.cash[0] += due
         self.created[a] += units
         self.lots[a][self.n][2] += units
-        return accepted(len(lists["records"]), len(lists["investor"])), lists
+        return reply, lists
 
-    def redeem(self, a, units, rooms):
+    def test_create(self, *args):
+        """The tests alone: the creation's answer."""
+        return self.creation(*args)[0]
+
+    def redemption(self, a, units, rooms):
+        """What a redemption is answered; where it is accepted its lists, the stock of each component that it moves, and its cash."""
         if number := self.stopped(a, units, False):
-            return refused(number), {}
+            return refused_order(number)
         m = units // self.fund["basket_size"]
         lots = self.lots[a][self.n]
         if units > lots[0] + lots[1]:
-            return refused(9), {}
+            return refused_order(9)
         moved, cash = [0] * self.n, {True: 0, False: 0}
         for i, (_, q, flag, _, discount, amount) in enumerate(self.parts):
             if flag in MOVES:
@@ -223,27 +249,35 @@ class Model:
                 cash[flag in SHANGHAI] += less_discount(m * amount, discount)
         for i, q in enumerate(moved):
             if self.lots[0][i][0] < q:
-                return refused(17, i), {}
+                return refused_order(17, i)
         paid = cash[True] + cash[False]
         if self.cash[0] < paid:
-            return refused(17, self.n), {}
+            return refused_order(17, self.n)
         lists = self.lists(units, moved, cash, False)
-        if is_too_short(rooms, lists):
-            return refused(16), {}
+        return refused_order(16) if is_too_short(rooms, lists) else (answer_of(lists), lists, moved, paid)
+
+    def redeem(self, a, units, rooms):
+        reply, lists, moved, paid = self.redemption(a, units, rooms)
+        if reply[0]:
+            return reply, lists
         for i, q in enumerate(moved):
             self.lots[0][i][0] -= q
             self.lots[a][i][2] += q
         self.cash[0] -= paid
         self.cash[a] += paid
-        hand_in(lots, units)
+        hand_in(self.lots[a][self.n], units)
         self.redeemed[a] += units
-        return accepted(len(lists["records"]), len(lists["investor"])), lists
+        return reply, lists
+
+    def test_redeem(self, *args):
+        """The tests alone: the redemption's answer."""
+        return self.redemption(*args)[0]
 
     def played(self, calls):
         """The calls in order, each with its reply and, of an accepted order, the numbers of its lists."""
         for call in calls:
             name, *args = call
-            answer = getattr(self, name)(*args)
+            answer = getattr(self, name.replace("-", "_"))(*args)
             reply, lists = answer if name in ORDERS else (answer, {})
             yield {"call": call, "reply": reply, **{key: numbers(rows) for key, rows in lists.items()}}
 

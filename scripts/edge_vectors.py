@@ -1,5 +1,5 @@
 #!/usr/bin/env python3
-"""Writes test vectors at the edges of document 01 and change requests 1 and 2, with answers worked out from the papers.
+"""Writes test vectors at the edges of document 01 and change requests 1 to 3, with answers worked out from the papers.
 
     edge_vectors.py VECTORS OUT
 
@@ -12,7 +12,7 @@ import argparse
 from pathlib import Path
 
 import vector_files
-from day_model import B, CEILING, E18, ORDERS, S, Model, accepted, played, refused, turned, unfolded
+from day_model import B, CEILING, E18, ORDERS, S, TESTS, Model, accepted, played, refused, turned, unfolded
 from vector_files import LISTS, numbers
 
 # ---- rows by hand: one component, code 1, one share to a basket, stock moves (flag 0); baskets of one unit
@@ -31,8 +31,13 @@ def made(call, reply):
 
 
 def refuses(name, account, units, rooms, *answer):
-    """An order that is refused: the lengths of its lists, number and place."""
+    """An order, or its tests alone, that is refused: the lengths of its lists, number and place."""
     return made([name, account, units, rooms], refused(*answer))
+
+
+def passes(name, account, units, rooms, records, reports):
+    """Tests alone that are passed: how many records and reports the order would make."""
+    return made([name, account, units, rooms], accepted(records, reports))
 
 
 def makes(name, account, units, rooms, records, investor):
@@ -90,8 +95,9 @@ VALUE, PRICE, TRADE = ["value"], ["price", 0, 5], ["trade", 0, 1, 1, 1, 2]
 ROOMS, EMPTY = [20, 30, 40], [0, 0, 0]
 CREATES, REDEEMS = makes("create", 1, 1, ROOMS, *CREATED), makes("redeem", 1, 1, ROOMS, *REDEEMED)
 CREATE, REDEEM = CREATES["call"], REDEEMS["call"]
-SOUND = [made(VALUE, accepted(10)), CREATES, REDEEMS, made(PRICE, accepted())]
-BROKEN = [made(c, refused(5)) for c in (VALUE, CREATE, REDEEM, PRICE, TRADE)]
+PASSES = [passes(name, 1, 1, ROOMS, 3, 2) for name in TESTS]
+SOUND = [made(VALUE, accepted(10)), *PASSES, CREATES, REDEEMS, made(PRICE, accepted())]
+BROKEN = [made(c, refused(5)) for c in (VALUE, CREATE, REDEEM, *(c["call"] for c in PASSES), PRICE, TRADE)]
 
 
 def orders(creation, redemption):
@@ -322,7 +328,7 @@ def meetings():
     yield row(units, [redeem(1, 1, 16, rooms=rooms) for rooms in one_short([20, 30, 30])], fund_stock=(1, 10))
     # 5 before everything
     yield row(poor, [made(["price", 9, 0], refused(5)), made(["trade", 9, 0, 0, 0, 0], refused(5)), create(0, 0, 5),
-                     redeem(0, 0, 5), made(VALUE, refused(5))], switch=4)
+                     redeem(0, 0, 5), made(VALUE, refused(5)), *(refuses(name, 0, 0, EMPTY, 5) for name in TESTS)], switch=4)
 
 
 def paper_day():
@@ -452,6 +458,40 @@ def short_lists():
     for name, lists in zip(ORDERS, (CREATED, REDEEMED)):
         short = [refuses(name, 1, 1, lent, 16) for lent in [*one_short(enough), *one_fewer, *empty, *apart]]
         yield state([FUND, holder()], [*short, *(makes(name, 1, 1, lent, *lists) for lent in (enough, longer, [99, 50, 20]))])
+
+
+def tests_alone():
+    """Lists of just the length that the order needs, and with one number fewer in each in turn; the tests are lent the lengths alone,
+    so these may be any."""
+    most = 2**64 - 1
+
+    def tests(name, account, units, records, reports):
+        just = [5 * records, 10 * reports, 10 * reports]
+        # short of one number, or of all, with no end of room in the other lists
+        apart = [[x if i == at else most for i, x in enumerate(rooms)] for rooms in ([x - 1 for x in just], EMPTY) for at in range(3)]
+        # the next record and the next report each want one number more
+        almost = [just[0] + 4, just[1] + 9, just[2] + 9]
+        return [*(refuses(name, account, units, rooms, 16) for rooms in (*one_short(just), *apart, EMPTY)),
+                *(passes(name, account, units, rooms, records, reports) for rooms in (just, almost, [most] * 3))]
+
+    # no cash: two records of the unit and one of the share, the report of the unit and that of the share
+    yield state([FUND, holder()], [c for name in TESTS for c in tests(name, 1, 1, 3, 2)])
+    # U 10, one basket. Creation: all 3 of component 4 are missing and cost 21, so Shanghai cash is 1,000,000 + 21, two records, and other
+    # cash 10 x 1.5 = 15, one: with the units' two and that of component 1 six, and the reports of unit, component 1 and cash. The sum is
+    # 2 x 5 + 9 x 1 + 3 x 7 + 1,000,000 = 1,000,040, the value too, the bound 10 x 1,000,040 x 100,000 / 1,000,000.
+    # Redemption: components 1 and 4, Shanghai cash 1,000,000, two records, other cash 10 x 0.8 = 8: seven records, four reports.
+    parts = [[1, 2, 0, 0, 0, 0], [2, 8, 2, 0, 0, 10**6], [3, 9, 3, 50_000, 20_000, 10], [4, 3, 1, 0, 0, 0]]
+    fund_has, has = [1_000_008, 0, 0, *[3, 0, 0] * 4, 0, 0, 0], [1_000_036, 0, 0, 1, 1, 0, *[0] * 9, 9, 1, 0]
+
+    def paid(accounts, calls):
+        return state(accounts, calls, components=parts, prices=(5, 0, 1, 7), basket_size=10, max_cash_ratio=100_000)
+
+    yield paid([fund_has, has], [c for name, counts in zip(TESTS, ((6, 3), (7, 4))) for c in tests(name, 1, 10, *counts)])
+    # one of cash fewer on either side: 10, and 17 at N, before 16; of two baskets account 1 has neither the units nor the shares
+    poor = [[x - (i == 0) for i, x in enumerate(stretch)] for stretch in (fund_has, has)]
+    for rooms in (EMPTY, [99, 99, 99]):
+        yield paid(poor, [refuses("test-create", 1, 10, rooms, 10), refuses("test-redeem", 1, 10, rooms, 17, 4),
+                          refuses("test-redeem", 1, 20, rooms, 9), refuses("test-create", 1, 20, rooms, 9, 0)])
 
 
 def cash_reports():
@@ -597,6 +637,13 @@ def chains():
     # shares: 1 got, 2 handed in of old; units: 1 of old redeemed, 2 got
     after = [0, 0, 0, 51, 0, 0, 0, 0, 0, 100, 2, 1, 3, 0, 1, 2 * E18 - 1, 0, 2]
     yield {**before, "after": {"book": after, "prices": [1]}}
+    # tests alone count for no limit and move nothing, however often they are made: one unit of each kind passes, and then none
+    create_test, redeem_test = PASSES
+    stops = [made(c, refused(13)) for c in (create_test["call"], CREATE)], [made(c, refused(13)) for c in (redeem_test["call"], REDEEM)]
+    before = state([FUND, holder()], [create_test, redeem_test, create_test, CREATES, *stops[0], redeem_test, redeem_test, REDEEMS,
+                                      *stops[1], *stops[0]], limits=[1, 1, 0, 0, 0, 0, 0, 0])
+    after = [*FUND, 100, 1, 1, 4, 0, 1, 4, 0, 1]
+    yield {**before, "after": {"book": after, "prices": [1]}}
 
 
 # ---- the day of full size
@@ -613,11 +660,16 @@ def full_calls(n, size):
     def redeem(a, units):
         return ["redeem", a, units, ample]
 
-    calls = [["value"], create(3, 20 * size)]
+    def tests(a, units, rooms=ample):
+        return [[name, a, units, rooms] for name in TESTS]
+
+    calls = [["value"], *tests(3, 20 * size), create(3, 20 * size)]
     calls += [["price", i, 5000 + 61 * i % 20_000] for i in range(n)]
     calls += [["value"], ["trade", 2, 30, 5000, 9, 3], ["trade", n, 7, 900_000, 63, 1], ["trade", n, 26 * size, 1, 63, 1]]
     calls += [create(4, 20 * size), ["trade", 296, 1, 1, 63, 4], create(4, 20 * size)]
-    calls += [create(3, 20 * size, rooms) for rooms in [*one_short(just), just]]
+    for rooms in [*one_short(just), just]:
+        calls += [*tests(3, 20 * size, rooms), create(3, 20 * size, rooms)]
+    calls += [*tests(3, 20 * size), *tests(63, 20 * size)]
     calls += [create(3, size), redeem(63, 20 * size), redeem(63, 20 * size), redeem(62, 20 * size)]
     calls += [redeem(61, 20 * size), create(63, size), create(62, 20 * size)]
     calls += [["trade", 0, 5, 77, 62, 61], ["trade", n, 100, 77, 4, 61], ["value"]]
@@ -683,11 +735,12 @@ def is_model_right(vectors):
 
 
 def is_covered(files):
-    """Every refusal from 1 to 17, and a place above 0 for each that has places."""
-    replies = [tuple(v["reply"][:2]) for v in files["openings"]]
-    replies += [tuple(c["reply"][:2]) for name in files for v in files[name] for c in v.get("calls", [])]
+    """Every refusal from 1 to 17, and a place above 0 for each that has places; 5 and 16 by the tests alone of either order."""
+    calls = [c for name in files for v in files[name] for c in v.get("calls", [])]
+    replies = [tuple(x["reply"][:2]) for x in files["openings"] + calls]
+    tested = {(c["call"][0], c["reply"][0]) for c in calls}
     numbers, placed = {n for n, _ in replies}, {n for n, place in replies if place > 0}
-    return numbers == set(range(18)) and placed == {3, 4, 9, 17}
+    return numbers == set(range(18)) and placed == {3, 4, 9, 17} and tested >= {(name, n) for name in TESTS for n in (0, 5, 16)}
 
 
 def main():
@@ -697,7 +750,7 @@ def main():
     args = parser.parse_args()
     assert is_model_right(args.vectors)
     states = (sound_ends, trades, limits, switches_and_baskets, values, ratios, places, meetings, paper_day, paper_cash, rates,
-              rate_ranges, short_lists, cash_reports, stock_reports, full_states)
+              rate_ranges, short_lists, tests_alone, cash_reports, stock_reports, full_states)
     files = {"openings": list(openings()), "days": [full_day()],
              "broken_days": [with_after(v) for rows in states for v in rows()], "chains": list(chains())}
     assert is_covered(files)

@@ -4,10 +4,11 @@
     vector_rows.py VECTORS SCRATCH [--chunk ROWS] [--largest NUMBERS]
 
 SCRATCH is a copy of the repository (crates.txt and crates/). The script adds two crates to it: `rows`, the lines of
-openings.jsonl, days.jsonl and broken_days.jsonl of VECTORS, and `rows_of_texts`, those of texts.jsonl and writings.jsonl. Each
-has its lines as rows in specs/, and in each file one theorem, `rows-right : all right rows ≡ true`, by `refl`. `rt check rows`
-and `rt check rows_of_texts` in SCRATCH then compute the definitions on every row, and refuse each file that has a row which
-differs.
+openings.jsonl, days.jsonl, broken_days.jsonl and chains.jsonl of VECTORS, and `rows_of_texts`, those of texts.jsonl and
+writings.jsonl. Each has its lines as rows in specs/, and in each file one theorem, `rows-right : all right rows ≡ true`, by
+`refl`. `rt check rows` and `rt check rows_of_texts` in SCRATCH then compute the definitions on every row, and refuse each file that
+has a row which differs. The tests of an order alone are computed as the order's reply with lists of the lengths that they are told;
+the state stays.
 
 --chunk is the most rows to a module: with 1 a refusal names its row. --largest leaves out rows whose book or text has more
 numbers or bytes than that: the checker takes a limited number of steps for each theorem. A state that no day's run can hold is
@@ -19,7 +20,7 @@ import shutil
 from pathlib import Path
 
 import vector_files
-from day_model import ORDERS
+from day_model import ORDERS, TESTS
 from list_model import COLUMNS, NAME
 from vector_files import LISTS, component_room, is_held, numbers, opened_book, whole_text
 
@@ -70,8 +71,10 @@ use Rattle.layout.specs.declared.Fund.{Fund}
 use Rattle.layout.specs.declared.Component.{Component}
 use Rattle.layout.specs.Places.{dayWidth}
 use Rattle.layout.specs.Day.{Day}
-use Rattle.rules.specs.Lent.{Lent, lentOf}
+use Rattle.rules.specs.Lent.{Lent, lentOf, roomsOf}
 use Rattle.rules.specs.Opening.{Opening, openingReply, openedDay, openedBook, openedPrices}
+use Rattle.rules.specs.Creation.{creationReply}
+use Rattle.rules.specs.Redemption.{redemptionReply}
 use Rattle.balance.specs.Calls.{State, Call, Result, step}
 
 """ + SHARED + """
@@ -87,18 +90,31 @@ opening a n f cs hs b ps =
 abbrev pub state : Day → List ℕ → List ℕ → State
 state d b ps = record { day = d; book = b; prices = ps }
 
--- a call, the lengths of the three lists lent to it, its reply, and the numbers that it writes to them
 pub data Made : Type 0 where
+  -- a call, the lengths of the three lists lent to it, its reply, and the numbers that it writes to them
   made : Call → ℕ → ℕ → ℕ → List ℕ → Lent → Made
+  -- the tests of an order alone: account, units, the lengths of the three lists, and the reply
+  testsCreation : ℕ → ℕ → ℕ → ℕ → ℕ → List ℕ → Made
+  testsRedemption : ℕ → ℕ → ℕ → ℕ → ℕ → List ℕ → Made
+
+-- a reply on a state that stays
+abbrev tested : State → Reply → Result
+tested s r = record { reply = r; after = s; lent = lentOf [] [] [] }
 
 -- what the definitions make of it on a state
 abbrev pub resultOf : State → Made → Result
 resultOf s (made c records investor fund want written) = step s c (lentOf (lent records) (lent investor) (lent fund))
+resultOf s (testsCreation a units records investor fund want) =
+    tested s (creationReply (s .day) (s .book) (s .prices) a units (roomsOf records investor fund))
+resultOf s (testsRedemption a units records investor fund want) =
+    tested s (redemptionReply (s .day) (s .book) (s .prices) a units (roomsOf records investor fund))
 
 abbrev pub resultRight : Result → Made → Bool
 resultRight r (made c records investor fund want written) =
     both (both (replyRight (r .reply) want) (lentRight (r .lent .records) records (written .records)))
     (both (lentRight (r .lent .investor) investor (written .investor)) (lentRight (r .lent .fund) fund (written .fund)))
+resultRight r (testsCreation a units records investor fund want) = replyRight (r .reply) want
+resultRight r (testsRedemption a units records investor fund want) = replyRight (r .reply) want
 
 -- what a call leaves in a run: what was there, or these numbers
 pub data Left : Type 0 where
@@ -116,6 +132,8 @@ pub data Row : Type 0 where
   plays : Opening → List ℕ → List Made → List ℕ → List ℕ → Row
   -- a state, and calls that are each made on it anew
   meets : State → List Met → Row
+  -- a state, calls in order, and the book and the prices at the end
+  follows : State → List Made → List ℕ → List ℕ → Row
 
 abbrev pub leftRight : List ℕ → List ℕ → Left → Bool
 leftRight before after kept = same after before
@@ -143,6 +161,7 @@ right (opens o want book prices) = openingRight o want book prices
 right (plays o want ms book prices) =
     both (replyRight (openingReply o) want) (dayRight (state (openedDay o) (openedBook o) (openedPrices o)) ms book prices)
 right (meets s ms) = all (callRight s) ms
+right (follows s ms book prices) = dayRight s ms book prices
 """
 
 TEXT_ROWS = """\
@@ -231,7 +250,8 @@ rows-right = refl
 DAY_USES = """\
 use Rattle.rules.specs.Lent.{lentOf}
 use Rattle.balance.specs.Calls.{price, trade, create, redeem, value}
-use Rattle.rows.specs.Rows.{all, fund, component, opening, state, made, kept, holds, met, Row, opens, plays, meets, right}"""
+use Rattle.rows.specs.Rows.{all, fund, component, opening, state, made, testsCreation, testsRedemption}
+use Rattle.rows.specs.Rows.{kept, holds, met, Row, opens, plays, meets, follows, right}"""
 
 TEXT_USES = "use Rattle.rows_of_texts.specs.Rows.{all, fund, fields, Row, fails, reads, writes, right}"
 
@@ -261,12 +281,19 @@ def reply(answer, value=0):
     return listed([*answer, value, 0])
 
 
+def spaced(*words):
+    return " ".join(map(str, words))
+
+
 def made(c):
-    """A call; an order's last argument is the lengths of the lists that it is lent."""
+    """A call; the last argument of an order and of its tests alone is the lengths of its lists."""
     kind, *args = c["call"]
-    rooms = args.pop() if kind in ORDERS else [0] * len(LISTS)
-    written = " ".join(listed(c.get(name, [])) for name in LISTS)
-    return f"(made ({' '.join(map(str, [kind, *args]))}) {' '.join(map(str, rooms))} {listed(c['reply'])} (lentOf {written}))"
+    rooms = args.pop() if kind in ORDERS + TESTS else [0] * len(LISTS)
+    if kind in TESTS:
+        name = dict(zip(TESTS, ("testsCreation", "testsRedemption")))[kind]
+        return f"({spaced(name, *args, *rooms, listed(c['reply']))})"
+    written = spaced(*(listed(c.get(name, [])) for name in LISTS))
+    return f"(made ({spaced(kind, *args)}) {spaced(*rooms, listed(c['reply']))} (lentOf {written}))"
 
 
 def left(after, name):
@@ -285,12 +312,21 @@ def day_row(v):
     return f"plays {given} {reply(v['opening'])}\n      {calls}\n      {listed(v['book'])} {listed(v['prices'])}"
 
 
-def broken_row(v):
+def state(v):
     parts = listed("component " + " ".join(map(str, c)) for c in v["components"])
     day = f"record {{ accounts = {v['accounts']}; count = {v['count']}; fund = {fund(v['fund'])}; components = {parts} }}"
+    return f"(state ({day}) {listed(v['book'])} {listed(v['prices'])})"
+
+
+def broken_row(v):
     calls = listed((f"met {made(c)} {left(c.get('after', {}), 'book')} {left(c.get('after', {}), 'prices')}" for c in v["calls"]),
                    "\n      ")
-    return f"meets (state ({day}) {listed(v['book'])} {listed(v['prices'])})\n      {calls}"
+    return f"meets {state(v)}\n      {calls}"
+
+
+def chain_row(v):
+    calls = listed(map(made, v["calls"]), "\n      ")
+    return f"follows {state(v)}\n      {calls}\n      {listed(v['after']['book'])} {listed(v['after']['prices'])}"
 
 
 def fields(v):
@@ -322,7 +358,7 @@ def writing_row(v):
 # Each crate: what it may use, what a row is, what a module of rows uses, and how a line of each file becomes a row.
 CRATES = {
     "rows": ("sequences units lots flags digits layout fund rules balance", DAY_ROWS, DAY_USES,
-             {"openings": opening_row, "days": day_row, "broken_days": broken_row}),
+             {"openings": opening_row, "days": day_row, "broken_days": broken_row, "chains": chain_row}),
     "rows_of_texts": ("sequences units lots flags digits layout fund rules lines text_rules list_rules", TEXT_ROWS, TEXT_USES,
                       {"texts": text_row, "writings": writing_row}),
 }
@@ -361,8 +397,9 @@ def write_crate(name, vectors, scratch, chunk, largest):
             text = MODULE.format(title=f"{file}.jsonl, lines {first} to {last}, counted from 0.", uses=module_uses,
                                  rows="\n    ∷ ".join(row(v) for _, v in part), unfolding=unfolding)
             (crate / "specs" / f"{modules[-1]}.antt").write_text(text)
-        calls = sum(len(v.get("calls", [])) for _, v in chosen)
-        print(f"{name}: {file}, {len(chosen)} of {len(given)} rows, {calls} calls")
+        calls = [c["call"][0] for _, v in chosen for c in v.get("calls", [])]
+        tests = sum(kind in TESTS for kind in calls)
+        print(f"{name}: {file}, {len(chosen)} of {len(given)} rows, {len(calls)} calls, {tests} of them tests alone")
     (crate / "specs" / "Lib.antt").write_text("".join(f"pub mod {m}\n" for m in modules))
     listing = scratch / "crates.txt"
     if not re.search(rf"^{name}:", listing.read_text(), re.M):

@@ -20,12 +20,13 @@ Printed is, for each row, its number and then replies, each as number, place, va
 
     opening ..                      the reply
     price, trade or value ..        the reply of a call
-    test ..                         the reply of an order's test alone
+    test-create or test-redeem ..   the reply of an order's tests alone, where they are a call of the row
+    test ..                         the reply of an order's tests alone, which are made before every order: it must be the order's
     create or redeem ..             the reply of the order
     records .., investor ..,        where it is accepted: the numbers that it wrote to each of its three lists
     fund_reports ..
     rest same                       the lists behind these, and where it is refused the whole lists, are what they were
-    same                            where the call is refused: the book and the prices are what they were
+    same                            where the call is refused or only reads: the book and the prices are what they were
     book .., prices ..              both, whole: behind an accepted opening with no calls, and at the end of a row in order;
                                     behind an accepted call that is made on a state anew, those that are other than before
 
@@ -35,10 +36,11 @@ import argparse
 from pathlib import Path
 
 import vector_files
-from day_model import ORDERS, unfolded
+from day_model import ORDERS, READS, TESTS, unfolded
 from vector_files import LISTS, is_held, numbers, opened_book
 
-TAGS = {"opening": 1, "anew": 2, "state": 3, "price": 4, "trade": 5, "create": 6, "redeem": 7, "value": 8, "show": 9}
+TAGS = {"opening": 1, "anew": 2, "state": 3, "price": 4, "trade": 5, "create": 6, "redeem": 7, "value": 8, "show": 9,
+        "test-create": 11, "test-redeem": 12}
 
 FILES = ["openings", "days", "big_days", "broken_days", "chains"]
 
@@ -86,15 +88,25 @@ def lists(c):
         yield name, room, written
 
 
+def behind(c):
+    """What is printed behind a call, of the book and the prices."""
+    name, *_ = c["call"]
+    if c["reply"][0] or name in READS:
+        assert "after" not in c
+        return ["same"]
+    return [line(run, *c["after"][run]) for run in ("book", "prices") if run in c.get("after", {})]
+
+
 def call(c):
     name, *args = c["call"]
     reply = c["reply"]
-    behind = ["same"] if reply[0] else [line(run, *c["after"][run]) for run in ("book", "prices") if run in c.get("after", {})]
+    if name in ORDERS + TESTS:
+        account, units, rooms = args
+        args = [account, units, *rooms]
     if name not in ORDERS:
-        return item(name, args), [line(name, *reply), *behind]
-    account, units, rooms = args
+        return item(name, args), [line(name, *reply), *behind(c)]
     printed = [line(run, *written) for run, _, written in lists(c) if written]
-    return item(name, [account, units, *rooms]), [line("test", *reply), line(name, *reply), *printed, "rest same", *behind]
+    return item(name, args), [line("test", *reply), line(name, *reply), *printed, "rest same", *behind(c)]
 
 
 def show(book, prices):

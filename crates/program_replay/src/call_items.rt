@@ -1,4 +1,6 @@
-// Items that are calls: each is made, its reply printed, and where it is refused what was lent is compared with what it was.
+// Items that are calls: each is made and its reply printed; what was lent to one that is refused or only reads is compared with what
+// it was.
+use crate::kept;
 use crate::structs;
 use answers::Numbers;
 use day_items::replies;
@@ -20,7 +22,11 @@ const REDEEM: u64 = 7;
 
 const VALUE: u64 = 8;
 
-// Of an order: account, units, and the lengths of the lists of records, of the investor's and of the fund's reports.
+const TEST_CREATE: u64 = 11;
+
+const TEST_REDEEM: u64 = 12;
+
+// Of an order and its tests alone: account, units, and the lengths of the lists of records, of the investor's and the fund's reports.
 const RECORDS: usize = 2;
 
 const INVESTOR: usize = 3;
@@ -32,9 +38,6 @@ const MOST_RECORDS: usize = 2048;
 
 const MOST_REPORTS: usize = 4096;
 
-// Room for a copy of the book and the prices.
-const MOST_KEPT: usize = crate::MOST_BOOK + crate::MOST_PRICES;
-
 // Whether there is room for an order's lists.
 fn is_room(item: &[u64]) -> bool {
     state::size_at(item, RECORDS) <= MOST_RECORDS
@@ -42,12 +45,13 @@ fn is_room(item: &[u64]) -> bool {
         && state::size_at(item, FUND) <= MOST_REPORTS
 }
 
-// Whether an item has as many numbers as a call of its tag takes, and there is room for its lists.
+// Whether an item has as many numbers as a call of its tag takes, and there is room for its lists. Tests alone have no lists.
 fn is_call(tag: u64, item: &[u64]) -> bool {
     match tag {
         PRICE => item.len() == 2,
         TRADE => item.len() == 5,
         CREATE | REDEEM => item.len() == 5 && is_room(item),
+        TEST_CREATE | TEST_REDEEM => item.len() == 5,
         VALUE => item.len() == 0,
         _ => false,
     }
@@ -137,7 +141,28 @@ fn print_lists(answer: OrderAnswer, records: &[u64], investor: &[u64], fund: &[u
     }
 }
 
-// The test of an order alone, with the lengths of its lists.
+// The tests of an order alone, with the lengths of its lists.
+fn tested(
+    tag: u64,
+    a: usize,
+    units: u64,
+    day: &[u64],
+    book: &[u64],
+    prices: &[u64],
+    records: usize,
+    investor: usize,
+    fund: usize,
+) -> Numbers {
+    let answer = match tag {
+        CREATE | TEST_CREATE => {
+            day::creation_test(day, book, prices, a, units, records, investor, fund)
+        }
+        _ => day::redemption_test(day, book, prices, a, units, records, investor, fund),
+    };
+    answers::of_order(answer)
+}
+
+// The tests alone that are made before an order.
 fn print_test(
     tag: u64,
     a: usize,
@@ -149,11 +174,8 @@ fn print_test(
     investor: usize,
     fund: usize,
 ) {
-    let answer = match tag {
-        CREATE => day::creation_test(day, book, prices, a, units, records, investor, fund),
-        _ => day::redemption_test(day, book, prices, a, units, records, investor, fund),
-    };
-    replies::print(b"test", answers::of_order(answer));
+    let r = tested(tag, a, units, day, book, prices, records, investor, fund);
+    replies::print(b"test", r);
 }
 
 fn ask_of(tag: u64, account: usize, units: u64) -> Ask {
@@ -171,8 +193,27 @@ fn ask_of(tag: u64, account: usize, units: u64) -> Ask {
 fn print_order(tag: u64, r: Numbers) {
     match tag {
         CREATE => replies::print(b"create", r),
-        _ => replies::print(b"redeem", r),
+        REDEEM => replies::print(b"redeem", r),
+        TEST_CREATE => replies::print(b"test-create", r),
+        _ => replies::print(b"test-redeem", r),
     }
+}
+
+// The tests alone, as a call of their own.
+fn test(tag: u64, item: &[u64], day: &[u64], book: &[u64], prices: &[u64]) -> Numbers {
+    let r = tested(
+        tag,
+        state::size_at(item, 0),
+        state::at(item, 1),
+        day,
+        book,
+        prices,
+        state::size_at(item, RECORDS),
+        state::size_at(item, INVESTOR),
+        state::size_at(item, FUND),
+    );
+    print_order(tag, r);
+    r
 }
 
 // Fills three lists with other numbers.
@@ -200,7 +241,7 @@ fn print_made(
     r
 }
 
-// The test alone, and then the order, with lists that hold other numbers.
+// The tests alone, and then the order, with lists that hold other numbers.
 fn order_with(
     tag: u64,
     a: usize,
@@ -255,62 +296,14 @@ fn make(tag: u64, item: &[u64], day: &[u64], book: &mut [u64], prices: &mut [u64
         PRICE => price(item, day, book, prices),
         TRADE => trade(item, day, book, prices),
         VALUE => value(day, book, prices),
+        TEST_CREATE | TEST_REDEEM => test(tag, item, day, book, prices),
         _ => order(tag, item, day, book, prices),
     }
 }
 
-// Keeps the book, and behind it the prices.
-fn keep(book: &[u64], prices: &[u64], kept: &mut [u64]) {
-    let b = runs::cut(book.len(), kept);
-    runs::copy(prices, &mut kept[b..]);
-    runs::copy(book, kept);
-}
-
-fn put_back(book: &mut [u64], prices: &mut [u64], kept: &[u64]) {
-    let b = runs::cut(book.len(), kept);
-    runs::copy(kept, book);
-    runs::copy(&kept[b..], prices);
-}
-
-// What a refused call was lent: the same, or the first place that differs.
-fn print_kept(book: &[u64], prices: &[u64], kept: &[u64]) {
-    let b = runs::first_difference(book, kept);
-    if b < book.len() {
-        output::place(b"book", b);
-        return;
-    }
-    let from = runs::cut(book.len(), kept);
-    let p = runs::first_difference(prices, &kept[from..]);
-    if p < prices.len() {
-        output::place(b"prices", p);
-        return;
-    }
-    output::text(b"same\n");
-}
-
-// A run, whole, where it is other than it was.
-fn print_changed(word: &[u8], run: &[u64], kept: &[u64]) {
-    if runs::first_difference(run, kept) < run.len() {
-        output::run(word, run);
-    }
-}
-
-// What a call made of the book and the prices.
-fn print_after(book: &[u64], prices: &[u64], kept: &[u64]) {
-    let from = runs::cut(book.len(), kept);
-    print_changed(b"book", book, kept);
-    print_changed(b"prices", prices, &kept[from..]);
-}
-
-// What is left of a call: compared where it was refused; printed and put back where calls are made on the state anew.
-fn after_call(number: u64, is_anew: bool, book: &mut [u64], prices: &mut [u64], kept: &[u64]) {
-    if number != 0 {
-        print_kept(book, prices, kept);
-    }
-    if is_anew {
-        print_after(book, prices, kept);
-        put_back(book, prices, kept);
-    }
+// Whether a call only reads.
+fn is_reading(tag: u64) -> bool {
+    tag == VALUE || tag == TEST_CREATE || tag == TEST_REDEEM
 }
 
 // Makes the call on the runs that are lent to it.
@@ -322,10 +315,11 @@ fn make_on(
     book: &mut [u64],
     prices: &mut [u64],
 ) {
-    let mut kept = [0u64; MOST_KEPT];
-    keep(book, prices, &mut kept);
+    let mut kept = [0u64; kept::MOST_KEPT];
+    kept::keep(book, prices, &mut kept);
     let r = make(tag, item, day, book, prices);
-    after_call(r.number, is_anew, book, prices, &kept);
+    let is_kept = r.number != 0 || is_reading(tag);
+    kept::after_call(is_kept, is_anew, book, prices, &kept);
 }
 
 pub fn call_item(
