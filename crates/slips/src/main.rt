@@ -3,6 +3,7 @@
 mod given;
 mod printed;
 
+use answers::Numbers;
 use list_rules::ListAnswer;
 use list_rules::ListFields;
 use program_io::output;
@@ -23,11 +24,35 @@ const MOST_BOOK: usize = ACCOUNTS * layout::MOST_WIDTH;
 // Room for the reports of an order to one party, which are not printed.
 const MOST_REPORTS: usize = layout::REPORT_WIDTH * rules::MOST_REPORTS;
 
-// Creates one basket.
+// What the tests of the creation alone answer, with room for all that an order can make.
+fn test(day: &[u64], units: u64, book: &[u64], prices: &[u64]) -> Numbers {
+    let answer = day::creation_test(
+        day,
+        book,
+        prices,
+        ACCOUNT,
+        units,
+        printed::MOST_LIST,
+        MOST_REPORTS,
+        MOST_REPORTS,
+    );
+    answers::of_order(answer)
+}
+
+// A line where the tests alone answered otherwise than the creation, which they never do.
+fn compare(tested: Numbers, made: Numbers) {
+    let is_same = tested.number == made.number && tested.place == made.place;
+    if !is_same || tested.value != made.value || tested.reports != made.reports {
+        output::text(b"the tests alone answered otherwise\n");
+    }
+}
+
+// Tests the creation of one basket, and makes it.
 fn create(day: &[u64], units: u64, book: &mut [u64], prices: &[u64]) {
     let mut list = [0u64; printed::MOST_LIST];
     let mut investor = [0u64; MOST_REPORTS];
     let mut fund = [0u64; MOST_REPORTS];
+    let tested = test(day, units, book, prices);
     let answer = day::create(
         day,
         book,
@@ -38,6 +63,7 @@ fn create(day: &[u64], units: u64, book: &mut [u64], prices: &[u64]) {
         &mut investor,
         &mut fund,
     );
+    compare(tested, answers::of_order(answer));
     match answer {
         OrderAnswer::Made(counts) => printed::records(&list, counts.records),
         OrderAnswer::Refused(why) => printed::refusal(why),
