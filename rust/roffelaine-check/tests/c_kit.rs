@@ -290,7 +290,7 @@ fn runs_the_day_of_the_man_page(command: &Path, folder: &Path) {
     let file = folder.join("day.txt");
     std::fs::write(&file, text_of(LIST) + day.expect("a day").0).expect("a file");
     let printed = run(Command::new(command).arg("rehearse").arg(file));
-    assert!(printed.contains("5 of 5 expectations met"), "{printed}");
+    assert!(printed.contains("6 of 6 expectations met"), "{printed}");
 }
 
 /// The man page has each option and each line of a day that `--help` has: lines

@@ -94,6 +94,8 @@ impl Posting {
                     self.post_record(list, order.account as usize, record);
                 }
             }
+            // Tests alone move nothing.
+            Call::TestCreate(_) | Call::TestRedeem(_) => {}
             Call::Open | Call::Price { .. } | Call::Value => {}
         }
     }
