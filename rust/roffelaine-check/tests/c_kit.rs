@@ -115,6 +115,11 @@ fn an_empty_run_may_be_null() {
 }
 
 #[test]
+fn tests_alone_answer_as_the_order() {
+    prints(&all_compilers(), "tests_alone.c", expected::TESTS_ALONE);
+}
+
+#[test]
 fn an_empty_vector_is_an_empty_run() {
     prints(&cplusplus_compilers(), "vectors.cpp", expected::VECTORS);
 }
