@@ -78,10 +78,10 @@ extern "C" {
 #endif
 
 /* The version of this header and of the library that it came with. */
-#define ROFFELAINE_VERSION "0.4.0"
+#define ROFFELAINE_VERSION "0.5.0"
 #define ROFFELAINE_VERSION_MAJOR 0 /* with the next one, part of the shared library's name */
-#define ROFFELAINE_VERSION_MINOR 4 /* raised where calls, names or widths change */
-#define ROFFELAINE_VERSION_PATCH 0 /* raised where none does */
+#define ROFFELAINE_VERSION_MINOR 5 /* raised with each change request: calls, names or widths may change */
+#define ROFFELAINE_VERSION_PATCH 0 /* raised in between: none does */
 
 /* How many numbers each takes. */
 #define ROFFELAINE_FUND_WIDTH 14
