@@ -14,8 +14,10 @@ use roffelaine_check::differential::Plan;
 use roffelaine_check::engine::{Engine, Lent, LentList, Model};
 use roffelaine_check::model::list::{self, Writing};
 use roffelaine_check::model::{
-    range, Call, Component, Opening, Reply, ANSWER_NUMBERS, COMPONENT_NUMBERS, RECORD_NUMBERS,
+    range, Call, Component, Opening, Order, Reply, ANSWER_NUMBERS, COMPONENT_NUMBERS,
+    RECORD_NUMBERS,
 };
+use roffelaine_check::random::{OpeningCase, Rng, Scale, Size};
 use std::cell::Cell;
 use std::ops::Range;
 
@@ -434,6 +436,32 @@ fn engines_that_test_wrongly_are_found() {
     assert!(agrees(mistesting::Fault::None).is_ok());
     for fault in mistesting::Fault::ALL {
         assert!(agrees(fault).is_err(), "{fault:?} is not found");
+    }
+}
+
+/// Tests that write are found where they are made, before their order.
+#[test]
+fn tests_that_write_are_found_at_once() {
+    let mut rng = Rng::new(9);
+    let case = OpeningCase::sound(&mut rng, Size::Small, Scale::Usual);
+    let mut lent = case.lent(&mut rng);
+    assert!(Model.open(&case.opening(), &mut lent).is_accepted());
+    let order = Call::Create(Order {
+        account: 1,
+        units: case.fund.basket_size,
+        lengths: lent.runs.lengths(),
+    });
+    let is_found = |fault| {
+        let engine = Mistesting(fault);
+        let mut comparison = Comparison::new(&engine, &engine);
+        comparison.call(&order, &mut lent.clone()).is_err()
+    };
+    assert!(!is_found(mistesting::Fault::None));
+    for fault in [
+        mistesting::Fault::WritesTheBook,
+        mistesting::Fault::WritesThePrices,
+    ] {
+        assert!(is_found(fault), "{fault:?} is not found");
     }
 }
 
