@@ -3,7 +3,8 @@
 //! The book lies in pages of its own. While an order is made, every page on which
 //! it has nothing to write is read-only: a write there, as of a book that is
 //! copied and put back, would end the process. In the driver an order takes as
-//! many instructions on a large book as on a small one.
+//! many instructions on a large book as on a small one, and no stack on which a
+//! number for each component would fit.
 //!
 //! Linux on x86-64 only, as the archive is: read-only pages, child processes and
 //! single steps are asked of this system by its own numbers.
@@ -20,7 +21,7 @@ use memory::{Memory, Pages};
 use roffelaine::lent;
 use roffelaine_check::archive::lists_of;
 use roffelaine_check::engine::{Engine, Lent, Model};
-use roffelaine_check::flat::{answers_length, day_numbers, rows_of};
+use roffelaine_check::flat::{answers_length, day_numbers, rows_of, DAY_NUMBERS};
 use roffelaine_check::full_size::{component_run, holdings, opening, order, COUNT, MOST, PRICE};
 use roffelaine_check::model::{
     book_length, lengths_for, stretch_width, Call, Day, Order, ANSWER_NUMBERS,
@@ -28,6 +29,7 @@ use roffelaine_check::model::{
 use std::ffi::c_int;
 use std::io::Write;
 use std::ops::Range;
+use steps::Count;
 use system::{child, State, PAGE, SIGSEGV};
 
 const ACCOUNTS: usize = 64;
@@ -234,10 +236,9 @@ fn tests_alone_write_nothing() {
     assert_eq!(replies, case.answers);
 }
 
-/// How many instructions an order takes in the driver, on a day that is known to
-/// be sound: those of the second of two in a list, from the answer to the first
-/// on.
-fn instructions_in_the_driver(accounts: usize, call: Call) -> Option<u64> {
+/// What an order takes in the driver, on a day that is known to be sound: the
+/// second of two in a list, from the answer to the first on.
+fn in_a_list(accounts: usize, call: Call) -> Option<Count> {
     let (rows, lengths) = rows_of(&[call, call]);
     let start = opened(accounts, 1);
     let day = day_numbers(&start.day);
@@ -246,7 +247,7 @@ fn instructions_in_the_driver(accounts: usize, call: Call) -> Option<u64> {
         ..start
     };
     let mut answers = vec![7; answers_length(&rows)];
-    steps::instructions_behind_write(answers.as_ptr(), || {
+    steps::count_behind_write(answers.as_ptr(), || {
         let Lent {
             book, prices, runs, ..
         } = &mut lent;
@@ -260,14 +261,19 @@ fn instructions_in_the_driver(accounts: usize, call: Call) -> Option<u64> {
     })
 }
 
-/// How many instructions an order takes by itself, with the day's test.
-fn instructions_alone(accounts: usize, call: Call) -> Option<u64> {
+/// What an order takes by itself, with the day's test.
+fn by_itself(accounts: usize, call: Call) -> Option<Count> {
     let start = opened(accounts, 1);
     let mut memory = Memory::of(&start, ANSWER_NUMBERS);
-    steps::instructions(|| {
+    steps::count(|| {
         memory.call(&[call], 0);
         memory.answers.numbers()[0] as c_int
     })
+}
+
+/// The bytes of so many numbers.
+fn bytes(numbers: usize) -> u64 {
+    (numbers * size_of::<u64>()) as u64
 }
 
 /// A count on 2 accounts and on more; where nothing can be traced, that is said
@@ -275,13 +281,13 @@ fn instructions_alone(accounts: usize, call: Call) -> Option<u64> {
 fn on_two_and_more(
     what: &str,
     more: usize,
-    count: fn(usize, Call) -> Option<u64>,
+    count: fn(usize, Call) -> Option<Count>,
     call: Call,
-) -> Option<[u64; 2]> {
+) -> Option<[Count; 2]> {
     let counts = count(2, call).zip(count(more, call));
     match counts {
         Some((few, many)) => {
-            println!("{what}: {few} instructions on 2 accounts, {many} on {more}");
+            println!("{what}: {few:?} on 2 accounts, {many:?} on {more}");
         }
         None => writeln!(
             std::io::stderr(),
@@ -300,21 +306,29 @@ fn an_order_in_the_driver_costs_the_same_on_any_book() {
         ("creation in the driver", Call::Create(order)),
         ("redemption in the driver", Call::Redeem(order)),
     ] {
-        let counts = on_two_and_more(what, ACCOUNTS, instructions_in_the_driver, call);
-        let Some([few, many]) = counts else {
+        let Some(counts) = on_two_and_more(what, ACCOUNTS, in_a_list, call) else {
             return;
         };
+        let [few, many] = counts.map(|count| count.instructions);
         assert!(few > COUNT as u64, "{what}: {few} are too few");
         assert!(100 * many <= 105 * few, "{what}: {few} and {many}");
+        for Count { stack, .. } in counts {
+            assert!(stack < bytes(COUNT), "{what}: {stack} bytes of stack");
+        }
     }
 }
 
 /// By itself an order tests the whole book, and a few accounts more are seen: the
-/// counts above would differ too.
+/// counts above would differ too. It takes the same stack, and less than the
+/// numbers of a day: neither the day nor the book is copied there.
 #[test]
 fn an_order_by_itself_costs_more_on_a_larger_book() {
     let (what, call) = ("creation by itself", Call::Create(order(1)));
-    if let Some([few, many]) = on_two_and_more(what, 8, instructions_alone, call) {
+    if let Some(counts) = on_two_and_more(what, 8, by_itself, call) {
+        let [few, many] = counts.map(|count| count.instructions);
         assert!(100 * many > 105 * few, "{few} and {many}");
+        let [few, many] = counts.map(|count| count.stack);
+        assert_eq!(few, many);
+        assert!(few < bytes(DAY_NUMBERS), "{few} bytes of stack");
     }
 }
