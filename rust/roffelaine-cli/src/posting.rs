@@ -307,7 +307,8 @@ mod tests {
             price: Money(10_000),
         };
         let mut posting = opening();
-        for call in [Call::Open, Call::Value, price] {
+        let tests = [Call::TestCreate(order(1)), Call::TestRedeem(order(1))];
+        for call in [Call::Open, Call::Value, price].into_iter().chain(tests) {
             posting.post(&list(), &call, &[]);
         }
         assert_eq!(posting, opening());

@@ -147,6 +147,10 @@ pub mod tests {
         assert!(matches!(Effect::of(&opening(9)), Some(Effect::Opens)));
         let value = accepted(10, Call::Value, Made::Done);
         assert!(Effect::of(&value).is_none());
+        let (records, reports) = (8, Some(4));
+        let order = creation().order().copied().expect("an order");
+        let tested = Made::Tested { records, reports };
+        assert!(Effect::of(&accepted(11, Call::TestCreate(order), tested)).is_none());
     }
 
     /// The paper's creation: 113,000 and 600 yuan, 173,000 and 408.

@@ -166,7 +166,10 @@ impl Session<'_> {
                 }),
             },
             Call::Value => Made::Value(roffelaine::ReferenceValue(value)),
-            _ => Made::Done,
+            Call::Price { .. } | Call::Trade(_) => Made::Done,
+            Call::Open | Call::TestCreate(_) | Call::TestRedeem(_) => {
+                unreachable!("{call:?} is made by itself")
+            }
         })
     }
 }
