@@ -1,8 +1,9 @@
 /*
  * A day of one fund from C (or C++). The fund's list is read from its text, the day is opened with two accounts, prices are set,
- * and account 1 creates one basket, whose records are printed, and its reports to the investor and to the fund's manager. Account 1
- * may not redeem that basket on the same day: the refusal is printed with its reason. Then the same calls are made as one list. Last
- * a damaged list text is refused, with line and column.
+ * and account 1 creates one basket: first the tests of the creation are made alone, which say how many records it will make and
+ * change nothing, then its records are printed, and its reports to the investor and to the fund's manager. Account 1 may not redeem
+ * that basket on the same day: the refusal is printed with its reason. Then the same calls are made as one list. Last a damaged list
+ * text is refused, with line and column.
  *
  *     cc -std=c99 day.c $(pkg-config --cflags --libs roffelaine) -o day
  */
@@ -186,6 +187,11 @@ static int call_by_call(uint64_t units)
         if (number != ROFFELAINE_ACCEPTED)
             return said("price", number, place, value);
     }
+    number = roffelaine_creation_test(
+        day, ROFFELAINE_DAY_WIDTH, book, book_length, prices, components, HOLDER, units, lists.records.length,
+        lists.investor.length, lists.fund.length, &place, &value, &reports);
+    if (!said("test create", number, place, value))
+        return 0;
     number = roffelaine_create(
         day, ROFFELAINE_DAY_WIDTH, book, book_length, prices, components, HOLDER, units, records, lists.records.length,
         investor, lists.investor.length, fund, lists.fund.length, &place, &value, &reports);

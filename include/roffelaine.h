@@ -78,10 +78,10 @@ extern "C" {
 #endif
 
 /* The version of this header and of the library that it came with. */
-#define ROFFELAINE_VERSION "0.4.0"
+#define ROFFELAINE_VERSION "0.5.0"
 #define ROFFELAINE_VERSION_MAJOR 0 /* with the next one, part of the shared library's name */
-#define ROFFELAINE_VERSION_MINOR 4 /* raised where calls, names or widths change */
-#define ROFFELAINE_VERSION_PATCH 0 /* raised where none does */
+#define ROFFELAINE_VERSION_MINOR 5 /* raised with each change request: calls, names or widths may change */
+#define ROFFELAINE_VERSION_PATCH 0 /* raised in between: none does */
 
 /* How many numbers each takes. */
 #define ROFFELAINE_FUND_WIDTH 14
@@ -232,7 +232,11 @@ uint64_t roffelaine_redeem(
     uint64_t *fund, size_t fund_length,
     uint64_t *place, uint64_t *value, uint64_t *reports);
 
-/* What the creation would answer with lists of so many numbers; nothing changes. */
+/*
+ * The tests of a creation alone. Number, place and both counts are those that `roffelaine_create` would answer now with lists of
+ * `records_length`, `investor_length` and `fund_length` numbers, 5 and 16 included. Day, book and prices are only read, no list is
+ * lent, and nothing is written but `place`, `value` and `reports`.
+ */
 uint64_t roffelaine_creation_test(
     const uint64_t *day, size_t day_length,
     const uint64_t *book, size_t book_length,
@@ -241,7 +245,7 @@ uint64_t roffelaine_creation_test(
     size_t records_length, size_t investor_length, size_t fund_length,
     uint64_t *place, uint64_t *value, uint64_t *reports);
 
-/* What the redemption would answer with lists of so many numbers; nothing changes. */
+/* The tests of a redemption alone: what `roffelaine_redeem` would answer now with lists of so many numbers, in the same way. */
 uint64_t roffelaine_redemption_test(
     const uint64_t *day, size_t day_length,
     const uint64_t *book, size_t book_length,

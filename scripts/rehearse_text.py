@@ -26,6 +26,7 @@ SHAPES = {
     "accounts": "n", "cash": "nm", "hold": "ncn", "open": "", "price": "cm", "trade": "cnmnn",
     "create": "nn", "redeem": "nn", "value": "", "show": "n", "totals": "",
 }
+TESTS = {f"test {name}": name for name in ORDERS}  # the tests alone, and whose they are
 
 
 def read_list(text):
@@ -139,7 +140,10 @@ class Rehearsal:
         if name == "value":
             return self.day.value(), {}
         account, units, *room = words
-        return getattr(self.day, name)(account, units, [*(LISTS["records"] * x for x in room), *ALL[len(room):]])
+        rooms = [*(LISTS["records"] * x for x in room), *ALL[len(room):]]
+        if name in TESTS:  # what the order would answer; nothing changes, and nothing is written
+            return getattr(copy.deepcopy(self.day), TESTS[name])(account, units, rooms)[0], {}
+        return getattr(self.day, name)(account, units, rooms)
 
     def answered(self, k, name, reply, lists, why):
         self.last = (name, reply)
@@ -147,8 +151,9 @@ class Rehearsal:
         if reply[0]:
             self.out.append(f"{k} {name} refused {reply[0]} {reply[1]}: {why}")
             return True
-        ends = {"create": f" {reply[2]}", "redeem": f" {reply[2]}", "value": f" {yuan(reply[2], 4)}"}
-        self.out.append(f"{k} {name} ok{ends.get(name, '')}")
+        end = f" {reply[2]}" if name in (*ORDERS, *TESTS) else f" {yuan(reply[2], 4)}" if name == "value" else ""
+        end += f" {reply[3]}" if name in TESTS and self.tells else ""
+        self.out.append(f"{k} {name} ok{end}")
         self.out += [f"{c:06} {'_BS'[side]} {q} {yuan(p)} {yuan(x)}" for c, side, q, p, x in lists.get("records", [])]
         if self.tells:
             self.out += [report(word, *x) for word, key in PARTIES.items() for x in lists.get(key, [])]
@@ -181,6 +186,7 @@ class Rehearsal:
     def reason(self, name, words, reply):
         if reply[0] == 5:
             return "no day is open"
+        name = TESTS.get(name, name)
         return {"price": self.price_reason, "trade": self.trade_reason, "value": self.value_reason,
                 "create": self.order_reason, "redeem": self.order_reason}[name](name, words, reply)
 
@@ -330,7 +336,7 @@ class Rehearsal:
             name, reply = self.last
             if kind == "refused" and reply[0] and reply[:len(words)] == words:
                 return None
-            count = [reply[2]] if name in ORDERS else []
+            count = [reply[2]] if name in (*ORDERS, *TESTS) else []
             if kind == "ok" and not reply[0] and words in ([], count):
                 return None
             end = f"refused {reply[0]} {reply[1]}" if reply[0] else " ".join(["ok", *map(str, count)])
@@ -366,8 +372,10 @@ class Rehearsal:
             return self.expect(k, texts)
         if name == "reports":
             return self.tell(texts)
-        shape = SHAPES.get(name)
-        if shape is None or not (len(texts) == len(shape) or name in ORDERS and len(texts) == 3):
+        if name == "test":
+            name, texts = " ".join(line[:2]), texts[1:]
+        shape = SHAPES.get(TESTS.get(name, name))
+        if shape is None or not (len(texts) == len(shape) or name in (*ORDERS, *TESTS) and len(texts) == 3):
             return False
         words = [word(kind, t) for kind, t in zip(shape + "n", texts)]
         if None in words:
@@ -387,7 +395,7 @@ class Rehearsal:
             words = re.findall(r"[^ \t\r]+", line.split(b"#")[0].decode("latin-1"))
             if words and not self.understood(k, words):
                 self.counts["not"] += 1
-                opens = words[0] in ("accounts", "cash", "hold") or words[0] not in (*SHAPES, "expect", "reports")
+                opens = words[0] in ("accounts", "cash", "hold") or words[0] not in (*SHAPES, "test", "expect", "reports")
                 self.faulty += opens and self.since is None
                 self.out.append(f"{k} not understood: column ..")
         if self.waits is not None:

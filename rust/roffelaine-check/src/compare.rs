@@ -3,7 +3,10 @@
 use crate::engine::{Engine, Lent, LentList};
 use crate::flat::PART_NUMBERS;
 use crate::model::list::COMPONENT_LINE;
-use crate::model::{Call, Reply, ANSWER_NUMBERS, ROW_NUMBERS};
+use crate::model::refusal::LIST_TOO_SHORT;
+use crate::model::{
+    lengths_for, Call, Counts, Lengths, Order, PerList, Reply, ANSWER_NUMBERS, ROW_NUMBERS,
+};
 use crate::random::{OpeningCase, TextCase, WritingCase};
 use std::collections::BTreeMap;
 use std::fmt::{Debug, Write};
@@ -35,7 +38,7 @@ impl Tally {
             if kind != last {
                 let _ = write!(
                     table,
-                    "{}{kind:<16}",
+                    "{}{kind:<27}",
                     if last.is_empty() { "" } else { "\n" }
                 );
                 last = kind;
@@ -57,6 +60,32 @@ fn kind_of(call: &Call) -> &'static str {
         Call::TestDay => "test of day",
         Call::TestCreation(_) => "creation test",
         Call::TestRedemption(_) => "redemption test",
+    }
+}
+
+/// What the tests alone that are made before an order are named in the tally.
+fn kind_of_tests(alone: &Call) -> &'static str {
+    match alone {
+        Call::TestCreation(_) => "tests before creation",
+        _ => "tests before redemption",
+    }
+}
+
+/// Lists for an accepted order, by what they are named in the tally: each as long
+/// as it must be, but for so many numbers.
+const SHORT_LISTS: [(&str, [usize; 3]); 4] = [
+    ("lists just enough", [0, 0, 0]),
+    ("records a number short", [1, 0, 0]),
+    ("investor's a number short", [0, 1, 0]),
+    ("fund's a number short", [0, 0, 1]),
+];
+
+/// The same order with lists of other lengths; none where it is no order.
+fn with_lengths(call: &Call, lengths: Lengths) -> Option<Call> {
+    match *call {
+        Call::Create(order) => Some(Call::Create(Order { lengths, ..order })),
+        Call::Redeem(order) => Some(Call::Redeem(Order { lengths, ..order })),
+        _ => None,
     }
 }
 
@@ -189,8 +218,12 @@ impl<'e> Comparison<'e> {
         Ok(reply)
     }
 
-    /// Makes one call on both; `lent` is left as the call leaves it.
+    /// Makes one call on both; `lent` is left as the call leaves it. Before an
+    /// order its tests are made alone, and must answer what it then answers.
     pub fn call(&mut self, call: &Call, lent: &mut Lent) -> Result<Reply, Difference> {
+        let tests = call.tests_alone();
+        let tests = tests.map(|alone| self.tests_alone(&alone, lent));
+        let tests = tests.transpose()?;
         let (before, mut other) = (lent.clone(), lent.clone());
         let reply = self.first.call(call, lent);
         let second = self.second.call(call, &mut other);
@@ -199,8 +232,62 @@ impl<'e> Comparison<'e> {
         let mut findings = Findings::default();
         findings.value("reply", &reply, &second);
         findings.lent(lent, &other);
+        if let Some(tests) = tests {
+            findings.value("tests alone and order", &tests, &reply);
+        }
         findings.finish(|| format!("{call:?} on {}", state(&before)))?;
         Ok(reply)
+    }
+
+    /// Makes the tests of an order alone on both; they change nothing.
+    fn tests_alone(&mut self, alone: &Call, before: &Lent) -> Result<Reply, Difference> {
+        let mut findings = Findings::default();
+        let [reply, second] = [self.first, self.second].map(|engine| {
+            let mut lent = before.clone();
+            let reply = engine.call(alone, &mut lent);
+            findings.lent(before, &lent);
+            reply
+        });
+        self.calls += 1;
+        self.tally.add(kind_of_tests(alone), reply.number);
+        findings.value("reply", &reply, &second);
+        findings.finish(|| format!("{alone:?} on {}", state(before)))?;
+        Ok(reply)
+    }
+
+    /// Makes an accepted order again as it was made: with lists that just take
+    /// what it makes it answers the same, with one of them a number shorter the
+    /// order and its tests alone give 16.
+    pub fn short_lists(
+        &mut self,
+        call: &Call,
+        before: &Lent,
+        made: Reply,
+    ) -> Result<(), Difference> {
+        if !made.is_accepted() {
+            return Ok(());
+        }
+        let needed = lengths_for(Counts {
+            records: made.value,
+            reports: made.reports,
+        });
+        for (name, missing) in SHORT_LISTS {
+            let lengths = needed.zip(PerList::from(missing));
+            let lengths = lengths.map(|(needed, missing)| needed.saturating_sub(missing));
+            let Some(order) = with_lengths(call, lengths) else {
+                return Ok(());
+            };
+            let expected = match lengths == needed {
+                true => made,
+                false => Reply::refused(LIST_TOO_SHORT, 0),
+            };
+            let reply = self.call(&order, &mut before.clone())?;
+            self.tally.add(name, reply.number);
+            let mut findings = Findings::default();
+            findings.value(name, &reply, &expected);
+            findings.finish(|| format!("{order:?} on {}", state(before)))?;
+        }
+        Ok(())
     }
 
     /// Makes the calls of some rows on both, with one test of the day and then

@@ -57,11 +57,25 @@ fn whole_day(rng: &mut Rng, comparison: &mut Comparison<'_>) -> Result<(), Diffe
     }
     for _ in 0..rng.between(20, 70) {
         let call = random::any_call(rng, &lent, scale);
-        replies.push(comparison.call(&call, &mut lent)?);
+        replies.push(call_and_short_lists(comparison, &call, &mut lent)?);
         calls.push(call);
     }
     whole_list(rng, comparison, &start, &calls, (&replies, &lent))?;
     wild_rows(rng, comparison, start, scale)
+}
+
+/// One call, and where it is an order that is accepted, the same with lists that
+/// are just long enough and a number too short; `lent` is left as the call leaves
+/// it.
+fn call_and_short_lists(
+    comparison: &mut Comparison<'_>,
+    call: &Call,
+    lent: &mut Lent,
+) -> Result<Reply, Difference> {
+    let before = lent.clone();
+    let reply = comparison.call(call, lent)?;
+    comparison.short_lists(call, &before, reply)?;
+    Ok(reply)
 }
 
 /// The same calls in one go, each order with its own parts of the runs.
@@ -129,7 +143,7 @@ fn day_at_a_bound(
     wild_rows(rng, comparison, lent.clone(), scale)?;
     for _ in 0..12 {
         let call = random::any_call(rng, lent, scale);
-        comparison.call(&call, lent)?;
+        call_and_short_lists(comparison, &call, lent)?;
     }
     Ok(())
 }
@@ -143,7 +157,7 @@ fn day_at_edges(
     for _ in 0..12 {
         let mut tuned = lent.clone();
         let call = random::edge_call(rng, &mut tuned);
-        comparison.call(&call, &mut tuned)?;
+        call_and_short_lists(comparison, &call, &mut tuned)?;
     }
     Ok(())
 }
@@ -158,7 +172,7 @@ fn broken_day(
     random::break_day(rng, lent);
     for _ in 0..8 {
         let call = random::any_call(rng, lent, scale);
-        comparison.call(&call, &mut lent.clone())?;
+        call_and_short_lists(comparison, &call, &mut lent.clone())?;
     }
     Ok(())
 }

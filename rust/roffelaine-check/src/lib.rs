@@ -6,7 +6,8 @@
 //! compared, `archive` is the proved archive as one, `random` makes the cases,
 //! `compare` makes one call on two engines and `differential` plans a whole
 //! test. `library_types` says the model's values in the library's types.
-//! `timing` measures the rows of the benchmark.
+//! `full_size` is a fund of the most components, and `timing` measures the rows
+//! of the benchmark.
 #![forbid(unsafe_code)]
 
 pub mod archive;
@@ -14,6 +15,7 @@ pub mod compare;
 pub mod differential;
 pub mod engine;
 pub mod flat;
+pub mod full_size;
 pub mod library_types;
 pub mod model;
 pub mod random;

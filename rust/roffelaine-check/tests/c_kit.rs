@@ -115,6 +115,11 @@ fn an_empty_run_may_be_null() {
 }
 
 #[test]
+fn tests_alone_answer_as_the_order() {
+    prints(&all_compilers(), "tests_alone.c", expected::TESTS_ALONE);
+}
+
+#[test]
 fn an_empty_vector_is_an_empty_run() {
     prints(&cplusplus_compilers(), "vectors.cpp", expected::VECTORS);
 }
@@ -199,7 +204,7 @@ fn installed_files() -> BTreeSet<String> {
         "include/roffelaine_util.h",
         "lib/libroffelaine.a",
         "lib/libroffelaine.so",
-        "lib/libroffelaine.so.0.4",
+        "lib/libroffelaine.so.0.5",
         &shared,
         "lib/pkgconfig/roffelaine.pc",
         "share/man/man1/roffelaine.1",
@@ -260,8 +265,8 @@ fn functions() -> BTreeSet<String> {
 fn shows_the_calls_alone(prefix: &Path) {
     let link = |name: &str| std::fs::read_link(prefix.join("lib").join(name)).expect("a link");
     let file = format!("libroffelaine.so.{}", version());
-    assert_eq!(link("libroffelaine.so"), Path::new("libroffelaine.so.0.4"));
-    assert_eq!(link("libroffelaine.so.0.4"), Path::new(&file));
+    assert_eq!(link("libroffelaine.so"), Path::new("libroffelaine.so.0.5"));
+    assert_eq!(link("libroffelaine.so.0.5"), Path::new(&file));
     let library = prefix.join("lib").join(file);
     if is_there("nm", "the names of the shared library") {
         let mut command = Command::new("nm");
@@ -275,7 +280,7 @@ fn shows_the_calls_alone(prefix: &Path) {
     }
     if is_there("readelf", "the soname of the shared library") {
         let said = run(Command::new("readelf").arg("-d").arg(&library));
-        assert!(said.contains("soname: [libroffelaine.so.0.4]"), "{said}");
+        assert!(said.contains("soname: [libroffelaine.so.0.5]"), "{said}");
         assert!(!said.contains("TEXTREL"), "{said}");
     }
 }
@@ -290,7 +295,7 @@ fn runs_the_day_of_the_man_page(command: &Path, folder: &Path) {
     let file = folder.join("day.txt");
     std::fs::write(&file, text_of(LIST) + day.expect("a day").0).expect("a file");
     let printed = run(Command::new(command).arg("rehearse").arg(file));
-    assert!(printed.contains("5 of 5 expectations met"), "{printed}");
+    assert!(printed.contains("6 of 6 expectations met"), "{printed}");
 }
 
 /// The man page has each option and each line of a day that `--help` has: lines

@@ -3,16 +3,21 @@
 
 #[path = "differential/misreporting.rs"]
 mod misreporting;
+#[path = "differential/mistesting.rs"]
+mod mistesting;
 
 use misreporting::Misreporting;
+use mistesting::Mistesting;
 use roffelaine_check::archive::Archive;
 use roffelaine_check::compare::Comparison;
 use roffelaine_check::differential::Plan;
 use roffelaine_check::engine::{Engine, Lent, LentList, Model};
 use roffelaine_check::model::list::{self, Writing};
 use roffelaine_check::model::{
-    range, Call, Component, Opening, Reply, ANSWER_NUMBERS, COMPONENT_NUMBERS, RECORD_NUMBERS,
+    range, Call, Component, Opening, Order, Reply, ANSWER_NUMBERS, COMPONENT_NUMBERS,
+    RECORD_NUMBERS,
 };
+use roffelaine_check::random::{OpeningCase, Rng, Scale, Size};
 use std::cell::Cell;
 use std::ops::Range;
 
@@ -40,33 +45,44 @@ const MANY_TEXTS: Plan = Plan {
     texts: 30_000,
 };
 
+/// What each kind of call must have been answered.
+const REACHED: &[(&str, &[u64])] = &[
+    ("opening", &[0, 1, 2, 3, 4]),
+    ("price", &[0, 5, 6, 7]),
+    ("trade", &[0, 5, 6, 7, 8, 9, 10]),
+    ("creation", &[0, 5, 8, 9, 10, 11, 12, 13, 14, 15, 16]),
+    ("creation test", &[0, 5, 8, 9, 10, 11, 12, 13, 14, 15, 16]),
+    ("redemption", &[0, 5, 8, 9, 11, 12, 13, 16, 17]),
+    ("redemption test", &[0, 5, 8, 9, 11, 12, 13, 16, 17]),
+    (
+        "tests before creation",
+        &[0, 5, 8, 9, 10, 11, 12, 13, 14, 15, 16],
+    ),
+    ("tests before redemption", &[0, 5, 8, 9, 11, 12, 13, 16, 17]),
+    ("lists just enough", &[0]),
+    ("records a number short", &[16]),
+    ("investor's a number short", &[16]),
+    ("fund's a number short", &[16]),
+    ("value", &[0, 5, 14]),
+    ("test of day", &[0, 5]),
+    ("rows", &[0, 1]),
+    ("row: price", &[0, 5, 6, 7]),
+    ("row: trade", &[0, 5, 6, 7, 8, 9, 10]),
+    ("row: creation", &[0, 5, 8, 9, 10, 11, 12, 13, 14, 15, 16]),
+    ("row: redemption", &[0, 5, 8, 9, 11, 12, 13, 16, 17]),
+    ("row: value", &[0, 5, 14]),
+    ("row: no call", &[1]),
+    ("reading", &[0, 2, 3, 16, 18, 19, 20]),
+    ("writing", &[0, 1, 2, 3, 16]),
+];
+
 #[test]
 fn archive_and_model_agree_and_reach_every_refusal() {
     let mut comparison = Comparison::new(&Model, &Archive);
     if let Err(difference) = FULL.run(&mut comparison) {
         panic!("{FULL:?}, model and archive:\n{}", difference.0);
     }
-    let expected: &[(&'static str, &[u64])] = &[
-        ("opening", &[0, 1, 2, 3, 4]),
-        ("price", &[0, 5, 6, 7]),
-        ("trade", &[0, 5, 6, 7, 8, 9, 10]),
-        ("creation", &[0, 5, 8, 9, 10, 11, 12, 13, 14, 15, 16]),
-        ("creation test", &[0, 5, 8, 9, 10, 11, 12, 13, 14, 15, 16]),
-        ("redemption", &[0, 5, 8, 9, 11, 12, 13, 16, 17]),
-        ("redemption test", &[0, 5, 8, 9, 11, 12, 13, 16, 17]),
-        ("value", &[0, 5, 14]),
-        ("test of day", &[0, 5]),
-        ("rows", &[0, 1]),
-        ("row: price", &[0, 5, 6, 7]),
-        ("row: trade", &[0, 5, 6, 7, 8, 9, 10]),
-        ("row: creation", &[0, 5, 8, 9, 10, 11, 12, 13, 14, 15, 16]),
-        ("row: redemption", &[0, 5, 8, 9, 11, 12, 13, 16, 17]),
-        ("row: value", &[0, 5, 14]),
-        ("row: no call", &[1]),
-        ("reading", &[0, 2, 3, 16, 18, 19, 20]),
-        ("writing", &[0, 1, 2, 3, 16]),
-    ];
-    for &(kind, numbers) in expected {
+    for &(kind, numbers) in REACHED {
         for &number in numbers {
             assert!(
                 comparison.tally.count(kind, number) > 0,
@@ -405,6 +421,47 @@ fn engines_that_report_wrongly_are_found() {
     for fault in misreporting::Fault::ALL {
         let is_found = differs(&Misreporting(fault), without_texts);
         assert!(is_found, "{fault:?} is not found");
+    }
+}
+
+/// Tests alone that answer another thing than their order, or write: found even
+/// where both engines have the same fault.
+#[test]
+fn engines_that_test_wrongly_are_found() {
+    let without_texts = Plan { texts: 0, ..SHORT };
+    let agrees = |fault| {
+        let engine = Mistesting(fault);
+        without_texts.run(&mut Comparison::new(&engine, &engine))
+    };
+    assert!(agrees(mistesting::Fault::None).is_ok());
+    for fault in mistesting::Fault::ALL {
+        assert!(agrees(fault).is_err(), "{fault:?} is not found");
+    }
+}
+
+/// Tests that write are found where they are made, before their order.
+#[test]
+fn tests_that_write_are_found_at_once() {
+    let mut rng = Rng::new(9);
+    let case = OpeningCase::sound(&mut rng, Size::Small, Scale::Usual);
+    let mut lent = case.lent(&mut rng);
+    assert!(Model.open(&case.opening(), &mut lent).is_accepted());
+    let order = Call::Create(Order {
+        account: 1,
+        units: case.fund.basket_size,
+        lengths: lent.runs.lengths(),
+    });
+    let is_found = |fault| {
+        let engine = Mistesting(fault);
+        let mut comparison = Comparison::new(&engine, &engine);
+        comparison.call(&order, &mut lent.clone()).is_err()
+    };
+    assert!(!is_found(mistesting::Fault::None));
+    for fault in [
+        mistesting::Fault::WritesTheBook,
+        mistesting::Fault::WritesThePrices,
+    ] {
+        assert!(is_found(fault), "{fault:?} is not found");
     }
 }
 

@@ -6,7 +6,7 @@ use roffelaine::List;
 use roffelaine_check::archive::Archive;
 use roffelaine_check::engine::{Engine, Lent, LentList, Model, Runs};
 use roffelaine_check::flat::{
-    answers_length, field_numbers, part_of, rows_of, FIELD_NUMBERS, PART_NUMBERS,
+    answers_length, field_numbers, part_of, row_of, rows_of, FIELD_NUMBERS, PART_NUMBERS,
 };
 use roffelaine_check::library_types;
 use roffelaine_check::model::list::{self, Head, Writing};
@@ -126,6 +126,8 @@ fn call_of(value: &Json) -> Call {
         }),
         ("create", _) => Call::Create(order()),
         ("redeem", _) => Call::Redeem(order()),
+        ("test-create", _) => Call::TestCreation(order()),
+        ("test-redeem", _) => Call::TestRedemption(order()),
         ("value", 0) => Call::Value,
         other => panic!("no call {other:?}"),
     }
@@ -241,17 +243,21 @@ fn check_lists(made: &Json, call: &Call, lists: PerList<&[u64]>, found: Reply) {
     }
 }
 
-/// The test of an order called alone gives what the order would, and changes
-/// nothing.
-fn check_test_alone(engine: &dyn Engine, made: &Call, before: &Lent, expected: Reply) {
-    let alone = match *made {
-        Call::Create(order) => Call::TestCreation(order),
-        Call::Redeem(order) => Call::TestRedemption(order),
-        _ => return,
+/// An order and its tests alone give the same reply, whichever of them the row
+/// has; the tests change nothing.
+fn check_order_and_tests(engine: &dyn Engine, made: &Call, before: &Lent, expected: Reply) {
+    let order = match *made {
+        Call::TestCreation(order) => Call::Create(order),
+        Call::TestRedemption(order) => Call::Redeem(order),
+        other => other,
+    };
+    let Some(alone) = order.tests_alone() else {
+        return;
     };
     let mut lent = before.clone();
     assert_eq!(engine.call(&alone, &mut lent), expected, "{alone:?}");
     assert_eq!(lent, *before, "{alone:?}");
+    assert_eq!(engine.call(&order, &mut lent), expected, "{order:?}");
 }
 
 const CALL_FIELDS: [&str; 9] = [
@@ -272,7 +278,7 @@ fn check_call(engine: &dyn Engine, made: &Json, lent: &mut Lent) -> Reply {
     assert_known(made, &CALL_FIELDS);
     let (call, expected) = (call_of(made.get("call")), reply(made.get("reply")));
     lent.runs = blank_runs();
-    check_test_alone(engine, &call, lent, expected);
+    check_order_and_tests(engine, &call, lent, expected);
     let before = lent.clone();
     let found = engine.call(&call, lent);
     assert_eq!(found, expected, "{call:?}");
@@ -281,10 +287,18 @@ fn check_call(engine: &dyn Engine, made: &Json, lent: &mut Lent) -> Reply {
     assert_eq!(lent.day, before.day, "{call:?}");
     assert!(is_price || lent.prices == before.prices, "{call:?}");
     assert!(!is_price || lent.book == before.book, "{call:?}");
-    if !found.is_accepted() || call == Call::Value {
+    if !found.is_accepted() || only_reads(&call) {
         assert_eq!(*lent, before, "{call:?}");
     }
     found
+}
+
+/// Whether a call changes nothing, accepted or not.
+fn only_reads(call: &Call) -> bool {
+    matches!(
+        call,
+        Call::Value | Call::TestCreation(_) | Call::TestRedemption(_)
+    )
 }
 
 const DAY_FIELDS: [&str; 9] = [
@@ -316,14 +330,16 @@ fn days() {
 type Run = fn(&dyn Engine, &[u64], &mut Lent, &mut [u64]) -> Reply;
 
 /// The calls of a day as rows, and what the day comes to: with one test of the
-/// day, and with a test in each call.
+/// day, and with a test in each call. Tests alone have no row.
 fn run_in_the_driver(engine: &dyn Engine, row: &Json, holdings: &[u64]) -> Lent {
     let opened = check_opening(engine, row, holdings, reply(row.get("opening")));
     let run: Run = |engine, rows, lent, answers| engine.run(rows, lent, answers);
     let run_one_by_one: Run =
         |engine, rows, lent, answers| engine.run_one_by_one(rows, lent, answers);
-    let made = row.get("calls").list();
-    let calls: Vec<Call> = made.iter().map(|made| call_of(made.get("call"))).collect();
+    let with_calls = row.get("calls").list().iter();
+    let with_calls = with_calls.map(|made| (made, call_of(made.get("call"))));
+    let has_row = |(_, call): &(&Json, Call)| row_of(call, PerList::default()).is_some();
+    let (made, calls): (Vec<&Json>, Vec<Call>) = with_calls.filter(has_row).unzip();
     let replies: Vec<Reply> = made.iter().map(|made| reply(made.get("reply"))).collect();
     let expected: Vec<u64> = replies.iter().flat_map(|reply| reply.numbers()).collect();
     let (rows, lengths) = rows_of(&calls);

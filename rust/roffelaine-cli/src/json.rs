@@ -136,6 +136,11 @@ fn answer(list: &List<'_>, answer: &Answer) -> Members {
                         members.push(("fund_reports", self::reports(list, &both.fund)));
                     }
                 }
+                Made::Tested { records, reports } => {
+                    members.push(("record_count", records.to_string()));
+                    let reports = reports.map(|reports| ("report_count", reports.to_string()));
+                    members.extend(reports);
+                }
             }
         }
     }
@@ -153,7 +158,10 @@ fn arguments(call: &Call) -> Members {
             ("seller", trade.seller.to_string()),
             ("buyer", trade.buyer.to_string()),
         ],
-        Call::Create(order) | Call::Redeem(order) => vec![
+        Call::Create(order)
+        | Call::Redeem(order)
+        | Call::TestCreate(order)
+        | Call::TestRedeem(order) => vec![
             ("account", order.account.to_string()),
             ("units", order.units.to_string()),
         ],

@@ -94,6 +94,8 @@ impl Posting {
                     self.post_record(list, order.account as usize, record);
                 }
             }
+            // Tests alone move nothing.
+            Call::TestCreate(_) | Call::TestRedeem(_) => {}
             Call::Open | Call::Price { .. } | Call::Value => {}
         }
     }
@@ -305,7 +307,8 @@ mod tests {
             price: Money(10_000),
         };
         let mut posting = opening();
-        for call in [Call::Open, Call::Value, price] {
+        let tests = [Call::TestCreate(order(1)), Call::TestRedeem(order(1))];
+        for call in [Call::Open, Call::Value, price].into_iter().chain(tests) {
             posting.post(&list(), &call, &[]);
         }
         assert_eq!(posting, opening());

@@ -71,8 +71,12 @@ impl Situation<'_> {
         let reason = match call {
             Call::Price { code, price } => self.price_reason(*code, *price, refusal),
             Call::Trade(trade) => self.trade_reason(trade, refusal),
-            Call::Create(order) => self.order_reason(Kind::Creation, order, refusal),
-            Call::Redeem(order) => self.order_reason(Kind::Redemption, order, refusal),
+            Call::Create(order) | Call::TestCreate(order) => {
+                self.order_reason(Kind::Creation, order, refusal)
+            }
+            Call::Redeem(order) | Call::TestRedeem(order) => {
+                self.order_reason(Kind::Redemption, order, refusal)
+            }
             Call::Value => self.value_reason(refusal),
             Call::Open => None,
         };

@@ -47,6 +47,12 @@ pub enum Made {
         /// None where reports are off.
         reports: Option<Reports>,
     },
+    /// The tests of an order alone: how much the order would make.
+    Tested {
+        records: usize,
+        /// To each party; none where reports are off.
+        reports: Option<usize>,
+    },
 }
 
 /// The execution reports of an order.

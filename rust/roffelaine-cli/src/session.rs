@@ -2,6 +2,7 @@
 
 mod expected;
 mod opening;
+mod tested;
 mod together;
 
 use crate::posting::{held, Posting};
@@ -114,10 +115,7 @@ impl<'l> Session<'l> {
                 Ok(None)
             }
             Statement::Call(Call::Open) => Ok(Some(self.open(line))),
-            Statement::Call(call) => {
-                let answer = self.answers(&[call]).pop();
-                Ok(answer.map(|answer| self.answer(answer)))
-            }
+            Statement::Call(call) => Ok(self.call(call)),
             Statement::Reports { on } => {
                 self.reports_on = on;
                 Ok(None)
@@ -126,6 +124,15 @@ impl<'l> Session<'l> {
             Statement::Totals => self.totals().map(Some),
             Statement::Expect(expected) => Ok(Some(self.expect(&expected))),
         }
+    }
+
+    /// Makes a call by itself.
+    fn call(&mut self, call: Call) -> Option<Said> {
+        let answer = match call.tested() {
+            Some(order) => self.tested(call, order),
+            None => self.answers(&[call]).pop()?,
+        };
+        Some(self.answer(answer))
     }
 
     /// Opens the day, unless a line above it is faulty or it is open.

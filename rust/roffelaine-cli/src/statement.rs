@@ -42,10 +42,16 @@ impl Statement {
 #[derive(Clone, Copy, Debug, PartialEq, Eq)]
 pub enum Call {
     Open,
-    Price { code: u64, price: Money },
+    Price {
+        code: u64,
+        price: Money,
+    },
     Trade(Trade),
     Create(Order),
     Redeem(Order),
+    /// The tests alone of a creation, and of a redemption.
+    TestCreate(Order),
+    TestRedeem(Order),
     Value,
 }
 
@@ -66,7 +72,8 @@ impl Trade {
     }
 }
 
-/// An order; all records that it makes have room where none is said.
+/// An order, or one whose tests are made alone; all records that it makes have
+/// room where none is said.
 #[derive(Clone, Copy, Debug, PartialEq, Eq)]
 pub struct Order {
     pub account: u64,
@@ -75,7 +82,7 @@ pub struct Order {
 }
 
 impl Call {
-    /// The word that its line starts with.
+    /// The word that its line starts with, or the two of tests alone.
     pub fn word(&self) -> &'static str {
         match self {
             Call::Open => "open",
@@ -83,6 +90,8 @@ impl Call {
             Call::Trade(_) => "trade",
             Call::Create(_) => "create",
             Call::Redeem(_) => "redeem",
+            Call::TestCreate(_) => "test create",
+            Call::TestRedeem(_) => "test redeem",
             Call::Value => "value",
         }
     }
@@ -91,6 +100,14 @@ impl Call {
     pub fn order(&self) -> Option<&Order> {
         match self {
             Call::Create(order) | Call::Redeem(order) => Some(order),
+            _ => None,
+        }
+    }
+
+    /// The order whose tests it makes alone, where it does.
+    pub fn tested(&self) -> Option<&Order> {
+        match self {
+            Call::TestCreate(order) | Call::TestRedeem(order) => Some(order),
             _ => None,
         }
     }
@@ -144,6 +161,7 @@ pub fn statement(line: &str) -> Result<Option<Statement>, Fault> {
         "trade" => trade(&mut words),
         "create" => order(&mut words).map(|order| Statement::Call(Call::Create(order))),
         "redeem" => order(&mut words).map(|order| Statement::Call(Call::Redeem(order))),
+        "test" => test(&mut words),
         "value" => Ok(Statement::Call(Call::Value)),
         "reports" => reports(&mut words),
         "show" => words
@@ -166,9 +184,9 @@ pub fn statement(line: &str) -> Result<Option<Statement>, Fault> {
 }
 
 /// The words that a line of a day starts with.
-const FIRST_WORDS: [&str; 13] = [
-    "accounts", "cash", "hold", "open", "price", "trade", "create", "redeem", "value", "reports",
-    "show", "totals", "expect",
+const FIRST_WORDS: [&str; 14] = [
+    "accounts", "cash", "hold", "open", "price", "trade", "create", "redeem", "test", "value",
+    "reports", "show", "totals", "expect",
 ];
 
 fn unknown_word(word: &str) -> String {
@@ -221,6 +239,20 @@ fn order(words: &mut Words<'_>) -> Result<Order, Fault> {
         units: words.amount("UNITS")?,
         room: words.last_whole("ROOM")?,
     })
+}
+
+/// The tests alone of the order that the next words say.
+fn test(words: &mut Words<'_>) -> Result<Statement, Fault> {
+    let (column, word) = words.named("create or redeem")?;
+    let call = match word {
+        "create" => Call::TestCreate,
+        "redeem" => Call::TestRedeem,
+        other => {
+            let why = format!("{other:?}: create or redeem is expected here");
+            return Err(fault(column, why));
+        }
+    };
+    order(words).map(|order| Statement::Call(call(order)))
 }
 
 fn reports(words: &mut Words<'_>) -> Result<Statement, Fault> {
@@ -459,6 +491,53 @@ mod tests {
                 (column, why.to_string(), stops_open),
                 "{line:?}"
             );
+        }
+    }
+
+    #[test]
+    fn tests_alone_say_the_order() {
+        let order = Order {
+            account: 1,
+            units: Units(5),
+            room: Some(3),
+        };
+        let test = |call| Statement::Call(call);
+        assert_eq!(said("test create 1 5 3"), test(Call::TestCreate(order)));
+        let room = None;
+        assert_eq!(
+            said("\ttest  redeem 1 5 # now"),
+            test(Call::TestRedeem(Order { room, ..order }))
+        );
+    }
+
+    #[test]
+    fn tests_alone_need_the_order() {
+        let faults = [
+            ("test", 5, "create or redeem is missing", false),
+            ("test create", 12, "ACCOUNT is missing", false),
+            (
+                "test trade 1 5",
+                6,
+                "\"trade\": create or redeem is expected here",
+                false,
+            ),
+            (
+                "test redeem 1 1.5",
+                15,
+                "UNITS \"1.5\": a whole number has no decimals",
+                false,
+            ),
+            (
+                "test create 1 5 3 4",
+                19,
+                "\"4\" is one word too many",
+                false,
+            ),
+            ("TEST create 1 5", 1, "\"TEST\" is written test", true),
+        ];
+        for (line, column, why, stops_open) in faults {
+            let fault = (column, why.to_string(), stops_open);
+            assert_eq!(faulty(line), fault, "{line:?}");
         }
     }
 

@@ -31,6 +31,10 @@ fn answer(out: &mut impl Write, line: usize, answer: &Answer) -> io::Result<()> 
                 .try_for_each(|each| writeln!(out, "{each}"))?;
             reports.iter().try_for_each(|each| self::reports(out, each))
         }
+        Ok(Made::Tested { records, reports }) => {
+            let reports = reports.map_or(String::new(), |reports| format!(" {reports}"));
+            writeln!(out, "{line} {word} ok {records}{reports}")
+        }
         Err(refused) => {
             let (number, place) = (refused.refusal.number(), refused.refusal.place());
             let reason = &refused.reason;

@@ -24,6 +24,8 @@ struct Rehearsed {
     /// Whether reports are on, and how many were expected.
     reports_on: bool,
     reports: usize,
+    /// How many orders pass their tests alone.
+    tests: usize,
 }
 
 fn money(thousandths: u64) -> String {
@@ -65,6 +67,7 @@ impl Rehearsed {
             refusals: BTreeSet::new(),
             reports_on: false,
             reports: 0,
+            tests: 0,
         };
         rehearsed.say(&format!("accounts {}", case.accounts));
         let codes = codes(case);
@@ -94,9 +97,8 @@ impl Rehearsed {
     }
 
     fn call(&mut self, codes: &[u64], call: &Call, lent: &mut Lent) {
-        let line = line_of(codes, call);
-        self.say(&line);
-        let word = line.split(' ').next().expect("a word");
+        self.say(&line_of(codes, call));
+        let word = word_of(call);
         let reply = Model.call(call, lent);
         if !reply.is_accepted() {
             let (number, place) = (reply.number, reply.place);
@@ -112,6 +114,14 @@ impl Rehearsed {
                     self.reports("investor", reply, &lent.runs.investor);
                     self.reports("fund", reply, &lent.runs.fund);
                 }
+            }
+            Call::TestCreation(_) | Call::TestRedemption(_) => {
+                let reports = match self.reports_on {
+                    true => format!(" {}", reply.reports),
+                    false => String::new(),
+                };
+                self.expect(&format!("{word} ok {}{reports}", reply.value));
+                self.tests += 1;
             }
             Call::Value => {
                 let (whole, part) = (reply.value / 10_000, reply.value % 10_000);
@@ -184,6 +194,19 @@ fn codes(case: &OpeningCase) -> Vec<u64> {
     codes.chain([case.fund.first_code]).collect()
 }
 
+/// The words that the line of a call starts with.
+fn word_of(call: &Call) -> &'static str {
+    match call {
+        Call::Price { .. } => "price",
+        Call::Trade(_) => "trade",
+        Call::Create(_) => "create",
+        Call::Redeem(_) => "redeem",
+        Call::TestCreation(_) => "test create",
+        Call::TestRedemption(_) => "test redeem",
+        Call::Value | Call::TestDay => "value",
+    }
+}
+
 /// A call as a line of a day. A line that the day has not is said by a code of
 /// the fund's group that no component may have.
 fn line_of(codes: &[u64], call: &Call) -> String {
@@ -192,27 +215,27 @@ fn line_of(codes: &[u64], call: &Call) -> String {
         let code = usize::try_from(line).ok().and_then(|line| codes.get(line));
         *code.unwrap_or(&(unit + 3))
     };
-    let order = |word: &str, order: &Order| {
-        let mut line = format!("{word} {} {}", order.account, order.units);
-        let room = order.lengths.records / RECORD_NUMBERS;
-        write!(line, " {room}").expect("a string");
-        line
-    };
+    let word = word_of(call);
     match call {
-        Call::Price { line, price } => format!("price {:06} {}", code(*line), money(*price)),
+        Call::Price { line, price } => format!("{word} {:06} {}", code(*line), money(*price)),
         Call::Trade(trade) => {
             let (code, price) = (code(trade.line), money(trade.price));
             let (quantity, seller, buyer) = (trade.quantity, trade.seller, trade.buyer);
-            format!("trade {code:06} {quantity} {price} {seller} {buyer}")
+            format!("{word} {code:06} {quantity} {price} {seller} {buyer}")
         }
-        Call::Create(each) => order("create", each),
-        Call::Redeem(each) => order("redeem", each),
-        _ => "value".to_string(),
+        Call::Create(order)
+        | Call::Redeem(order)
+        | Call::TestCreation(order)
+        | Call::TestRedemption(order) => {
+            let room = order.lengths.records / RECORD_NUMBERS;
+            format!("{word} {} {} {room}", order.account, order.units)
+        }
+        Call::Value | Call::TestDay => word.to_string(),
     }
 }
 
-/// Any call that a line can say: the tests called alone have none, and an order
-/// has room for all its reports.
+/// Any call that a line can say: the day's test called alone has none, and an
+/// order has room for all its reports.
 fn sayable(rng: &mut Rng, lent: &Lent, scale: Scale) -> Call {
     let most = lent.runs.lengths();
     let with_room = |order: Order| Order {
@@ -225,7 +248,9 @@ fn sayable(rng: &mut Rng, lent: &Lent, scale: Scale) -> Call {
     match any_call(rng, lent, scale) {
         Call::Create(order) => Call::Create(with_room(order)),
         Call::Redeem(order) => Call::Redeem(with_room(order)),
-        Call::TestDay | Call::TestCreation(_) | Call::TestRedemption(_) => Call::Value,
+        Call::TestCreation(order) => Call::TestCreation(with_room(order)),
+        Call::TestRedemption(order) => Call::TestRedemption(with_room(order)),
+        Call::TestDay => Call::Value,
         call => call,
     }
 }
@@ -255,7 +280,7 @@ fn day(rng: &mut Rng) -> Rehearsed {
 #[test]
 fn random_days_answer_as_the_model() {
     let mut rng = Rng::new(12);
-    let (mut refusals, mut reports) = (BTreeSet::new(), 0);
+    let (mut refusals, mut reports, mut tests) = (BTreeSet::new(), 0, 0);
     for _ in 0..150 {
         let rehearsed = day(&mut rng);
         let file = scratch("day.txt", &rehearsed.file);
@@ -273,9 +298,11 @@ fn random_days_answer_as_the_model() {
         }
         refusals.extend(rehearsed.refusals);
         reports += rehearsed.reports;
+        tests += rehearsed.tests;
         std::fs::remove_file(&file).expect("removed");
     }
     let made: Vec<u64> = refusals.into_iter().collect();
     assert_eq!(made, Vec::from_iter(6..=17), "refusals that were made");
     assert!(reports > 10_000, "{reports} reports");
+    assert!(tests > 50, "{tests} orders pass their tests alone");
 }

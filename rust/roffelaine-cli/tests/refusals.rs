@@ -3,6 +3,7 @@
 
 mod support;
 
+use std::collections::BTreeSet;
 use support::{rehearse, run, scratch, LIST, LIST_LINES};
 
 /// Account 1 as in the paper's cases, and a second holder.
@@ -195,6 +196,23 @@ fn calls_say_why_they_are_refused() {
         assert_eq!(last_answer(&list, &lines), expected, "refusal {number}");
         assert!(expected.contains(&format!(" refused {number} ")));
     }
+}
+
+/// The tests of an order alone give its refusal, with the same words.
+#[test]
+fn tests_alone_say_why_the_order_would_be_refused() {
+    let mut made = BTreeSet::new();
+    for (number, list, lines, expected) in cases() {
+        let (before, last) = lines.trim_end().rsplit_once('\n').unwrap_or(("", &lines));
+        if !last.starts_with("create ") && !last.starts_with("redeem ") {
+            continue;
+        }
+        let line = LIST_LINES + lines.lines().count();
+        let tests = last_answer(&list, &format!("{before}\ntest {last}\n"));
+        assert_eq!(tests, format!("{line} test {expected}"));
+        made.insert(number);
+    }
+    assert_eq!(Vec::from_iter(made), Vec::from_iter(8..=17));
 }
 
 /// Lists that are refused, and the number.

@@ -242,8 +242,36 @@ impl Day {
         make(&day[..], book, prices, account, units.0, lists).counts()
     }
 
-    /// How much a creation with such rooms would make, or why it would be
-    /// refused. Nothing changes.
+    /// The tests of a creation alone: how much it would make now with lists of
+    /// such rooms, or why it would be refused. The answer is that of
+    /// [`Day::create_into`], both counts and every refusal; the day is only read,
+    /// and no list is needed.
+    ///
+    /// ```
+    /// use roffelaine::{Component, Day, Fund, Holdings, Money, OrderLists, Refusal, Rooms, Units};
+    ///
+    /// # fn main() -> Result<(), Refusal> {
+    /// # let fund = Fund {
+    /// #     first_code: 510_300,
+    /// #     basket_size: Units(1_000),
+    /// #     switch: roffelaine::Switch::Both,
+    /// #     ..Fund::default()
+    /// # };
+    /// # let stock = Component { code: 600_036, quantity: 30, ..Component::default() };
+    /// # let accounts = [
+    /// #     Holdings { cash: Money(0), lines: vec![500, 0] },
+    /// #     Holdings { cash: Money::from_yuan(9_000), lines: vec![60, 0] },
+    /// # ];
+    /// # let mut day = Day::open(&fund, &[stock], &accounts)?;
+    /// let counts = day.test_creation(1, Units(2_000), day.ample_rooms())?;
+    /// assert_eq!((counts.records, counts.reports), (3, 2));
+    /// let rooms = Rooms { fund: 1, ..Rooms::of(counts) };
+    /// assert_eq!(day.test_creation(1, Units(2_000), rooms), Err(Refusal::ListTooShort));
+    /// let mut lists = OrderLists::with_rooms(Rooms::of(counts));
+    /// assert_eq!(day.create_into(1, Units(2_000), &mut lists), Ok(counts));
+    /// # Ok(())
+    /// # }
+    /// ```
     pub fn test_creation(
         &self,
         account: usize,
@@ -253,8 +281,8 @@ impl Day {
         self.test(lent::creation_test, account, units, rooms)
     }
 
-    /// How much a redemption with such rooms would make, or why it would be
-    /// refused. Nothing changes.
+    /// The tests of a redemption alone: the answer of [`Day::redeem_into`] with
+    /// lists of such rooms, in the same way.
     pub fn test_redemption(
         &self,
         account: usize,

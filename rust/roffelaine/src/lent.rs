@@ -494,7 +494,8 @@ pub fn redeem(
     })
 }
 
-/// What a creation with lists of such lengths would answer.
+/// The tests of a creation alone: number, place and both counts are those of
+/// [`create`] with lists of such lengths. All that is lent is only read.
 pub fn creation_test(
     day: &[u64],
     book: &[u64],
@@ -525,7 +526,8 @@ pub fn creation_test(
     })
 }
 
-/// What a redemption with lists of such lengths would answer.
+/// The tests of a redemption alone: number, place and both counts are those of
+/// [`redeem`] with lists of such lengths. All that is lent is only read.
 pub fn redemption_test(
     day: &[u64],
     book: &[u64],

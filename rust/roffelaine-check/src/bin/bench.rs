@@ -7,28 +7,23 @@ use roffelaine::lent;
 use roffelaine_check::archive::{self, lists_of, Archive};
 use roffelaine_check::engine::{Engine, LentList, Model, Runs};
 use roffelaine_check::flat::{answers_length, fund_numbers, row_of, DAY_NUMBERS, FIELD_NUMBERS};
+use roffelaine_check::full_size::{
+    component_run, fund, holdings, opening, order, COUNT, MOST, PRICE,
+};
 use roffelaine_check::model::list::{Head, Writing};
 use roffelaine_check::model::{
-    self, book_length, lengths_for, Call, Component, Counts, Day, Fund, Lengths, Opening, Order,
-    Reply, Trade, Work, ANSWER_NUMBERS, COMPONENT_NUMBERS, FLAG_TABLE,
+    self, book_length, lengths_for, Call, Day, Lengths, Opening, Order, Reply, Trade, Work,
+    ANSWER_NUMBERS, COMPONENT_NUMBERS,
 };
 use roffelaine_check::timing::{median_nanos, table_heading, Medians, Timing};
 use std::hint::black_box;
 
 const ACCOUNTS: usize = 64;
-const COUNT: usize = 300;
-const BASKETS: u64 = 20;
-const BASKET_SIZE: u64 = 10_000;
-/// Holdings that outlast all runs.
-const AMPLE: u64 = 1_000_000_000_000_000;
+/// The account that orders, which is short of some lines.
+const HOLDER: usize = 1;
 /// Times that archive and model take turns, and runs in a turn.
 const ROUNDS: usize = 15;
 const RUNS: usize = 51;
-/// The most records and reports of an order.
-const MOST: Counts = Counts {
-    records: COUNT as u64 + 6,
-    reports: COUNT as u64 + 2,
-};
 /// Calls in a list: many trades, fewer orders.
 const TRADES: usize = 2_000;
 const ORDERS: usize = 200;
@@ -131,6 +126,14 @@ const ROWS: &[Row] = &[
         time: |side| time_call(side, redemption()),
     },
     Row {
+        name: "creation of 20, tests alone, with the day's test",
+        time: |side| time_call(side, Call::TestCreation(ordered())),
+    },
+    Row {
+        name: "redemption of 20, tests alone, with the day's test",
+        time: |side| time_call(side, Call::TestRedemption(ordered())),
+    },
+    Row {
         name: TRADE_IN_LIST,
         time: |side| time_list(side, trade(), TRADES, LISTS),
     },
@@ -196,11 +199,11 @@ impl Side {
     /// The day opened, every component with its price.
     fn opened(self, lengths: Lengths) -> Box<dyn Timed> {
         let mut day = self.blank(lengths);
-        let reply = day.open(&opening(&component_run(), &holdings()));
+        let holdings = holdings(ACCOUNTS, HOLDER);
+        let reply = day.open(&opening(ACCOUNTS, &component_run(), &holdings));
         assert!(reply.is_accepted(), "the opening is refused");
-        let price = 10_000;
         for line in 0..COUNT as u64 {
-            let reply = day.call(&Call::Price { line, price });
+            let reply = day.call(&Call::Price { line, price: PRICE });
             assert!(reply.is_accepted(), "a price is refused");
         }
         day
@@ -291,16 +294,17 @@ fn trade() -> Call {
     })
 }
 
-fn order() -> Order {
-    Order::with_places(1, BASKETS * BASKET_SIZE, MOST)
+/// The order of all rows that have one.
+fn ordered() -> Order {
+    order(HOLDER as u64)
 }
 
 fn creation() -> Call {
-    Call::Create(order())
+    Call::Create(ordered())
 }
 
 fn redemption() -> Call {
-    Call::Redeem(order())
+    Call::Redeem(ordered())
 }
 
 /// One call on a day that lasts through all runs.
@@ -332,8 +336,8 @@ fn time_list(side: Side, call: Call, length: usize, lists: usize) -> f64 {
 }
 
 fn time_opening(side: Side) -> f64 {
-    let (components, holdings) = (component_run(), holdings());
-    let opening = opening(&components, &holdings);
+    let (components, holdings) = (component_run(), holdings(ACCOUNTS, HOLDER));
+    let opening = opening(ACCOUNTS, &components, &holdings);
     let mut day = side.blank(lengths_for(MOST));
     median_nanos(RUNS, 5, || {
         black_box(day.open(black_box(&opening)));
@@ -370,63 +374,6 @@ fn time_plain_read() -> f64 {
         let numbers = black_box(&book).iter();
         black_box(numbers.fold(0u64, |sum, &number| sum.wrapping_add(number)));
     })
-}
-
-fn fund() -> Fund {
-    Fund {
-        first_code: 510_300,
-        basket_size: BASKET_SIZE,
-        max_cash_ratio: 50_000,
-        switch: 1,
-        estimated_cash: -33_122,
-        limits: [0; 8],
-    }
-}
-
-/// Components of all flags; most move stock. The two rates of one are unlike.
-fn components() -> impl Iterator<Item = Component> {
-    (0..COUNT as u64).map(|line| {
-        let flag = [0, 1, 0, 1, 2, 1, 0, 1, 3, 4][line as usize % 10];
-        let row = FLAG_TABLE[flag as usize];
-        Component {
-            code: 600_000 + line,
-            quantity: 100 * (1 + line % 20),
-            flag,
-            premium: if row.uses_rates { 10_000 } else { 0 },
-            discount: if row.uses_rates { 5_000 } else { 0 },
-            amount: if row.uses_amount { 1_000_000 } else { 0 },
-        }
-    })
-}
-
-fn component_run() -> Vec<u64> {
-    components()
-        .flat_map(|component| component.numbers())
-        .collect()
-}
-
-/// Ample holdings for all; account 1 lacks a tenth of the lines.
-fn holdings() -> Vec<u64> {
-    let mut holdings = Vec::new();
-    for account in 0..ACCOUNTS {
-        holdings.push(10 * AMPLE);
-        for line in 0..COUNT {
-            let lacking = account == 1 && line % 10 == 1;
-            holdings.push(if lacking { 0 } else { AMPLE });
-        }
-        holdings.push(if account == 0 { 0 } else { AMPLE });
-    }
-    holdings
-}
-
-fn opening<'a>(components: &'a [u64], holdings: &'a [u64]) -> Opening<'a> {
-    Opening {
-        accounts: ACCOUNTS as u64,
-        count: COUNT as u64,
-        fund: fund(),
-        components,
-        holdings,
-    }
 }
 
 fn names() -> Vec<u8> {

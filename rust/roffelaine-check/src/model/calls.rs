@@ -63,6 +63,16 @@ impl Call {
             _ => Lengths::default(),
         }
     }
+
+    /// The tests alone of an order, by the lengths of its lists; none where it
+    /// is no order.
+    pub fn tests_alone(&self) -> Option<Call> {
+        match *self {
+            Call::Create(order) => Some(Call::TestCreation(order)),
+            Call::Redeem(order) => Some(Call::TestRedemption(order)),
+            _ => None,
+        }
+    }
 }
 
 /// Makes one call with the test of the day; an order is lent all of its lists.

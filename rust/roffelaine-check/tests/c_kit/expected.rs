@@ -2,6 +2,7 @@
 
 /// `examples/day.c`: case (e) of the paper's day to compare with, twice.
 pub const EXAMPLE: &str = "\
+test create ok 8
 510300 B 1000000 0.000 0.000
 600000 S 3072 0.000 0.000
 600036 S 3000 0.000 0.000
@@ -73,6 +74,21 @@ creation_test 5, day 5, book 5, prices 5, all 5
 redemption_test 5, day 5, book 5, prices 5, all 5
 run 0, day 0, book 0, prices 0, rows 1, records 0, investor 0, fund 0, answers 1, all 0
 run_public 0, day 0, book 0, prices 0, rows 1, records 0, investor 0, fund 0, answers 1, all 0
+";
+
+/// `tests_alone.c`: a basket of the paper's day makes 8 records and 4 reports,
+/// created or redeemed; an order and its tests alone answer the same.
+pub const TESTS_ALONE: &str = "\
+creation, lists just enough: 0 0 8 4
+creation, records a number short: 16 0 0 0
+creation, investor's a number short: 16 0 0 0
+creation, fund's a number short: 16 0 0 0
+creation, a price out of range: 5 0 0 0
+redemption, lists just enough: 0 0 8 4
+redemption, records a number short: 16 0 0 0
+redemption, investor's a number short: 16 0 0 0
+redemption, fund's a number short: 16 0 0 0
+redemption, a price out of range: 5 0 0 0
 ";
 
 /// `vectors.cpp`: every call in the header's order with all its runs empty.

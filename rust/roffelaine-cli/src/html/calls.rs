@@ -111,6 +111,9 @@ impl<W: Write> Calls<'_, W> {
             Ok(Made::Value(value)) => {
                 self.start(line, How::Plain, &said, &format!("{value} yuan for a unit"))
             }
+            Ok(Made::Tested { records, reports }) => {
+                self.start(line, How::Plain, &said, &would_make(*records, *reports))
+            }
             Ok(made) => {
                 let reports = answer.reports().map_or(0, reports::rows);
                 let how = How::of_rows(answer.records().len() + reports);
@@ -175,4 +178,13 @@ impl<W: Write> Calls<'_, W> {
         totals::table(self.out, self.list, totals)?;
         write!(self.out, "</details>")
     }
+}
+
+/// What the tests alone say of an order that they let pass.
+fn would_make(records: usize, reports: Option<usize>) -> String {
+    let records = counted(records, "record");
+    let reports = reports.map_or(String::new(), |reports| {
+        format!(", {} to each party", counted(reports, "report"))
+    });
+    format!("would be accepted, {records}{reports}")
 }

@@ -18,7 +18,10 @@ pub fn arguments(list: &List<'_>, call: &Call) -> String {
             let code = named_code(list, trade.code);
             format!("{quantity} of {code} at {price} yuan, {seller} sells to {buyer}")
         }
-        Call::Create(order) | Call::Redeem(order) => ordered(list, &order),
+        Call::Create(order)
+        | Call::Redeem(order)
+        | Call::TestCreate(order)
+        | Call::TestRedeem(order) => ordered(list, &order),
     }
 }
 

@@ -50,6 +50,7 @@ impl<'e> Effect<'e> {
             Call::Trade(trade) => [trade.seller as usize, trade.buyer as usize],
             Call::Create(order) | Call::Redeem(order) => [FUND, order.account as usize],
             Call::Price { .. } | Call::Value => return None,
+            Call::TestCreate(_) | Call::TestRedeem(_) => return None,
         };
         accounts.sort_unstable();
         Some(Effect::Moves(Moving {
@@ -146,6 +147,10 @@ pub mod tests {
         assert!(matches!(Effect::of(&opening(9)), Some(Effect::Opens)));
         let value = accepted(10, Call::Value, Made::Done);
         assert!(Effect::of(&value).is_none());
+        let (records, reports) = (8, Some(4));
+        let order = creation().order().copied().expect("an order");
+        let tested = Made::Tested { records, reports };
+        assert!(Effect::of(&accepted(11, Call::TestCreate(order), tested)).is_none());
     }
 
     /// The paper's creation: 113,000 and 600 yuan, 173,000 and 408.

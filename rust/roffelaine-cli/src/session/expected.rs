@@ -23,7 +23,8 @@ impl Session<'_> {
             Expectation::Ok { count } => self.unexpected_answer(|outcome| {
                 let records = match outcome.as_ref().ok()? {
                     Made::Order { records, .. } => Some(records.len() as u64),
-                    _ => None,
+                    Made::Tested { records, .. } => Some(*records as u64),
+                    Made::Done | Made::Value(_) => None,
                 };
                 (count.is_none() || count == records).then_some(())
             }),
@@ -67,6 +68,7 @@ impl Session<'_> {
             Ok(Made::Done) => format!("{word} answered ok"),
             Ok(Made::Value(value)) => format!("{word} answered ok {value}"),
             Ok(Made::Order { records, .. }) => format!("{word} answered ok {}", records.len()),
+            Ok(Made::Tested { records, .. }) => format!("{word} answered ok {records}"),
             Err(refused) => {
                 let (number, place) = (refused.refusal.number(), refused.refusal.place());
                 format!("{word} answered refused {number} {place}")

@@ -1,5 +1,5 @@
 //! Calls that follow each other, made in one go: the day book looks at the whole
-//! book once for all of them.
+//! book once for all of them. An opening and tests alone are made by themselves.
 
 use super::Session;
 use crate::said::{Answer, Entry, Made, Refused, Reports};
@@ -23,7 +23,7 @@ impl Session<'_> {
         for (line, text) in lines {
             match statement(&text) {
                 Ok(None) => continue,
-                Ok(Some(Statement::Call(call))) if call != Call::Open => {
+                Ok(Some(Statement::Call(call))) if may_wait(&call) => {
                     waiting.push((line, call));
                     if waiting.len() < MOST {
                         continue;
@@ -107,17 +107,19 @@ impl Session<'_> {
         reasons
     }
 
+    /// The rooms of an order's lists. A line says the room for records alone:
+    /// reports have all they need.
+    pub(super) fn rooms(&self, order: &Order) -> Rooms {
+        let ample = self.day.ample_rooms();
+        let room = order.room.and_then(|room| usize::try_from(room).ok());
+        Rooms {
+            records: room.map_or(ample.records, |room| room.min(ample.records)),
+            ..ample
+        }
+    }
+
     fn batch(&self, calls: &[Call]) -> Batch {
         let mut batch = Batch::default();
-        let ample = self.day.ample_rooms();
-        // A line says the room for records alone: reports have all they need.
-        let rooms = |order: &Order| {
-            let room = order.room.and_then(|room| usize::try_from(room).ok());
-            Rooms {
-                records: room.map_or(ample.records, |room| room.min(ample.records)),
-                ..ample
-            }
-        };
         for call in calls {
             match *call {
                 Call::Price { code, price } => batch.set_price(self.line_of(code), price),
@@ -129,12 +131,15 @@ impl Session<'_> {
                     buyer: trade.buyer as usize,
                 }),
                 Call::Create(order) => {
-                    batch.create(order.account as usize, order.units, rooms(&order));
+                    batch.create(order.account as usize, order.units, self.rooms(&order));
                 }
                 Call::Redeem(order) => {
-                    batch.redeem(order.account as usize, order.units, rooms(&order));
+                    batch.redeem(order.account as usize, order.units, self.rooms(&order));
                 }
-                Call::Value | Call::Open => batch.reference_value(),
+                Call::Value => batch.reference_value(),
+                Call::Open | Call::TestCreate(_) | Call::TestRedeem(_) => {
+                    unreachable!("{call:?} is made by itself")
+                }
             }
         }
         batch
@@ -161,7 +166,15 @@ impl Session<'_> {
                 }),
             },
             Call::Value => Made::Value(roffelaine::ReferenceValue(value)),
-            Call::Price { .. } | Call::Trade(_) | Call::Open => Made::Done,
+            Call::Price { .. } | Call::Trade(_) => Made::Done,
+            Call::Open | Call::TestCreate(_) | Call::TestRedeem(_) => {
+                unreachable!("{call:?} is made by itself")
+            }
         })
     }
+}
+
+/// Whether a call is made together with others.
+fn may_wait(call: &Call) -> bool {
+    *call != Call::Open && call.tested().is_none()
 }
