@@ -14,6 +14,7 @@ use roffelaine_check::model::{
     book_length, lengths_for, stretch_width, Call, Component, Counts, Day, Fund, Opening, Order,
     PerList, Reply, Trade, COMPONENT_NUMBERS, LOTS, MAX_COMPONENTS,
 };
+use std::collections::BTreeSet;
 use support::json::Json;
 use support::rows;
 use support::sha256::hash_of_numbers;
@@ -324,6 +325,28 @@ fn days() {
         assert_eq!(lent.book, row.get("book").run());
         assert_eq!(lent.prices, row.get("prices").run());
     });
+}
+
+/// Every file of days has every call, the tests alone among them.
+#[test]
+fn every_call_is_among_the_rows() {
+    let all = [
+        "create",
+        "price",
+        "redeem",
+        "test-create",
+        "test-redeem",
+        "trade",
+        "value",
+    ];
+    for file in ["days.jsonl", "big_days.jsonl", "broken_days.jsonl"] {
+        let rows = rows(file);
+        let calls = rows.iter().flat_map(|row| row.get("calls").list());
+        let found: BTreeSet<&str> = calls
+            .map(|made| made.get("call").list()[0].text())
+            .collect();
+        assert_eq!(found, BTreeSet::from(all), "{file}");
+    }
 }
 
 /// A way to run rows on an engine.
