@@ -1,6 +1,9 @@
 //! The differential test at a smaller count: the archive and the model agree
 //! and every refusal is reached. It finds engines that are wrong.
 
+#[macro_use]
+#[path = "differential/rest.rs"]
+mod rest;
 #[path = "differential/misreporting.rs"]
 mod misreporting;
 #[path = "differential/mistesting.rs"]

@@ -9,14 +9,8 @@ mod markup;
 
 use markup::{assert_well_made, rows, text};
 use roffelaine::Money;
-use support::{rehearse, LIST, LIST_LINES};
+use support::{rehearse, BOTH_ORDERS, LIST, LIST_LINES};
 
-/// Account 1 of the paper's cases, and account 2 with a basket of units; the
-/// last price is line 41.
-const OPENING: &str = "accounts 3\ncash 0 1000000\nhold 0 600000 10000\nhold 0 600036 10000\n\
-    cash 1 1000000\nhold 1 600000 3072\nhold 1 600036 3000\n\
-    cash 2 1000\nhold 2 510300 1000000\nopen\n\
-    price 000001 12\nprice 600000 10\nprice 600036 40\n";
 /// The line of an order behind a line `reports on`.
 const ORDER: usize = LIST_LINES + 15;
 
@@ -53,7 +47,7 @@ fund 3 1 000000 0 1 150000.000 2 94400.000
 
 /// What lines behind the opening print, without the counts.
 fn printed(lines: &str) -> String {
-    let ran = rehearse(LIST, &format!("{OPENING}{lines}"), &[]);
+    let ran = rehearse(LIST, &format!("{BOTH_ORDERS}{lines}"), &[]);
     let opened = ran.out.split_once("41 price ok\n").expect("the prices").1;
     let (answers, _) = opened.trim_end().rsplit_once('\n').unwrap_or_default();
     format!("{answers}\n")
@@ -82,10 +76,10 @@ fn reports_are_off_at_the_start_and_where_they_are_turned_off() {
 /// A second opening starts another day; what is printed is said once.
 #[test]
 fn reports_stay_on_over_an_opening() {
-    let lines = format!("reports on\n{OPENING}create 1 1000000\n");
+    let lines = format!("reports on\n{BOTH_ORDERS}create 1 1000000\n");
     let ran = rehearse(LIST, &lines, &[]);
     assert!(ran.out.contains(REPORTS_OF_CREATION), "{}", ran.out);
-    let twice = format!("{lines}{OPENING}create 1 1000000\n");
+    let twice = format!("{lines}{BOTH_ORDERS}create 1 1000000\n");
     let ran = rehearse(LIST, &twice, &[]);
     assert_eq!(ran.out.matches(REPORTS_OF_CREATION).count(), 2);
 }
@@ -127,7 +121,7 @@ fn a_kind_without_cash_is_left_out() {
     let without = |list: String| {
         let ran = rehearse(
             &list,
-            &format!("{OPENING}reports on\nredeem 2 1000000\n"),
+            &format!("{BOTH_ORDERS}reports on\nredeem 2 1000000\n"),
             &[],
         );
         let lines = ran.out.lines().filter(|line| line.starts_with("investor "));
@@ -171,7 +165,7 @@ const DAY: &str = "create 1 1000000\nreports on\nredeem 2 1000000\n";
 
 #[test]
 fn reports_are_rows_of_the_table() {
-    let ran = rehearse(LIST, &format!("{OPENING}{DAY}"), &["--csv"]);
+    let ran = rehearse(LIST, &format!("{BOTH_ORDERS}{DAY}"), &["--csv"]);
     let expected = "\
 line,call,account,seq,of,code,name,side,quantity,price,amount,list,type,kind1,amount1,kind2,amount2,kind3,amount3
 42,create,1,1,8,510300,units,B,1000000,0.000,0.000,records,,,,,,,
@@ -209,8 +203,12 @@ line,call,account,seq,of,code,name,side,quantity,price,amount,list,type,kind1,am
 
 #[test]
 fn a_table_without_reports_is_as_it_was() {
-    let off = rehearse(LIST, &format!("{OPENING}create 1 1000000\n"), &["--csv"]);
-    let turned = format!("{OPENING}reports off\ncreate 1 1000000 # reports on\n");
+    let off = rehearse(
+        LIST,
+        &format!("{BOTH_ORDERS}create 1 1000000\n"),
+        &["--csv"],
+    );
+    let turned = format!("{BOTH_ORDERS}reports off\ncreate 1 1000000 # reports on\n");
     let turned = rehearse(LIST, &turned, &["--csv"]);
     let header = "line,call,account,seq,of,code,name,side,quantity,price,amount";
     assert_eq!(off.lines()[0], header);
@@ -220,7 +218,7 @@ fn a_table_without_reports_is_as_it_was() {
 
 #[test]
 fn reports_are_members_of_an_order_in_json() {
-    let ran = rehearse(LIST, &format!("{OPENING}{DAY}"), &["--json"]);
+    let ran = rehearse(LIST, &format!("{BOTH_ORDERS}{DAY}"), &["--json"]);
     assert_eq!(ran.status, 0);
     let entry = |line: &str| {
         let start = format!("{{\"line\":{line},");
@@ -255,7 +253,7 @@ fn row(cells: &str) -> Vec<String> {
 #[test]
 fn a_page_has_a_table_for_each_party() {
     let list = LIST.replace("CMB     ", "<b>&\"'x ");
-    let page = rehearse(&list, &format!("{OPENING}{DAY}"), &["--html"]).out;
+    let page = rehearse(&list, &format!("{BOTH_ORDERS}{DAY}"), &["--html"]).out;
     assert_well_made(&page);
     let shown = text(&page);
     for words in [

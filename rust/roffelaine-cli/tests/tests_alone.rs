@@ -8,19 +8,13 @@ mod support;
 mod markup;
 
 use markup::{assert_well_made, text};
-use support::{rehearse, run, scratch, Ran, LIST};
+use support::{rehearse, run, scratch, Ran, BOTH_ORDERS, LIST};
 
-/// Account 1 of the paper's cases, and account 2 with a basket of units; the
-/// last price is line 41.
-const OPENING: &str = "accounts 3\ncash 0 1000000\nhold 0 600000 10000\nhold 0 600036 10000\n\
-    cash 1 1000000\nhold 1 600000 3072\nhold 1 600036 3000\n\
-    cash 2 1000\nhold 2 510300 1000000\nopen\n\
-    price 000001 12\nprice 600000 10\nprice 600036 40\n";
 /// Both orders would be accepted, and one not.
 const TESTS: &str = "test create 1 1000000\ntest redeem 2 1000000\ntest create 1 1000000 7\n";
 
 fn rehearsed(lines: &str, options: &[&str]) -> Ran {
-    rehearse(LIST, &format!("{OPENING}{lines}"), options)
+    rehearse(LIST, &format!("{BOTH_ORDERS}{lines}"), options)
 }
 
 /// What lines behind the opening print.
@@ -169,7 +163,7 @@ fn a_page_says_what_they_would_make() {
 #[test]
 fn reconcile_leaves_them_out() {
     let reconciled = |lines: &str| {
-        let day = scratch("day.txt", format!("{LIST}{OPENING}{lines}").as_bytes());
+        let day = scratch("day.txt", format!("{LIST}{BOTH_ORDERS}{lines}").as_bytes());
         let positions = day.with_file_name("positions.csv");
         std::fs::write(&positions, "2,510300,1000000\n2,cash,1000\n").expect("written");
         let paths = [&day, &positions].map(|path| path.to_str().expect("a path"));

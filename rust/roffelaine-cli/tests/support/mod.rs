@@ -40,6 +40,14 @@ pub const LIST: &str = concat!(
 /// Lines of the list, so that line 1 of a day is this many and one more.
 pub const LIST_LINES: usize = 28;
 
+/// A day on which both orders can be made: account 1 of the paper's cases, and
+/// account 2 with a basket of units. Behind the list its last price is line 41.
+pub const BOTH_ORDERS: &str =
+    "accounts 3\ncash 0 1000000\nhold 0 600000 10000\nhold 0 600036 10000\n\
+    cash 1 1000000\nhold 1 600000 3072\nhold 1 600036 3000\n\
+    cash 2 1000\nhold 2 510300 1000000\nopen\n\
+    price 000001 12\nprice 600000 10\nprice 600036 40\n";
+
 /// What the command did.
 pub struct Ran {
     pub status: i32,
