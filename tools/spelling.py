@@ -72,7 +72,7 @@ def declared():
     """Each name that a file declares: whether some declaration is a definition, and not a lemma or a part of a proof."""
     found = collections.defaultdict(bool)
     for p in files(".antt"):
-        of_function = os.path.basename(p) in ("Proof.antt", "Answers.antt", "Invariants.antt")
+        of_function = os.path.basename(p) in ("Proof.antt", "Answers.antt", "Invariants.antt") and p.count("/") > 3
         with open(p, encoding="utf-8") as f:
             for line in f:
                 m = DECLARED.match(line)

@@ -12,13 +12,13 @@ use Rattle.lines.specs.Lines.{end_at, lower, same_in_any_case, is_named, name_by
 -- 0D 0A at a place.
 
 module _ (s : List ℕ) (i : ℕ) where
-  pub end-other : (get_or s i 0 ≡ 13 → ⊥) → false ≡ end_at s i
+  pub end_other : (get_or s i 0 ≡ 13 → ⊥) → false ≡ end_at s i
   unfolding end_at
-  end-other h = rw (ne_eqb _ _ h)
+  end_other h = rw (ne_eqb _ _ h)
 
-  pub end-second : get_or s i 0 ≡ 13 → eqb (get_or s (i + 1) 0) 10 ≡ end_at s i
+  pub end_second : get_or s i 0 ≡ 13 → eqb (get_or s (i + 1) 0) 10 ≡ end_at s i
   unfolding end_at
-  end-second h = rw (eq-eqb _ _ h)
+  end_second h = rw (eq-eqb _ _ h)
 
   pub end_last : get_or s i 0 ≡ 13 → length s ≤ i + 1 → false ≡ end_at s i
   unfolding end_at
@@ -27,47 +27,47 @@ module _ (s : List ℕ) (i : ℕ) where
 -- A number below, in and above a range.
 
 module _ (lo hi x : ℕ) where
-  pub inside-low : x < lo → inside lo hi x ≡ false
+  pub inside_low : x < lo → inside lo hi x ≡ false
   unfolding inside
-  inside-low h = rw (lt-leb _ _ h)
+  inside_low h = rw (lt-leb _ _ h)
 
-  pub inside-from : lo ≤ x → inside lo hi x ≡ leb x hi
+  pub inside_from : lo ≤ x → inside lo hi x ≡ leb x hi
   unfolding inside
-  inside-from h = rw (le-leb _ _ h)
+  inside_from h = rw (le-leb _ _ h)
 
-  pub inside-high : lo ≤ x → hi < x → inside lo hi x ≡ false
-  inside-high h k = inside-from h ∙ lt-leb _ _ k
+  pub inside_high : lo ≤ x → hi < x → inside lo hi x ≡ false
+  inside_high h k = inside_from h ∙ lt-leb _ _ k
 
 -- A letter in lower case.
 
 module _ (b : ℕ) where
-  pub lower-low : b < 65 → b ≡ lower b
+  pub lower_low : b < 65 → b ≡ lower b
   unfolding lower
-  lower-low h = rw (inside-low 65 90 b h)
+  lower_low h = rw (inside_low 65 90 b h)
 
   pub lower_high : 65 ≤ b → 90 < b → b ≡ lower b
   unfolding lower
-  lower_high h k = rw (inside-high 65 90 b h k)
+  lower_high h k = rw (inside_high 65 90 b h k)
 
-  pub lower-letter : 65 ≤ b → b ≤ 90 → b + 32 ≡ lower b
+  pub lower_letter : 65 ≤ b → b ≤ 90 → b + 32 ≡ lower b
   unfolding lower
-  lower-letter h k = rw (inside-from 65 90 b h, le-leb _ _ k)
+  lower_letter h k = rw (inside_from 65 90 b h, le-leb _ _ k)
 
 -- A byte of a name, and a letter or a digit.
 
 module _ (b : ℕ) where
-  pub name-bar : b ≡ 124 → false ≡ name_byte b
+  pub name_bar : b ≡ 124 → false ≡ name_byte b
   unfolding name_byte
-  name-bar e = rw (eq-eqb _ _ e)
+  name_bar e = rw (eq-eqb _ _ e)
 
   module _ (bar : b ≡ 124 → ⊥) where
-    pub name-return : b ≡ 13 → false ≡ name_byte b
+    pub name_return : b ≡ 13 → false ≡ name_byte b
     unfolding name_byte
-    name-return e = rw (ne_eqb _ _ bar, eq-eqb _ _ e)
+    name_return e = rw (ne_eqb _ _ bar, eq-eqb _ _ e)
 
-    pub name-feed : (b ≡ 13 → ⊥) → not (eqb b 10) ≡ name_byte b
+    pub name_feed : (b ≡ 13 → ⊥) → not (eqb b 10) ≡ name_byte b
     unfolding name_byte
-    name-feed h = rw (ne_eqb _ _ bar, ne_eqb _ _ h)
+    name_feed h = rw (ne_eqb _ _ bar, ne_eqb _ _ h)
 
 -- the three ranges of a letter or a digit
 pub letter_is : (b : ℕ) {d u l : Bool} → inside 48 57 b ≡ d → inside 65 90 b ≡ u
@@ -78,9 +78,9 @@ letter_is b p q r = rw (p, q, r)
 -- A name, "=" and a value.
 
 module _ (n l : List ℕ) where
-  pub named-short : length l ≤ length n → false ≡ is_named n l
+  pub named_short : length l ≤ length n → false ≡ is_named n l
   unfolding is_named every
-  named-short h = rw (le-ltb _ _ h)
+  named_short h = rw (le-ltb _ _ h)
 
   module _ (long : length n < length l) where
     pub named_other : (get_or l (length n) 0 ≡ 61 → ⊥) → false ≡ is_named n l

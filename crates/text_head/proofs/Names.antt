@@ -11,7 +11,7 @@ use lib.ListN.{length, get_or, take, drop, length-drop, get_or-eq_default}
 use lib.Seq.{length-take-le}
 use Rattle.sequences.proofs.Below.{sum_more, sum_grows}
 use Rattle.sequences.proofs.Every.{inside-true}
-use Rattle.lines.proofs.Answers.{inside-low, inside-high}
+use Rattle.lines.proofs.Answers.{inside_low, inside_high}
 use Rattle.text_rules.specs.Tables.{name_part, Field, field_of, fields_of, name_before}
 use Rattle.text_rules.specs.Head.{field_name}
 use Rattle.text_rules.specs.Well.{most_line, fields_well}
@@ -23,11 +23,11 @@ module _ (rows : List (List ℕ)) where
   -- the length of a line's name, as the code tells the lines apart
   pub length-first : (k : ℕ) → k ≡ 0 → 0 ≡ name_length rows k
   unfolding name_length
-  length-first k e = rw (inside-low 1 (length rows) k (omega arith))
+  length-first k e = rw (inside_low 1 (length rows) k (omega arith))
 
   pub length_past : (k : ℕ) → (k ≡ 0 → ⊥) → length rows < k → 0 ≡ name_length rows k
   unfolding name_length
-  length_past k h p = rw (inside-high 1 (length rows) k (omega arith) p)
+  length_past k h p = rw (inside_high 1 (length rows) k (omega arith) p)
 
   pub length_named : (k : ℕ) → (k ≡ 0 → ⊥) → k ≤ length rows → get_or (get_or rows (k - 1) []) name_part 0 ≡ name_length rows k
   unfolding name_length

@@ -16,7 +16,7 @@ use Rattle.digits.proofs.Write.{whole_short, plain_free, plain-length, signed_be
 use Rattle.digits.specs.Digits.{plain, plain_text, signed_text, number_text}
 use Rattle.digits.specs.declared.Figure.{Figure}
 use Rattle.digits.specs.declared.Form.{Form}
-use Rattle.lines.proofs.Answers.{inside-low, inside-high}
+use Rattle.lines.proofs.Answers.{inside_low, inside_high}
 use Rattle.lines.proofs.Laws.{length-line_text}
 use Rattle.lines.specs.Lines.{line_text}
 use Rattle.text_rules.specs.Tables.{form_of, Field, field_of, fields_of, field_at, name_before}
@@ -33,11 +33,11 @@ use Rattle.text_head_writing.specs.Lines.{FormsWell, figure_for, line_from, arra
 module _ (count : ℕ) (figures : List Figure) (k : ℕ) where
   pub figure_first : k ≡ 0 → plain 0 ≡ figure_for count figures k
   unfolding figure_for
-  figure_first e = rw (inside-low 1 count k (omega arith))
+  figure_first e = rw (inside_low 1 count k (omega arith))
 
   pub figure_last : (k ≡ 0 → ⊥) → count < k → plain 0 ≡ figure_for count figures k
   unfolding figure_for
-  figure_last h m = rw (inside-high 1 count k (omega arith) m)
+  figure_last h m = rw (inside_high 1 count k (omega arith) m)
 
   pub figure_named : (k ≡ 0 → ⊥) → k ≤ count → get_or figures (k - 1) (plain 0) ≡ figure_for count figures k
   unfolding figure_for

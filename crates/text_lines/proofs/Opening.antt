@@ -10,7 +10,7 @@ use lib.Seq.{length-take-le, take-take, take_at, drop-append-le}
 use borrow.Author.Tests.{lt-ltb, le-ltb}
 use Rattle.sequences.specs.Every.{every}
 use Rattle.sequences.proofs.Every.{every_at, inside-true, inside_facts, false_of}
-use Rattle.lines.proofs.Answers.{inside-low, inside-high}
+use Rattle.lines.proofs.Answers.{inside_low, inside_high}
 use Rattle.lines.specs.Lines.{same, letter_byte, all_bytes, line_len, ended, first_line}
 use Rattle.text_rules.specs.Head.{is_letters, letters_of, is_opening, opening_word, most_letters, letters_start, beside_letters, shortest_opening}
 use Rattle.text_rules.specs.Reading.{line_of, line_stands, letters_read}
@@ -20,11 +20,11 @@ use Rattle.text_lines.proofs.Standing.{stands_not, stands_as}
 module _ (s : List ℕ) where
   pub letters_none : length s < 1 → false ≡ is_letters s
   unfolding is_letters
-  letters_none h = rw (inside-low 1 most_letters (length s) h)
+  letters_none h = rw (inside_low 1 most_letters (length s) h)
 
   pub letters_more : 1 ≤ length s → most_letters < length s → false ≡ is_letters s
   unfolding is_letters
-  letters_more g h = rw (inside-high 1 most_letters (length s) g h)
+  letters_more g h = rw (inside_high 1 most_letters (length s) g h)
 
   pub letters_some : 1 ≤ length s → length s ≤ most_letters → all_bytes letter_byte s ≡ is_letters s
   unfolding is_letters

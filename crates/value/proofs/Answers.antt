@@ -37,13 +37,13 @@ falls true x r n e = absurd (false≢true (sym n ∙ ap is_accepted e))
 falls false x r n e = refl
 
 module _ (d : Day) (ps : List ℕ) where
-  pub worth-facts : (v : ReferenceValue) → value_answer_reply (Worth v) ≡ answered (value_checks d ps) (reference_value d ps)
+  pub worth_facts : (v : ReferenceValue) → value_answer_reply (Worth v) ≡ answered (value_checks d ps) (reference_value d ps)
       → (has_value d ps ≡ true) × (v.0 ≡ reference_value d ps) × (v.0 ≤ 9_999_999)
   unfolding value_checks answering
-  worth-facts v e =
+  worth_facts v e =
       let s = stands (has_value d ps) v.0 (reference_value d ps) e in
       (s.0, s.1, omega (arith, s.1, value_range d ps s.0))
 
-  pub refused-facts : (why : Refusal) → value_answer_reply (Refused why) ≡ answered (value_checks d ps) (reference_value d ps) → has_value d ps ≡ false
+  pub refused_facts : (why : Refusal) → value_answer_reply (Refused why) ≡ answered (value_checks d ps) (reference_value d ps) → has_value d ps ≡ false
   unfolding value_checks answering
-  refused-facts why e = falls (has_value d ps) (reference_value d ps) (refusal_reply why) (refused why) e
+  refused_facts why e = falls (has_value d ps) (reference_value d ps) (refusal_reply why) (refused why) e

@@ -3,12 +3,12 @@ use mathlib.Core.Path.{sym, ◌∙◌}
 use borrow.Author.Rules.{rules}
 use native.Mathlib.Omega.{arith}
 use lib.Seq.{length-take-le}
-use Rattle.lines.proofs.Answers.{named-short, named_other, named_same}
+use Rattle.lines.proofs.Answers.{named_short, named_other, named_same}
 use Rattle.lines.proofs.is_named.Statement.{statement}
 use Rattle.lines.proofs.is_named.Tie as tie
 
 returns : tie.Need-returns
-returns c = named-short _ _ c.if1.true
+returns c = named_short _ _ c.if1.true
 
 returns-2 : tie.Need-returns-2
 returns-2 c = named_other _ _ (search rules) c.if2.true

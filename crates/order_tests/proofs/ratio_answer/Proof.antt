@@ -7,7 +7,7 @@ use borrow.Author.Tests.{not-true, not-false}
 use Rattle.layout.specs.Day.{day_of}
 use Rattle.rules.specs.Replies.{value_answer_reply}
 use Rattle.rules.specs.Value.{reference_value, has_value}
-use Rattle.value.proofs.Answers.{worth-facts, refused-facts}
+use Rattle.value.proofs.Answers.{worth_facts, refused_facts}
 use Rattle.order_tests.proofs.Laws.{ratio_none, ratio_no_value, ratio_over, ratio_within}
 use Rattle.order_tests.proofs.ratio_answer.Statement.{statement}
 use Rattle.order_tests.proofs.ratio_answer.Tie as tie
@@ -21,7 +21,7 @@ worth : (c : tie.After-known-told)
     (has_value (day_of a.d a.basket.now) a.prices.now ≡ true)
     × (c.before.v.given.0.0.0 ≡ reference_value (day_of a.d a.basket.now) a.prices.now)
     × (c.before.v.given.0.0.0 ≤ 9_999_999)
-worth c = worth-facts _ _ _ (ap value_answer_reply (sym c.before.v.given.1) ∙ c.before.before.before.reference-value.ensures)
+worth c = worth_facts _ _ _ (ap value_answer_reply (sym c.before.v.given.1) ∙ c.before.before.before.reference-value.ensures)
 
 ratio-passed-requires : tie.Need-ratio-passed-requires
 ratio-passed-requires c κs =
@@ -42,7 +42,7 @@ returns-3 c =
 returns-4 : tie.Need-returns-4
 returns-4 c =
     ratio_no_value _ _ _ _ _ (not-false _ c.before.before.before.before.if1.false)
-    (refused-facts _ _ c.enum_told.given.0.0 (ap value_answer_reply (sym c.enum_told.given.1) ∙ c.before.before.reference-value.ensures))
+    (refused_facts _ _ c.enum_told.given.0.0 (ap value_answer_reply (sym c.enum_told.given.1) ∙ c.before.before.reference-value.ensures))
 
 pub ratio-answer-spec : {M : Type 1} → statement M
 ratio-answer-spec =
