@@ -69,12 +69,12 @@ use lib.ListN.{length, drop, replicate}
 use Rattle·sequences.specs.Checks.{Reply}
 use Rattle·layout.specs.declared.Fund.{Fund}
 use Rattle·layout.specs.declared.Component.{Component}
-use Rattle·layout.specs.Places.{day_width}
+use Rattle·layout.specs.Places.{dayWidth}
 use Rattle·layout.specs.Day.{Day}
-use Rattle·rules.specs.Lent.{Lent, lent_of, rooms_of}
-use Rattle·rules.specs.Opening.{Opening, opening_reply, opened_day, opened_book, opened_prices}
-use Rattle·rules.specs.Creation.{creation_reply}
-use Rattle·rules.specs.Redemption.{redemption_reply}
+use Rattle·rules.specs.Lent.{Lent, lentOf, roomsOf}
+use Rattle·rules.specs.Opening.{Opening, openingReply, openedDay, openedBook, openedPrices}
+use Rattle·rules.specs.Creation.{creationReply}
+use Rattle·rules.specs.Redemption.{redemptionReply}
 use Rattle·balance.specs.Calls.{State, Call, Result, step}
 
 """ + SHARED + """
@@ -85,7 +85,7 @@ component code q flag premium discount amount =
 -- accounts, count, fund, components, holdings, and the lengths of the lent book and prices
 abbrev pub opening : ℕ → ℕ → Fund → List ℕ → List ℕ → ℕ → ℕ → Opening
 opening a n f cs hs b ps =
-    record { accounts = a; count = n; fund = f; components = cs; holdings = hs; book = lent b; prices = lent ps; day = replicate day_width 7 }
+    record { accounts = a; count = n; fund = f; components = cs; holdings = hs; book = lent b; prices = lent ps; day = replicate dayWidth 7 }
 
 abbrev pub state : Day → List ℕ → List ℕ → State
 state d b ps = record { day = d; book = b; prices = ps }
@@ -99,15 +99,15 @@ pub data Made : Type 0 where
 
 -- a reply on a state that stays
 abbrev tested : State → Reply → Result
-tested s r = record { reply = r; after = s; lent = lent_of [] [] [] }
+tested s r = record { reply = r; after = s; lent = lentOf [] [] [] }
 
 -- what the definitions make of it on a state
 abbrev pub result_of : State → Made → Result
-result_of s (made c records investor fund want written) = step s c (lent_of (lent records) (lent investor) (lent fund))
+result_of s (made c records investor fund want written) = step s c (lentOf (lent records) (lent investor) (lent fund))
 result_of s (testsCreation a units records investor fund want) =
-    tested s (creation_reply (s .day) (s .book) (s .prices) a units (rooms_of records investor fund))
+    tested s (creationReply (s .day) (s .book) (s .prices) a units (roomsOf records investor fund))
 result_of s (testsRedemption a units records investor fund want) =
-    tested s (redemption_reply (s .day) (s .book) (s .prices) a units (rooms_of records investor fund))
+    tested s (redemptionReply (s .day) (s .book) (s .prices) a units (roomsOf records investor fund))
 
 abbrev pub resultRight : Result → Made → Bool
 resultRight r (made c records investor fund want written) =
@@ -141,8 +141,8 @@ leftRight before after (holds want) = same after want
 
 abbrev pub openingRight : Opening → List ℕ → Left → Left → Bool
 openingRight o want book prices =
-    both (replyRight (opening_reply o) want)
-    (both (leftRight (o .book) (opened_book o) book) (leftRight (o .prices) (opened_prices o) prices))
+    both (replyRight (openingReply o) want)
+    (both (leftRight (o .book) (openedBook o) book) (leftRight (o .prices) (openedPrices o) prices))
 
 abbrev pub dayRight : State → List Made → List ℕ → List ℕ → Bool
 dayRight s [] book prices = both (same (s .book) book) (same (s .prices) prices)
@@ -159,7 +159,7 @@ callRight s (met m book prices) =
 abbrev pub right : Row → Bool
 right (opens o want book prices) = openingRight o want book prices
 right (plays o want ms book prices) =
-    both (replyRight (opening_reply o) want) (dayRight (state (opened_day o) (opened_book o) (opened_prices o)) ms book prices)
+    both (replyRight (openingReply o) want) (dayRight (state (openedDay o) (openedBook o) (openedPrices o)) ms book prices)
 right (meets s ms) = all (callRight s) ms
 right (follows s ms book prices) = dayRight s ms book prices
 """
@@ -174,10 +174,10 @@ use lib.IntN.{ℤ, pos, negsuc}
 use lib.ListN.{length, drop}
 use Rattle·sequences.specs.Checks.{Reply}
 use Rattle·layout.specs.declared.Fund.{Fund}
-use Rattle·text_rules.specs.Reading.{letters_read}
+use Rattle·text_rules.specs.Reading.{lettersRead}
 use Rattle·list_rules.specs.declared.ListFields.{ListFields}
-use Rattle·list_rules.specs.Reading.{read_reply, fields_handed, first_handed, run_after, name_read, name_from}
-use Rattle·list_rules.specs.Writing.{listing, write_reply, output_after}
+use Rattle·list_rules.specs.Reading.{readReply, fieldsHanded, firstHanded, runAfter, nameRead, nameFrom}
+use Rattle·list_rules.specs.Writing.{listing, writeReply, outputAfter}
 
 """ + SHARED + """
 -- fund, publish, trading day, previous trading day, cash component, NAV per CU, NAV, count
@@ -206,26 +206,26 @@ pub data Row : Type 0 where
 -- what a text hands back besides its components: fields, and the place of the first component line
 abbrev headRight : List ℕ → ℕ → ListFields → ℕ → Bool
 headRight text room f first =
-    both (same (flat (fields_handed text room)) (flat f)) (same (first_handed text room ∷ []) (first ∷ []))
+    both (same (flat (fieldsHanded text room)) (flat f)) (same (firstHanded text room ∷ []) (first ∷ []))
 
 -- the names from the j-th on, asked for in both ways
 abbrev namesRight : List ℕ → ℕ → ℕ → List (List ℕ) → Bool
-namesRight text first j [] = both (same (name_read text j) []) true
+namesRight text first j [] = both (same (nameRead text j) []) true
 namesRight text first j (name ∷ names) =
-    both (both (same (name_read text j) name) (same (name_from text first j) name)) (namesRight text first (suc j) names)
+    both (both (same (nameRead text j) name) (same (nameFrom text first j) name)) (namesRight text first (suc j) names)
 
 abbrev none : ListFields
 none = fields (fund 0 0 0 0 (pos 0) (0 ∷ 0 ∷ 0 ∷ 0 ∷ 0 ∷ 0 ∷ 0 ∷ 0 ∷ [])) 0 0 0 (pos 0) 0 0 0
 
 abbrev pub right : Row → Bool
 right (fails text room want) =
-    both (both (replyRight (read_reply text room) want) (lentRight (run_after text (lent room)) room [])) (headRight text room none 0)
+    both (both (replyRight (readReply text room) want) (lentRight (runAfter text (lent room)) room [])) (headRight text room none 0)
 right (reads text room want f first run letters names) =
-    both (both (replyRight (read_reply text room) want) (lentRight (run_after text (lent room)) room run))
-    (both (headRight text room f first) (both (same (letters_read text) letters) (namesRight text first 0 names)))
+    both (both (replyRight (readReply text room) want) (lentRight (runAfter text (lent room)) room run))
+    (both (headRight text room f first) (both (same (lettersRead text) letters) (namesRight text first 0 names)))
 right (writes f run names letters room want text) =
     let l = listing f run names letters in
-    both (replyRight (write_reply l room) want) (lentRight (output_after l (lent room)) room text)
+    both (replyRight (writeReply l room) want) (lentRight (outputAfter l (lent room)) room text)
 """
 
 # A module of rows.
@@ -248,7 +248,7 @@ rows-right = refl
 """
 
 DAY_USES = """\
-use Rattle·rules.specs.Lent.{lent_of}
+use Rattle·rules.specs.Lent.{lentOf}
 use Rattle·balance.specs.Calls.{price, trade, create, redeem, value}
 use Rattle·rows·specs.specs.Rows.{all, fund, component, opening, state, made, testsCreation, testsRedemption}
 use Rattle·rows·specs.specs.Rows.{kept, holds, met, Row, opens, plays, meets, follows, right}"""
@@ -293,7 +293,7 @@ def made(c):
         name = dict(zip(TESTS, ("testsCreation", "testsRedemption")))[kind]
         return f"({spaced(name, *args, *rooms, listed(c['reply']))})"
     written = spaced(*(listed(c.get(name, [])) for name in LISTS))
-    return f"(made ({spaced(kind, *args)}) {spaced(*rooms, listed(c['reply']))} (lent_of {written}))"
+    return f"(made ({spaced(kind, *args)}) {spaced(*rooms, listed(c['reply']))} (lentOf {written}))"
 
 
 def left(after, name):

@@ -60,6 +60,17 @@ def snake(part):
     return re.sub(r"(?<=[a-z0-9])[A-Z]", lambda m: "_" + m[0].lower(), part)
 
 
+def of_a_library(text):
+    """The names that a file imports from a library, which port.py has spelled."""
+    own = set(os.listdir("crates"))
+    found = set()
+    for m in re.finditer(r"\buse ([^\s;{]+)\.\{([^{}]*)\}", text):
+        steps = m[1].split(".")
+        if not (steps[0] == "Rattle" and len(steps) > 1 and steps[1] in own):
+            found |= {n.strip() for n in m[2].split(",")}
+    return found
+
+
 def files(ending):
     for top, dirs, names in os.walk("crates"):
         dirs[:] = sorted(d for d in dirs if d != "out")
@@ -154,6 +165,7 @@ def main(words):
 def rewrite(path, pattern, table):
     with open(path, encoding="utf-8") as f:
         old = f.read()
+    table = {n: t for n, t in table.items() if n not in of_a_library(old)}
     if pattern is SPAN:
         new = SPAN.sub(lambda m: "`" + WORD.sub(lambda w: table.get(w[0], w[0]), m[0][1:-1]) + "`", old)
     else:

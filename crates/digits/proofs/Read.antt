@@ -1,6 +1,6 @@
 -- Reading: digits one by one, as far as the cap, and a number before and after its point.
 use mathlib.Core.Path.{◌≡◌, refl, sym, ap, ◌∙◌}
-use mathlib.Core.Bool.{Bool, true, false, not, ◌&&◌, false≢true, and-false, and_true}
+use mathlib.Core.Bool.{Bool, true, false, not, ◌&&◌, false≢true, and-false, and-true}
 use mathlib.Core.List.{List, [], ◌∷◌}
 use Prim.Native.Nat.{ℕ, zero, suc, ◌+◌, ◌-◌, ◌*◌, ◌≤◌, ◌<◌}
 use native.Mathlib.Omega.{arith}
@@ -147,7 +147,7 @@ module _ (digits : ℕ) (s : List ℕ) where
 
   pub whole_known : is_shaped digits s ≡ true → read_on 0 s ≡ size_reading (is_whole digits s) (capped (from 0 s))
   unfolding is_whole is_shaped every read_on
-  whole_known e = rw (e, and_true)
+  whole_known e = rw (e, and-true)
 
 -- ---- with the decimals of the form
 
@@ -200,4 +200,4 @@ module _ (f : Form) (s : List ℕ) where
         let head : List ℕ = take point_place s in
         let k = size_known (is_whole f.digits head) (capped (from 0 head)) v e in
         let past = capped_from (from 0 head) (drop (point_place + 1) s) in
-        rw (ne_eqb f.decimals 0 some, eq-eqb (get_or s point_place 0) 46 h, k.0, and_true, ← k.1, past)
+        rw (ne_eqb f.decimals 0 some, eq-eqb (get_or s point_place 0) 46 h, k.0, and-true, ← k.1, past)

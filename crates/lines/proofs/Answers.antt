@@ -1,6 +1,6 @@
 -- What the code's tests say of the bytes and of the definitions of specs/Lines.antt.
 use mathlib.Core.Path.{◌≡◌, ◌∙◌}
-use mathlib.Core.Bool.{Bool, false, not, ◌||◌, and_true}
+use mathlib.Core.Bool.{Bool, false, not, ◌||◌, and-true}
 use mathlib.Core.List.{List}
 use Prim.Native.Nat.{ℕ, ◌+◌, ◌≤◌, ◌<◌}
 use lib.Dec.{leb, eqb}
@@ -89,4 +89,4 @@ module _ (n l : List ℕ) where
 
     pub named_same : get_or l (length n) 0 ≡ 61 → same_in_any_case n (take (length n) l) ≡ is_named n l
     unfolding is_named every
-    named_same h = rw (lt-ltb _ _ long, eq-eqb _ _ h, and_true)
+    named_same h = rw (lt-ltb _ _ long, eq-eqb _ _ h, and-true)

@@ -1,6 +1,6 @@
 -- The turns of the loops: what is said of the whole is said of the part from i on.
 use mathlib.Core.Path.{◌≡◌, refl, sym, ◌∙◌}
-use mathlib.Core.Bool.{Bool, true, false, ◌&&◌, and_true, and_assoc}
+use mathlib.Core.Bool.{Bool, true, false, ◌&&◌, and-true, and_assoc}
 use mathlib.Core.List.{List}
 use Prim.Native.Nat.{ℕ, suc, ◌+◌, ◌≤◌, ◌<◌, zero-le}
 use native.Mathlib.Nat.{add-zero}
@@ -124,4 +124,4 @@ module _ (p : ℕ → Bool) (s : List ℕ) where
 
     pub tested_end : length s ≤ i → good ≡ all_bytes p s
     unfolding all_bytes
-    tested_end h = sym (v.whole ∙ rw (drop_of_length-le s h) (and_true good))
+    tested_end h = sym (v.whole ∙ rw (drop_of_length-le s h) (and-true good))

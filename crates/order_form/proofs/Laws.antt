@@ -1,6 +1,6 @@
 -- Head numbers and their sums as the code reads them, and what a sound day gives.
 use mathlib.Core.Path.{◌≡◌, refl, ap, ◌∙◌}
-use mathlib.Core.Bool.{Bool, true, false, ◌&&◌, and_true}
+use mathlib.Core.Bool.{Bool, true, false, ◌&&◌, and-true}
 use mathlib.Core.List.{List, [], ◌∷◌, ◌++◌}
 use Prim.Native.Nat.{ℕ, ◌+◌, ◌-◌, ◌*◌, ◌/◌, ◌%◌, ◌≤◌, ◌<◌}
 use native.Mathlib.Nat.{div-add-mod, mul-le-mul}
@@ -103,7 +103,7 @@ sorted true false false d e = refl
 sorted true false true d e = refl
 sorted true true false d e = refl
 sorted true true true false e = refl
-sorted true true true true e = and_true e
+sorted true true true true e = and-true e
 
 -- the limits from what the code reads and finds, of all accounts and of the account
 module _ (k n : ℕ) (f : Fund) (b : List ℕ) (ask : Ask) where

@@ -30,7 +30,7 @@ use denote.Ref.{MutBor}
 use denote.Slice.{slice_val, MutSlice, ShrSlice, Room}
 use denote.Lend.{Held, lends_slice, lends_shr_slice}
 use borrow.Rule.Slice.Shared.{parts-cells}
-use borrow.Table.OneValue.{part_in_lem, part_out}
+use borrow.Table.OneValue.{part_in, part_out}
 
 module _ {M : Type 1} {𝓤 : Ura M} {𝓛 : Logic 𝓤} {K : Type 0} {Γ : List (Item 𝓤)} {E : Env 𝓤 𝓛.H} where
   pub big_lit : K → {w : Width} {n : ℕ} → Fits w n → Opd K 𝓛 Γ E (int_big w n) (vint w n)
@@ -52,7 +52,7 @@ module _ {M : Type 1} {𝓤 : Ura M} (𝓛 : Logic 𝓤) (R : RattleType) (one :
   pub array_in : (v : Val) → ent 𝓤 (sep 𝓤 (H.at full_share (ty_array (lone R.mir) n) b 0 v) (sem 𝓛 ((Array R n).own_val xs (v ∷ [])))) (sem 𝓛 (Elements R n b xs))
   array_in v =
       qed 𝓛 (‵ (fat full_share (ty_array (lone R.mir) n) b 0 v) ∷ ‵ ((Array R n).own_val xs (v ∷ [])) ∷ []) ∵
-      use2 𝓛 (‵ (part_at (Array R n) full_share xs b 0)) (part_in_lem 𝓛 (Array R n) refl full_share xs b 0 v) $
+      use2 𝓛 (‵ (part_at (Array R n) full_share xs b 0)) (part_in 𝓛 (Array R n) refl full_share xs b 0 v) $
       use1 𝓛 (‵ ((arr_parts (shares R) n).part full_share xs b 0)) (Array-apart 𝓛 R full_share one n xs b 0) $
       fsplit ! $ move ! (1 ∷ []) $ rewrite ! 0 (λ (F : Fml). ‵ F) (parts-cells R full_share xs b 0) refl $ move ! (1 ∷ 0 ∷ []) $ fjoin ! $ done !
 

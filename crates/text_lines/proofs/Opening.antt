@@ -1,5 +1,5 @@
 -- The first line, and the letters in it.
-use mathlib.Core.Bool.{true, false, and_true, and-eq-true_iff}
+use mathlib.Core.Bool.{true, false, and-true, and-eq-true_iff}
 use mathlib.Core.List.{List, []}
 use mathlib.Core.Path.{◌≡◌, sym, ap, ◌∙◌}
 use Prim.Native.Nat.{ℕ, ◌-◌, ◌≤◌, ◌<◌}
@@ -62,7 +62,7 @@ module _ (l : List ℕ) where
 
     pub opening_last : is_letters (take (length l - 1 - letters_start) (drop letters_start l)) ≡ true → eqb (get_or l (length l - 1) 0) 93 ≡ is_opening l
     unfolding is_opening every
-    opening_last e = rw (word, ← opening_part, e, and_true)
+    opening_last e = rw (word, ← opening_part, e, and-true)
 
 -- the rest of a part
 pub drop-front : (a n : ℕ) (s : List ℕ) → n ≤ length s → a ≤ n → drop a (take n s) ≡ take (n - a) (drop a s)

@@ -1,6 +1,6 @@
 -- `digits_scan::is_blank` meets its contract. The loop's invariant: `good` says whether the bytes before `i` are blanks.
 use Rattle.std.proofs.Common.{◌≡◌, ℕ, suc, ◌+◌, ◌-◌, ◌<◌, ◌≤◌, Bool, true, false, cond, ◌&&◌, eqb, List, ◌∷◌, length, get_or, drop, sym, refl, ◌∙◌, zero-le, add-one, arith, drop_of_length-le, drop-cons, rules, ne_eqb}
-use mathlib.Core.Bool.{and_true, and_assoc}
+use mathlib.Core.Bool.{and-true, and_assoc}
 use Prim.Native.Nat.compare
 use Rattle.digits.specs.Digits.{blanks, all_blank}
 use Rattle.digits_scan.proofs.is_blank.Statement.{statement}
@@ -42,7 +42,7 @@ returns : tie.Need-returns invariant-loop decreases-loop
 unfolding all_blank blanks
 returns c =
     let v = c.before.loop.invariant in
-    sym (v.whole ∙ rw (drop_of_length-le _ c.loop-test.false) (and_true _))
+    sym (v.whole ∙ rw (drop_of_length-le _ c.loop-test.false) (and-true _))
 
 pub is-blank-spec : {M : Type 1} → statement M
 is-blank-spec =

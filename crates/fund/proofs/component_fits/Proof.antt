@@ -1,6 +1,6 @@
 -- `fund::component_fits` meets its contract: the tests are the definition's, in its order.
 use mathlib.Core.Path.{◌≡◌, sym, ◌∙◌}
-use mathlib.Core.Bool.{true, false, and_true}
+use mathlib.Core.Bool.{true, false, and-true}
 use Prim.Native.Nat.{ℕ}
 use lib.Dec.{ltb}
 use borrow.Author.Tests.{not-true, not-false, eq-eqb, ne_eqb}
@@ -21,7 +21,7 @@ module _ (g i previous : ℕ) (c : Component) where
 
   later : component_in_range g c ≡ true → (i ≡ 0 → ⊥) → ltb previous c.code ≡ fits g i previous c
   unfolding fits every
-  later e z = simp (e, ne_eqb i 0 z, and_true)
+  later e z = simp (e, ne_eqb i 0 z, and-true)
 
 returns : tie.Need-returns
 returns c = sym (out_of_range _ _ _ _ (sym c.before.component-in-range.ensures ∙ not-true _ c.if1.true))

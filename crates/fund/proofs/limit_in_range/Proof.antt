@@ -1,6 +1,6 @@
 -- `fund::limit_in_range` meets its contract: a limit above the ceiling fails the first test, and of another the second decides.
 use mathlib.Core.Path.{◌≡◌, sym}
-use mathlib.Core.Bool.{false, and_true}
+use mathlib.Core.Bool.{false, and-true}
 use Prim.Native.Nat.{ℕ, ◌%◌, ◌≤◌, ◌<◌}
 use lib.Dec.{eqb}
 use borrow.Author.Rules.{rules}
@@ -16,7 +16,7 @@ above size limit l = simp (lt-leb limit ceiling l)
 
 by_remainder : (size limit : ℕ) → limit ≤ ceiling → eqb (limit % size) 0 ≡ limit_in_range size limit
 unfolding limit_in_range every
-by_remainder size limit l = simp (le-leb limit ceiling l, and_true)
+by_remainder size limit l = simp (le-leb limit ceiling l, and-true)
 
 returns : tie.Need-returns
 returns c = sym (above _ _ c.if1.true)

@@ -1,6 +1,6 @@
 -- `opening::over_at` meets its contract: past the unit the cash total is tested, at the unit the fund's own units come before the total.
 use mathlib.Core.Path.{◌≡◌, refl, sym, ◌∙◌}
-use mathlib.Core.Bool.{true, or-true, or_false}
+use mathlib.Core.Bool.{true, or-true, or-false}
 use mathlib.Core.Logic.{⊎_elim}
 use Prim.Native.Nat.{ℕ, ◌+◌, ◌≤◌, ◌<◌}
 use native.Mathlib.Decide.{dec_lt}
@@ -29,7 +29,7 @@ module _ (n : ℕ) (t : DayTotals) (place : ℕ) where
       case (yes h) = sym (over_line n t place h)
       case (no h) =
           let e : place ≡ n = omega arith in
-          rw e (sym (over_units n t ∙ rw (most, none e, or_false)))
+          rw e (sym (over_units n t ∙ rw (most, none e, or-false)))
 
 returns : tie.Need-returns
 returns c = at-cash _ _ _ c.before.if1.true c.before.before.requires.1

@@ -1,6 +1,6 @@
 -- `ranges::whole_baskets` meets its contract: nothing is left over where the count times the size gives the units back.
 use mathlib.Core.Path.{◌≡◌, ◌∙◌}
-use mathlib.Core.Bool.{and_true}
+use mathlib.Core.Bool.{and-true}
 use Prim.Native.Nat.{ℕ, ◌+◌, ◌*◌, ◌/◌, ◌%◌}
 use native.Mathlib.Nat.{div-add-mod, mul_comm}
 use native.Mathlib.Omega.{arith}
@@ -24,7 +24,7 @@ returns-2 : tie.Need-returns-2
 unfolding every
 returns-2 c =
     let none : c.before.before.args.units % c.before.before.args.size ≡ 0 = omega (arith, parts _ _ _ c.before.before.pre.1) in
-    c.is-inside.ensures ∙ rw c.before.before.pre.1 (simp (eq-eqb _ _ none, and_true))
+    c.is-inside.ensures ∙ rw c.before.before.pre.1 (simp (eq-eqb _ _ none, and-true))
 
 pub whole-baskets-spec : {M : Type 1} → statement M
 whole-baskets-spec = tie.close (tie.spec (λ c. omega (arith, parts _ _ _ c.pre.1)) returns (λ c κs. search rules) returns-2)
