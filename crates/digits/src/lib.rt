@@ -1,4 +1,6 @@
 // Number fields of the list text: one form with parameters, read and written by one text.
+#![tactic(auto)]
+
 ghost use Rattle.std.specs.Prelude.{◌≡◌, ◌≤◌, nat_abs};
 ghost use Rattle.digits.specs.Digits.{cap};
 ghost use Rattle.digits.specs.Signed.{signed_of, figure_signed};

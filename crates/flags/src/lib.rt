@@ -1,4 +1,6 @@
 // The flag table, the only place that knows a flag's columns.
+#![tactic(auto)]
+
 ghost use Rattle.std.specs.Prelude.{◌≡◌, ◌||◌, ◌&&◌, eqb};
 ghost use Rattle.flags.specs.Table.{entry, entry_in};
 

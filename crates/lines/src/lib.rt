@@ -1,4 +1,6 @@
 // Lines of a text, words compared in any case, and bytes that a name may have.
+#![tactic(auto)]
+
 ghost use Rattle.std.specs.Prelude.{◌≡◌, true, ◌≤◌, ◌<◌, length};
 ghost use Rattle.lines.specs.Lines.{end_at, line_len, other_byte, lower, same, same_in_any_case, is_named, name_byte, letter_byte, all_bytes};
 

@@ -1,4 +1,6 @@
 // The three lots of one line of one account. Each move gives the lots back.
+#![tactic(auto)]
+
 ghost use Rattle.std.specs.Prelude.{◌≡◌, ◌+◌, ◌≤◌, ◌<◌, ◌^◌};
 ghost use Rattle.lots.specs.Lots.{sell_of, hand_in_of, buy_of, get_of, take_in_of, pay_out_of, sellable, handable};
 

@@ -1,4 +1,6 @@
 // The paper's units of count, each a type of its own, and the roundings between them.
+#![tactic(auto)]
+
 ghost use Rattle.std.specs.Prelude.{◌≡◌, ◌+◌, ◌*◌, ◌≤◌, ◌<◌, ◌^◌};
 ghost use Rattle.units.specs.Units.{rate_one, rounded, premium, discount, ratio_bound};
 
