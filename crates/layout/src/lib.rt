@@ -1,5 +1,7 @@
 // The types that lie in lent runs of numbers, and their places there: a component, a fund, a day, an account's stretch, a record,
 // a report, and the rows and answers of a list of calls. No other crate knows a width or a place.
+#![tactic(auto)]
+
 ghost use Rattle.std.specs.Prelude.{◌≡◌, ◌+◌, ◌-◌, ◌*◌, ◌≤◌, ◌<◌, ◌++◌, nat_abs, length, get_or, take, drop, replicate};
 ghost use Rattle.std.proofs.lemmas.List.Edits.{sets};
 ghost use Rattle.sequences.specs.Below.{tabulate};
