@@ -7,7 +7,7 @@ ghost use Rattle.answers.specs.Numbers.{reply_of, Told, ToldOrder};
 
 use rules::{Answer, OrderAnswer, Refusal, ValueAnswer};
 
-#[derive(Drop)]
+#[derive(Clone, Copy)]
 pub struct Numbers {
     pub number: u64,
     pub place: u64,

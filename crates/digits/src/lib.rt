@@ -6,7 +6,7 @@ ghost use Rattle.digits.specs.Digits.{cap};
 ghost use Rattle.digits.specs.Signed.{signed_of, figure_signed};
 
 // How a number stands in its field.
-#[derive(Drop)]
+#[derive(Clone, Copy)]
 pub struct Form {
     // So many digits before the point; 0 stands for as many as there are, with no spare zero.
     pub digits: usize,
@@ -18,21 +18,21 @@ pub struct Form {
 }
 
 // A number with its sign. With decimals its size counts the last of them.
-#[derive(Drop)]
+#[derive(Clone, Copy)]
 pub struct Figure {
     pub negative: bool,
     pub size: u64,
 }
 
 // What digits spell.
-#[derive(Drop)]
+#[derive(Clone, Copy)]
 pub enum Size {
     Known(u64),
     Ill,
 }
 
 // What a field says.
-#[derive(Drop)]
+#[derive(Clone, Copy)]
 pub enum Reading {
     Good(Figure),
     Ill,

@@ -11,7 +11,7 @@ use answers::Numbers;
 use rules::{Ask, Refusal};
 
 // A part of a run, from `start` to before `end`.
-#[derive(Drop)]
+#[derive(Clone, Copy)]
 struct Part {
     start: usize,
     end: usize,

@@ -19,7 +19,7 @@ use digits::Figure;
 use lots::Lots;
 use units::{Money, Rate};
 
-#[derive(Drop)]
+#[derive(Clone, Copy)]
 pub struct Component {
     pub code: u64,
     pub quantity: u64,
@@ -30,7 +30,7 @@ pub struct Component {
     pub amount: Money,
 }
 
-#[derive(Drop)]
+#[derive(Clone, Copy)]
 pub struct Fund {
     pub first_code: u64,
     pub basket_size: u64,
@@ -43,7 +43,7 @@ pub struct Fund {
 }
 
 // A day without its components.
-#[derive(Drop)]
+#[derive(Clone, Copy)]
 pub struct DayHead {
     pub accounts: usize,
     pub count: usize,
@@ -51,7 +51,7 @@ pub struct DayHead {
 }
 
 // A record of an order.
-#[derive(Drop)]
+#[derive(Clone, Copy)]
 pub struct Record {
     pub code: u64,
     pub side: u64,
@@ -61,14 +61,14 @@ pub struct Record {
 }
 
 // A group of a report's cash: its kind and its amount.
-#[derive(Drop)]
+#[derive(Clone, Copy)]
 pub struct Group {
     pub kind: u64,
     pub amount: Money,
 }
 
 // A report of an order, to one of its two parties.
-#[derive(Drop)]
+#[derive(Clone, Copy)]
 pub struct Report {
     pub report_type: u64,
     pub side: u64,

@@ -10,7 +10,7 @@ ghost use Rattle.list_rows.specs.Rows.{rows_found, run_kept};
 use text_rules::COLUMN_PARTS;
 
 // The first component line with a column at fault and the place of that column; the count of the lines and 0 where there is none.
-#[derive(Drop)]
+#[derive(Clone, Copy)]
 pub struct RowFault {
     pub row: usize,
     pub place: usize,

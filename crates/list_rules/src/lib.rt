@@ -8,7 +8,7 @@ use rules::Refusal;
 use text_rules::{ALWAYS, ANY, BY_FLAG, COLUMN_PARTS, DATE, FIELD_PARTS, TEXT, WIDTH, ZERO_OR_ONE};
 
 // The fields of a list but its components, its names and the letters of its first line.
-#[derive(Drop)]
+#[derive(Clone, Copy)]
 pub struct ListFields {
     pub fund: Fund,
     pub publish: u64,
@@ -24,14 +24,14 @@ pub struct ListFields {
 }
 
 // The answer of reading, with the count of components, and of writing, with the count of bytes.
-#[derive(Drop)]
+#[derive(Clone, Copy)]
 pub enum ListAnswer {
     Done(usize),
     Refused(Refusal),
 }
 
 // What reading hands back: the fields, and where the component lines start; blank fields and 0 where it is refused.
-#[derive(Drop)]
+#[derive(Clone, Copy)]
 pub struct ListRead {
     pub answer: ListAnswer,
     pub fields: ListFields,
@@ -39,7 +39,7 @@ pub struct ListRead {
 }
 
 // A part of a text: where it starts, and how many bytes it has.
-#[derive(Drop)]
+#[derive(Clone, Copy)]
 pub struct TextPart {
     pub place: usize,
     pub length: usize,

@@ -13,7 +13,7 @@ use text_head::HeadFields;
 use text_rules::{COLUMN_PARTS, FIELD_PARTS};
 
 // What refusal 18's tests find: its place, or where the component lines start and how many there are.
-#[derive(Drop)]
+#[derive(Clone, Copy)]
 pub struct Shape {
     pub wrong: bool,
     pub place: usize,

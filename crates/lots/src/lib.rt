@@ -4,7 +4,7 @@
 ghost use Rattle.std.specs.Prelude.{◌≡◌, ◌+◌, ◌≤◌, ◌<◌, ◌^◌};
 ghost use Rattle.lots.specs.Lots.{sell_of, hand_in_of, buy_of, get_of, take_in_of, pay_out_of, sellable, handable};
 
-#[derive(Drop)]
+#[derive(Clone, Copy)]
 pub struct Lots {
     pub old: u64,
     pub bought: u64,

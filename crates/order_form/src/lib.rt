@@ -11,7 +11,7 @@ use layout::Fund;
 use rules::{Answer, Ask, Refusal};
 
 // Units of an order's kind, and of the other kind, on this day.
-#[derive(Drop)]
+#[derive(Clone, Copy)]
 struct Counts {
     made: u64,
     reverse: u64,

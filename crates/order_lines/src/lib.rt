@@ -11,7 +11,7 @@ use layout::Component;
 use units::Money;
 
 // One component in an order of so many baskets.
-#[derive(Drop)]
+#[derive(Clone, Copy)]
 pub struct Line {
     pub short: bool,
     pub missing: u64,

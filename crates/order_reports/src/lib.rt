@@ -14,7 +14,7 @@ use rules::CashByMarket;
 use units::Money;
 
 // The groups of a cash report, of which the first `count` are there.
-#[derive(Drop)]
+#[derive(Clone, Copy)]
 pub struct Groups {
     pub count: usize,
     pub first: Group,

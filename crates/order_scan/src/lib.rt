@@ -20,7 +20,7 @@ use rules::{CashByMarket, Counts};
 use units::{Money, Rate, ReferenceValue};
 
 // What an order of m baskets makes of the basket.
-#[derive(Drop)]
+#[derive(Clone, Copy)]
 pub struct Scan {
     // The first component of which there is not enough; the count where there is none.
     pub short: usize,

@@ -18,7 +18,7 @@ pub const MOST_RECORDS: usize = rules::MOST_RECORDS;
 const FLAT_LENGTH: usize = layout::RECORD_WIDTH * MOST_RECORDS;
 
 // An order that is made: its answer, and how many records stand in the flat run.
-#[derive(Drop)]
+#[derive(Clone, Copy)]
 pub struct Settled {
     pub answer: OrderAnswer,
     pub count: usize,

@@ -20,7 +20,7 @@ use rules::{Answer, Ask, CashByMarket, OrderAnswer, Refusal, Rooms, ValueAnswer}
 use units::Money;
 
 // What the tests of an order found: its answer, and its cash; none where it is refused.
-#[derive(Drop)]
+#[derive(Clone, Copy)]
 pub struct Tested {
     pub answer: OrderAnswer,
     pub cash: CashByMarket,

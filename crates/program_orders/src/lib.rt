@@ -11,7 +11,7 @@ use layout::Record;
 use rules::{Ask, OrderAnswer};
 
 // An order that is made with its list by value: its answer, and the list that it leaves.
-#[derive(Drop)]
+#[derive(Clone, Copy)]
 pub struct Listed {
     pub answer: OrderAnswer,
     pub records: [Record; order_structs::MOST_RECORDS],

@@ -6,7 +6,7 @@ ghost use Rattle.rules.specs.Lent.{rooms_of};
 use units::{Money, ReferenceValue};
 
 // Why a call is turned back, with a place where the paper gives one. specs/Replies.antt has the paper's numbers.
-#[derive(Drop)]
+#[derive(Clone, Copy)]
 pub enum Refusal {
     Sizes,
     FundField,
@@ -31,21 +31,21 @@ pub enum Refusal {
 }
 
 // The answer of opening, price and trade.
-#[derive(Drop)]
+#[derive(Clone, Copy)]
 pub enum Answer {
     Done,
     Refused(Refusal),
 }
 
 // How many records an order makes, and how many reports for each of its two parties.
-#[derive(Drop)]
+#[derive(Clone, Copy)]
 pub struct Counts {
     pub records: usize,
     pub reports: usize,
 }
 
 // How many records the list lent takes, and how many reports the investor's and the fund's.
-#[derive(Drop)]
+#[derive(Clone, Copy)]
 pub struct Rooms {
     pub records: usize,
     pub investor: usize,
@@ -64,14 +64,14 @@ pub fn rooms_of(records: usize, investor: usize, fund: usize) -> Rooms
 }
 
 // The answer of creation and redemption.
-#[derive(Drop)]
+#[derive(Clone, Copy)]
 pub enum OrderAnswer {
     Made(Counts),
     Refused(Refusal),
 }
 
 // The answer of the reference value.
-#[derive(Drop)]
+#[derive(Clone, Copy)]
 pub enum ValueAnswer {
     Worth(ReferenceValue),
     Refused(Refusal),
@@ -83,7 +83,7 @@ pub const CREATION: usize = 0;
 pub const REDEMPTION: usize = 1;
 
 // What an order asks: its kind, the account, and how many units.
-#[derive(Drop)]
+#[derive(Clone, Copy)]
 pub struct Ask {
     pub kind: usize,
     pub account: usize,
@@ -113,7 +113,7 @@ pub fn redemption(account: usize, units: u64) -> Ask
 }
 
 // The cash of an order, by market.
-#[derive(Drop)]
+#[derive(Clone, Copy)]
 pub struct CashByMarket {
     pub shanghai: Money,
     pub other: Money,

@@ -14,14 +14,14 @@ use text_rules::{
 };
 
 // Where the head stops being as it should be: the first wrong line and its place, or all lines and the place behind them.
-#[derive(Drop)]
+#[derive(Clone, Copy)]
 pub struct HeadShape {
     pub wrong: usize,
     pub place: usize,
 }
 
 // The first wrong field and its place, or all fields and the place of TAGTAG; and the figures of the fields before it.
-#[derive(Drop)]
+#[derive(Clone, Copy)]
 pub struct HeadFields {
     pub wrong: usize,
     pub place: usize,

@@ -10,7 +10,7 @@ use digits::Size;
 use text_rules::{COLUMN_PARTS, DECIMALS, DIGITS, FLAG_COLUMN, TEXT, USE, WIDTH};
 
 // The first line with a column at fault, and that column; the counts of lines and of columns where there is none.
-#[derive(Drop)]
+#[derive(Clone, Copy)]
 pub struct CellFault {
     pub row: usize,
     pub column: usize,

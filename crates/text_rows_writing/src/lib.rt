@@ -9,7 +9,7 @@ ghost use Rattle.text_rows_writing.specs.Lines.{taken_before, number_at, word_at
 use text_rules::COLUMN_PARTS;
 
 // What the columns before one take of a line: bytes of the line with their bars, numbers, and bytes of text.
-#[derive(Drop)]
+#[derive(Clone, Copy)]
 pub struct Taken {
     pub bytes: usize,
     pub numbers: usize,

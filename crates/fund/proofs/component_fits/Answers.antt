@@ -3,12 +3,11 @@ use mathlib.Core.Path.{◌≡◌, sym, ◌∙◌}
 use mathlib.Core.Bool.{true, false, and-true}
 use Prim.Native.Nat.{ℕ}
 use lib.Dec.{ltb}
-use borrow.Author.Tests.{not-true, not-false, eq-eqb, ne_eqb}
+use borrow.Author.Tests.{eq-eqb, ne_eqb}
 use Rattle.sequences.specs.Every.{every}
 use Rattle.layout.specs.declared.Component.{Component}
 use Rattle.fund.specs.Components.{component_in_range, fits}
-use Rattle.fund.proofs.component_fits.Statement.{statement}
-use Rattle.fund.proofs.component_fits.Tie as tie
+use Rattle.fund.proofs.component_fits.Goals as goal
 
 module _ (g i previous : ℕ) (c : Component) where
   out_of_range : component_in_range g c ≡ false → fits g i previous c ≡ false
@@ -23,15 +22,12 @@ module _ (g i previous : ℕ) (c : Component) where
   unfolding fits every
   later e z = simp (e, ne_eqb i 0 z, and-true)
 
-returns : tie.Need-returns
-returns c = sym (out_of_range _ _ _ _ (sym c.before.component-in-range.ensures ∙ not-true _ c.if1.true))
+pub returns-then-not-component_in_range : goal.returns-then-not-component_in_range
+returns-then-not-component_in_range c = sym (out_of_range _ _ _ _ (sym c.component_in_range.ensures ∙ c.if-not-component_in_range.true))
 
-returns-2 : tie.Need-returns-2
-returns-2 c = sym (first _ _ _ _ (sym c.before.before.component-in-range.ensures ∙ not-false _ c.before.if1.false) c.if2.true)
+pub returns-then-i-eq0 : goal.returns-then-i-eq0
+returns-then-i-eq0 c = sym (first _ _ _ _ (sym c.component_in_range.ensures ∙ c.if-not-component_in_range.false) c.if-i-eq0.true)
 
-returns-3 : tie.Need-returns-3
-returns-3 c =
-    later _ _ _ _ (sym c.before.before.before.component-in-range.ensures ∙ not-false _ c.before.before.if1.false) c.before.if2.false
-
-pub component-fits-spec : {M : Type 1} → statement M
-component-fits-spec = tie.close (tie.spec (λ c κs. tt) returns returns-2 returns-3)
+pub returns : goal.returns
+returns c =
+    later _ _ _ _ (sym c.component_in_range.ensures ∙ c.if-not-component_in_range.false) c.if-i-eq0.false

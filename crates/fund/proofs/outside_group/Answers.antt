@@ -7,8 +7,7 @@ use lib.Dec.{ltb}
 use borrow.Author.Tests.{lt-ltb, le-ltb, ltb-true}
 use Rattle.sequences.proofs.Every.{same_test}
 use Rattle.fund.specs.Components.{outside_group}
-use Rattle.fund.proofs.outside_group.Statement.{statement}
-use Rattle.fund.proofs.outside_group.Tie as tie
+use Rattle.fund.proofs.outside_group.Goals as goal
 
 -- below the group
 below : (g code : ℕ) → code < g → outside_group g code ≡ true
@@ -24,11 +23,8 @@ by_distance g code l =
     (λ e. lt-ltb (g + 5) code (omega (arith, ltb-true 5 (code - g) e)))
     (λ e. lt-ltb 5 (code - g) (omega (arith, ltb-true (g + 5) code e))))
 
-returns : tie.Need-returns
-returns c = sym (below _ _ c.if1.true)
+pub returns-then-code-first_code : goal.returns-then-code-first_code
+returns-then-code-first_code c = sym (below _ _ c.if-code-first_code.true)
 
-returns-2 : tie.Need-returns-2
-returns-2 c = by_distance _ _ c.if1.false
-
-pub outside-group-spec : {M : Type 1} → statement M
-outside-group-spec = tie.close (tie.spec returns returns-2)
+pub returns : goal.returns
+returns c = by_distance _ _ c.if-code-first_code.false

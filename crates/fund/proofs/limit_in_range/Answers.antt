@@ -3,12 +3,10 @@ use mathlib.Core.Path.{◌≡◌, sym}
 use mathlib.Core.Bool.{false, and-true}
 use Prim.Native.Nat.{ℕ, ◌%◌, ◌≤◌, ◌<◌}
 use lib.Dec.{eqb}
-use borrow.Author.Rules.{rules}
 use borrow.Author.Tests.{le-leb, lt-leb}
 use Rattle.sequences.specs.Every.{every}
 use Rattle.fund.specs.Fund.{ceiling, limit_in_range}
-use Rattle.fund.proofs.limit_in_range.Statement.{statement}
-use Rattle.fund.proofs.limit_in_range.Tie as tie
+use Rattle.fund.proofs.limit_in_range.Goals as goal
 
 above : (size limit : ℕ) → ceiling < limit → limit_in_range size limit ≡ false
 unfolding limit_in_range every
@@ -18,11 +16,8 @@ by_remainder : (size limit : ℕ) → limit ≤ ceiling → eqb (limit % size) 0
 unfolding limit_in_range every
 by_remainder size limit l = simp (le-leb limit ceiling l, and-true)
 
-returns : tie.Need-returns
-returns c = sym (above _ _ c.if1.true)
+pub returns-then-limit-gt-CEILING : goal.returns-then-limit-gt-CEILING
+returns-then-limit-gt-CEILING c = sym (above _ _ c.if-limit-gt-CEILING.true)
 
-returns-2 : tie.Need-returns-2
-returns-2 c = by_remainder _ _ c.if1.false
-
-pub limit-in-range-spec : {M : Type 1} → statement M
-limit-in-range-spec = tie.close (tie.spec returns (λ c. search rules) returns-2)
+pub returns : goal.returns
+returns c = by_remainder _ _ c.if-limit-gt-CEILING.false
