@@ -1,4 +1,6 @@
 // The fund and its components, and the tests of refusals 2 and 3.
+#![tactic(auto)]
+
 ghost use Rattle.std.specs.Prelude.{◌≡◌, ◌*◌, ◌≤◌, ◌<◌, length};
 ghost use Rattle.fund.specs.Fund.{cash_in_range, limit_in_range, limits_in_range, fund_in_range};
 ghost use Rattle.layout.specs.Places.{most_components, component_width};

@@ -1,4 +1,6 @@
 // What the day book promises: the types of the day and its answers. The definitions are in specs/, their laws in proofs/.
+#![tactic(auto)]
+
 ghost use Rattle.std.specs.Prelude.{◌≡◌, ◌<◌, ◌^◌};
 ghost use Rattle.rules.specs.Kinds.{all_cash, cash_report_count, creation_of, redemption_of};
 ghost use Rattle.rules.specs.Lent.{rooms_of};

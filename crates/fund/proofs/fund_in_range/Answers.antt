@@ -9,7 +9,6 @@ use borrow.Author.Rules.{rules}
 use Rattle.sequences.proofs.Every.{same_test}
 use Rattle.fund.specs.Fund.{cash_in_range}
 use Rattle.fund.proofs.Laws.{fund-true, fund_sound, fund-false}
-use Rattle.fund.proofs.fund_in_range.Goals.{After-cash_in_range}
 use Rattle.fund.proofs.fund_in_range.Goals as goal
 
 pub returns-then-f-gt999994 : goal.returns-then-f-gt999994
@@ -27,18 +26,15 @@ returns-then-f-gt100000 c = sym (fund-false _ (λ r. omega arith))
 pub returns-then-f-gt3 : goal.returns-then-f-gt3
 returns-then-f-gt3 c = sym (fund-false _ (λ r. omega arith))
 
--- what `cash_in_range` answers of the fund's field
-cash_test : (c : After-cash_in_range) → c.cash_in_range.result ≡ cash_in_range c.args.f.estimated_cash
-cash_test c =
-    let cash = c.args.f.estimated_cash in
-    let same : to_z w64 (of_z w64 cash) ≡ cash = search rules in
-    c.cash_in_range.ensures ∙ ap cash_in_range same
-
+-- the machine reads the cash back
 pub returns-then-not-cash_in_range : goal.returns-then-not-cash_in_range
-returns-then-not-cash_in_range c = sym (fund-false _ (λ r. true≢false (sym r.cash ∙ sym (cash_test c.before) ∙ c.if-not-cash_in_range.true)))
+returns-then-not-cash_in_range c =
+    let same : to_z w64 (of_z w64 c.args.f.estimated_cash) ≡ c.args.f.estimated_cash = search rules in
+    sym (fund-false _ (λ r. true≢false (sym r.cash ∙ sym (c.cash_in_range.ensures ∙ ap cash_in_range same) ∙ c.if-not-cash_in_range.true)))
 
 pub returns : goal.returns
 returns c =
+    let same : to_z w64 (of_z w64 c.args.f.estimated_cash) ≡ c.args.f.estimated_cash = search rules in
     same_test _ _
     (λ e. fund-true _
     (record {
@@ -47,7 +43,7 @@ returns c =
       size_high = omega arith;
       ratio = omega arith;
       switch = omega arith;
-      cash = sym (cash_test c.before.before.before) ∙ c.if-not-cash_in_range.false;
+      cash = sym (c.cash_in_range.ensures ∙ ap cash_in_range same) ∙ c.if-not-cash_in_range.false;
       limits = sym c.limits_in_range.ensures ∙ e;
     }))
     (λ e. c.limits_in_range.ensures ∙ (fund_sound _ e).limits)

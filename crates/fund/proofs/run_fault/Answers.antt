@@ -1,7 +1,7 @@
 use mathlib.Core.Path.{◌≡◌, sym, ap, ◌∙◌}
 use mathlib.Core.Bool.{Bool, not}
 use mathlib.Core.List.{List}
-use Prim.Native.Nat.{ℕ, ◌≤◌, ◌<◌, ◌-◌}
+use Prim.Native.Nat.{ℕ, ◌≤◌, ◌<◌}
 use native.Mathlib.Omega.{arith}
 use lib.ListN.{get_or}
 use Rattle.sequences.proofs.Below.{first_none}
@@ -34,7 +34,7 @@ returns-then-not-component_fits c =
     let inv = c.loop-i.invariant in
     let read = c.component_at-c in
     let low = c.loop-i-test.true in
-    sym (stops _ _ _ _ _ inv.1 inv.2 low (tested _ _ _ low (omega arith) read.result read.ensures _ _ _ c.component_fits.ensures ∙ c.if-not-component_fits.true))
+    sym (stops _ _ _ _ _ inv.1 inv.2 low (tested _ _ _ low (omega arith) read.result read.ensures _ _ _ c.component_fits.ensures ∙ ap not c.if-not-component_fits.true))
 
 pub loop-i-preserved : goal.loop-i-preserved
 loop-i-preserved c =
@@ -43,7 +43,7 @@ loop-i-preserved c =
     let count = c.args.count in
     let low = c.loop-i-test.true in (
       omega arith,
-      goes_on _ _ count _ _ inv.1 inv.2 (tested _ _ _ low (omega arith) read.result read.ensures _ _ _ c.component_fits.ensures ∙ c.if-not-component_fits.false),
+      goes_on _ _ count _ _ inv.1 inv.2 (tested _ _ _ low (omega arith) read.result read.ensures _ _ _ c.component_fits.ensures ∙ ap not c.if-not-component_fits.false),
       ap (λ (x : Component). x.code) (placed _ _ _ low (omega arith) read.result read.ensures) ∙ sym (before_more _ _),
     )
 
