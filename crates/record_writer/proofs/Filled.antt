@@ -1,14 +1,13 @@
 -- A list of records as a loop leaves it that stores those of a flat run one behind another.
 use mathlib.Core.Path.{◌≡◌, refl, sym, ap, ◌∙◌}
 use mathlib.Core.List.{List, ◌++◌}
-use Prim.Native.Nat.{ℕ, zero, suc, ◌+◌, ◌*◌, ◌≤◌, ◌<◌}
+use Prim.Native.Nat.{ℕ, zero, suc, ◌≤◌}
 use native.Mathlib.Omega.{arith}
 use lib.ListN.{length, get_or, set, drop, length-set}
 use lib.Seq.{drop-cons, append_snoc, set_at}
 use Rattle.sequences.specs.Below.{tabulate}
 use Rattle.sequences.proofs.Below.{table_length}
 use Rattle.layout.specs.declared.Record.{Record}
-use Rattle.layout.specs.Places.{record_width}
 use Rattle.layout.specs.Records.{record_at}
 use Rattle.record_writer.specs.Stored.{with_first}
 
@@ -28,7 +27,3 @@ filled_is l flat (suc n) h =
     ap (λ (r : List Record). set r n (record_at flat n)) (filled_is l flat n (omega arith) ∙ ap (λ (r : List Record). tabulate (record_at flat) n ++ r) (drop-cons l n (record_at flat n) h))
     ∙ set_at (tabulate (record_at flat) n) (get_or l n (record_at flat n)) (drop (suc n) l) (record_at flat n) n (table_length (record_at flat) n)
     ∙ sym (append_snoc (tabulate (record_at flat) n) (record_at flat n) (drop (suc n) l))
-
--- the i-th record is in the flat run
-pub record_in : (n : ℕ) (flat : List ℕ) → record_width * n ≤ length flat → (i : ℕ) → i < n → record_width * i + record_width ≤ length flat
-record_in n flat h i l = omega arith

@@ -1,3 +1,1 @@
-pub mod Held
-pub mod Called
 pub mod Filled

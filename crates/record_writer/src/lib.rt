@@ -1,4 +1,6 @@
 // A writer over a lent list of records, and the list filled from a flat run.
+#![tactic(auto)]
+
 ghost use Rattle.std.specs.Prelude.{◌≡◌, ◌*◌, ◌≤◌, ◌<◌, length};
 ghost use Rattle.layout.specs.Places.{record_width};
 ghost use Rattle.record_writer.specs.Stored.{pushed, with_first};
