@@ -1,4 +1,6 @@
 // The head and the lots of an account, read off the whole book and stored in it. What moves make of a book is in specs/.
+#![tactic(auto)]
+
 ghost use Rattle.std.specs.Prelude.{◌≡◌, ◌+◌, ◌*◌, ◌≤◌, ◌<◌, length};
 ghost use Rattle.sequences.specs.Stretch.{stretch_of, on_stretch};
 ghost use Rattle.layout.specs.Book.{behind_line, head_at, lots_at, put_lots};

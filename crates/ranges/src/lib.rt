@@ -1,4 +1,6 @@
 // Small tests that calls share.
+#![tactic(auto)]
+
 ghost use Rattle.std.specs.Prelude.{◌≡◌, [], ◌∷◌, ◌||◌, ◌+◌, ◌-◌, ◌/◌, ◌%◌, ◌<◌, eqb};
 ghost use Rattle.sequences.specs.Every.{every, inside};
 ghost use Rattle.rules.specs.Trade.{is_investor};

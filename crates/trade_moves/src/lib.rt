@@ -1,4 +1,6 @@
 // What a trade moves: lots of a line and cash, of the seller and of the buyer.
+#![tactic(auto)]
+
 ghost use Rattle.std.specs.Prelude.{◌≡◌, ◌+◌, ◌*◌, ◌≤◌, ◌<◌, ◌^◌, length};
 ghost use Rattle.sequences.specs.Stretch.{stretch_of, on_stretch};
 ghost use Rattle.lots.specs.Lots.{sellable};
