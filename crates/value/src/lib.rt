@@ -1,4 +1,6 @@
 // The reference value of a day, from its components and prices.
+#![tactic(auto)]
+
 ghost use Rattle.std.specs.Prelude.{true, ◌≡◌, ◌+◌, ◌*◌, ◌≤◌, length};
 ghost use Rattle.sequences.specs.Checks.{answered};
 ghost use Rattle.units.specs.Units.{rounded};

@@ -15,7 +15,7 @@ per_unit-value-requires c = (omega (arith, c.plus-before.ensures), omega arith, 
 
 -- the value in the definition's terms
 abbrev found : Start → ℕ
-found c = rounded (10 * (c.args.sum.0 + c.args.added.0 - c.args.true.0)) c.args.size
+found c = rounded (10 * (c.args.sum.0 + c.args.added.0 - c.args.taken.0)) c.args.size
 
 same : (c : After-per_unit-value) →
     c.per_unit-value.result.0
