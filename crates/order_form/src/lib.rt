@@ -1,4 +1,6 @@
 // The first two stages of an order: account and baskets, then the switch and the limits. They only read.
+#![tactic(auto)]
+
 ghost use Rattle.std.specs.Prelude.{◌≡◌, ◌+◌, ◌-◌, ◌*◌, ◌/◌, ◌≤◌, ◌<◌, ◌^◌, length};
 ghost use Rattle.sequences.specs.Checks.{answered};
 ghost use Rattle.fund.specs.Fund.{ceiling, limit_of};

@@ -1,4 +1,6 @@
 // What an order makes of one component.
+#![tactic(auto)]
+
 ghost use Rattle.std.specs.Prelude.{cond, not, [], ◌∷◌, ◌≡◌, ◌-◌, ◌≤◌, min, leb, ltb};
 ghost use Rattle.sequences.specs.Every.{every};
 ghost use Rattle.flags.specs.Table.{entry, stock_moves};

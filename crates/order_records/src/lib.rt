@@ -1,4 +1,6 @@
 // The records of an order, written to a lent run of numbers.
+#![tactic(auto)]
+
 ghost use Rattle.std.specs.Prelude.{◌≡◌, [], ◌∷◌, ◌*◌, ◌≤◌, ◌<◌, ◌^◌};
 ghost use Rattle.rules.specs.Records.{record_of, cash_records};
 ghost use Rattle.rules.specs.Kinds.{stock_side, rest_side};

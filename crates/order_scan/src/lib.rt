@@ -1,4 +1,6 @@
 // One pass over the basket for the third stage of an order.
+#![tactic(auto)]
+
 ghost use Rattle.std.specs.Prelude.{false, cond, ◌||◌, ◌≡◌, ◌+◌, ◌≤◌, ◌<◌, ◌^◌, ltb, length};
 ghost use Rattle.units.specs.Units.{ratio_bound};
 ghost use Rattle.layout.specs.Book.{behind_line};

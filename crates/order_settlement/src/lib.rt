@@ -1,4 +1,6 @@
 // An accepted order is settled: its records are written and its stock, units and cash moved, with one pass over the components.
+#![tactic(auto)]
+
 ghost use Rattle.std.specs.Prelude.{◌≡◌, ◌+◌, ◌*◌, ◌≤◌, ◌<◌, length};
 ghost use Rattle.layout.specs.Places.{basket_width};
 ghost use Rattle.layout.specs.Day.{day_of};

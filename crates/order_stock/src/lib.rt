@@ -1,4 +1,6 @@
 // Moves the stock of one component, from the account to the fund or back.
+#![tactic(auto)]
+
 ghost use Rattle.std.specs.Prelude.{◌≡◌, ◌+◌, ◌*◌, ◌≤◌, ◌<◌, ◌^◌};
 ghost use Rattle.sequences.specs.Stretch.{stretch_of};
 ghost use Rattle.lots.specs.Lots.{handable};

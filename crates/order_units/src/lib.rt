@@ -1,4 +1,6 @@
 // Moves an order's units and cash, and counts its units.
+#![tactic(auto)]
+
 ghost use Rattle.std.specs.Prelude.{◌≡◌, ◌+◌, ◌*◌, ◌≤◌, ◌<◌, ◌^◌, length};
 ghost use Rattle.sequences.specs.Stretch.{stretch_of, on_stretch};
 ghost use Rattle.lots.specs.Lots.{handable};
