@@ -1,4 +1,6 @@
 // Puts bytes, blanks and digits into a run.
+#![tactic(auto)]
+
 ghost use Rattle.std.specs.Prelude.{◌+◌, ◌≤◌, ◌<◌, [], ◌∷◌, length, replicate};
 ghost use Rattle.digits.specs.Digits.{fixed};
 ghost use Rattle.digits.specs.Written.{Written};

@@ -1,4 +1,6 @@
 // Reads a number's field, by its form.
+#![tactic(auto)]
+
 ghost use Rattle.std.specs.Prelude.{◌≡◌, true, false, ◌+◌, ◌-◌, ◌≤◌, ◌<◌};
 ghost use Rattle.digits.specs.Digits.{from, capped, is_whole, is_plain, plain_size, is_signed, signed_figure, is_number, figure_of, size_reading, reading, minus_figure, below_zero, above_zero};
 

@@ -1,4 +1,6 @@
 // Digits and blanks of a field, byte by byte.
+#![tactic(auto)]
+
 ghost use Rattle.std.specs.Prelude.{◌≡◌, ◌+◌, ◌-◌, ◌*◌, ◌^◌, ◌<◌, ◌≤◌, true, false, length};
 ghost use Rattle.digits.specs.Digits.{cap, capped, is_digit, is_shaped, blanks, all_blank, read_on};
 

@@ -1,4 +1,6 @@
 // Writes a number's field, by its form.
+#![tactic(auto)]
+
 ghost use Rattle.std.specs.Prelude.{◌≡◌, ◌+◌, ◌≤◌, ◌<◌, ◌^◌, length};
 ghost use Rattle.digits.specs.Digits.{tens, whole_text, plain_text, signed_text, number_text};
 ghost use Rattle.digits.specs.Written.{Written};

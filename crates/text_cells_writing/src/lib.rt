@@ -1,4 +1,6 @@
 // Writes one cell of a component line: a number or words, with the bar behind it, or the line's end.
+#![tactic(auto)]
+
 ghost use Rattle.std.specs.Prelude.{◌≡◌, true, [], ◌∷◌, ◌++◌, ◌+◌, ◌≤◌, ◌<◌, length, take, drop, replicate};
 ghost use Rattle.digits.specs.Digits.{plain, number_text};
 ghost use Rattle.digits.specs.Fits.{Fits};

@@ -1,4 +1,6 @@
 // One component line, by a table of columns that is lent: its width and bars, and what a column with a number says.
+#![tactic(auto)]
+
 ghost use Rattle.std.specs.Prelude.{◌≡◌, true, ◌-◌, ◌≤◌, ◌<◌, length};
 ghost use Rattle.digits.specs.Digits.{all_blank, size_reading};
 ghost use Rattle.text_rules.specs.Tables.{columns_of};

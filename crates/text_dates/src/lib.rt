@@ -1,4 +1,6 @@
 // Dates of the list text: year, month and day in eight digits.
+#![tactic(auto)]
+
 ghost use Rattle.std.specs.Prelude.{◌≡◌};
 ghost use Rattle.text_rules.specs.Dates.{is_leap, days_in, is_date};
 

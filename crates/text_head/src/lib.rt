@@ -1,4 +1,6 @@
 // The head of a text: its first line, the lines name=value, by a table of fields that is lent, and TAGTAG.
+#![tactic(auto)]
+
 ghost use Rattle.std.specs.Prelude.{◌≡◌, true, [], ◌≤◌, ◌<◌, length, get_or};
 ghost use Rattle.digits.specs.Digits.{reading, plain};
 ghost use Rattle.text_rules.specs.Tables.{fields_of, form_of, kind_of, name_before};

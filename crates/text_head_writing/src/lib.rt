@@ -1,4 +1,6 @@
 // Writes the head of a text, line by line, by a table of fields that is lent.
+#![tactic(auto)]
+
 ghost use Rattle.std.specs.Prelude.{◌≡◌, true, [], ◌∷◌, ◌++◌, ◌+◌, ◌≤◌, ◌<◌, length, get_or};
 ghost use Rattle.digits.specs.Written.{Written};
 ghost use Rattle.digits.specs.Digits.{number_text};

@@ -1,4 +1,6 @@
 // Lines that stand in a text: the first one and its letters, and the component lines, by a table of columns that is lent.
+#![tactic(auto)]
+
 ghost use Rattle.std.specs.Prelude.{◌≡◌, true, ◌+◌, ◌*◌, ◌≤◌, length};
 ghost use Rattle.text_rules.specs.Tables.{columns_of};
 ghost use Rattle.text_rules.specs.Columns.{line_width, line_pitch, is_row};

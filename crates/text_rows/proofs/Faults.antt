@@ -87,9 +87,10 @@ module _ (t : TextForm) (rows : List ℕ) where
 
     said_same : (k : ℕ) → lines_before t rows count (suc k) ≡ lines_before t rows count k → column_said (suc k) ≡ column_said k
     unfolding column_said first_in first_below
-    said_same k e = ⊎_elim
-        (λ q. rw (e, le-ltb (lines_before t rows count k) count (omega (arith, q))))
-        (λ h. rw (e, lt-ltb (lines_before t rows count k) count h, some_at k h))
+    said_same k e =
+        ap (λ (n : ℕ). cond (ltb n count) (first_in (suc k) n) (length t.columns)) e ∙ ⊎_elim
+        (λ q. rw (le-ltb (lines_before t rows count k) count (omega (arith, q))))
+        (λ h. rw (lt-ltb (lines_before t rows count k) count h, some_at k h))
         (eq-or-lt_of_le (lines-le k))
 
     said_earlier : (k : ℕ) → lines_before t rows count (suc k) < lines_before t rows count k → column_said (suc k) ≡ k

@@ -1,4 +1,6 @@
 // The component lines of a text, by a table of columns that is lent: what they say, read column by column.
+#![tactic(auto)]
+
 ghost use Rattle.std.specs.Prelude.{◌≡◌, true, false, cond, ◌+◌, ◌-◌, ◌*◌, ◌≤◌, ◌<◌, ltb, length, set};
 ghost use Rattle.text_rules.specs.Tables.{columns_of, line_form};
 ghost use Rattle.text_rules.specs.Columns.{line_pitch, line_numbers, holds_text};

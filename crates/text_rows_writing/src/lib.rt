@@ -1,4 +1,6 @@
 // Writes the component lines of a text, by a table of columns that is lent, column by column.
+#![tactic(auto)]
+
 ghost use Rattle.std.specs.Prelude.{◌≡◌, true, [], ◌∷◌, ◌+◌, ◌*◌, ◌≤◌, ◌<◌, length, replicate};
 ghost use Rattle.text_rules.specs.Tables.{columns_of, column_of, line_form};
 ghost use Rattle.text_rules.specs.Columns.{line_pitch, line_numbers, line_words};

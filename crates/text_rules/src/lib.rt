@@ -1,5 +1,6 @@
 // What a text of lines promises, whatever its form: the parts of its two tables, of the columns of a line and of the fields of
 // the head. The definitions are in specs/.
+#![tactic(auto)]
 
 // A row of a table of columns: width, digits (0: as many as there are), decimals, when the column is used, and the flag table's
 // column that says so where a flag does.

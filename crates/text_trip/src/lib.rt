@@ -1,1 +1,3 @@
+#![tactic(auto)]
+
 // Both round trips of a text in any well-made form, as theorems on its definitions.
