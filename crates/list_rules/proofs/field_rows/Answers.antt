@@ -3,12 +3,8 @@ use mathlib.Core.Path.{refl}
 use Rattle.sequences.specs.Below.{sum_below}
 use Rattle.text_rules.specs.Tables.{fields_of, field_of, form_of, kind_of, name_before}
 use Rattle.list_rules.specs.Shanghai.{shanghai_fields, shanghai_names, names_of}
-use Rattle.list_rules.proofs.field_rows.Statement.{statement}
-use Rattle.list_rules.proofs.field_rows.Tie as tie
+use Rattle.list_rules.proofs.field_rows.Goals as goal
 
-returns : tie.Need-returns
+pub returns : goal.returns
 unfolding fields_of field_of form_of kind_of name_before sum_below shanghai_fields shanghai_names names_of
 returns c = record { fields_are = refl; all_named = refl }
-
-pub field-rows-spec : {M : Type 1} → statement M
-field-rows-spec = tie.close (tie.spec returns)
