@@ -2,11 +2,7 @@
 use Rattle.std.proofs.Common.{arith}
 use Rattle.totals.specs.Totals.{quick_most}
 use Rattle.totals.proofs.Top.{or_eight}
-use Rattle.totals.proofs.high_bits.Statement.{statement}
-use Rattle.totals.proofs.high_bits.Tie as tie
+use Rattle.totals.proofs.high_bits.Goals as goal
 
-returns : tie.Need-returns
+pub returns : goal.returns
 returns c e = or_eight _ _ _ _ _ _ _ _ quick_most (omega arith)
-
-pub high-bits-spec : {M : Type 1} → statement M
-high-bits-spec = tie.close (tie.spec returns)
