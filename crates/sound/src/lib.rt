@@ -1,4 +1,6 @@
 // Refusal 5: whether a day, its book and its prices are sound. And whether they have what every call keeps.
+#![tactic(auto)]
+
 ghost use Rattle.std.specs.Prelude.{◌≡◌, true, ◌*◌, ◌≤◌, length};
 ghost use Rattle.sequences.specs.Below.{all_below};
 ghost use Rattle.totals.specs.Totals.{widest, most_rows, number_at, total, Capped};

@@ -1,5 +1,6 @@
 -- One pass over the totals, place by place: what stands when the places below j are done.
-use Rattle.std.proofs.Common.{◌≡◌, ℕ, ◌+◌, ◌*◌, ◌%◌, ◌^◌, ◌<◌, ◌≤◌, Bool, not, ◌||◌, ltb, leb, List, length, get_or, set, sym, refl, ap, ◌∙◌, zero-le, not-suc-le-zero, le_antisymm, arith, length-set, get_or-set_other, get_or-set_same, below_more}
+use Rattle.std.proofs.Common.{◌≡◌, ℕ, ◌+◌, ◌*◌, ◌%◌, ◌^◌, ◌<◌, ◌≤◌, Bool, not, ◌||◌, ltb, leb, List, length, get_or, set, sym, refl, ap, ◌∙◌, zero-le, not-suc-le-zero, le_antisymm, arith}
+use Rattle.std.proofs.Common.{length-set, get_or-set_other, get_or-set_same, below_more}
 use lib.Bits.{bit_or}
 use Rattle.sequences.specs.Below.{any_below}
 use Rattle.sequences.proofs.Below.{any_more}

@@ -1,6 +1,7 @@
 -- 2^62 and `|`: an or reaches 2^62 just where a side does. Of a total below 2^62 and the numbers added to it, one of the numbers or
 -- the wrapped sum reaches 2^62 just where the sum does. And no side is above an or.
-use Rattle.std.proofs.Common.{◌≡◌, ℕ, ◌+◌, ◌*◌, ◌%◌, ◌^◌, ◌<◌, ◌≤◌, Bool, true, false, not, ◌||◌, ltb, leb, sym, refl, ap, ◌∙◌, subst, le_trans, le_of_eq, le_refl, add-le-add, arith, le-ltb, lt-ltb, le-leb, leb-false, leb-true}
+use Rattle.std.proofs.Common.{◌≡◌, ℕ, ◌+◌, ◌*◌, ◌%◌, ◌^◌, ◌<◌, ◌≤◌, Bool, true, false, not, ◌||◌, ltb, leb, sym, refl, ap, ◌∙◌, subst, le_trans, le_of_eq, le_refl, add-le-add, arith, le-ltb}
+use Rattle.std.proofs.Common.{lt-ltb, le-leb, leb-false, leb-true}
 use native.Mathlib.Nat.{add-le-add_iff_right}
 use lib.Bits.{bit_or, or_lt, or_add_and, and_le_r, or_comm}
 use borrow.Author.Tests.{lt-leb}

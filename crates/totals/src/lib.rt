@@ -1,4 +1,6 @@
 // The totals of a run of rows of one width: for each place the sum over the rows, as far as 2^62.
+#![tactic(auto)]
+
 ghost use Rattle.std.specs.Prelude.{◌≡◌, ℕ, ◌+◌, ◌*◌, ◌%◌, ◌^◌, ◌<◌, ◌≤◌, min, true, not, length, slice_index};
 ghost use Rattle.sequences.specs.Below.{any_below};
 ghost use Rattle.totals.specs.Totals.{widest, most_rows, top, quick_most, total, capped_total, plus_one, eight_at, plus_eight, reaches, Low};
