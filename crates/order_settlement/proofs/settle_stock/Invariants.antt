@@ -11,7 +11,9 @@ use Rattle.order_settlement.proofs.settle_stock.Given as goal
 
 abbrev pub invariant-loop-i : goal.invariant-loop-i
 invariant-loop-i l =
-    (l.i ≤ l.d.count) × ((l.book ≡ stock_moves l.kind (day_of l.d l.basket) l.a l.m l.i l.initial.book) × Wrote (stock_below l.kind (day_of l.d l.basket) (account (day_of l.d l.basket) l.initial.book l.a) l.m l.i) l.from l.initial.out l.out l.at)
+    (l.i ≤ l.d.count)
+    × ((l.book ≡ stock_moves l.kind (day_of l.d l.basket) l.a l.m l.i l.initial.book)
+    × Wrote (stock_below l.kind (day_of l.d l.basket) (account (day_of l.d l.basket) l.initial.book l.a) l.m l.i) l.from l.initial.out l.out l.at)
 
 abbrev pub decreases-loop-i : goal.decreases-loop-i
 decreases-loop-i l = l.d.count - l.i
