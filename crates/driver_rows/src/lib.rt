@@ -1,4 +1,6 @@
 // One row of the driver: the call that it names, made.
+#![tactic(auto)]
+
 ghost use Rattle.std.specs.Prelude.{◌≡◌, true, ◌+◌, ◌≤◌, ◌<◌, length};
 ghost use Rattle.layout.specs.Places.{row_width};
 ghost use Rattle.layout.specs.Day.{day_at};

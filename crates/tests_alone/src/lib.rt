@@ -1,5 +1,7 @@
 // The tests of an order alone, on a book and prices that are only read. With the lengths of the three lists they give the answer
 // that the order would give on lists of those lengths, 5 and 16 among it; `order_foretold` has that as theorems.
+#![tactic(auto)]
+
 ghost use Rattle.std.specs.Prelude.{◌≡◌, ◌<◌};
 ghost use Rattle.layout.specs.Day.{day_at};
 ghost use Rattle.rules.specs.Replies.{order_answer_reply};
