@@ -1,5 +1,7 @@
 // Answers as the paper's four numbers: a refusal's number (0 accepted), its place, the value of an accepted call, and of an order
 // the count of its reports.
+#![tactic(auto)]
+
 ghost use Rattle.std.specs.Prelude.{◌≡◌};
 ghost use Rattle.sequences.specs.Checks.{reply};
 ghost use Rattle.rules.specs.Replies.{refusal_reply, answer_reply, order_answer_reply, value_answer_reply};

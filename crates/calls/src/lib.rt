@@ -1,5 +1,7 @@
 // The calls on a day that is known to be sound or is to be tested: 5 where it is not sound, and else the core's answer.
 // `known` says that the day is sound, so that a list of calls tests it once.
+#![tactic(auto)]
+
 ghost use Rattle.std.specs.Prelude.{◌≡◌, true};
 ghost use Rattle.layout.specs.Day.{day_at};
 ghost use Rattle.rules.specs.Replies.{answer_reply, value_answer_reply};

@@ -1,4 +1,6 @@
 // The fields of a list: from the head's figures and back, and their ranges.
+#![tactic(auto)]
+
 ghost use Rattle.std.specs.Prelude.{◌≡◌, ℕ, ◌+◌, ◌≤◌, ◌<◌, true, get_or};
 ghost use Rattle.sequences.specs.Below.{tabulate};
 ghost use Rattle.digits.specs.Digits.{cap, plain};

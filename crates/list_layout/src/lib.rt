@@ -1,4 +1,6 @@
 // A list's fields as a run of numbers, in which they cross to other languages.
+#![tactic(auto)]
+
 ghost use Rattle.std.specs.Prelude.{◌≡◌, ◌≤◌, nat_abs, length};
 ghost use Rattle.digits.specs.Digits.{cap};
 ghost use Rattle.list_layout.specs.Run.{fields_width, fields_at, fields_numbers};

@@ -1,4 +1,6 @@
 // What the list text promises: the types of a list and its answers, and the tables of its form. The definitions are in specs/.
+#![tactic(auto)]
+
 ghost use Rattle.std.specs.Prelude.{◌≡◌};
 ghost use Rattle.list_rules.specs.Shanghai.{shanghai_names};
 ghost use Rattle.list_rules.specs.Lent.{ColumnsLent, FieldsLent};

@@ -1,5 +1,7 @@
 // The reports of an order to its two parties, written to lent runs of numbers. What moves is told by the records, which stand
 // written: the first is the unit's, and those of stock follow it.
+#![tactic(auto)]
+
 ghost use Rattle.std.specs.Prelude.{◌≡◌, ◌+◌, ◌-◌, ◌*◌, ◌≤◌, ◌<◌, ◌^◌, length};
 ghost use Rattle.std.proofs.lemmas.List.Edits.{sets};
 ghost use Rattle.sequences.specs.Below.{tabulate};

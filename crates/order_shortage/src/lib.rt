@@ -1,4 +1,6 @@
 // Whether an order is short: of stock, of cash, or of room for its records and reports.
+#![tactic(auto)]
+
 ghost use Rattle.std.specs.Prelude.{◌≡◌, ◌≤◌, ◌<◌, ◌^◌, length};
 ghost use Rattle.sequences.specs.Checks.{reply, answering, answered};
 ghost use Rattle.layout.specs.Book.{behind_line};

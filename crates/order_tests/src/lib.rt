@@ -1,4 +1,6 @@
 // The third stage of an order: stock, the cash ratio, cash and the room for the records and reports. It only reads.
+#![tactic(auto)]
+
 ghost use Rattle.std.specs.Prelude.{◌≡◌, ◌≤◌, ◌<◌, ◌^◌, length};
 ghost use Rattle.sequences.specs.Checks.{answering, answered};
 ghost use Rattle.layout.specs.Places.{basket_width, most_components};

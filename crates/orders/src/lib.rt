@@ -1,4 +1,6 @@
 // Orders on a sound day: test, settle, and report. A refusal stops after the tests, which only read.
+#![tactic(auto)]
+
 ghost use Rattle.std.specs.Prelude.{◌≡◌, true, ◌+◌, ◌*◌, ◌≤◌, ◌<◌, length};
 ghost use Rattle.sequences.specs.Stretch.{stretch_of};
 ghost use Rattle.layout.specs.Places.{basket_width, most_components};

@@ -1,4 +1,6 @@
 // Price and trade on a sound day: tests that only read, then the move.
+#![tactic(auto)]
+
 ghost use Rattle.std.specs.Prelude.{◌≡◌, ◌+◌, ◌*◌, ◌≤◌, length, set};
 ghost use Rattle.sequences.specs.Checks.{answered};
 ghost use Rattle.sequences.specs.Stretch.{stretch_of};

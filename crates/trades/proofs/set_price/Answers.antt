@@ -10,17 +10,17 @@ use Rattle.trades.proofs.set_price.Goals as goal
 
 -- an accepted price has its component
 inside : (c : In-Done) → c.args.line < c.args.count
-inside c = priced_line _ _ _ (ap answer_reply (sym c.enum_told-1.given.1) ∙ c.price_answer-answer.ensures)
+inside c = priced_line _ _ _ (ap answer_reply (sym c.in-Done.is) ∙ c.price_answer-answer.ensures)
 
 pub returns-in-Done : goal.returns-in-Done
 returns-in-Done c =
-    let e = ap answer_reply (sym c.enum_told-1.given.1) ∙ c.price_answer-answer.ensures in
+    let e = ap answer_reply (sym c.in-Done.is) ∙ c.price_answer-answer.ensures in
     record { result_value = e; prices = leaves_after _ _ _ _ refl e }
 
 pub returns-in-Refused : goal.returns-in-Refused
 returns-in-Refused c =
-    let e = ap answer_reply (sym c.answer-1.given.1) ∙ c.price_answer-answer.ensures in
-    record { result_value = e; prices = leaves_before _ _ c.answer-1.given.0.0 _ e }
+    let e = ap answer_reply (sym c.in-Refused.is) ∙ c.price_answer-answer.ensures in
+    record { result_value = e; prices = leaves_before _ _ c.in-Refused.why _ e }
 
 pub offset_bounds-prices-line : goal.offset_bounds-prices-line
 offset_bounds-prices-line c = omega (arith, inside c)

@@ -7,15 +7,15 @@ use Rattle.trades.proofs.trade.Goals as goal
 
 pub move_trade-requires : goal.move_trade-requires
 move_trade-requires c =
-    let e = ap answer_reply (sym c.enum_told-1.given.1) ∙ c.trade_answer-answer.ensures in
+    let e = ap answer_reply (sym c.in-Done.is) ∙ c.trade_answer-answer.ensures in
     rw c.new.ensures (tradable _ _ _ _ _ _ _ _ c.requires e)
 
 pub returns-in-Done : goal.returns-in-Done
 returns-in-Done c =
-    let e = ap answer_reply (sym c.enum_told-1.given.1) ∙ c.trade_answer-answer.ensures in
+    let e = ap answer_reply (sym c.in-Done.is) ∙ c.trade_answer-answer.ensures in
     record { result_value = e; book = c.move_trade.ensures ∙ rw c.new.ensures (leaves_after _ _ _ _ refl e) }
 
 pub returns-in-Refused : goal.returns-in-Refused
 returns-in-Refused c =
-    let e = ap answer_reply (sym c.answer-1.given.1) ∙ c.trade_answer-answer.ensures in
-    record { result_value = e; book = leaves_before _ _ c.answer-1.given.0.0 _ e }
+    let e = ap answer_reply (sym c.in-Refused.is) ∙ c.trade_answer-answer.ensures in
+    record { result_value = e; book = leaves_before _ _ c.in-Refused.why _ e }

@@ -1,0 +1,28 @@
+-- `list_fields::fields_of` meets its contract: it takes the figures in the order of the definition.
+use mathlib.Core.Path.{◌≡◌, ◌∙◌}
+use native.Mathlib.Omega.{arith}
+use lib.ListN.{get_or}
+use mir.Syntax.{w64}
+use mir.Val.{to_z, of_z}
+use borrow.Author.Rules.{rules}
+use Rattle.digits.specs.Digits.{plain}
+use Rattle.list_rules.specs.Fields.{fields_from}
+use Rattle.list_fields.proofs.Laws.{parts_same}
+use Rattle.list_fields.proofs.fields_of.Goals as goal
+
+pub signed_of-requires : goal.signed_of-requires
+signed_of-requires c = c.requires.by_index 6 (omega arith)
+
+pub signed_of-requires-2 : goal.signed_of-requires-2
+signed_of-requires-2 c = c.requires.by_index 9 (omega arith)
+
+pub returns : goal.returns
+unfolding fields_from
+returns c =
+    let first : to_z w64 (of_z w64 c.signed_of.result) ≡ c.signed_of.result = search rules in
+    let second : to_z w64 (of_z w64 c.signed_of-2.result) ≡ c.signed_of-2.result = search rules in
+    parts_same (fields_from (λ k. get_or c.args.figures k (plain 0)))
+    c.new.ensures
+    (first ∙ c.signed_of.ensures)
+    (second ∙ c.signed_of-2.ensures)
+    c.limits_of.ensures
