@@ -1,4 +1,6 @@
 // Opening: its tests, refusals 1 to 4, and the book, prices and day that an accepted opening leaves.
+#![tactic(auto)]
+
 ghost use Rattle.std.specs.Prelude.{◌≡◌, ◌+◌, ◌*◌, ◌≤◌, ◌<◌, length, replicate};
 ghost use Rattle.sequences.specs.Below.{join_below};
 ghost use Rattle.sequences.specs.Stretch.{stretch_of, put_stretch};

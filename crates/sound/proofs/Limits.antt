@@ -24,6 +24,10 @@ module _ (accounts n book prices : ℕ) where
   pub sizes_false : (DaySizes accounts n book prices → ⊥) → day_sizes_fit accounts n book prices ≡ false
   sizes_false h = false_of (day_sizes_fit accounts n book prices) (λ e. h (sizes_facts accounts n book prices e))
 
+  -- more accounts than a day may have
+  pub too_many : 64 < accounts → day_sizes_fit accounts n book prices ≡ false
+  too_many h = sizes_false (λ s. omega (arith, h, s.accounts_high))
+
 -- the first stretch lies in the book
 pub sizes_first : {accounts n book prices : ℕ} → DaySizes accounts n book prices → width_of n ≤ book
 sizes_first {accounts} {n} s = omega (arith, within (width_of n) 0 accounts (omega arith), s.book_size)

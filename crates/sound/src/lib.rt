@@ -115,6 +115,7 @@ fn prices_fit(prices: &[u64], n: usize) -> bool
 }
 
 // A, N and the lengths of the book and of the prices.
+#[tactic(auto, using(crate::proofs::Limits::too_many))]
 pub fn sizes_fit(accounts: usize, n: usize, book: usize, prices: usize) -> bool
     ensures { result ≡ day_sizes_fit accounts n book prices }
 {

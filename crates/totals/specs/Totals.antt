@@ -44,7 +44,8 @@ plus_one t b from k = slice_index t k + slice_index b (from + k)
 unfoldable pub eight_at : List ℕ → ℕ → ℕ → ℕ → ℕ
 eight_at b from w k =
     slice_index b (from + k) + slice_index b (from + w + k) + slice_index b (from + w + w + k) + slice_index b (from + w + w + w + k)
-    + (slice_index b (from + w + w + w + w + k) + slice_index b (from + w + w + w + w + w + k) + slice_index b (from + w + w + w + w + w + w + k) + slice_index b (from + w + w + w + w + w + w + w + k))
+    + (slice_index b (from + w + w + w + w + k) + slice_index b (from + w + w + w + w + w + k)
+    + slice_index b (from + w + w + w + w + w + w + k) + slice_index b (from + w + w + w + w + w + w + w + k))
 
 -- the total at place k once these are added
 unfoldable pub plus_eight : List ℕ → List ℕ → ℕ → ℕ → ℕ → ℕ

@@ -13,9 +13,6 @@ use Rattle.sound.proofs.sizes_fit.Goals as goal
 pub returns-then-accounts-lt2 : goal.returns-then-accounts-lt2
 returns-then-accounts-lt2 c = sym (sizes_false _ _ _ _ (λ s. omega arith))
 
-pub returns-then-accounts-gt64 : goal.returns-then-accounts-gt64
-returns-then-accounts-gt64 c = sym (sizes_false _ _ _ _ (λ s. omega arith))
-
 pub returns-then-n-lt1 : goal.returns-then-n-lt1
 returns-then-n-lt1 c = sym (sizes_false _ _ _ _ (λ s. omega arith))
 
