@@ -1,4 +1,6 @@
 // The names of a list text in the Shanghai form: where they stand, and whether they may be written.
+#![tactic(auto)]
+
 ghost use Rattle.std.specs.Prelude.{◌≡◌, ◌+◌, ◌*◌, ◌≤◌, length};
 ghost use Rattle.list_rules.specs.Shanghai.{name_width};
 ghost use Rattle.list_rules.specs.Reading.{name_place, name_from};

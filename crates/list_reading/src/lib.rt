@@ -1,4 +1,6 @@
 // Reading the list text.
+#![tactic(auto)]
+
 ghost use Rattle.std.specs.Prelude.{◌≡◌};
 ghost use Rattle.text_rules.specs.Reading.{letters_read};
 ghost use Rattle.list_rules.specs.Reading.{name_read, name_from, name_place, letters_place};

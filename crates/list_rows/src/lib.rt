@@ -1,4 +1,6 @@
 // The component lines of a list text in the Shanghai form: what they say.
+#![tactic(auto)]
+
 ghost use Rattle.std.specs.Prelude.{◌≡◌, ◌++◌, ◌+◌, ◌*◌, ◌≤◌, length, drop};
 ghost use Rattle.flags.specs.Table.{flag_table};
 ghost use Rattle.text_rules.specs.Columns.{line_pitch};

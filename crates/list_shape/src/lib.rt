@@ -1,4 +1,6 @@
 // The lines of a list text in the Shanghai form and its head: refusals 18, 19 and 20 there, and where the component lines stand.
+#![tactic(auto)]
+
 ghost use Rattle.std.specs.Prelude.{◌≡◌, ◌≤◌, length};
 ghost use Rattle.lines.specs.Lines.{same};
 ghost use Rattle.text_rules.specs.Head.{head_lines, end_word};
