@@ -53,7 +53,7 @@ const ANSWERS_AT: usize = FUND_AT + MOST_REPORTS;
 const ALL: usize = ANSWERS_AT + MOST_ANSWERS;
 
 // How long the six runs are that are lent to the driver.
-#[derive(Drop)]
+#[derive(Clone, Copy)]
 struct Lengths {
     book: usize,
     prices: usize,
