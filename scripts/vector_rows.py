@@ -280,7 +280,7 @@ def made(c):
         name = dict(zip(TESTS, ("tests_creation", "tests_redemption")))[kind]
         return f"({spaced(name, *args, *rooms, listed(c['reply']))})"
     written = spaced(*(listed(c.get(name, [])) for name in LISTS))
-    return f"(made ({spaced(kind, *args)}) {spaced(*rooms, listed(c['reply']))} (lentOf {written}))"
+    return f"(made ({spaced(kind, *args)}) {spaced(*rooms, listed(c['reply']))} (lent_of {written}))"
 
 
 def left(after, name):
