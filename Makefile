@@ -8,7 +8,7 @@
 #   make check             runs the tests
 #   make clean             removes what was made here: target/kit
 #
-# The archive of the proved library is proved and built where that is due (`rt staticlib c_interface`); ROFFELAINE_ARCHIVE names another.
+# The archive of the proved library is proved and built where that is due (`rt lib` in crates/c_interface); ROFFELAINE_ARCHIVE names another.
 
 PREFIX ?= /usr/local
 DESTDIR ?=
@@ -30,7 +30,7 @@ ifneq ($(words $(PREFIX)),1)
 $(error PREFIX has to be without blanks, and is "$(PREFIX)")
 endif
 
-BUILT_ARCHIVE := target/staticlib/libc_interface.a
+BUILT_ARCHIVE := crates/c_interface/out/libc_interface.a
 ARCHIVE := $(or $(ROFFELAINE_ARCHIVE),$(BUILT_ARCHIVE))
 KIT := target/kit
 VERSION := $(shell sed -n 's/^version = "\(.*\)"$$/\1/p' rust/Cargo.toml)
@@ -42,7 +42,8 @@ LINKED := libroffelaine.so
 
 HEADERS := roffelaine.h roffelaine_util.h
 
-PROVED := crates.txt $(shell find crates -name '*.rt' -o -name '*.antt')
+# What the checks keep below out/ counts for nothing here.
+PROVED := crates.txt $(shell find crates -name out -prune -o \( -name '*.rt' -o -name '*.antt' \) -print)
 COMMAND := $(CARGO_TARGET_DIR)/release/roffelaine
 RUST := $(shell find rust/Cargo.toml rust/Cargo.lock rust/roffelaine rust/roffelaine-cli -type f)
 

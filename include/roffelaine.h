@@ -1,7 +1,7 @@
 /*
  * Roffelaine, an ETF day book: the calls of the library libroffelaine, for C and C++ on x86-64 Linux. `make install` installs it;
- * its archive is libc_interface.a, which `rt staticlib c_interface` proves and writes. `roffelaine_util.h` has small helpers over
- * the calls, and `examples/day.c` is a whole program.
+ * its archive is libc_interface.a, which `rt lib` in crates/c_interface proves and writes. `roffelaine_util.h` has small helpers
+ * over the calls, and `examples/day.c` is a whole program.
  *
  * Every call takes numbers and lent runs of numbers and returns on every input. All but `roffelaine_name` and `roffelaine_letters`,
  * which refuse nothing, answer three numbers, an order and the tests of one alone four: such a call returns the refusal's number,

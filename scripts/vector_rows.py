@@ -5,10 +5,10 @@
 
 SCRATCH is a copy of the repository (crates.txt and crates/). The script adds two crates to it: `rows`, the lines of
 openings.jsonl, days.jsonl, broken_days.jsonl and chains.jsonl of VECTORS, and `rows_of_texts`, those of texts.jsonl and
-writings.jsonl. Each has its lines as rows in specs/, and in each file one theorem, `rows-right : all right rows ≡ true`, by
-`refl`. `rt check rows` and `rt check rows_of_texts` in SCRATCH then compute the definitions on every row, and refuse each file that
-has a row which differs. The tests of an order alone are computed as the order's reply with lists of the lengths that they are told;
-the state stays.
+writings.jsonl. Each has its lines as rows in specs/, and in each file one theorem, `rows_right : all right rows ≡ true`, by
+`refl`. `rt check` in SCRATCH/crates/rows and in SCRATCH/crates/rows_of_texts then computes the definitions on every row, and refuses
+each file that has a row which differs. The tests of an order alone are computed as the order's reply with lists of the lengths that
+they are told; the state stays.
 
 --chunk is the most rows to a module: with 1 a refusal names its row. --largest leaves out rows whose book or text has more
 numbers or bytes than that: the checker takes a limited number of steps for each theorem. A state that no day's run can hold is
@@ -43,7 +43,7 @@ same (x ∷ xs) (y ∷ ys) = both (eqb x y) (same xs ys)
 
 abbrev pub fund : ℕ → ℕ → ℕ → ℕ → ℤ → List ℕ → Fund
 fund g u x w e ls =
-    record { «first_code» = g; «basket_size» = u; «max_cash_ratio» = record { 0 = x }; switch = w; «estimated_cash» = e; limits = ls }
+    record { first_code = g; basket_size = u; max_cash_ratio = record { 0 = x }; switch = w; estimated_cash = e; limits = ls }
 
 -- what a lent run of so many places has before a call, no two alike
 abbrev pub lent : ℕ → List ℕ
@@ -51,31 +51,26 @@ lent zero = []
 lent (suc room) = (900_000_001 + room) ∷ lent room
 
 -- such a run after a call: what was written, and then what was there
-abbrev pub lentRight : List ℕ → ℕ → List ℕ → Bool
-lentRight after room written = same after (written ++ drop (length written) (lent room))
+abbrev pub lent_right : List ℕ → ℕ → List ℕ → Bool
+lent_right after room written = same after (written ++ drop (length written) (lent room))
 
-abbrev pub replyRight : Reply → List ℕ → Bool
-replyRight r want = same (r .number ∷ r .place ∷ r .value ∷ r .reports ∷ []) want
+abbrev pub reply_right : Reply → List ℕ → Bool
+reply_right r want = same (r.number ∷ r.place ∷ r.value ∷ r.reports ∷ []) want
 """
 
 DAY_ROWS = """\
 -- Rows of test vectors, and when a row is right.
-use Prim.Native.Nat.{ℕ, zero, suc, _+_}
-use mathlib.Core.Bool.{Bool, true, false}
-use mathlib.Core.List.{List, [], _∷_, _++_}
-use lib.Dec.{eqb}
-use lib.IntN.{ℤ}
-use lib.ListN.{length, drop, replicate}
-use Rattle·sequences.specs.Checks.{Reply}
-use Rattle·layout.specs.declared.Fund.{Fund}
-use Rattle·layout.specs.declared.Component.{Component}
-use Rattle·layout.specs.Places.{dayWidth}
-use Rattle·layout.specs.Day.{Day}
-use Rattle·rules.specs.Lent.{Lent, lentOf, roomsOf}
-use Rattle·rules.specs.Opening.{Opening, openingReply, openedDay, openedBook, openedPrices}
-use Rattle·rules.specs.Creation.{creationReply}
-use Rattle·rules.specs.Redemption.{redemptionReply}
-use Rattle·balance.specs.Calls.{State, Call, Result, step}
+use Rattle.std.specs.Prelude.{ℕ, zero, suc, ◌+◌, ℤ, Bool, true, false, List, [], ◌∷◌, ◌++◌, eqb, length, drop, replicate}
+use Rattle.sequences.specs.Checks.{Reply}
+use Rattle.layout.specs.declared.Fund.{Fund}
+use Rattle.layout.specs.declared.Component.{Component}
+use Rattle.layout.specs.Places.{day_width}
+use Rattle.layout.specs.Day.{Day}
+use Rattle.rules.specs.Lent.{Lent, lent_of, rooms_of}
+use Rattle.rules.specs.Opening.{Opening, opening_reply, opened_day, opened_book, opened_prices}
+use Rattle.rules.specs.Creation.{creation_reply}
+use Rattle.rules.specs.Redemption.{redemption_reply}
+use Rattle.balance.specs.Calls.{State, Call, Result, step}
 
 """ + SHARED + """
 abbrev pub component : ℕ → ℕ → ℕ → ℕ → ℕ → ℕ → Component
@@ -85,7 +80,7 @@ component code q flag premium discount amount =
 -- accounts, count, fund, components, holdings, and the lengths of the lent book and prices
 abbrev pub opening : ℕ → ℕ → Fund → List ℕ → List ℕ → ℕ → ℕ → Opening
 opening a n f cs hs b ps =
-    record { accounts = a; count = n; fund = f; components = cs; holdings = hs; book = lent b; prices = lent ps; day = replicate dayWidth 7 }
+    record { accounts = a; count = n; fund = f; components = cs; holdings = hs; book = lent b; prices = lent ps; day = replicate day_width 7 }
 
 abbrev pub state : Day → List ℕ → List ℕ → State
 state d b ps = record { day = d; book = b; prices = ps }
@@ -94,27 +89,27 @@ pub data Made : Type 0 where
   -- a call, the lengths of the three lists lent to it, its reply, and the numbers that it writes to them
   made : Call → ℕ → ℕ → ℕ → List ℕ → Lent → Made
   -- the tests of an order alone: account, units, the lengths of the three lists, and the reply
-  testsCreation : ℕ → ℕ → ℕ → ℕ → ℕ → List ℕ → Made
-  testsRedemption : ℕ → ℕ → ℕ → ℕ → ℕ → List ℕ → Made
+  tests_creation : ℕ → ℕ → ℕ → ℕ → ℕ → List ℕ → Made
+  tests_redemption : ℕ → ℕ → ℕ → ℕ → ℕ → List ℕ → Made
 
 -- a reply on a state that stays
 abbrev tested : State → Reply → Result
-tested s r = record { reply = r; after = s; lent = lentOf [] [] [] }
+tested s r = record { reply = r; after = s; lent = lent_of [] [] [] }
 
 -- what the definitions make of it on a state
 abbrev pub result_of : State → Made → Result
-result_of s (made c records investor fund want written) = step s c (lentOf (lent records) (lent investor) (lent fund))
-result_of s (testsCreation a units records investor fund want) =
-    tested s (creationReply (s .day) (s .book) (s .prices) a units (roomsOf records investor fund))
-result_of s (testsRedemption a units records investor fund want) =
-    tested s (redemptionReply (s .day) (s .book) (s .prices) a units (roomsOf records investor fund))
+result_of s (made c records investor fund want written) = step s c (lent_of (lent records) (lent investor) (lent fund))
+result_of s (tests_creation a units records investor fund want) =
+    tested s (creation_reply s.day s.book s.prices a units (rooms_of records investor fund))
+result_of s (tests_redemption a units records investor fund want) =
+    tested s (redemption_reply s.day s.book s.prices a units (rooms_of records investor fund))
 
-abbrev pub resultRight : Result → Made → Bool
-resultRight r (made c records investor fund want written) =
-    both (both (replyRight (r .reply) want) (lentRight (r .lent .records) records (written .records)))
-    (both (lentRight (r .lent .investor) investor (written .investor)) (lentRight (r .lent .fund) fund (written .fund)))
-resultRight r (testsCreation a units records investor fund want) = replyRight (r .reply) want
-resultRight r (testsRedemption a units records investor fund want) = replyRight (r .reply) want
+abbrev pub result_right : Result → Made → Bool
+result_right r (made c records investor fund want written) =
+    both (both (reply_right r.reply want) (lent_right r.lent.records records written.records))
+    (both (lent_right r.lent.investor investor written.investor) (lent_right r.lent.fund fund written.fund))
+result_right r (tests_creation a units records investor fund want) = reply_right r.reply want
+result_right r (tests_redemption a units records investor fund want) = reply_right r.reply want
 
 -- what a call leaves in a run: what was there, or these numbers
 pub data Left : Type 0 where
@@ -135,55 +130,50 @@ pub data Row : Type 0 where
   -- a state, calls in order, and the book and the prices at the end
   follows : State → List Made → List ℕ → List ℕ → Row
 
-abbrev pub leftRight : List ℕ → List ℕ → Left → Bool
-leftRight before after kept = same after before
-leftRight before after (holds want) = same after want
+abbrev pub left_right : List ℕ → List ℕ → Left → Bool
+left_right before after kept = same after before
+left_right before after (holds want) = same after want
 
-abbrev pub openingRight : Opening → List ℕ → Left → Left → Bool
-openingRight o want book prices =
-    both (replyRight (openingReply o) want)
-    (both (leftRight (o .book) (openedBook o) book) (leftRight (o .prices) (openedPrices o) prices))
+abbrev pub opening_right : Opening → List ℕ → Left → Left → Bool
+opening_right o want book prices =
+    both (reply_right (opening_reply o) want)
+    (both (left_right o.book (opened_book o) book) (left_right o.prices (opened_prices o) prices))
 
-abbrev pub dayRight : State → List Made → List ℕ → List ℕ → Bool
-dayRight s [] book prices = both (same (s .book) book) (same (s .prices) prices)
-dayRight s (m ∷ ms) book prices =
+abbrev pub day_right : State → List Made → List ℕ → List ℕ → Bool
+day_right s [] book prices = both (same s.book book) (same s.prices prices)
+day_right s (m ∷ ms) book prices =
     let r = result_of s m in
-    both (resultRight r m) (dayRight (r .after) ms book prices)
+    both (result_right r m) (day_right r.after ms book prices)
 
-abbrev pub callRight : State → Met → Bool
-callRight s (met m book prices) =
+abbrev pub call_right : State → Met → Bool
+call_right s (met m book prices) =
     let r = result_of s m in
-    both (resultRight r m)
-    (both (leftRight (s .book) (r .after .book) book) (leftRight (s .prices) (r .after .prices) prices))
+    both (result_right r m)
+    (both (left_right s.book r.after.book book) (left_right s.prices r.after.prices prices))
 
 abbrev pub right : Row → Bool
-right (opens o want book prices) = openingRight o want book prices
+right (opens o want book prices) = opening_right o want book prices
 right (plays o want ms book prices) =
-    both (replyRight (openingReply o) want) (dayRight (state (openedDay o) (openedBook o) (openedPrices o)) ms book prices)
-right (meets s ms) = all (callRight s) ms
-right (follows s ms book prices) = dayRight s ms book prices
+    both (reply_right (opening_reply o) want) (day_right (state (opened_day o) (opened_book o) (opened_prices o)) ms book prices)
+right (meets s ms) = all (call_right s) ms
+right (follows s ms book prices) = day_right s ms book prices
 """
 
 TEXT_ROWS = """\
 -- Rows of test vectors of the list text, and when a row is right.
-use Prim.Native.Nat.{ℕ, zero, suc, _+_}
-use mathlib.Core.Bool.{Bool, true, false}
-use mathlib.Core.List.{List, [], _∷_, _++_}
-use lib.Dec.{eqb}
-use lib.IntN.{ℤ, pos, negsuc}
-use lib.ListN.{length, drop}
-use Rattle·sequences.specs.Checks.{Reply}
-use Rattle·layout.specs.declared.Fund.{Fund}
-use Rattle·text_rules.specs.Reading.{lettersRead}
-use Rattle·list_rules.specs.declared.ListFields.{ListFields}
-use Rattle·list_rules.specs.Reading.{readReply, fieldsHanded, firstHanded, runAfter, nameRead, nameFrom}
-use Rattle·list_rules.specs.Writing.{listing, writeReply, outputAfter}
+use Rattle.std.specs.Prelude.{ℕ, zero, suc, ◌+◌, ℤ, pos, negsuc, Bool, true, false, List, [], ◌∷◌, ◌++◌, eqb, length, drop}
+use Rattle.sequences.specs.Checks.{Reply}
+use Rattle.layout.specs.declared.Fund.{Fund}
+use Rattle.text_rules.specs.Reading.{letters_read}
+use Rattle.list_rules.specs.declared.ListFields.{ListFields}
+use Rattle.list_rules.specs.Reading.{read_reply, fields_handed, first_handed, run_after, name_read, name_from}
+use Rattle.list_rules.specs.Writing.{listing, write_reply, output_after}
 
 """ + SHARED + """
 -- fund, publish, trading day, previous trading day, cash component, NAV per CU, NAV, count
 abbrev pub fields : Fund → ℕ → ℕ → ℕ → ℤ → ℕ → ℕ → ℕ → ListFields
 fields f publish day before cash basket unit count =
-    record { fund = f; publish = publish; «trading_day» = day; «pre_trading_day» = before; «cash_component» = cash; «nav_per_cu» = basket; nav = unit; count = count }
+    record { fund = f; publish = publish; trading_day = day; pre_trading_day = before; cash_component = cash; nav_per_cu = basket; nav = unit; count = count }
 
 abbrev signed : ℤ → List ℕ
 signed (pos n) = 0 ∷ n ∷ []
@@ -191,9 +181,9 @@ signed (negsuc n) = 1 ∷ n ∷ []
 
 abbrev flat : ListFields → List ℕ
 flat l =
-    l .fund .«first_code» ∷ l .fund .«basket_size» ∷ l .fund .«max_cash_ratio» .0 ∷ l .fund .switch
-    ∷ l .publish ∷ l .«trading_day» ∷ l .«pre_trading_day» ∷ l .«nav_per_cu» ∷ l .nav ∷ l .count
-    ∷ (signed (l .fund .«estimated_cash») ++ (signed (l .«cash_component») ++ l .fund .limits))
+    l.fund.first_code ∷ l.fund.basket_size ∷ l.fund.max_cash_ratio.0 ∷ l.fund.switch
+    ∷ l.publish ∷ l.trading_day ∷ l.pre_trading_day ∷ l.nav_per_cu ∷ l.nav ∷ l.count
+    ∷ (signed l.fund.estimated_cash ++ (signed l.cash_component ++ l.fund.limits))
 
 pub data Row : Type 0 where
   -- a text, the length of the lent component run, and the reply: refused
@@ -204,37 +194,34 @@ pub data Row : Type 0 where
   writes : ListFields → List ℕ → List ℕ → List ℕ → ℕ → List ℕ → List ℕ → Row
 
 -- what a text hands back besides its components: fields, and the place of the first component line
-abbrev headRight : List ℕ → ℕ → ListFields → ℕ → Bool
-headRight text room f first =
-    both (same (flat (fieldsHanded text room)) (flat f)) (same (firstHanded text room ∷ []) (first ∷ []))
+abbrev head_right : List ℕ → ℕ → ListFields → ℕ → Bool
+head_right text room f first =
+    both (same (flat (fields_handed text room)) (flat f)) (same (first_handed text room ∷ []) (first ∷ []))
 
 -- the names from the j-th on, asked for in both ways
-abbrev namesRight : List ℕ → ℕ → ℕ → List (List ℕ) → Bool
-namesRight text first j [] = both (same (nameRead text j) []) true
-namesRight text first j (name ∷ names) =
-    both (both (same (nameRead text j) name) (same (nameFrom text first j) name)) (namesRight text first (suc j) names)
+abbrev names_right : List ℕ → ℕ → ℕ → List (List ℕ) → Bool
+names_right text first j [] = both (same (name_read text j) []) true
+names_right text first j (name ∷ names) =
+    both (both (same (name_read text j) name) (same (name_from text first j) name)) (names_right text first (suc j) names)
 
 abbrev none : ListFields
 none = fields (fund 0 0 0 0 (pos 0) (0 ∷ 0 ∷ 0 ∷ 0 ∷ 0 ∷ 0 ∷ 0 ∷ 0 ∷ [])) 0 0 0 (pos 0) 0 0 0
 
 abbrev pub right : Row → Bool
 right (fails text room want) =
-    both (both (replyRight (readReply text room) want) (lentRight (runAfter text (lent room)) room [])) (headRight text room none 0)
+    both (both (reply_right (read_reply text room) want) (lent_right (run_after text (lent room)) room [])) (head_right text room none 0)
 right (reads text room want f first run letters names) =
-    both (both (replyRight (readReply text room) want) (lentRight (runAfter text (lent room)) room run))
-    (both (headRight text room f first) (both (same (lettersRead text) letters) (namesRight text first 0 names)))
+    both (both (reply_right (read_reply text room) want) (lent_right (run_after text (lent room)) room run))
+    (both (head_right text room f first) (both (same (letters_read text) letters) (names_right text first 0 names)))
 right (writes f run names letters room want text) =
     let l = listing f run names letters in
-    both (replyRight (writeReply l room) want) (lentRight (outputAfter l (lent room)) room text)
+    both (reply_right (write_reply l room) want) (lent_right (output_after l (lent room)) room text)
 """
 
 # A module of rows.
 MODULE = """\
 -- {title}
-use mathlib.Core.Bool.{{true}}
-use mathlib.Core.Path.{{_≡_, refl}}
-use mathlib.Core.List.{{List, [], _∷_}}
-use lib.IntN.{{pos, negsuc}}
+use Rattle.std.specs.Prelude.{{◌≡◌, refl, true, pos, negsuc, List, [], ◌∷◌}}
 {uses}
 
 abbrev rows : List Row
@@ -242,18 +229,18 @@ rows =
     {rows}
     ∷ []
 
-pub rows-right : all right rows ≡ true
+pub rows_right : all right rows ≡ true
 unfolding {unfolding}
-rows-right = refl
+rows_right = refl
 """
 
 DAY_USES = """\
-use Rattle·rules.specs.Lent.{lentOf}
-use Rattle·balance.specs.Calls.{price, trade, create, redeem, value}
-use Rattle·rows·specs.specs.Rows.{all, fund, component, opening, state, made, testsCreation, testsRedemption}
-use Rattle·rows·specs.specs.Rows.{kept, holds, met, Row, opens, plays, meets, follows, right}"""
+use Rattle.rules.specs.Lent.{lent_of}
+use Rattle.balance.specs.Calls.{price, trade, create, redeem, value}
+use Rattle.rows.specs.Rows.{all, fund, component, opening, state, made, tests_creation, tests_redemption}
+use Rattle.rows.specs.Rows.{kept, holds, met, Row, opens, plays, meets, follows, right}"""
 
-TEXT_USES = "use Rattle·rows_of_texts·specs.specs.Rows.{all, fund, fields, Row, fails, reads, writes, right}"
+TEXT_USES = "use Rattle.rows_of_texts.specs.Rows.{all, fund, fields, Row, fails, reads, writes, right}"
 
 # ---- rows
 
@@ -290,10 +277,10 @@ def made(c):
     kind, *args = c["call"]
     rooms = args.pop() if kind in ORDERS + TESTS else [0] * len(LISTS)
     if kind in TESTS:
-        name = dict(zip(TESTS, ("testsCreation", "testsRedemption")))[kind]
+        name = dict(zip(TESTS, ("tests_creation", "tests_redemption")))[kind]
         return f"({spaced(name, *args, *rooms, listed(c['reply']))})"
     written = spaced(*(listed(c.get(name, [])) for name in LISTS))
-    return f"(made ({spaced(kind, *args)}) {spaced(*rooms, listed(c['reply']))} (lentOf {written}))"
+    return f"(made ({spaced(kind, *args)}) {spaced(*rooms, listed(c['reply']))} (lent_of {written}))"
 
 
 def left(after, name):
@@ -367,7 +354,7 @@ CRATES = {
 def unfoldable(crates, names):
     """Every unfoldable definition of the crates by its whole path: `refl` computes through all of them."""
     return "\n    ".join(
-        f"Rattle·{crate}.specs.{path.stem}.{name}"
+        f"Rattle.{crate}.specs.{path.stem}.{name}"
         for crate in names.split()
         for path in sorted((crates / crate / "specs").glob("*.antt"))
         for name in re.findall(r"^\s*unfoldable pub (\S+) :", path.read_text(), re.M))
@@ -385,7 +372,7 @@ def write_crate(name, vectors, scratch, chunk, largest):
     shutil.rmtree(crate, ignore_errors=True)
     (crate / "src").mkdir(parents=True)
     (crate / "specs").mkdir()
-    (crate / "src" / "lib.rt").write_text("// Rows of test vectors, computed in specs/. There is no code here.\n")
+    (crate / "src" / "lib.rt").write_text("// Rows of test vectors, computed in specs/. There is no code here.\n#![tactic(auto)]\n")
     (crate / "specs" / "Rows.antt").write_text(meaning)
     unfolding, modules = unfoldable(scratch / "crates", uses), ["Rows"]
     for file, row in files.items():

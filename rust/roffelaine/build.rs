@@ -7,7 +7,7 @@ use std::process::ExitCode;
 /// Names the archive where it does not stand in the repository.
 const VARIABLE: &str = "ROFFELAINE_ARCHIVE";
 /// Where the repository has it, from this crate.
-const IN_REPOSITORY: &str = "../../target/staticlib/libc_interface.a";
+const IN_REPOSITORY: &str = "../../crates/c_interface/out/libc_interface.a";
 
 fn main() -> ExitCode {
     println!("cargo:rerun-if-env-changed={VARIABLE}");
@@ -52,7 +52,7 @@ fn link(archive: &Path) -> Result<(), String> {
 fn missing(archive: &Path, error: &std::io::Error) -> String {
     format!(
         "{}: {error}\n\
-         The proved archive is not there. Run `rt staticlib c_interface` in the root of\n\
+         The proved archive is not there. Run `scripts/prove c_interface` in the root of\n\
          the repository, or let {VARIABLE} name the archive libc_interface.a.",
         archive.display()
     )

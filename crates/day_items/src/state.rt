@@ -9,7 +9,7 @@ use program_io::{output, runs};
 use rules::Answer;
 use units::Rate;
 
-#[derive(Drop)]
+#[derive(Clone, Copy)]
 pub struct Session {
     // How much of the two runs is lent to a call.
     pub book_length: usize,

@@ -2,14 +2,14 @@
 // ends between them.
 
 // The bytes of the buffer that are still to be taken.
-#[derive(Drop)]
+#[derive(Clone, Copy)]
 pub struct Cursor {
     pub at: usize,
     pub end: usize,
 }
 
 // How far a number is read. Only a whole one has a value.
-#[derive(Drop)]
+#[derive(Clone, Copy)]
 pub enum Stage {
     Blank,
     Digits,
@@ -18,14 +18,14 @@ pub enum Stage {
     Bad,
 }
 
-#[derive(Drop)]
+#[derive(Clone, Copy)]
 pub struct Token {
     pub stage: Stage,
     pub value: u64,
     pub cursor: Cursor,
 }
 
-#[derive(Drop)]
+#[derive(Clone, Copy)]
 pub struct Item {
     // Whole, End behind the last item, or Bad.
     pub stage: Stage,
@@ -35,7 +35,7 @@ pub struct Item {
 }
 
 // A byte of the input, or PAST_END, and what is still to be taken behind it.
-#[derive(Drop)]
+#[derive(Clone, Copy)]
 struct Step {
     byte: u64,
     cursor: Cursor,

@@ -1,6 +1,8 @@
 // Plays test vectors: items from standard input (openings, states, calls), and on standard output what the day book answers and
 // leaves. Orders are made in the struct form, each with its tests alone before it. `scripts/vector_text.py` writes the items, and
 // what is to be printed.
+#![tactic(auto)]
+
 mod call_items;
 mod kept;
 mod structs;

@@ -1,5 +1,7 @@
 // Plays list texts: items from standard input (texts to read, lists to write), and on standard output what reading and writing
 // answer and leave. `scripts/text_vectors.py` writes the items, and what is to be printed.
+#![tactic(auto)]
+
 mod list_items;
 mod text_items;
 

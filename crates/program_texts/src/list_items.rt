@@ -22,7 +22,7 @@ const MOST_NAMES: usize = 3000;
 const MOST_LETTERS: usize = 100;
 
 // What is read back.
-#[derive(Drop)]
+#[derive(Clone, Copy)]
 struct Back {
     read: ListRead,
     is_listed: bool,

@@ -1,5 +1,7 @@
 // Plays days through the driver: a day's calls are one list of rows, made by `driver::run` and once more, from the same book,
 // prices, records, reports and answers, by `driver::run_public`. `scripts/batch_text.py` writes the items, and what is to be printed.
+#![tactic(auto)]
+
 use answers::Numbers;
 use day_items::state::Session;
 use day_items::{replies, state};
@@ -53,7 +55,7 @@ const ANSWERS_AT: usize = FUND_AT + MOST_REPORTS;
 const ALL: usize = ANSWERS_AT + MOST_ANSWERS;
 
 // How long the six runs are that are lent to the driver.
-#[derive(Drop)]
+#[derive(Clone, Copy)]
 struct Lengths {
     book: usize,
     prices: usize,

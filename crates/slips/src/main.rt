@@ -1,5 +1,7 @@
 // Reads a list text on standard input, opens its day for the fund and one account, sets the prices, creates one basket and prints
 // its records: code, side, quantity, price and amount. What turns it back is printed as `refused NUMBER PLACE`.
+#![tactic(auto)]
+
 mod given;
 mod printed;
 

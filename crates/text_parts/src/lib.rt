@@ -1,4 +1,6 @@
 // What programs that play list texts share: runs of bytes, texts that are made, fields as numbers, names, and what is printed.
+#![tactic(auto)]
+
 pub mod bytes;
 pub mod fields;
 pub mod made;

@@ -4,7 +4,7 @@ ghost use Rattle.std.specs.Prelude.{◌<◌};
 use program_io::input::Cursor;
 use program_io::output;
 
-#[derive(Drop)]
+#[derive(Clone, Copy)]
 pub struct Session {
     pub cursor: Cursor,
     // How long the last text is that was given whole.

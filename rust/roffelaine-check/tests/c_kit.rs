@@ -173,7 +173,7 @@ fn make(target: &str, words: &[&str]) {
         command.env_remove(variable);
     }
     // The archive is taken as it is: the tests run on it.
-    command.args(["-o", "target/staticlib/libc_interface.a"]);
+    command.args(["-o", "crates/c_interface/out/libc_interface.a"]);
     run(command.arg("-C").arg(root()).arg(target).args(words));
 }
 

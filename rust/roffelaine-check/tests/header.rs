@@ -310,7 +310,7 @@ fn library_refusals() -> BTreeMap<String, (u64, bool)> {
 #[test]
 fn refusals_are_the_same_everywhere() {
     let rules = file("../../crates/rules/specs/Replies.antt");
-    let rules = numbered(&rules, "refusalReply ", " = reply ");
+    let rules = numbered(&rules, "refusal_reply ", " = reply ");
     let numbers = crate_source("answers");
     let numbers = numbered(&numbers, "Refusal::", " => refused_at(");
     assert_eq!(numbers, rules, "crate numbers");

@@ -23,7 +23,7 @@ pub fn text_of(path: &str) -> String {
 /// The archive of the proved library.
 pub fn archive() -> PathBuf {
     let named = std::env::var_os("ROFFELAINE_ARCHIVE").map(PathBuf::from);
-    named.unwrap_or_else(|| root().join("target/staticlib/libc_interface.a"))
+    named.unwrap_or_else(|| root().join("crates/c_interface/out/libc_interface.a"))
 }
 
 /// An empty folder for one test.

@@ -6,17 +6,13 @@ use native.Mathlib.Omega.{arith}
 use lib.ListN.{length}
 use lib.Seq.{length-take-le}
 use Rattle.io.specs.Counts.{IsPrefixLen}
-use Rattle.text_parts.proofs.bytes.cut.Statement.{statement}
-use Rattle.text_parts.proofs.bytes.cut.Tie as tie
+use Rattle.text_parts.proofs.bytes.cut.Goals as goal
 
 counts : {n : ℕ} (xs : List ℕ) → n ≤ length xs → IsPrefixLen n xs
 counts {n} xs h = (h, sym (length-take-le n xs h))
 
-returns : tie.Need-returns
+pub returns-then-n-run : goal.returns-then-n-run
+returns-then-n-run c = counts _ (omega arith)
+
+pub returns : goal.returns
 returns c = counts _ (omega arith)
-
-returns-2 : tie.Need-returns-2
-returns-2 c = counts _ (omega arith)
-
-pub cut_spec : {M : Type 1} → statement M
-cut_spec = tie.close (tie.spec returns returns-2)
