@@ -1,5 +1,3 @@
-pub mod Local
-pub mod OrderLocals
 pub mod Room
 pub mod Flat
 pub mod Laws

@@ -1,5 +1,7 @@
 // Creation and redemption, by the kind of order, whose records go to a lent list of structs, and whose reports go to lent runs of
 // numbers. The order is made into a flat run, and a writer over the list (`record_writer`) takes the records of that run.
+#![tactic(auto)]
+
 ghost use Rattle.std.specs.Prelude.{◌≡◌, ◌*◌, length};
 ghost use Rattle.layout.specs.Places.{record_width};
 ghost use Rattle.layout.specs.Day.{day_at};

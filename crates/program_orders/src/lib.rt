@@ -1,5 +1,7 @@
 // An order in the struct form for the replay programs, which lend no structs: the list of records goes in and comes back by value. Users
 // lend theirs to `order_structs::order`.
+#![tactic(auto)]
+
 ghost use Rattle.std.specs.Prelude.{◌≡◌, ◌++◌, ◌≤◌, take, drop};
 ghost use Rattle.layout.specs.Day.{day_at};
 ghost use Rattle.rules.specs.Replies.{order_answer_reply};
