@@ -1,5 +1,7 @@
 // The driver: a list of calls, given as rows of numbers, made on one day. It tests once whether the day is kept sound by every
 // call; if so each call goes to its core, and if not each call tests the day for itself.
+#![tactic(auto)]
+
 ghost use Rattle.std.specs.Prelude.{◌≡◌, true, ◌+◌, ◌*◌, ◌≤◌, length};
 ghost use Rattle.layout.specs.Places.{row_width, answer_width};
 ghost use Rattle.layout.specs.Day.{day_at};
