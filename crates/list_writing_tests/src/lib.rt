@@ -1,4 +1,6 @@
 // What writing a list answers: its tests, and how many bytes the text takes.
+#![tactic(auto)]
+
 ghost use Rattle.std.specs.Prelude.{◌≡◌, true, ◌*◌, ◌≤◌, min, length};
 ghost use Rattle.sequences.specs.Checks.{passes};
 ghost use Rattle.layout.specs.Places.{most_components, component_width};
