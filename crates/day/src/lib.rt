@@ -1,5 +1,7 @@
 // The calls of the day. Each takes any day, book, prices and numbers, returns, and refuses by the paper's numbers; a refusal
 // changes nothing. The day is one lent run of numbers, which `day_at` reads; a run of another length than a day's is not sound.
+#![tactic(auto)]
+
 ghost use Rattle.std.specs.Prelude.{◌≡◌};
 ghost use Rattle.layout.specs.Day.{day_at};
 ghost use Rattle.rules.specs.Lent.{lent_of, rooms_of, rooms_in};
