@@ -1,4 +1,6 @@
 // Writing the list text.
+#![tactic(auto)]
+
 ghost use Rattle.std.specs.Prelude.{◌≡◌, true, ◌*◌, ◌≤◌, length};
 ghost use Rattle.sequences.specs.Checks.{passes};
 ghost use Rattle.digits.specs.Written.{put};
