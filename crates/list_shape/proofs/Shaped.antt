@@ -84,7 +84,8 @@ module _ (text : List ℕ) where
   head_passes e = rw e (le-ltb (head_lines shanghai_fields) (head_lines shanghai_fields) (omega arith))
 
   -- another line than ENDENDEND
-  pub shaped_end : (end : ℕ) → wrong_line shanghai_fields text ≡ head_lines shanghai_fields → end ≡ end_start shanghai text → line_stands (λ l. same l end_word) text end ≡ false → Shaped text (wrong_at end)
+  pub shaped_end : (end : ℕ) → wrong_line shanghai_fields text ≡ head_lines shanghai_fields → end ≡ end_start shanghai text → line_stands (λ l. same l end_word) text end ≡ false →
+      Shaped text (wrong_at end)
   shaped_end end e f h =
       let m : end_missing text ≡ true = rw (f) at (ap not h) in
       let p = end_stops text (head_passes e) m in

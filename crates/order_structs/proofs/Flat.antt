@@ -87,7 +87,8 @@ result_of s ask rooms left =
 -- the step of a call with flat lists lent, by the kind
 flat_step : (s : State) (ask : Ask) (lent : Lent)
     → step s (call_of ask) lent ≡ result_of s (known_kind ask) (rooms_in lent) (asked_lists s.day s.book s.prices (known_kind ask) lent)
-unfolding step known_kind asked_lists asked_book asked_moves asked_reply asked_checks counts_by asked_records asked_reports creation_reply created_book created_lists redemption_reply redeemed_book redeemed_lists
+unfolding step known_kind asked_lists asked_book asked_moves asked_reply asked_checks counts_by asked_records asked_reports creation_reply created_book created_lists redemption_reply
+    redeemed_book redeemed_lists
 flat_step s ask lent = go (eqb ask.kind creation)
   where
     go : (x : Bool)

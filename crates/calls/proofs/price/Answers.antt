@@ -13,7 +13,12 @@ sound : (c : Else-not-sound_day) → let a = c.args in is_sound (day_at a.day.no
 sound c = sym c.sound_day.ensures ∙ c.if-not-sound_day.false
 
 pub returns-then-not-sound_day : goal.returns-then-not-sound_day
-returns-then-not-sound_day c = let r = price_five _ _ _ (sym c.sound_day.ensures ∙ c.if-not-sound_day.true) _ _ in record { result_value = r.0; prices = r.1 }
+returns-then-not-sound_day c =
+    let r = price_five _ _ _ (sym c.sound_day.ensures ∙ c.if-not-sound_day.true) _ _ in
+    record {
+      result_value = r.0;
+      prices = r.1;
+    }
 
 pub set_price-requires : goal.set_price-requires
 set_price-requires c =

@@ -21,7 +21,10 @@ reference_value-requires c =
     let s = sound (goal.at.reference_value-requires c).Else-not-sound_day in
     let full = sound_width _ _ _ s in
     let a = c.args in
-    record { priceable = rw (run_parts a.day.now _ _ c.head_of.ensures c.basket_of.ensures full) (priceable _ _ _ (sound_facts _ _ _ s)); basket_len = basket_wide a.day.now _ c.basket_of.ensures full }
+    record {
+      priceable = rw (run_parts a.day.now _ _ c.head_of.ensures c.basket_of.ensures full) (priceable _ _ _ (sound_facts _ _ _ s));
+      basket_len = basket_wide a.day.now _ c.basket_of.ensures full;
+    }
 
 pub returns : goal.returns
 returns c =

@@ -14,7 +14,12 @@ sound : (c : Else-not-sound_day) → let a = c.args in is_sound (day_at a.day.no
 sound c = sym c.sound_day.ensures ∙ c.if-not-sound_day.false
 
 pub returns-then-not-sound_day : goal.returns-then-not-sound_day
-returns-then-not-sound_day c = let r = trade_five _ _ _ (sym c.sound_day.ensures ∙ c.if-not-sound_day.true) _ _ _ _ _ in record { result_value = r.0; book = r.1 }
+returns-then-not-sound_day c =
+    let r = trade_five _ _ _ (sym c.sound_day.ensures ∙ c.if-not-sound_day.true) _ _ _ _ _ in
+    record {
+      result_value = r.0;
+      book = r.1;
+    }
 
 pub trade-requires : goal.trade-requires
 trade-requires c =
@@ -29,7 +34,10 @@ returns c =
     let accounts = c.accounts_of-accounts.ensures ∙ head_accounts _ (sound_width _ _ _ s) in
     let count = c.count_of-count.ensures ∙ head_count _ (sound_width _ _ _ s) in
     let own = trade_own _ _ _ s _ _ _ _ _ in
-    record { result_value = rw (accounts, count) at c.trade.ensures.result_value ∙ own.0; book = rw (accounts, count) at c.trade.ensures.book ∙ own.1 }
+    record {
+      result_value = rw (accounts, count) at c.trade.ensures.result_value ∙ own.0;
+      book = rw (accounts, count) at c.trade.ensures.book ∙ own.1;
+    }
 
 pub accounts_of-accounts-requires : goal.accounts_of-accounts-requires
 accounts_of-accounts-requires c = sound_width _ _ _ (sound c)

@@ -10,4 +10,8 @@ order-requires c = record { prices_value = λ q. absurd (false≢true q); kind_b
 
 pub returns : goal.returns
 returns c =
-    record { result_value = (rw c.creation-ask.ensures at c.order.ensures.result_value) ∙ creation_asked _ _ _ _ _ _; book = (rw c.creation-ask.ensures at c.order.ensures.book) ∙ created_book_lem _ _ _ _ _ _; lists = (rw c.creation-ask.ensures at c.order.ensures.lists) ∙ created_lists_lem _ _ _ _ _ _ }
+    record {
+      result_value = (rw c.creation-ask.ensures at c.order.ensures.result_value) ∙ creation_asked _ _ _ _ _ _;
+      book = (rw c.creation-ask.ensures at c.order.ensures.book) ∙ created_book_lem _ _ _ _ _ _;
+      lists = (rw c.creation-ask.ensures at c.order.ensures.lists) ∙ created_lists_lem _ _ _ _ _ _;
+    }

@@ -10,4 +10,8 @@ order-requires c = record { prices_value = λ q. absurd (false≢true q); kind_b
 
 pub returns : goal.returns
 returns c =
-    record { result_value = (rw c.redemption-ask.ensures at c.order.ensures.result_value) ∙ redemption_asked _ _ _ _ _ _; book = (rw c.redemption-ask.ensures at c.order.ensures.book) ∙ redeemed_book_lem _ _ _ _ _ _; lists = (rw c.redemption-ask.ensures at c.order.ensures.lists) ∙ redeemed_lists_lem _ _ _ _ _ _ }
+    record {
+      result_value = (rw c.redemption-ask.ensures at c.order.ensures.result_value) ∙ redemption_asked _ _ _ _ _ _;
+      book = (rw c.redemption-ask.ensures at c.order.ensures.book) ∙ redeemed_book_lem _ _ _ _ _ _;
+      lists = (rw c.redemption-ask.ensures at c.order.ensures.lists) ∙ redeemed_lists_lem _ _ _ _ _ _;
+    }

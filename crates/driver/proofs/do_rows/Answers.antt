@@ -9,7 +9,11 @@ loop-i-init c = going_starts _ _ _ _ c.requires.prices_value
 pub do_row-requires : goal.do_row-requires
 do_row-requires c =
     let inv = c.loop-i.invariant in
-    record { prices_value = going_sound inv; row_width_in_bounds = omega (arith, inv.within); answer_width_in_bounds = omega (arith, inv.lengths.answers) }
+    record {
+      prices_value = going_sound inv;
+      row_width_in_bounds = omega (arith, inv.within);
+      answer_width_in_bounds = omega (arith, inv.lengths.answers);
+    }
 
 pub loop-i-preserved : goal.loop-i-preserved
 loop-i-preserved c =

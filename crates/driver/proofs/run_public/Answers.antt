@@ -8,4 +8,8 @@ run_rows-requires c q = absurd (false≢true q)
 
 pub returns : goal.returns
 returns c =
-    record { result_value = c.run_rows.ensures.result_value; left = c.run_rows.ensures.left; demand = run_meets _ _ _ c.run_rows.ensures.left }
+    record {
+      result_value = c.run_rows.ensures.result_value;
+      left = c.run_rows.ensures.left;
+      demand = run_meets _ _ _ c.run_rows.ensures.left;
+    }

@@ -5,7 +5,12 @@ use Rattle.driver.proofs.Sizes.{fit_facts, run_refused, run_done}
 use Rattle.driver.proofs.run_rows.Goals as goal
 
 pub returns-then-not-rows_fit : goal.returns-then-not-rows_fit
-returns-then-not-rows_fit c = let r = run_refused _ _ (sym c.rows_fit.ensures ∙ c.if-not-rows_fit.true) in record { result_value = r.0; left = r.1 }
+returns-then-not-rows_fit c =
+    let r = run_refused _ _ (sym c.rows_fit.ensures ∙ c.if-not-rows_fit.true) in
+    record {
+      result_value = r.0;
+      left = r.1;
+    }
 
 pub do_rows-requires : goal.do_rows-requires
 do_rows-requires c =

@@ -19,7 +19,11 @@ back : (c : After-struct_told-1) → to_z w64 (of_z w64 (start c).args.l.cash_co
 back c = search rules
 
 pub put_signed-requires : goal.put_signed-requires
-put_signed-requires c = record { at_in_bounds = simp length-set (omega arith); e_bound = rw (back c) (start c).requires.cash_component_bound }
+put_signed-requires c =
+    record {
+      at_in_bounds = simp length-set (omega arith);
+      e_bound = rw (back c) (start c).requires.cash_component_bound;
+    }
 
 -- the run keeps its length
 size : (c : After-put_signed) → length c.put_signed.new.run ≡ fields_width

@@ -39,10 +39,18 @@ pub line_width-pitch-requires : goal.line_width-pitch-requires
 line_width-pitch-requires c = columns_well_lem _ c.columns-columns.ensures
 
 pub returns-then-text-first : goal.returns-then-text-first
-returns-then-text-first c = record { value = place_none _ _ _ _ (pitch (goal.at.returns-then-text-first c).After-line_width-pitch) (search rules); length_in_bounds = search rules }
+returns-then-text-first c =
+    record {
+      value = place_none _ _ _ _ (pitch (goal.at.returns-then-text-first c).After-line_width-pitch) (search rules);
+      length_in_bounds = search rules;
+    }
 
 pub returns-then-text-first-2 : goal.returns-then-text-first-2
-returns-then-text-first-2 c = record { value = place_none _ _ _ _ (pitch (goal.at.returns-then-text-first-2 c).After-line_width-pitch) (line_none _ _ _ _ (omega arith) c.if-text-first.false c.if-text-first-2.true); length_in_bounds = search rules }
+returns-then-text-first-2 c =
+    record {
+      value = place_none _ _ _ _ (pitch (goal.at.returns-then-text-first-2 c).After-line_width-pitch) (line_none _ _ _ _ (omega arith) c.if-text-first.false c.if-text-first-2.true);
+      length_in_bounds = search rules;
+    }
 
 pub column_start-start-requires : goal.column_start-start-requires
 column_start-start-requires c = (columns_well_lem _ c.columns-columns.ensures, search rules)
@@ -57,4 +65,8 @@ pub overflow_add-place : goal.overflow_add-place
 overflow_add-place c = let r = room c in search rules
 
 pub returns : goal.returns
-returns c = record { value = place_is _ _ _ _ (pitch (goal.at.returns c).After-line_width-pitch) (line (goal.at.returns c).Else-text-first-2) (start c); length_in_bounds = room c }
+returns c =
+    record {
+      value = place_is _ _ _ _ (pitch (goal.at.returns c).After-line_width-pitch) (line (goal.at.returns c).Else-text-first-2) (start c);
+      length_in_bounds = room c;
+    }

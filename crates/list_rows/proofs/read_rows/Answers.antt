@@ -91,4 +91,7 @@ returns c =
     let part = rows_part c.args.text.now _ _ c.requires.start_value.0 c.requires.start_value.1 _ p in
     let g = fault_lent _ _ c.requires.columns_lent.0 c.requires.columns_lent.1 _ _ part _ _ c.read_columns-fault.ensures.value in
     let kept = kept_lent _ _ c.requires.columns_lent.0 c.requires.columns_lent.1 _ _ part _ c.requires.start_value.1 _ _ c.read_columns-fault.ensures.run_after in
-    record { value = row_none c.args.text.now _ _ c.requires.start_value.0 c.requires.start_value.1 c.read_columns-fault.result g c.if-row-count.false; run_after = kept }
+    record {
+      value = row_none c.args.text.now _ _ c.requires.start_value.0 c.requires.start_value.1 c.read_columns-fault.result g c.if-row-count.false;
+      run_after = kept;
+    }

@@ -42,7 +42,12 @@ ends : (c : Else-not-end_stands) → let a = c.args in
 ends c = sym c.end_stands.ensures ∙ c.if-not-end_stands.false
 
 pub row_count-count-requires : goal.row_count-count-requires
-row_count-count-requires c = let p = c.requires in record { columns_value = columns_well_lem _ p.columns_lent.0; start_in_bounds = p.start_value.1 }
+row_count-count-requires c =
+    let p = c.requires in
+    record {
+      columns_value = columns_well_lem _ p.columns_lent.0;
+      start_in_bounds = p.start_value.1;
+    }
 
 pub line_width-requires : goal.line_width-requires
 line_width-requires c = columns_well_lem _ c.requires.columns_lent.0
@@ -70,10 +75,12 @@ overflow_add-behind c = let r = room (goal.at.overflow_add-behind c).After-line_
 pub returns-then-behind-text : goal.returns-then-behind-text
 returns-then-behind-text c =
     let w = c.before.before.before.before in
-    shaped_at _ _ _ c.wrong_at-then-behind-text.ensures (shaped_behind _ _ w.requires.columns_lent.1 (end (goal.at.returns-then-behind-text c).After-line_width) (ends (goal.at.returns-then-behind-text c).Else-not-end_stands) c.if-behind-text.true)
+    shaped_at _ _ _ c.wrong_at-then-behind-text.ensures (shaped_behind _ _ w.requires.columns_lent.1 (end (goal.at.returns-then-behind-text c).After-line_width)
+        (ends (goal.at.returns-then-behind-text c).Else-not-end_stands) c.if-behind-text.true)
 
 pub returns : goal.returns
 returns c =
     let w = c.before.before.before in
     let p = w.requires in
-    shaped_rows _ _ p.columns_lent.1 (end (goal.at.returns c).After-line_width) (ends (goal.at.returns c).Else-not-end_stands) _ _ p.start_value.0 (count (goal.at.returns c).After-line_width) (lines (goal.at.returns c).After-line_width) c.if-behind-text.false
+    shaped_rows _ _ p.columns_lent.1 (end (goal.at.returns c).After-line_width) (ends (goal.at.returns c).Else-not-end_stands) _ _ p.start_value.0
+        (count (goal.at.returns c).After-line_width) (lines (goal.at.returns c).After-line_width) c.if-behind-text.false

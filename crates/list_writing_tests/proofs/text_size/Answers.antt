@@ -30,7 +30,10 @@ figures_of-figures-requires c = (fine c.before.before.before.before.before).rang
 pub head_size-head-requires : goal.head_size-head-requires
 head_size-head-requires c =
     let s = c.before.before.before.before.before in
-    record { names_value = (fields_well_lem _ _ s.requires.fields_lent.0, s.requires.fields_lent.0.all_named); letters_len_bound = letters_few (list s.before) (fine s.before) }
+    record {
+      names_value = (fields_well_lem _ _ s.requires.fields_lent.0, s.requires.fields_lent.0.all_named);
+      letters_len_bound = letters_few (list s.before) (fine s.before);
+    }
 
 pub line_width-pitch-requires : goal.line_width-pitch-requires
 line_width-pitch-requires c = columns_well_lem _ c.requires.fields_lent.1

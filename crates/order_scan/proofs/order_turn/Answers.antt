@@ -28,7 +28,10 @@ pub with_amount-requires : goal.with_amount-requires
 with_amount-requires c =
     let a = c.args in
     let stays = sym c.entry_of.ensures ∙ c.if-not-entry_of.true in
-    record { room = rw (c.amount_line.ensures, ← amount_is a.c a.have a.price a.m stays a.kind) c.requires.room; short_value = amount_alone _ _ _ _ c.amount_line.ensures }
+    record {
+      room = rw (c.amount_line.ensures, ← amount_is a.c a.have a.price a.m stays a.kind) c.requires.room;
+      short_value = amount_alone _ _ _ _ c.amount_line.ensures;
+    }
 
 pub returns-then-not-entry_of : goal.returns-then-not-entry_of
 returns-then-not-entry_of c =

@@ -33,4 +33,7 @@ returns-in-Refused c =
     let p = c.requires in
     let answered = rw c.cash_held-held.ensures at c.in-Refused.ensures in
     let stopped = answered ∙ means_done _ _ _ _ _ _ _ c.order_scan-t.ensures p.m_value.0 p.scannable _ in
-    record { answer_value = ap order_answer_reply c.turned_back.ensures.0 ∙ stopped; cash = c.turned_back.ensures.1 ∙ leaves_before _ _ _ _ stopped }
+    record {
+      answer_value = ap order_answer_reply c.turned_back.ensures.0 ∙ stopped;
+      cash = c.turned_back.ensures.1 ∙ leaves_before _ _ _ _ stopped;
+    }

@@ -11,4 +11,8 @@ nonzero_div-m c = omega (arith, (fund_sound _ (sound_facts _ _ _ c.requires.pric
 
 pub tested_in-requires : goal.tested_in-requires
 unfolding baskets
-tested_in-requires c = record { prices_value = c.requires.prices_value; kind_bound = (c.requires.kind_bound.0, refl, c.requires.kind_bound.1) }
+tested_in-requires c =
+    record {
+      prices_value = c.requires.prices_value;
+      kind_bound = (c.requires.kind_bound.0, refl, c.requires.kind_bound.1);
+    }

@@ -32,4 +32,7 @@ returns-in-Done c =
 pub returns-in-Refused : goal.returns-in-Refused
 returns-in-Refused c =
     let stopped = form_stopped _ _ _ _ _ c.requires.kind_bound.0 _ c.in-Refused.ensures in
-    record { answer_value = ap order_answer_reply c.turned_back.ensures.0 ∙ stopped; cash = c.turned_back.ensures.1 ∙ leaves_before _ _ _ _ stopped }
+    record {
+      answer_value = ap order_answer_reply c.turned_back.ensures.0 ∙ stopped;
+      cash = c.turned_back.ensures.1 ∙ leaves_before _ _ _ _ stopped;
+    }

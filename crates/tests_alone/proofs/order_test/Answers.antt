@@ -19,7 +19,10 @@ order_tested-t-requires c =
     let s = sound (goal.at.order_tested-t-requires c).Else-not-sound_day in
     let full = sound_width _ _ _ s in
     let a = c.args in
-    record { prices_value = rw (run_parts a.day.now _ _ c.head_of-head.ensures c.basket_of.ensures full) s; kind_bound = (c.requires, basket_wide a.day.now _ c.basket_of.ensures full) }
+    record {
+      prices_value = rw (run_parts a.day.now _ _ c.head_of-head.ensures c.basket_of.ensures full) s;
+      kind_bound = (c.requires, basket_wide a.day.now _ c.basket_of.ensures full);
+    }
 
 pub returns : goal.returns
 returns c =

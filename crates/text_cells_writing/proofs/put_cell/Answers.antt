@@ -27,7 +27,11 @@ slice_bounds-put_number-end c = search rules
 pub put_number-requires : goal.put_number-requires
 unfolding column_of
 put_number-requires c =
-    let p = c.requires in record { column_value = (p.column_value.0, rw add-sub_cancel_left p.line_value); fits = p.fits c.if-not-used.false }
+    let p = c.requires in
+    record {
+      column_value = (p.column_value.0, rw add-sub_cancel_left p.line_value);
+      fits = p.fits c.if-not-used.false;
+    }
 
 pub bounds-line-e-2 : goal.bounds-line-e-2
 unfolding column_of

@@ -41,7 +41,9 @@ line_size-n-requires c = (
 pub overflow_add-n : goal.overflow_add-n
 overflow_add-n c =
     let v = c.loop-k.invariant.1 in
-    record { fits = omega (arith, v.small, v.turns, c.line_size-n.ensures.1, few c.args.fields.now c.args.names.now c.requires.names_value.0 c.requires.names_value.1) }
+    record {
+      fits = omega (arith, v.small, v.turns, c.line_size-n.ensures.1, few c.args.fields.now c.args.names.now c.requires.names_value.0 c.requires.names_value.1);
+    }
 
 pub loop-k-preserved : goal.loop-k-preserved
 loop-k-preserved c = (

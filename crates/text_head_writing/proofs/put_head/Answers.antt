@@ -35,7 +35,8 @@ pub put_line-p-requires : goal.put_line-p-requires
 put_line-p-requires c =
     record {
       forms_well = forms_well c.args.fields.now c.args.names.now c.requires.names_value.0 c.requires.names_value.1;
-      z_in_bounds = lined_room _ _ c.requires.names_value.0 c.requires.names_value.1 _ _ _ _ c.requires.figures_in_bounds _ _ _ _ _ _ c.loop-k.invariant.1 (omega (arith, c.loop-k.invariant.0, c.loop-k-test.true))
+      z_in_bounds = lined_room _ _ c.requires.names_value.0 c.requires.names_value.1 _ _ _ _ c.requires.figures_in_bounds _ _ _ _ _ _ c.loop-k.invariant.1
+          (omega (arith, c.loop-k.invariant.0, c.loop-k-test.true))
           (ap (λ (i : ℕ). c.loop-k.from + i) c.name_length.ensures) c.figure_for-z.ensures;
     }
 

@@ -22,7 +22,10 @@ pub put_field-requires : goal.put_field-requires
 put_field-requires c =
     let a = c.args in
     let l = line_named a.fields.now a.k a.name.now a.letters.now a.z c.if-k-eq0.false c.if-k-fields.true in
-    record { k_in_bounds = (search rules, c.requires.forms_well); z_in_bounds = omega (arith, c.requires.z_in_bounds, ap (λ (l : List ℕ). length (line_text l)) l) }
+    record {
+      k_in_bounds = (search rules, c.requires.forms_well);
+      z_in_bounds = omega (arith, c.requires.z_in_bounds, ap (λ (l : List ℕ). length (line_text l)) l);
+    }
 
 pub returns-then-k-fields : goal.returns-then-k-fields
 returns-then-k-fields c =

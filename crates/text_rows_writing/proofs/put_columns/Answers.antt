@@ -54,7 +54,8 @@ loop-k-preserved c =
       c.past-at.ensures,
       elim c.if-column-eq-TEXT.branch [
         | then-column-eq-TEXT w ↦ words_turn _ _ _ p.table_ready _ _ _ p.rows_ready _ c.loop-k-test.true l.invariant.1 l.invariant.2 w.if-column-eq-TEXT.true (w.rows-is ∙ w.put_words_column.ensures)
-        | else-column-eq-TEXT w ↦ numbers_turn _ _ _ p.table_ready _ _ _ p.rows_ready _ c.loop-k-test.true l.invariant.1 l.invariant.2 w.if-column-eq-TEXT.false (numbers_of_lem _ _ f.ensures) (w.rows-is ∙ w.put_numbers_column.ensures)
+        | else-column-eq-TEXT w ↦ numbers_turn _ _ _ p.table_ready _ _ _ p.rows_ready _ c.loop-k-test.true l.invariant.1 l.invariant.2 w.if-column-eq-TEXT.false
+            (numbers_of_lem _ _ f.ensures) (w.rows-is ∙ w.put_numbers_column.ensures)
       ],
     )
 

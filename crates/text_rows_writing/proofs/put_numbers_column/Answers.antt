@@ -42,7 +42,12 @@ unfolding column_of
 put_cell-requires c =
     let t = c.loop-j-test.true in
     let a = c.args in
-    let p = c.requires in record { column_value = (p.column_value.0, place_within c.loop-j.invariant.0.line t _ p.column_value.1); line_value = put_later c.loop-j.invariant.0 t _ p.column_value.1 ∙ p.rows_len.1 _ t; fits = number_fits _ (column_of a.column) a.run.now _ a.flag_place a.place c.loop-j.invariant.1 c.is_used-used.ensures p.numbers_fit t }
+    let p = c.requires in
+    record {
+      column_value = (p.column_value.0, place_within c.loop-j.invariant.0.line t _ p.column_value.1);
+      line_value = put_later c.loop-j.invariant.0 t _ p.column_value.1 ∙ p.rows_len.1 _ t;
+      fits = number_fits _ (column_of a.column) a.run.now _ a.flag_place a.place c.loop-j.invariant.1 c.is_used-used.ensures p.numbers_fit t;
+    }
 
 pub overflow_add-p : goal.overflow_add-p
 overflow_add-p c = omega (arith, place_low c.loop-j.invariant.0.line c.loop-j-test.true)

@@ -9,7 +9,12 @@ use Rattle.text_rows_writing.proofs.put_rows.Goals as goal
 
 pub put_columns-requires : goal.put_columns-requires
 put_columns-requires c =
-    let p = c.requires in record { table_ready = table_ready _ p.columns_value.0 p.columns_value.1 c.taken_before-line.ensures; rows_ready = record { numbers = p.run_len.0; words = p.run_len.1; fits = p.rows_fit }; rows_value = c.put_blanks.ensures.bytes ∙ all_blank_lem _ _ p.rows_len }
+    let p = c.requires in
+    record {
+      table_ready = table_ready _ p.columns_value.0 p.columns_value.1 c.taken_before-line.ensures;
+      rows_ready = record { numbers = p.run_len.0; words = p.run_len.1; fits = p.rows_fit };
+      rows_value = c.put_blanks.ensures.bytes ∙ all_blank_lem _ _ p.rows_len;
+    }
 
 pub overflow_add-line : goal.overflow_add-line
 overflow_add-line c =

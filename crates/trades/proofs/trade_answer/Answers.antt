@@ -32,7 +32,8 @@ pub returns-then-not-is_inside : goal.returns-then-not-is_inside
 returns-then-not-is_inside c = trade_quantity_out _ _ _ _ _ _ _ _ c.if-count-line.false (sym c.is_inside.ensures ∙ c.if-not-is_inside.true)
 
 pub returns-then-not-is_inside-2 : goal.returns-then-not-is_inside-2
-returns-then-not-is_inside-2 c = trade_price_out _ _ _ _ _ _ _ _ c.if-count-line.false (quantity_in (goal.at.returns-then-not-is_inside-2 c).Else-not-is_inside) (sym c.is_inside-2.ensures ∙ c.if-not-is_inside-2.true)
+returns-then-not-is_inside-2 c = trade_price_out _ _ _ _ _ _ _ _ c.if-count-line.false (quantity_in (goal.at.returns-then-not-is_inside-2 c).Else-not-is_inside)
+    (sym c.is_inside-2.ensures ∙ c.if-not-is_inside-2.true)
 
 pub returns-then-not-is_investor : goal.returns-then-not-is_investor
 returns-then-not-is_investor c =
@@ -42,7 +43,8 @@ returns-then-not-is_investor c =
 pub returns-then-not-is_investor-2 : goal.returns-then-not-is_investor-2
 returns-then-not-is_investor-2 c =
     trade_no_buyer _ _ _ _ _ _ _ _ c.if-count-line.false
-    (quantity_in (goal.at.returns-then-not-is_investor-2 c).Else-not-is_inside) (price_in (goal.at.returns-then-not-is_investor-2 c).Else-not-is_inside-2) (seller_in (goal.at.returns-then-not-is_investor-2 c).Else-not-is_investor)
+    (quantity_in (goal.at.returns-then-not-is_investor-2 c).Else-not-is_inside) (price_in (goal.at.returns-then-not-is_investor-2 c).Else-not-is_inside-2)
+        (seller_in (goal.at.returns-then-not-is_investor-2 c).Else-not-is_investor)
     (sym c.is_investor-2.ensures ∙ c.if-not-is_investor-2.true)
 
 pub returns-then-seller-buyer : goal.returns-then-seller-buyer
