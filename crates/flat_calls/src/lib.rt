@@ -1,5 +1,7 @@
 // Opening and the list text with the fund and the fields as runs of numbers: refusal 1 where they have not their width. A call
 // returns the refusal's number, 0 where it is accepted, and puts its place and its value where the caller points.
+#![tactic(auto)]
+
 ghost use Rattle.std.specs.Prelude.{◌≡◌, cond, eqb, nat_abs, length, ◌/◌, ◌≤◌};
 ghost use Rattle.digits.specs.Digits.{cap};
 ghost use Rattle.answers.specs.Numbers.{reply_of};
