@@ -1,6 +1,8 @@
 // The day book for other languages: each call over numbers and runs of numbers. A call returns the refusal's number, 0 where it is
 // accepted, and puts its place and its value, and of an order the count of its reports, where the caller points;
 // include/roffelaine.h says it in C.
+#![tactic(auto)]
+
 ghost use Rattle.std.specs.Prelude.{◌≡◌, length};
 ghost use Rattle.rules.specs.Price.{price_reply, priced_prices};
 ghost use Rattle.rules.specs.Trade.{trade_reply, traded_book};

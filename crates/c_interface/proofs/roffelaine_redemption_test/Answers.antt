@@ -1,0 +1,10 @@
+-- `c_interface::roffelaine_redemption_test` meets its contract: what the call answers is told, and what it leaves is left.
+use mathlib.Core.Path.{◌∙◌}
+use Rattle.flat_calls.proofs.Laws.{told_order_as}
+use Rattle.c_interface.proofs.roffelaine_redemption_test.Goals as goal
+
+pub returns : goal.returns
+returns c =
+    let made = c.redemption_test-answer.ensures in
+    let told = told_order_as (c.of_order.ensures ∙ made) c.tell_order.ensures in
+    told
