@@ -18,4 +18,4 @@ row_call-reply-requires c =
 pub returns : goal.returns
 returns c =
     row_is_done _ _ _ _ _ _ _ (rw (part_is row_width c.args.rows.now c.args.i) at c.row_call-reply.ensures.result_value)
-        (rw (part_is row_width c.args.rows.now c.args.i) at c.row_call-reply.ensures.left) c.put_answer.ensures
+    (rw (part_is row_width c.args.rows.now c.args.i) at c.row_call-reply.ensures.left) c.put_answer.ensures

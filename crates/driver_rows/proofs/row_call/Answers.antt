@@ -33,7 +33,7 @@ order_row-requires-then-kind-eq4 c =
 pub returns-then-kind-eq4 : goal.returns-then-kind-eq4
 returns-then-kind-eq4 c =
     let r = call_meets _ _ _ _ _ _ (row_redeem _ c.if-kind-eq4.true) (rw c.asked-ask-then-kind-eq4.ensures at c.order_row-then-kind-eq4.ensures.result_value)
-        (rw c.asked-ask-then-kind-eq4.ensures at c.order_row-then-kind-eq4.ensures.left) in
+    (rw c.asked-ask-then-kind-eq4.ensures at c.order_row-then-kind-eq4.ensures.left) in
     record { result_value = r.0; left = r.1 }
 
 pub returns-then-kind-eq5 : goal.returns-then-kind-eq5

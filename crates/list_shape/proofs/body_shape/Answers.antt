@@ -76,11 +76,11 @@ pub returns-then-behind-text : goal.returns-then-behind-text
 returns-then-behind-text c =
     let w = c.before.before.before.before in
     shaped_at _ _ _ c.wrong_at-then-behind-text.ensures (shaped_behind _ _ w.requires.columns_lent.1 (end (goal.at.returns-then-behind-text c).After-line_width)
-        (ends (goal.at.returns-then-behind-text c).Else-not-end_stands) c.if-behind-text.true)
+    (ends (goal.at.returns-then-behind-text c).Else-not-end_stands) c.if-behind-text.true)
 
 pub returns : goal.returns
 returns c =
     let w = c.before.before.before in
     let p = w.requires in
     shaped_rows _ _ p.columns_lent.1 (end (goal.at.returns c).After-line_width) (ends (goal.at.returns c).Else-not-end_stands) _ _ p.start_value.0
-        (count (goal.at.returns c).After-line_width) (lines (goal.at.returns c).After-line_width) c.if-behind-text.false
+    (count (goal.at.returns c).After-line_width) (lines (goal.at.returns c).After-line_width) c.if-behind-text.false

@@ -44,7 +44,7 @@ pub returns-then-not-is_investor-2 : goal.returns-then-not-is_investor-2
 returns-then-not-is_investor-2 c =
     trade_no_buyer _ _ _ _ _ _ _ _ c.if-count-line.false
     (quantity_in (goal.at.returns-then-not-is_investor-2 c).Else-not-is_inside) (price_in (goal.at.returns-then-not-is_investor-2 c).Else-not-is_inside-2)
-        (seller_in (goal.at.returns-then-not-is_investor-2 c).Else-not-is_investor)
+    (seller_in (goal.at.returns-then-not-is_investor-2 c).Else-not-is_investor)
     (sym c.is_investor-2.ensures ∙ c.if-not-is_investor-2.true)
 
 pub returns-then-seller-buyer : goal.returns-then-seller-buyer
