@@ -31,7 +31,8 @@ use Rattle.text_rules.specs.Columns.{line_pitch, column_fault, line_numbers, num
 use Rattle.lines.specs.Lines.{ended}
 use Rattle.text_rules.specs.Head.{is_opening, letters_start}
 use Rattle.text_lines.proofs.Opening.{letters_count}
-use Rattle.text_rules.specs.Reading.{start_of, line_of, line_stands, letters_read, row_count, row_of, shape_checks, field_checks, wrong_field, field_start, figure_read, wrong_row, column_place, run_read}
+use Rattle.text_rules.specs.Reading.{start_of, line_of, line_stands, letters_read, row_count, row_of, shape_checks, field_checks, wrong_field}
+use Rattle.text_rules.specs.Reading.{field_start, figure_read, wrong_row, column_place, run_read}
 use Rattle.text_rules.specs.Well.{most_fields}
 use Rattle.text_trip.proofs.Below.{join-same}
 use Rattle.text_head.specs.declared.HeadFields.{HeadFields}

@@ -12,7 +12,8 @@ use lib.Seq.{length-take-le, get_or-drop, drop-drop, take-add, drop_at}
 use borrow.Author.Tests.{eq-eqb, ne_eqb}
 use Rattle.digits.specs.declared.Size.{Size}
 use Rattle.digits.specs.declared.Size.TheVariants.{Known, Ill}
-use Rattle.digits.specs.Digits.{blanks, all_blank, from, cap, capped, is_shaped, is_whole, is_plain, plain_size, has_minus, is_signed, signed_figure, trimmed, is_number, figure_of, size_reading, read_on}
+use Rattle.digits.specs.Digits.{blanks, all_blank, from, cap, capped, is_shaped, is_whole, is_plain, plain_size, has_minus}
+use Rattle.digits.specs.Digits.{is_signed, signed_figure, trimmed, is_number, figure_of, size_reading, read_on}
 use Rattle.digits.proofs.Put.{rest_all}
 use Rattle.digits.proofs.Read.{compare, capped_small, capped_large, size_known, whole_ill, whole_known, whole_facts, plain_short, plain_point, plain_ill, plain_known}
 use Rattle.digits.proofs.Count.{from_below}

@@ -15,7 +15,8 @@ use Rattle.digits.specs.declared.Form.{Form}
 use Rattle.digits.specs.Digits.{is_number, figure_of}
 use Rattle.lines.specs.Lines.{name_byte, all_bytes}
 use Rattle.text_rules.specs.Tables.{TextForm, column_at}
-use Rattle.text_rules.specs.Columns.{column_width, column_start, line_width, holds_text, line_numbers, line_words, Content, number_cell, content_by, is_cell, cell_of, cell_text, is_row, part_of, flag_of}
+use Rattle.text_rules.specs.Columns.{column_width, column_start, line_width, holds_text, line_numbers, line_words, Content, number_cell, content_by}
+use Rattle.text_rules.specs.Columns.{is_cell, cell_of, cell_text, is_row, part_of, flag_of}
 use Rattle.text_rules.specs.Columns.{content_of, wrong_cell, column_fault, cell_read, numbers_read, words_read, cell_at, part_at, content_at, column_text, row_text}
 use Rattle.text_rules.proofs.Tables.{end_line}
 use Rattle.text_rules.proofs.Well.{WellForm, column_well_lem}

@@ -15,7 +15,8 @@ use Rattle.digits.proofs.Trip.{number_again}
 use Rattle.lines.specs.Lines.{letter_byte, all_bytes, is_named}
 use Rattle.lines.proofs.Laws.{same_is, named_long, named_split}
 use Rattle.text_rules.specs.Tables.{TextForm, field_at}
-use Rattle.text_rules.specs.Head.{head_lines, field_name, is_field, opening_word, closing_word, is_letters, letters_of, is_opening, tag_word, is_head_line, head_line, most_letters, letters_start, beside_letters, shortest_opening}
+use Rattle.text_rules.specs.Head.{head_lines, field_name, is_field, opening_word, closing_word, is_letters, letters_of, is_opening, tag_word}
+use Rattle.text_rules.specs.Head.{is_head_line, head_line, most_letters, letters_start, beside_letters, shortest_opening}
 use Rattle.text_rules.specs.Reading.{start_of, line_of, word_of, figure_read, letters_read}
 use Rattle.text_rules.proofs.Well.{WellForm, field_well_lem}
 use Rattle.text_trip.specs.Trips.{renamed_line}
