@@ -2,37 +2,27 @@
 use mathlib.Core.Path.{◌≡◌}
 use native.Mathlib.Omega.{arith}
 use lib.ListN.{length}
-use Rattle.list_rules.specs.Writing.{Listing, listing}
+use Rattle.list_rules.specs.Writing.{listing}
 use Rattle.list_rules.proofs.Lent.{columns_well_lem, fields_well_lem}
 use Rattle.list_rules.proofs.Lent.{pitch_is}
-use Rattle.list_trip.proofs.WrittenPassing.{Passing, passing}
+use Rattle.list_trip.proofs.WrittenPassing.{passing}
 use Rattle.list_writing_tests.proofs.Heads.{head_of, head_lent}
 use Rattle.list_writing_tests.proofs.Sizes.{letters_few, lines_low, text_size}
-use Rattle.list_writing_tests.proofs.text_size.Goals.{After-head_size-head, Start}
 use Rattle.list_writing_tests.proofs.text_size.Goals as goal
 
--- the list
-abbrev list : Start → Listing
-list c = let a = c.args in listing a.fields a.run.now a.names.now a.letters.now
-
-fine : (c : Start) → Passing (list c)
-fine c = passing (list c) c.requires.letters_value
-
--- the bytes of the head
-headed : (c : After-head_size-head) → c.head_size-head.result ≡ length (head_of (list c.before.before.before.before.before.before.before))
-headed c =
-    let s = c.before.before.before.before.before.before in
-    rw (head_lent _ _ s.requires.fields_lent.0 (list s.before) _ c.figures_of-figures.ensures) at c.head_size-head.ensures.value
-
 pub figures_of-figures-requires : goal.figures_of-figures-requires
-figures_of-figures-requires c = (fine c.before.before.before.before.before).ranges
+figures_of-figures-requires c =
+    let a = c.args in
+    (passing (listing a.fields a.run.now a.names.now a.letters.now) c.requires.letters_value).ranges
 
 pub head_size-head-requires : goal.head_size-head-requires
 head_size-head-requires c =
-    let s = c.before.before.before.before.before in
+    let a = c.args in
+    let l = listing a.fields a.run.now a.names.now a.letters.now in
+    let p = c.requires in
     record {
-      names_value = (fields_well_lem _ _ s.requires.fields_lent.0, s.requires.fields_lent.0.all_named);
-      letters_len_bound = letters_few (list s.before) (fine s.before);
+      names_value = (fields_well_lem _ _ p.fields_lent.0, p.fields_lent.0.all_named);
+      letters_len_bound = letters_few l (passing l p.letters_value);
     }
 
 pub line_width-pitch-requires : goal.line_width-pitch-requires
@@ -40,21 +30,33 @@ line_width-pitch-requires c = columns_well_lem _ c.requires.fields_lent.1
 
 pub overflow_mul-result : goal.overflow_mul-result
 overflow_mul-result c =
-    let low = lines_low _ _ (fine c.before.before.before.before.before.before.before.before.before).few c.line_width-pitch.ensures.1 in
+    let a = c.args in
+    let l = listing a.fields a.run.now a.names.now a.letters.now in
+    let p = c.requires in
+    let low = lines_low _ _ (passing l p.letters_value).few c.line_width-pitch.ensures.1 in
     omega arith
 
 pub overflow_add-result : goal.overflow_add-result
 overflow_add-result c =
-    let low = lines_low _ _ (fine c.before.before.before.before.before.before.before.before.before).few c.line_width-pitch.ensures.1 in
+    let a = c.args in
+    let l = listing a.fields a.run.now a.names.now a.letters.now in
+    let p = c.requires in
+    let low = lines_low _ _ (passing l p.letters_value).few c.line_width-pitch.ensures.1 in
     omega arith
 
 pub overflow_add-result-2 : goal.overflow_add-result-2
 overflow_add-result-2 c =
-    let low = lines_low _ _ (fine c.before.before.before.before.before.before.before.before.before).few c.line_width-pitch.ensures.1 in
+    let a = c.args in
+    let l = listing a.fields a.run.now a.names.now a.letters.now in
+    let p = c.requires in
+    let low = lines_low _ _ (passing l p.letters_value).few c.line_width-pitch.ensures.1 in
     let head = c.head_size-head.ensures.upper_bound in
     omega arith
 
 pub returns : goal.returns
 returns c =
-    let s = c.before.before.before.before.before.before.before.before in
-    text_size (list s.before) s.requires.letters_value _ (pitch_is _ s.requires.fields_lent.1 _ c.line_width-pitch.ensures.0) _ (headed (goal.at.returns c).After-head_size-head)
+    let a = c.args in
+    let l = listing a.fields a.run.now a.names.now a.letters.now in
+    let p = c.requires in
+    let headed : c.head_size-head.result ≡ length (head_of l) = rw (head_lent _ _ p.fields_lent.0 l _ c.figures_of-figures.ensures) at c.head_size-head.ensures.value in
+    text_size l p.letters_value _ (pitch_is _ p.fields_lent.1 _ c.line_width-pitch.ensures.0) _ headed

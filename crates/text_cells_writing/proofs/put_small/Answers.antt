@@ -21,9 +21,10 @@ returns-then-column-ne0 c =
 pub put_whole-requires : goal.put_whole-requires
 unfolding column_of
 put_whole-requires c =
-    let p = c.requires in (
-      whole_room _ _ (column_facts _ p.column_value.0) p.fits p.column_value.1 c.if-column-ne0.false c.if-decimals-eq0.true,
-      omega (arith, cell-length _ _ (column_facts _ p.column_value.0) p.fits p.column_value.1),
+    let p = c.requires in
+    let well = column_facts _ p.column_value.0 in (
+      whole_room _ _ well p.fits p.column_value.1 c.if-column-ne0.false c.if-decimals-eq0.true,
+      omega (arith, cell-length _ _ well p.fits p.column_value.1),
     )
 
 pub returns-then-decimals-eq0 : goal.returns-then-decimals-eq0
@@ -61,13 +62,11 @@ bounds-cell-point c =
 pub put_whole-requires-2 : goal.put_whole-requires-2
 unfolding column_of
 put_whole-requires-2 c =
-    let p = c.requires in (
-      point_room _ _ (column_facts _ p.column_value.0) p.fits p.column_value.1 c.if-column-ne0.false c.if-decimals-eq0.false c.put_last-left.ensures.1,
-      rw length-set (omega (
-        arith,
-        tail_length _ _ (column_facts _ p.column_value.0) p.fits p.column_value.1 c.if-column-ne0.false c.if-decimals-eq0.false c.put_last-left.ensures.1
-            c.put_last-left.ensures.0,
-      )),
+    let p = c.requires in
+    let well = column_facts _ p.column_value.0 in
+    let left = c.put_last-left.ensures in (
+      point_room _ _ well p.fits p.column_value.1 c.if-column-ne0.false c.if-decimals-eq0.false left.1,
+      rw length-set (omega (arith, tail_length _ _ well p.fits p.column_value.1 c.if-column-ne0.false c.if-decimals-eq0.false left.1 left.0)),
     )
 
 pub shape_of-cell : goal.shape_of-cell

@@ -33,19 +33,25 @@ slice_bounds-put_line-end c =
 
 pub put_line-p-requires : goal.put_line-p-requires
 put_line-p-requires c =
+    let p = c.requires in
+    let v = c.loop-k.invariant in
+    let to = ap (λ (i : ℕ). c.loop-k.from + i) c.name_length.ensures in
     record {
-      forms_well = forms_well c.args.fields.now c.args.names.now c.requires.names_value.0 c.requires.names_value.1;
-      z_in_bounds = lined_room _ _ c.requires.names_value.0 c.requires.names_value.1 _ _ _ _ c.requires.figures_in_bounds _ _ _ _ _ _ c.loop-k.invariant.1
-          (omega (arith, c.loop-k.invariant.0, c.loop-k-test.true))
-          (ap (λ (i : ℕ). c.loop-k.from + i) c.name_length.ensures) c.figure_for-z.ensures;
+      forms_well = forms_well c.args.fields.now c.args.names.now p.names_value.0 p.names_value.1;
+      z_in_bounds =
+          lined_room _ _ p.names_value.0 p.names_value.1 _ _ _ _ p.figures_in_bounds _ _ _ _ _ _ v.1
+          (omega (arith, v.0, c.loop-k-test.true)) to c.figure_for-z.ensures;
     }
 
 pub loop-k-preserved : goal.loop-k-preserved
-loop-k-preserved c = (
-  c.loop-k.invariant.0,
-  lined_again _ _ c.requires.names_value.0 c.requires.names_value.1 _ _ _ _ c.requires.figures_in_bounds _ _ _ _ _ _ c.loop-k.invariant.1 (omega (arith, c.loop-k.invariant.0, c.loop-k-test.true))
-      (ap (λ (i : ℕ). c.loop-k.from + i) c.name_length.ensures) c.figure_for-z.ensures _ _ c.put_line-p.ensures,
-)
+loop-k-preserved c =
+    let p = c.requires in
+    let v = c.loop-k.invariant in
+    let to = ap (λ (i : ℕ). c.loop-k.from + i) c.name_length.ensures in (
+      v.0,
+      lined_again _ _ p.names_value.0 p.names_value.1 _ _ _ _ p.figures_in_bounds _ _ _ _ _ _ v.1
+          (omega (arith, v.0, c.loop-k-test.true)) to c.figure_for-z.ensures _ _ c.put_line-p.ensures,
+    )
 
 pub returns : goal.returns
 returns c =

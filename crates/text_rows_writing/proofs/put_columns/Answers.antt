@@ -47,15 +47,17 @@ past-at-requires c =
 
 pub loop-k-preserved : goal.loop-k-preserved
 loop-k-preserved c =
-    let l = c.loop-k in
-    let f = c.taken_before-flag_place in
-    let p = c.requires in (
+    let v = c.loop-k.invariant in
+    let f = numbers_of_lem _ _ c.taken_before-flag_place.ensures in
+    let p = c.requires in
+    let t = c.loop-k-test.true in (
       omega arith,
       c.past-at.ensures,
       elim c.if-column-eq-TEXT.branch [
-        | then-column-eq-TEXT w ↦ words_turn _ _ _ p.table_ready _ _ _ p.rows_ready _ c.loop-k-test.true l.invariant.1 l.invariant.2 w.if-column-eq-TEXT.true (w.rows-is ∙ w.put_words_column.ensures)
-        | else-column-eq-TEXT w ↦ numbers_turn _ _ _ p.table_ready _ _ _ p.rows_ready _ c.loop-k-test.true l.invariant.1 l.invariant.2 w.if-column-eq-TEXT.false
-            (numbers_of_lem _ _ f.ensures) (w.rows-is ∙ w.put_numbers_column.ensures)
+        | then-column-eq-TEXT w ↦
+            words_turn _ _ _ p.table_ready _ _ _ p.rows_ready _ t v.1 v.2 w.if-column-eq-TEXT.true (w.rows-is ∙ w.put_words_column.ensures)
+        | else-column-eq-TEXT w ↦
+            numbers_turn _ _ _ p.table_ready _ _ _ p.rows_ready _ t v.1 v.2 w.if-column-eq-TEXT.false f (w.rows-is ∙ w.put_numbers_column.ensures)
       ],
     )
 

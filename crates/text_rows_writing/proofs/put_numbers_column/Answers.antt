@@ -43,10 +43,11 @@ put_cell-requires c =
     let t = c.loop-j-test.true in
     let a = c.args in
     let p = c.requires in
+    let v = c.loop-j.invariant in
     record {
-      column_value = (p.column_value.0, place_within c.loop-j.invariant.0.line t _ p.column_value.1);
-      line_value = put_later c.loop-j.invariant.0 t _ p.column_value.1 ∙ p.rows_len.1 _ t;
-      fits = number_fits _ (column_of a.column) a.run.now _ a.flag_place a.place c.loop-j.invariant.1 c.is_used-used.ensures p.numbers_fit t;
+      column_value = (p.column_value.0, place_within v.0.line t _ p.column_value.1);
+      line_value = put_later v.0 t _ p.column_value.1 ∙ p.rows_len.1 _ t;
+      fits = number_fits _ (column_of a.column) a.run.now _ a.flag_place a.place v.1 c.is_used-used.ensures p.numbers_fit t;
     }
 
 pub overflow_add-p : goal.overflow_add-p
