@@ -1,6 +1,7 @@
 -- `list_shape::body_shape` meets its contract: each return is a law of what stands behind the head.
 use mathlib.Core.Path.{sym, ap, ◌∙◌}
 use Prim.Native.Nat.{ℕ, ◌+◌, ◌*◌}
+use native.Mathlib.Omega.{arith}
 use borrow.Author.Rules.{rules}
 use Rattle.list_rules.proofs.Lent.{columns_well_lem}
 use Rattle.list_rows.proofs.Rows.{end_room}
@@ -89,4 +90,4 @@ returns c =
     let end = ap (λ (n : ℕ). a.start + c.row_count-count.result * n) pitch ∙ end_is _ _ _ p.start_value.0 count in
     let ends = sym c.end_stands.ensures ∙ c.if-not-end_stands.false in
     let lines = rows_room _ p.columns_lent.0 a.text.now a.start _ c.row_count-count.ensures.columns_in_bounds in
-    shaped_rows _ _ p.columns_lent.1 end ends _ _ p.start_value.0 count lines c.if-behind-text.false
+    shaped_rows _ _ p.columns_lent.1 end ends _ _ p.start_value.0 count lines (omega arith)
