@@ -96,6 +96,7 @@ pub fn head_fields(fields: &[[usize; FIELD_PARTS]], names: &[u8], text: &[u8]) -
 }
 
 // Refusal 20's test.
+#[tactic(auto, using(crate::proofs::Counts::count_high))]
 pub fn is_counted(recordnum: u64, count: usize) -> bool
     ensures { result ≡ is_counted recordnum count }
 {
