@@ -1,4 +1,4 @@
--- Tables as rows of numbers: the k-th column and the k-th field are those of the k-th row. Where the columns of a line stand.
+-- The table of fields as rows of numbers: the k-th field is that of the k-th row. Where the columns of a line stand.
 use mathlib.Core.Path.{◌≡◌, refl, sym, ap, ◌∙◌}
 use mathlib.Core.List.{List, [], ◌∷◌}
 use Prim.Native.Nat.{ℕ, zero, suc, ◌+◌, ◌≤◌, ◌<◌}
@@ -8,19 +8,9 @@ use lib.ListN.{length, get_or, take, drop}
 use lib.Seq.{drop-drop}
 use Rattle.sequences.specs.Below.{sum_below}
 use Rattle.sequences.proofs.Below.{sum_none, sum_head, sum_grows}
-use Rattle.text_rules.specs.Tables.{Column, column_of, columns_of, column_at, name_part, field_of, fields_of, field_at, name_before}
+use Rattle.text_rules.specs.declared.Column.{Column}
+use Rattle.text_rules.specs.Tables.{name_part, field_of, fields_of, field_at, name_before}
 use Rattle.text_rules.specs.Columns.{column_width, column_start, line_width}
-
-pub columns-length : (rows : List (List ℕ)) → length (columns_of rows) ≡ length rows
-unfolding columns_of
-columns-length [] = refl
-columns-length (r ∷ rs) = ap suc (columns-length rs)
-
-pub column_row : (rows : List (List ℕ)) (k : ℕ) → k < length rows → column_at (columns_of rows) k ≡ column_of (get_or rows k [])
-unfolding columns_of column_at
-column_row [] k h = absurd (not-suc-le-zero h)
-column_row (r ∷ rs) zero h = refl
-column_row (r ∷ rs) (suc k) h = column_row rs k (le_of_suc-le-suc h)
 
 -- Fields.
 
