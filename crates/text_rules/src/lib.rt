@@ -1,5 +1,5 @@
-// What a text of lines promises, whatever its form: the parts of its two tables, of the columns of a line and of the fields of
-// the head. The definitions are in specs/.
+// What a text of lines promises, whatever its form: its two tables, of the columns of a line and of the fields of the head. The
+// definitions are in specs/.
 #![tactic(auto)]
 
 ghost use Rattle.std.specs.Prelude.{◌≡◌, ◌≤◌, ◌<◌, true, length};
@@ -7,6 +7,7 @@ ghost use Rattle.text_rules.specs.Columns.{column_start, line_width, line_pitch,
 ghost use Rattle.text_rules.specs.Well.{columns_well, most_line};
 ghost use Rattle.text_rules.specs.Tables.{line_form};
 
+use digits::Form;
 use std::marker::Model;
 
 // When a column is used: always, by that column of the flag table, or for text.
@@ -166,26 +167,21 @@ impl<'a> LineForm<'a> {
     }
 }
 
-// A row of a table of fields: the length of the name, digits and decimals as above, 1 where a "-" may stand, and the kind. The
-// names stand one behind the other in a run of their own.
-pub const FIELD_PARTS: usize = 5;
-
-pub const NAME_LENGTH: usize = 0;
-
-pub const FIELD_DIGITS: usize = 1;
-
-pub const FIELD_DECIMALS: usize = 2;
-
-pub const SIGNED: usize = 3;
-
-pub const KIND: usize = 4;
-
 // What more than its form a field's value has to be: nothing, a date, or one of 0 and 1.
-pub const ANY: usize = 0;
+#[derive(Clone, Copy, PartialEq, Eq)]
+pub enum ValueKind {
+    Any,
+    Date,
+    ZeroOrOne,
+}
 
-pub const DATE: usize = 1;
-
-pub const ZERO_OR_ONE: usize = 2;
+// A field of the head: its name, the form of its number, and its kind.
+#[derive(Clone, Copy)]
+pub struct Field<'a> {
+    pub name: &'a [u8],
+    pub form: Form,
+    pub kind: ValueKind,
+}
 
 // How many fields there is room for.
 pub const MOST_FIELDS: usize = 24;
