@@ -2,6 +2,8 @@
 // the head. The definitions are in specs/.
 #![tactic(auto)]
 
+use digits::Form;
+
 // A row of a table of columns: width, digits (0: as many as there are), decimals, when the column is used, and the flag table's
 // column that says so where a flag does.
 pub const COLUMN_PARTS: usize = 5;
@@ -23,26 +25,21 @@ pub const BY_FLAG: usize = 1;
 
 pub const TEXT: usize = 2;
 
-// A row of a table of fields: the length of the name, digits and decimals as above, 1 where a "-" may stand, and the kind. The
-// names stand one behind the other in a run of their own.
-pub const FIELD_PARTS: usize = 5;
-
-pub const NAME_LENGTH: usize = 0;
-
-pub const FIELD_DIGITS: usize = 1;
-
-pub const FIELD_DECIMALS: usize = 2;
-
-pub const SIGNED: usize = 3;
-
-pub const KIND: usize = 4;
-
 // What more than its form a field's value has to be: nothing, a date, or one of 0 and 1.
-pub const ANY: usize = 0;
+#[derive(Clone, Copy, PartialEq, Eq)]
+pub enum ValueKind {
+    Any,
+    Date,
+    ZeroOrOne,
+}
 
-pub const DATE: usize = 1;
-
-pub const ZERO_OR_ONE: usize = 2;
+// A field of the head: its name, the form of its number, and its kind.
+#[derive(Clone, Copy)]
+pub struct Field<'a> {
+    pub name: &'a [u8],
+    pub form: Form,
+    pub kind: ValueKind,
+}
 
 // How many fields there is room for.
 pub const MOST_FIELDS: usize = 24;
