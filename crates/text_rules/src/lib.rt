@@ -4,26 +4,22 @@
 
 use digits::Form;
 
-// A row of a table of columns: width, digits (0: as many as there are), decimals, when the column is used, and the flag table's
-// column that says so where a flag does.
-pub const COLUMN_PARTS: usize = 5;
+// When a column is used: always, by that column of the flag table, or for text.
+#[derive(Clone, Copy)]
+pub enum Use {
+    Always,
+    ByFlag(usize),
+    Text,
+}
 
-pub const WIDTH: usize = 0;
-
-pub const DIGITS: usize = 1;
-
-pub const DECIMALS: usize = 2;
-
-pub const USE: usize = 3;
-
-pub const FLAG_COLUMN: usize = 4;
-
-// When a column is used: always, by the line's flag, or for text.
-pub const ALWAYS: usize = 0;
-
-pub const BY_FLAG: usize = 1;
-
-pub const TEXT: usize = 2;
+// A column of a component line. Its number has so many digits (0: as many as there are) and decimals.
+#[derive(Clone, Copy)]
+pub struct Column {
+    pub width: usize,
+    pub digits: usize,
+    pub decimals: usize,
+    pub used: Use,
+}
 
 // What more than its form a field's value has to be: nothing, a date, or one of 0 and 1.
 #[derive(Clone, Copy, PartialEq, Eq)]
