@@ -10,7 +10,8 @@ use Rattle.flags.specs.Table
 use Rattle.layout.specs.declared.Component.{Component}
 use Rattle.rules.specs.declared.Kind.{Kind}
 use Rattle.rules.specs.declared.Kind.TheVariants.{Creation, Redemption}
-use Rattle.rules.specs.Kinds.{stock_lots, fund_lots}
+use Rattle.rules.specs.Kinds.{stock_lots, fund_lots, unit_lots, account_cash, fund_cash}
+use Rattle.rules.specs.Orders.{opposite_kind}
 use Rattle.book.specs.Moved.{moved_of}
 
 module _ (c : Component) (m : ℕ) (x : Lots) where
@@ -61,3 +62,15 @@ pub fund-zero : (kind : Kind) (x : Lots) → fund_lots kind x 0 ≡ x
 unfolding fund_lots
 fund-zero Creation x = lots-eq (omega arith) refl refl
 fund-zero Redemption x = lots-eq (omega arith) refl refl
+
+-- Units go the opposite way to stock, and the fund's cash the opposite way to the account's.
+
+pub units_opposite : (kind : Kind) (x : Lots) (q : ℕ) → stock_lots (opposite_kind kind) x q ≡ unit_lots kind x q
+unfolding stock_lots unit_lots
+units_opposite Creation x q = refl
+units_opposite Redemption x q = refl
+
+pub cash_opposite : (kind : Kind) (held c : ℕ) → account_cash (opposite_kind kind) held c ≡ fund_cash kind held c
+unfolding account_cash fund_cash
+cash_opposite Creation held c = refl
+cash_opposite Redemption held c = refl
