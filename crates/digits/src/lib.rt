@@ -28,6 +28,7 @@ pub struct Figure {
 pub const MOST_DECIMALS: usize = 9;
 
 // A figure as a signed number.
+#[tactic(auto, unfolding(crate::specs::Signed::signed_of, crate::specs::Signed::minus))]
 pub fn signed_of(z: Figure) -> i64
     requires { z.size ≤ cap }
     ensures { result ≡ signed_of z }
@@ -37,12 +38,14 @@ pub fn signed_of(z: Figure) -> i64
 }
 
 // A signed number as a figure.
-pub fn figure_of(e: i64) -> Figure
-    requires { nat_abs e ≤ cap }
-    ensures { result ≡ figure_signed e }
-{
-    Figure {
-        negative: e < 0,
-        size: e.unsigned_abs(),
+impl From<i64> for Figure {
+    ghost from_gives = { λ e z. z ≡ figure_signed e };
+
+    #[tactic(auto, unfolding(crate::specs::Signed::figure_signed))]
+    fn from(e: i64) -> Figure {
+        Figure {
+            negative: e < 0,
+            size: e.unsigned_abs(),
+        }
     }
 }
