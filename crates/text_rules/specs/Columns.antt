@@ -56,6 +56,12 @@ content_by flags flag Always = number_cell
 content_by flags flag (ByFlag column) = cond (entry_in flags flag column) number_cell blank_cell
 content_by flags flag Text = words_cell
 
+-- a column with that use has something to say in a line with that flag
+unfoldable pub used_by : List (List Bool) → ℕ → Use → Bool
+used_by flags flag Always = true
+used_by flags flag (ByFlag column) = entry_in flags flag column
+used_by flags flag Text = true
+
 unfoldable pub number_form : Column → Form
 number_form c = record { digits = c.digits; decimals = c.decimals; signed = false; width = c.width }
 
