@@ -27,49 +27,28 @@ pub struct Line {
 pub fn chosen(test: bool, x: Money, y: Money) -> Money
     ensures { result ≡ cond test x y }
 {
-    if test {
-        return x;
-    }
-    y
+    if test { x } else { y }
 }
 
 // Whether a component of which stock moves, with no cash for a shortage, is short.
 fn is_short(moves: bool, in_cash: bool, need: u64, have: u64) -> bool
     ensures { result ≡ every (moves ∷ not in_cash ∷ ltb have need ∷ []) }
 {
-    if !moves {
-        return false;
-    }
-    if in_cash {
-        return false;
-    }
-    have < need
+    moves && !in_cash && have < need
 }
 
 // What is missing where cash stands for a shortage.
 fn missing_of(in_cash: bool, need: u64, have: u64) -> u64
     ensures { result ≡ cond in_cash (need - have) 0 }
 {
-    if !in_cash {
-        return 0;
-    }
-    if need <= have {
-        return 0;
-    }
-    need - have
+    if in_cash { need.saturating_sub(have) } else { 0 }
 }
 
 // What moves of a need, at most so much.
 fn moved_of(moves: bool, need: u64, most: u64) -> u64
     ensures { result ≡ cond moves (min need most) 0 }
 {
-    if !moves {
-        return 0;
-    }
-    if need <= most {
-        return need;
-    }
-    most
+    if moves { need.min(most) } else { 0 }
 }
 
 // A component in a creation of m baskets, for an account that has so much of it to hand in.
@@ -87,10 +66,10 @@ fn creation_line(c: Component, have: u64, price: u64, m: u64) -> Line
     let cash = chosen(moves, worth, amount).with_premium(c.premium);
     Line {
         short: is_short(moves, in_cash, need, have),
-        missing: missing,
-        worth: worth,
-        cash: cash,
-        shanghai: shanghai,
+        missing,
+        worth,
+        cash,
+        shanghai,
         moved: moved_of(moves, need, have),
     }
 }
@@ -110,8 +89,8 @@ fn redemption_line(c: Component, have: u64, m: u64) -> Line
         missing: 0,
         worth: Money(0),
         cash: chosen(moves, Money(0), paid),
-        shanghai: shanghai,
-        moved: moved,
+        shanghai,
+        moved,
     }
 }
 
@@ -156,8 +135,5 @@ pub fn order_line(kind: usize, c: Component, have: u64, price: u64, m: u64) -> L
 pub fn is_covered(flag: u64, need: u64, have: u64) -> bool
     ensures { result ≡ every (leb need have ∷ entry flag stock_moves ∷ []) }
 {
-    if have < need {
-        return false;
-    }
-    flags::entry_of(flag, flags::STOCK_MOVES)
+    need <= have && flags::entry_of(flag, flags::STOCK_MOVES)
 }
