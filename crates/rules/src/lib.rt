@@ -4,6 +4,7 @@
 ghost use Rattle.std.specs.Prelude.{◌≡◌, ◌<◌, ◌^◌};
 ghost use Rattle.rules.specs.Kinds.{all_cash, cash_report_count, creation_of, redemption_of};
 ghost use Rattle.rules.specs.Lent.{rooms_of};
+ghost use Rattle.rules.specs.Orders.{kind_at, number_of, opposite_kind};
 
 use units::Money;
 
@@ -58,15 +59,51 @@ pub fn rooms_of(records: usize, investor: usize, fund: usize) -> Rooms
     }
 }
 
-// The two kinds of order, as limits and counters are laid out.
-pub const CREATION: usize = 0;
+// The two kinds of order.
+#[derive(Clone, Copy, PartialEq, Eq, Debug)]
+pub enum Kind {
+    Creation,
+    Redemption,
+}
 
-pub const REDEMPTION: usize = 1;
+impl Kind {
+    // Its number, as limits and counters are laid out.
+    pub fn number(self) -> usize
+        ensures { result ≡ number_of self }
+    {
+        match self {
+            Kind::Creation => 0,
+            Kind::Redemption => 1,
+        }
+    }
+
+    // The other kind.
+    pub fn opposite(self) -> Kind
+        ensures { result ≡ opposite_kind self }
+    {
+        match self {
+            Kind::Creation => Kind::Redemption,
+            Kind::Redemption => Kind::Creation,
+        }
+    }
+}
+
+impl From<usize> for Kind {
+    // The kind that has a number: 0 is creation, and every other is redemption.
+    fn from(number: usize) -> Kind
+        ensures { result ≡ kind_at number }
+    {
+        match number {
+            0 => Kind::Creation,
+            _ => Kind::Redemption,
+        }
+    }
+}
 
 // What an order asks: its kind, the account, and how many units.
-#[derive(Clone, Copy)]
+#[derive(Clone, Copy, PartialEq, Eq, Debug)]
 pub struct Ask {
-    pub kind: usize,
+    pub kind: Kind,
     pub account: usize,
     pub units: u64,
 }
@@ -76,7 +113,7 @@ pub fn creation(account: usize, units: u64) -> Ask
     ensures { result ≡ creation_of account units }
 {
     Ask {
-        kind: CREATION,
+        kind: Kind::Creation,
         account,
         units,
     }
@@ -87,7 +124,7 @@ pub fn redemption(account: usize, units: u64) -> Ask
     ensures { result ≡ redemption_of account units }
 {
     Ask {
-        kind: REDEMPTION,
+        kind: Kind::Redemption,
         account,
         units,
     }
