@@ -6,10 +6,10 @@ ghost use Rattle.rules.specs.Kinds.{all_cash, cash_report_count, creation_of, re
 ghost use Rattle.rules.specs.Lent.{rooms_of};
 ghost use Rattle.rules.specs.Orders.{kind_at, number_of, opposite_kind};
 
-use units::{Money, ReferenceValue};
+use units::Money;
 
 // Why a call is turned back, with a place where the paper gives one. specs/Replies.antt has the paper's numbers.
-#[derive(Clone, Copy)]
+#[derive(Clone, Copy, PartialEq, Eq, Debug)]
 pub enum Refusal {
     Sizes,
     FundField,
@@ -31,13 +31,6 @@ pub enum Refusal {
     TextLine(usize),
     TextField(usize),
     RecordCount,
-}
-
-// The answer of opening, price and trade.
-#[derive(Clone, Copy)]
-pub enum Answer {
-    Done,
-    Refused(Refusal),
 }
 
 // How many records an order makes, and how many reports for each of its two parties.
@@ -64,20 +57,6 @@ pub fn rooms_of(records: usize, investor: usize, fund: usize) -> Rooms
         investor: investor / layout::REPORT_WIDTH,
         fund: fund / layout::REPORT_WIDTH,
     }
-}
-
-// The answer of creation and redemption.
-#[derive(Clone, Copy)]
-pub enum OrderAnswer {
-    Made(Counts),
-    Refused(Refusal),
-}
-
-// The answer of the reference value.
-#[derive(Clone, Copy)]
-pub enum ValueAnswer {
-    Worth(ReferenceValue),
-    Refused(Refusal),
 }
 
 // The two kinds of order.
@@ -149,6 +128,16 @@ pub fn redemption(account: usize, units: u64) -> Ask
         account,
         units,
     }
+}
+
+// A trade: a quantity of a line at a price a unit, from a seller to a buyer.
+#[derive(Clone, Copy)]
+pub struct Trade {
+    pub line: usize,
+    pub quantity: u64,
+    pub price: Money,
+    pub seller: usize,
+    pub buyer: usize,
 }
 
 // The cash of an order, by market.
