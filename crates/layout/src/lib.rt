@@ -200,7 +200,7 @@ pub fn put_signed(run: &mut [u64], at: usize, e: i64)
     requires e_bound { nat_abs e ≤ cap }
     ensures { run.new ≡ sets run.old at (signed_numbers e) }
 {
-    let z = digits::figure_of(e);
+    let z = Figure::from(e);
     run[at] = z.negative as u64;
     run[at + 1] = z.size;
 }

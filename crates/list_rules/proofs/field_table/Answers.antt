@@ -1,0 +1,9 @@
+-- `list_rules::field_table` meets its contract: the table is the definition's, field by field.
+use mathlib.Core.Path.{refl}
+use Rattle.text_rules.specs.Tables.{fields_of, field_of}
+use Rattle.list_rules.specs.Shanghai.{shanghai_fields}
+use Rattle.list_rules.proofs.field_table.Goals as goal
+
+pub returns : goal.returns
+unfolding fields_of field_of shanghai_fields
+returns c = refl
