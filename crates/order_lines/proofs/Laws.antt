@@ -39,7 +39,7 @@ pub chosen_le : (b : Bool) (x y : Money) (n : ℕ) → x.0 ≤ n → y.0 ≤ n �
 chosen_le true x y n p q = p
 chosen_le false x y n p q = q
 
-worth_in-le : (b : Bool) (w n : ℕ) → w ≤ n → worth_in (then_some b (money w)) ≤ n
+pub worth_in-le : (b : Bool) (w n : ℕ) → w ≤ n → worth_in (then_some b (money w)) ≤ n
 worth_in-le true w n h = h
 worth_in-le false w n h = zero-le
 
