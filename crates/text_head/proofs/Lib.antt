@@ -1,3 +1,2 @@
-pub mod Names
+pub mod Lines
 pub mod Shape
-pub mod Fields
