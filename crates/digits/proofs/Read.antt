@@ -14,7 +14,7 @@ use borrow.Author.Tests.{le-leb, lt-leb, eq-eqb, ne_eqb}
 use Rattle.sequences.specs.Every.{every, inside}
 use Rattle.sequences.proofs.Every.{every_at, inside-true, inside_facts}
 use Rattle.digits.specs.declared.Form.{Form}
-use Rattle.digits.specs.declared.Size.TheVariants.{Known, Ill as NoSize}
+use Rattle.std.specs.Prelude.{Some, None}
 use Rattle.digits.specs.Digits.{is_digit, all_digits, from, spare, cap, capped, is_shaped, is_whole, point_at, is_plain, plain_size, size_reading, read_on}
 
 -- a is at most b, or more
@@ -98,11 +98,11 @@ module _ (s : List ℕ) (before : ℕ) where
           size = t.size ∙ rw (add-one, drop-cons s i 0, e) (sym (capped_from (a * 10 + (get_or s i 0 - 48)) (drop (suc i) s)));
         }
 
-    pub read_ill : i < length s → is_digit (get_or s i 0) ≡ false → NoSize ≡ read_on before s
+    pub read_ill : i < length s → is_digit (get_or s i 0) ≡ false → None ≡ read_on before s
     unfolding read_on all_digits
     read_ill h e = rw (t.well, drop-cons s i 0, e)
 
-    pub read_end : length s ≤ i → Known a ≡ read_on before s
+    pub read_end : length s ≤ i → Some a ≡ read_on before s
     unfolding read_on all_digits from
     read_end h = rw (t.well, t.size, drop_of_length-le s h, capped_small a t.within)
 
@@ -133,7 +133,7 @@ pub shaped_fixed : (digits : ℕ) (s : List ℕ) → (digits ≡ 0 → ⊥) → 
 shaped_fixed digits s e h = sym (shaped_count digits s e) ∙ eq-eqb (length s) digits h
 
 module _ (digits : ℕ) (s : List ℕ) where
-  pub whole_ill : (n : ℕ) → is_shaped digits s ≡ false → NoSize ≡ size_reading (is_whole digits s) n
+  pub whole_ill : (n : ℕ) → is_shaped digits s ≡ false → None ≡ size_reading (is_whole digits s) n
   unfolding is_whole is_shaped every
   whole_ill n e = rw e
 
@@ -152,15 +152,15 @@ module _ (digits : ℕ) (s : List ℕ) where
 -- ---- with the decimals of the form
 
 -- what a size that is read says of its test
-pub size_ill : (b : Bool) (n : ℕ) → size_reading b n ≡ NoSize → b ≡ false
+pub size_ill : (b : Bool) (n : ℕ) → size_reading b n ≡ None → b ≡ false
 size_ill true n e = let z : ◌≡◌ {A = ℕ} 0 1 = cc in absurd (omega arith)
 size_ill false n e = refl
 
-pub size_known : (b : Bool) (n v : ℕ) → size_reading b n ≡ Known v → (b ≡ true) × (n ≡ v)
+pub size_known : (b : Bool) (n v : ℕ) → size_reading b n ≡ Some v → (b ≡ true) × (n ≡ v)
 size_known true n v e = (refl, cc)
 size_known false n v e = let z : ◌≡◌ {A = ℕ} 0 1 = cc in absurd (omega arith)
 
-pub known_within : (digits : ℕ) (s : List ℕ) (v : ℕ) → size_reading (is_whole digits s) (capped (from 0 s)) ≡ Known v → v ≤ cap
+pub known_within : (digits : ℕ) (s : List ℕ) (v : ℕ) → size_reading (is_whole digits s) (capped (from 0 s)) ≡ Some v → v ≤ cap
 known_within digits s v e = omega (arith, (size_known (is_whole digits s) (capped (from 0 s)) v e).1, capped_within (from 0 s))
 
 pub whole_empty : (digits : ℕ) → is_whole digits [] ≡ false
@@ -178,22 +178,22 @@ module _ (f : Form) (s : List ℕ) where
   plain_whole e = rw (eq-eqb f.decimals 0 e)
 
   module _ (some : f.decimals ≡ 0 → ⊥) where
-    pub plain_short : length s ≤ f.decimals → NoSize ≡ size_reading (is_plain f s) (plain_size f s)
+    pub plain_short : length s ≤ f.decimals → None ≡ size_reading (is_plain f s) (plain_size f s)
     unfolding is_plain every point_at
     plain_short h =
         let p : length s - (f.decimals + 1) ≡ 0 = omega arith in
         rw (ne_eqb f.decimals 0 some, p, whole_empty f.digits)
 
-    pub plain_point : (get_or s point_place 0 ≡ 46 → ⊥) → NoSize ≡ size_reading (is_plain f s) (plain_size f s)
+    pub plain_point : (get_or s point_place 0 ≡ 46 → ⊥) → None ≡ size_reading (is_plain f s) (plain_size f s)
     unfolding is_plain every point_at
     plain_point h = rw (ne_eqb f.decimals 0 some, ne_eqb (get_or s point_place 0) 46 h, and-false)
 
-    pub plain_ill : (n : ℕ) → size_reading (is_whole f.digits (take point_place s)) n ≡ NoSize → NoSize ≡ size_reading (is_plain f s) (plain_size f s)
+    pub plain_ill : (n : ℕ) → size_reading (is_whole f.digits (take point_place s)) n ≡ None → None ≡ size_reading (is_plain f s) (plain_size f s)
     unfolding is_plain every point_at
     plain_ill n e = rw (ne_eqb f.decimals 0 some, size_ill (is_whole f.digits (take point_place s)) n e)
 
     pub plain_known : (v : ℕ) → get_or s point_place 0 ≡ 46
-        → size_reading (is_whole f.digits (take point_place s)) (capped (from 0 (take point_place s))) ≡ Known v
+        → size_reading (is_whole f.digits (take point_place s)) (capped (from 0 (take point_place s))) ≡ Some v
         → read_on v (drop (point_place + 1) s) ≡ size_reading (is_plain f s) (plain_size f s)
     unfolding is_plain plain_size every point_at read_on
     plain_known v h e =

@@ -11,18 +11,18 @@ use lib.Dec.{eqb}
 use borrow.Author.Tests.{eq-eqb, ne_eqb}
 use Rattle.sequences.specs.Every.{every}
 use Rattle.digits.specs.declared.Form.{Form}
-use Rattle.digits.specs.declared.Reading.TheVariants.{Good, Ill}
+use Rattle.std.specs.Prelude.{Some, None}
 use Rattle.digits.specs.Digits.{plain, blanks, minus_figure, is_plain, plain_size, has_minus, is_signed}
 use Rattle.digits.specs.Digits.{signed_figure, trimmed, is_number, figure_of, size_reading, reading, below_zero, above_zero}
 use Rattle.digits.proofs.Put.{rest_all}
 
 -- ---- a size behind a "-"
 
-pub minus-zero : (n : ℕ) → n ≡ 0 → Ill ≡ minus_figure n
+pub minus-zero : (n : ℕ) → n ≡ 0 → None ≡ minus_figure n
 unfolding minus_figure
 minus-zero n e = rw (eq-eqb n 0 e)
 
-pub minus_some : (n : ℕ) → (n ≡ 0 → ⊥) → Good (record { negative = true; size = n }) ≡ minus_figure n
+pub minus_some : (n : ℕ) → (n ≡ 0 → ⊥) → Some (record { negative = true; size = n }) ≡ minus_figure n
 unfolding minus_figure
 minus_some n h = rw (ne_eqb n 0 h)
 
@@ -61,7 +61,7 @@ unfolding every minus_figure
 below_test false n = refl
 below_test true n = zero_or (eqb n 0)
   where
-    zero_or : (z : Bool) → cond z Ill (Good (record { negative = true; size = n })) ≡ reading (not z && true) (record { negative = true; size = n })
+    zero_or : (z : Bool) → cond z None (Some (record { negative = true; size = n })) ≡ reading (not z && true) (record { negative = true; size = n })
     zero_or true = refl
     zero_or false = refl
 

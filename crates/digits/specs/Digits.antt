@@ -1,12 +1,8 @@
 -- Number fields of the list text: how a number is written, and how one that is written is read.
-use Rattle.std.specs.Prelude.{ℕ, zero, suc, ◌+◌, ◌-◌, ◌*◌, ◌/◌, ◌%◌, ◌^◌, Bool, true, false, cond, not, ◌&&◌, List, [], ◌∷◌, ◌++◌, leb, ltb, eqb, length, get_or, take, drop, replicate}
+use Rattle.std.specs.Prelude.{ℕ, zero, suc, ◌+◌, ◌-◌, ◌*◌, ◌/◌, ◌%◌, ◌^◌, Bool, true, false, cond, not, ◌&&◌, List, [], ◌∷◌, ◌++◌, leb, ltb, eqb, length, get_or, take, drop, replicate, Option, Some, None, option_map, option_and_then}
 use Rattle.sequences.specs.Every.{every, inside}
 use Rattle.digits.specs.declared.Form.{Form}
 use Rattle.digits.specs.declared.Figure.{Figure}
-use Rattle.digits.specs.declared.Size.{Size}
-use Rattle.digits.specs.declared.Size.TheVariants.{Known, Ill as NoSize}
-use Rattle.digits.specs.declared.Reading.{Reading}
-use Rattle.digits.specs.declared.Reading.TheVariants.{Good, Ill}
 
 -- a number that is not below zero
 abbrev pub plain : ℕ → Figure
@@ -140,24 +136,22 @@ figure_of f s = signed_figure f (trimmed f s)
 
 -- ---- what the code answers
 
-abbrev pub size_reading : Bool → ℕ → Size
-size_reading well n = cond well (Known n) NoSize
+abbrev pub size_reading : Bool → ℕ → Option ℕ
+size_reading well n = cond well (Some n) None
 
-abbrev pub reading : Bool → Figure → Reading
-reading well z = cond well (Good z) Ill
+abbrev pub reading : Bool → Figure → Option Figure
+reading well z = cond well (Some z) None
 
 -- the digits of s, read on after the number a
-unfoldable pub read_on : ℕ → List ℕ → Size
+unfoldable pub read_on : ℕ → List ℕ → Option ℕ
 read_on a s = size_reading (all_digits s) (capped (from a s))
 
 -- a size behind a "-", and with no sign
-unfoldable pub minus_figure : ℕ → Reading
-minus_figure n = cond (eqb n 0) Ill (Good (record { negative = true; size = n }))
+unfoldable pub minus_figure : ℕ → Option Figure
+minus_figure n = cond (eqb n 0) None (Some (record { negative = true; size = n }))
 
-abbrev pub below_zero : Size → Reading
-below_zero NoSize = Ill
-below_zero (Known n) = minus_figure n
+abbrev pub below_zero : Option ℕ → Option Figure
+below_zero size = option_and_then minus_figure size
 
-abbrev pub above_zero : Size → Reading
-above_zero NoSize = Ill
-above_zero (Known n) = Good (plain n)
+abbrev pub above_zero : Option ℕ → Option Figure
+above_zero size = option_map plain size

@@ -6,7 +6,7 @@ ghost use Rattle.digits.specs.Digits.{cap};
 ghost use Rattle.digits.specs.Signed.{signed_of, figure_signed};
 
 // How a number stands in its field.
-#[derive(Clone, Copy)]
+#[derive(Clone, Copy, PartialEq, Eq, Debug)]
 pub struct Form {
     // So many digits before the point; 0 stands for as many as there are, with no spare zero.
     pub digits: usize,
@@ -18,55 +18,34 @@ pub struct Form {
 }
 
 // A number with its sign. With decimals its size counts the last of them.
-#[derive(Clone, Copy)]
+#[derive(Clone, Copy, PartialEq, Eq, Debug)]
 pub struct Figure {
     pub negative: bool,
     pub size: u64,
-}
-
-// What digits spell.
-#[derive(Clone, Copy)]
-pub enum Size {
-    Known(u64),
-    Ill,
-}
-
-// What a field says.
-#[derive(Clone, Copy)]
-pub enum Reading {
-    Good(Figure),
-    Ill,
 }
 
 // The most decimals of a form.
 pub const MOST_DECIMALS: usize = 9;
 
 // A figure as a signed number.
+#[tactic(auto, unfolding(crate::specs::Signed::signed_of, crate::specs::Signed::minus))]
 pub fn signed_of(z: Figure) -> i64
     requires { z.size ≤ cap }
     ensures { result ≡ signed_of z }
 {
     let size = z.size as i64;
-    if z.negative {
-        return 0 - size;
-    }
-    size
+    if z.negative { -size } else { size }
 }
 
 // A signed number as a figure.
-pub fn figure_of(e: i64) -> Figure
-    requires { nat_abs e ≤ cap }
-    ensures { result ≡ figure_signed e }
-{
-    if e < 0 {
-        let size = (0 - e) as u64;
-        return Figure {
-            negative: true,
-            size,
-        };
-    }
-    Figure {
-        negative: false,
-        size: e as u64,
+impl From<i64> for Figure {
+    ghost from_gives = { λ e z. z ≡ figure_signed e };
+
+    #[tactic(auto, unfolding(crate::specs::Signed::figure_signed))]
+    fn from(e: i64) -> Figure {
+        Figure {
+            negative: e < 0,
+            size: e.unsigned_abs(),
+        }
     }
 }

@@ -4,8 +4,6 @@
 ghost use Rattle.std.specs.Prelude.{◌≡◌, ◌+◌, ◌-◌, ◌*◌, ◌^◌, ◌<◌, ◌≤◌, true, false, length};
 ghost use Rattle.digits.specs.Digits.{cap, capped, is_digit, is_shaped, blanks, all_blank, read_on};
 
-use digits::Size;
-
 // Above every range: what a number that is more is read as.
 const CAP: u64 = 1_000_000_000_000_000_000;
 
@@ -29,7 +27,7 @@ fn next_size(a: u64, digit: u64) -> u64
 }
 
 // The digits of s, read on after the number before; any count of them.
-pub fn read_on(s: &[u8], before: u64) -> Size
+pub fn read_on(s: &[u8], before: u64) -> Option<u64>
     requires { before ≤ cap }
     ensures { result ≡ read_on before s.now }
 {
@@ -38,16 +36,16 @@ pub fn read_on(s: &[u8], before: u64) -> Size
     while i < s.len() {
         let digit = digit_of(s[i]);
         if 9 < digit {
-            return Size::Ill;
+            return None;
         }
         a = next_size(a, digit);
         i += 1;
     }
-    Size::Known(a)
+    Some(a)
 }
 
 // The same of digits that are too few to meet the cap.
-pub fn read_few(s: &[u8], before: u64) -> Size
+pub fn read_few(s: &[u8], before: u64) -> Option<u64>
     requires { (before + 1) * 10 ^ length s.now ≤ cap }
     ensures { result ≡ read_on before s.now }
 {
@@ -56,12 +54,12 @@ pub fn read_few(s: &[u8], before: u64) -> Size
     while i < s.len() {
         let digit = digit_of(s[i]);
         if 9 < digit {
-            return Size::Ill;
+            return None;
         }
         a = a * 10 + digit;
         i += 1;
     }
-    Size::Known(a)
+    Some(a)
 }
 
 // Whether there are so many digits, or for 0 some and no spare zero.

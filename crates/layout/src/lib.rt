@@ -9,7 +9,7 @@ ghost use Rattle.digits.specs.Digits.{cap, capped};
 ghost use Rattle.layout.specs.Places.{most_components, component_width, basket_width, limit_count, fund_width, day_width, record_width, report_width, answer_width};
 ghost use Rattle.layout.specs.Components.{blank, component_at, places_of};
 ghost use Rattle.layout.specs.Fund.{signed_at, signed_numbers, fund_at, fund_numbers};
-ghost use Rattle.layout.specs.Day.{day_head_at, basket_at, day_numbers};
+ghost use Rattle.layout.specs.Day.{Day, day_of, day_head_at, basket_at, day_at, day_numbers};
 ghost use Rattle.layout.specs.Book.{width_of, behind_line, lots_at, put_lots};
 ghost use Rattle.layout.specs.Records.{record_at, record_numbers};
 ghost use Rattle.layout.specs.Reports.{report_numbers};
@@ -17,6 +17,7 @@ ghost use Rattle.layout.specs.Answers.{put_reply};
 
 use digits::Figure;
 use lots::Lots;
+use std::marker::Model;
 use units::{Money, Rate};
 
 #[derive(Clone, Copy)]
@@ -199,7 +200,7 @@ pub fn put_signed(run: &mut [u64], at: usize, e: i64)
     requires e_bound { nat_abs e ≤ cap }
     ensures { run.new ≡ sets run.old at (signed_numbers e) }
 {
-    let z = digits::figure_of(e);
+    let z = Figure::from(e);
     run[at] = z.negative as u64;
     run[at + 1] = z.size;
 }
@@ -296,6 +297,81 @@ pub fn basket_of(day: &[u64]) -> &[u64]
     ensures { result.now ≡ basket_at day.now }
 {
     &day[BASKET_FROM..]
+}
+
+// A day where it lies: its head, and its basket. Contracts see it as the day.
+#[derive(Drop)]
+pub struct DayView<'a> {
+    head: DayHead,
+    basket: &'a [u64],
+}
+
+impl<'a> Model for DayView<'a> {
+    ghost Value = { Day };
+
+    ghost view = { λ x. day_of x.head x.basket.now };
+
+    ghost invariant = { λ x. length x.basket.now ≡ basket_width };
+}
+
+impl<'a> DayView<'a> {
+    // The day of a head and a basket.
+    pub fn new(head: DayHead, basket: &'a [u64]) -> Self
+        requires { length basket.now ≡ basket_width }
+        ensures { result ≡ day_of head basket.now }
+    {
+        DayView { head, basket }
+    }
+
+    pub fn accounts(&self) -> usize
+        ensures { result ≡ self.now.accounts }
+    {
+        self.head.accounts
+    }
+
+    // How many components it has.
+    pub fn count(&self) -> usize
+        ensures { result ≡ self.now.count }
+    {
+        self.head.count
+    }
+
+    pub fn fund(&self) -> Fund
+        ensures { result ≡ self.now.fund }
+    {
+        self.head.fund
+    }
+
+    // Component i.
+    pub fn component(&self, i: usize) -> Component
+        requires { i < most_components }
+        ensures { result ≡ get_or self.now.components i blank }
+    {
+        component_of(self.basket, i)
+    }
+
+    // Its head.
+    pub fn head(&self) -> DayHead
+        ensures { result ≡ record { accounts = self.now.accounts; count = self.now.count; fund = self.now.fund } }
+    {
+        self.head
+    }
+
+    // Its basket.
+    pub fn basket(&self) -> &[u64]
+        ensures length { length result.now ≡ basket_width }
+        ensures components { places_of (component_at result.now) most_components ≡ self.now.components }
+    {
+        self.basket
+    }
+}
+
+// The day in a run.
+pub fn view_of(run: &[u64]) -> DayView<'_>
+    requires { length run.now ≡ day_width }
+    ensures { result ≡ day_at run.now }
+{
+    DayView::new(head_of(run), basket_of(run))
 }
 
 // Stores numbers at the front of a run.

@@ -4,9 +4,12 @@ use Rattle.flags.specs.Table.{flag_table, rate_used, amount_used}
 use Rattle.digits.specs.declared.Form.{Form}
 use Rattle.lines.specs.Words.{bytes}
 use Rattle.text_rules.specs.Dates.{date_digits}
-use Rattle.text_rules.specs.Tables.{Use, always_used, used_by_flag, for_text, Column, Field, TextForm}
+use Rattle.text_rules.specs.declared.Use.{Use}
+use Rattle.text_rules.specs.declared.Use.TheVariants.{Always, ByFlag, Text}
+use Rattle.text_rules.specs.declared.Column.{Column}
 use Rattle.text_rules.specs.declared.ValueKind.{ValueKind}
 use Rattle.text_rules.specs.declared.ValueKind.TheVariants.{Any, Date, ZeroOrOne}
+use Rattle.text_rules.specs.Tables.{Field, TextForm}
 
 -- ---- the columns of a component line
 abbrev column : ℕ → ℕ → ℕ → Use → Column
@@ -16,19 +19,19 @@ column width digits decimals used = record { width = width; digits = digits; dec
 unfoldable pub shanghai_columns : List Column
 shanghai_columns =
     -- code
-    column 6 6 0 always_used
+    column 6 6 0 Always
     -- name
-    ∷ column 8 0 0 for_text
+    ∷ column 8 0 0 Text
     -- quantity
-    ∷ column 8 0 0 always_used
+    ∷ column 8 0 0 Always
     -- flag
-    ∷ column 1 1 0 always_used
+    ∷ column 1 1 0 Always
     -- premium
-    ∷ column 7 0 5 (used_by_flag rate_used)
+    ∷ column 7 0 5 (ByFlag rate_used)
     -- discount
-    ∷ column 7 0 5 (used_by_flag rate_used)
+    ∷ column 7 0 5 (ByFlag rate_used)
     -- amount
-    ∷ column 12 0 3 (used_by_flag amount_used)
+    ∷ column 12 0 3 (ByFlag amount_used)
     ∷ []
 
 -- which is which

@@ -6,7 +6,7 @@ ghost use Rattle.list_rules.specs.Lent.{ColumnsLent, FieldsLent};
 use digits::Form;
 use layout::Fund;
 use rules::Refusal;
-use text_rules::{ALWAYS, BY_FLAG, COLUMN_PARTS, Field, TEXT, ValueKind, WIDTH};
+use text_rules::{Column, Field, Use, ValueKind};
 
 // The fields of a list but its components, its names and the letters of its first line.
 #[derive(Clone, Copy)]
@@ -53,26 +53,60 @@ pub const NAME: usize = 1;
 
 pub const FLAG: usize = 3;
 
-// Width, digits, decimals, use, and the flag table's column where a flag decides.
-const COLUMNS: [[usize; COLUMN_PARTS]; COLUMN_COUNT] = [
+const COLUMNS: [Column; COLUMN_COUNT] = [
     // Code.
-    [6, 6, 0, ALWAYS, 0],
+    Column {
+        width: 6,
+        digits: 6,
+        decimals: 0,
+        used: Use::Always,
+    },
     // Name.
-    [8, 0, 0, TEXT, 0],
+    Column {
+        width: NAME_WIDTH,
+        digits: 0,
+        decimals: 0,
+        used: Use::Text,
+    },
     // Quantity.
-    [8, 0, 0, ALWAYS, 0],
+    Column {
+        width: 8,
+        digits: 0,
+        decimals: 0,
+        used: Use::Always,
+    },
     // Flag.
-    [1, 1, 0, ALWAYS, 0],
+    Column {
+        width: 1,
+        digits: 1,
+        decimals: 0,
+        used: Use::Always,
+    },
     // Premium.
-    [7, 0, 5, BY_FLAG, flags::RATE_USED],
+    Column {
+        width: 7,
+        digits: 0,
+        decimals: 5,
+        used: Use::ByFlag(flags::RATE_USED),
+    },
     // Discount.
-    [7, 0, 5, BY_FLAG, flags::RATE_USED],
+    Column {
+        width: 7,
+        digits: 0,
+        decimals: 5,
+        used: Use::ByFlag(flags::RATE_USED),
+    },
     // Amount.
-    [12, 0, 3, BY_FLAG, flags::AMOUNT_USED],
+    Column {
+        width: 12,
+        digits: 0,
+        decimals: 3,
+        used: Use::ByFlag(flags::AMOUNT_USED),
+    },
 ];
 
 // How many bytes a component's name has.
-pub const NAME_WIDTH: usize = COLUMNS[NAME][WIDTH];
+pub const NAME_WIDTH: usize = 8;
 
 // How many fields the head has, and which is which.
 pub const FIELD_COUNT: usize = 20;
@@ -239,7 +273,8 @@ const FIELDS: [Field<'static>; FIELD_COUNT] = [
 ];
 
 // The tables, to be lent: the columns of a component line.
-pub fn columns() -> [[usize; COLUMN_PARTS]; COLUMN_COUNT]
+#[tactic(auto, unfolding(crate::specs::Shanghai::shanghai_columns))]
+pub fn columns() -> [Column; COLUMN_COUNT]
     ensures { ColumnsLent result }
 {
     COLUMNS

@@ -5,7 +5,7 @@ use mathlib.Core.List.{[], ◌∷◌}
 use Prim.Native.Nat.{ℕ, ◌-◌, ◌*◌, ◌≤◌, min, zero-le}
 use native.Mathlib.Nat.{le_trans, sub-le, zero-mul}
 use native.Mathlib.Omega.{arith}
-use lib.Dec.{leb, ltb, eqb, lit≤}
+use lib.Dec.{leb, ltb, lit≤}
 use borrow.Author.Tests.{leb-true, le-ltb}
 use Rattle.sequences.specs.Every.{every}
 use Rattle.sequences.proofs.Below.{cond_le}
@@ -18,7 +18,9 @@ use Rattle.flags.proofs.Laws.{moves_rules, shortage_rule}
 use Rattle.layout.specs.declared.Component.{Component}
 use Rattle.fund.proofs.Laws.{ComponentRanges}
 use Rattle.rules.specs.Sound.{most_price}
-use Rattle.rules.specs.Orders.{creation, most_baskets}
+use Rattle.rules.specs.declared.Kind.{Kind}
+use Rattle.rules.specs.declared.Kind.TheVariants.{Creation, Redemption}
+use Rattle.rules.specs.Orders.{most_baskets}
 use Rattle.rules.proofs.Asked.{either_kind}
 use Rattle.order_lines.specs.declared.Line.{Line}
 use Rattle.order_lines.specs.Lines.{money, missing_of, worth_of, creation_line, redemption_line, amount_due, amount_line, order_line, stock_line}
@@ -75,7 +77,7 @@ module _ (c : Component) (m : ℕ) (r : Ranged c) (few : m ≤ most_baskets) whe
         cash = cond_le (entry c.flag stock_moves) zero-le (omega (arith, amount-le, discount-le (m * c.amount.0) c.discount.0));
       }
 
-  pub order_small : (kind have price : ℕ) → price ≤ most_price → Small (order_line kind c have price m)
+  pub order_small : (kind : Kind) (have price : ℕ) → price ≤ most_price → Small (order_line kind c have price m)
   unfolding order_line
   order_small kind have price p = either_kind Small _ _ (creation_small have price p) (redemption_small have) kind
 
@@ -175,7 +177,7 @@ module _ (c : Component) (have price m : ℕ) (covered : every (leb (m * c.quant
   covered_redemption =
       line_eq (rw moves (le-ltb have (m * c.quantity) enough)) refl refl (rw moves) (moves_rules c.flag moves).0 (rw moves)
 
-  pub covered_line : (kind : ℕ) → order_line kind c have price m ≡ stock_line (m * c.quantity)
+  pub covered_line : (kind : Kind) → order_line kind c have price m ≡ stock_line (m * c.quantity)
   unfolding order_line
   covered_line kind = either_kind (λ x. x ≡ stock_line (m * c.quantity)) _ _ covered_creation covered_redemption kind
 
@@ -192,22 +194,19 @@ module _ (c : Component) (have price m : ℕ) (stays : entry c.flag stock_moves 
   unfolding redemption_line
   amount_redemption = rw (stays, le-ltb have 0 zero-le)
 
-  pub amount_is : (kind : ℕ) → order_line kind c have price m ≡ amount_line kind c m
+  pub amount_is : (kind : Kind) → order_line kind c have price m ≡ amount_line kind c m
   unfolding order_line amount_line amount_due
-  amount_is kind = go (eqb kind creation)
-    where
-      go : (b : Bool) → cond b (creation_line c have price m) (redemption_line c have m) ≡ paid (cond b (premium (m * c.amount.0) c.premium.0) (discount (m * c.amount.0) c.discount.0))
-      go true = amount_creation
-      go false = amount_redemption
+  amount_is Creation = amount_creation
+  amount_is Redemption = amount_redemption
 
 -- from its parts
-pub amount_parts : (kind : ℕ) (c : Component) (m cash : ℕ) (inside : Bool)
+pub amount_parts : (kind : Kind) (c : Component) (m cash : ℕ) (inside : Bool)
     → cash ≡ amount_due kind c (m * c.amount.0) → inside ≡ entry c.flag shanghai
     → line false 0 0 cash inside 0 ≡ amount_line kind c m
 unfolding amount_line
 amount_parts kind c m cash inside ec ei = line_eq refl refl refl ec ei refl
 
 -- it adds its cash alone
-pub amount_alone : (kind : ℕ) (c : Component) (m : ℕ) (x : Line) → x ≡ amount_line kind c m → (x.short ≡ false) × (x.missing ≡ 0) × (x.worth.0 ≡ 0) × (x.moved ≡ 0)
+pub amount_alone : (kind : Kind) (c : Component) (m : ℕ) (x : Line) → x ≡ amount_line kind c m → (x.short ≡ false) × (x.missing ≡ 0) × (x.worth.0 ≡ 0) × (x.moved ≡ 0)
 unfolding amount_line
 amount_alone kind c m x e = rw e (refl, refl, refl, refl)

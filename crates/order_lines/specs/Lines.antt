@@ -5,6 +5,7 @@ use Rattle.units.specs.declared.Money.{Money}
 use Rattle.units.specs.Units.{premium, discount}
 use Rattle.flags.specs.Table.{entry, stock_moves, shortage_in_cash, shanghai}
 use Rattle.layout.specs.declared.Component.{Component}
+use Rattle.rules.specs.declared.Kind.{Kind}
 use Rattle.rules.specs.Kinds.{by_kind}
 use Rattle.order_lines.specs.declared.Line.{Line}
 
@@ -47,7 +48,7 @@ redemption_line c have m =
     }
 
 -- a component in an order of either kind
-unfoldable pub order_line : ℕ → Component → ℕ → ℕ → ℕ → Line
+unfoldable pub order_line : Kind → Component → ℕ → ℕ → ℕ → Line
 order_line kind c have price m = by_kind kind (creation_line c have price m) (redemption_line c have m)
 
 -- a component whose stock is there in full
@@ -55,11 +56,11 @@ unfoldable pub stock_line : ℕ → Line
 stock_line need = record { short = false; missing = 0; worth = money 0; cash = money 0; shanghai = true; moved = need }
 
 -- an amount that stands for a component: with the premium on creation, less the discount on redemption
-unfoldable pub amount_due : ℕ → Component → ℕ → ℕ
+unfoldable pub amount_due : Kind → Component → ℕ → ℕ
 amount_due kind c amount = by_kind kind (premium amount c.premium.0) (discount amount c.discount.0)
 
 -- a component of which no stock moves: its amount in so many baskets
-unfoldable pub amount_line : ℕ → Component → ℕ → Line
+unfoldable pub amount_line : Kind → Component → ℕ → Line
 amount_line kind c m =
     record {
       short = false;

@@ -11,7 +11,8 @@ use borrow.Author.Tests.{eq-eqb, ne_eqb}
 use Rattle.flags.specs.Table.{entry_in}
 use Rattle.digits.specs.declared.Size.{Size}
 use Rattle.digits.specs.Digits.{all_blank, is_plain, plain_size, has_minus, is_signed, signed_figure, trimmed, is_number, figure_of, size_reading}
-use Rattle.text_rules.specs.Tables.{width_part, digits_part, decimals_part, use_part, flag_part, by_flag_use, text_use, Column, use_of, column_of}
+use Rattle.text_rules.specs.declared.Column.{Column}
+use Rattle.text_rules.specs.Tables.{width_part, digits_part, decimals_part, use_part, flag_part, by_flag_use, text_use, use_of, column_of}
 use Rattle.text_rules.specs.Columns.{Content, number_cell, blank_cell, content_by, number_form, is_cell, cell_of}
 use Rattle.text_rules.specs.Well.{most_width}
 use Rattle.text_rules.proofs.Well.{WellColumn}

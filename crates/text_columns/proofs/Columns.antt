@@ -10,7 +10,8 @@ use lib.ListN.{length, get_or}
 use borrow.Author.Tests.{eq-eqb, ne_eqb}
 use Rattle.sequences.specs.Below.{all_below}
 use Rattle.sequences.proofs.Below.{all_none, all_more, all-false}
-use Rattle.text_rules.specs.Tables.{Column, width_part, column_of, columns_of}
+use Rattle.text_rules.specs.declared.Column.{Column}
+use Rattle.text_rules.specs.Tables.{width_part, column_of, columns_of}
 use Rattle.text_rules.specs.Columns.{column_width, column_start, line_width, is_row}
 use Rattle.text_rules.specs.Well.{most_line, columns_well}
 use Rattle.text_rules.proofs.Tables.{columns-length, column_row, start_first, start_next, start_line}

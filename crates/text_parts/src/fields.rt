@@ -51,8 +51,7 @@ fn size_of(e: i64) -> u64 {
     if !fund::cash_in_range(e) {
         return u64::MAX;
     }
-    let z = digits::figure_of(e);
-    z.size
+    e.unsigned_abs()
 }
 
 fn fund_of(item: &[u64]) -> Fund {

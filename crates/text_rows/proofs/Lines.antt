@@ -14,8 +14,10 @@ use Rattle.digits.specs.declared.Size.{Size}
 use Rattle.digits.specs.declared.Size.TheVariants.{Known, Ill}
 use Rattle.digits.proofs.Read.{size_ill, size_known}
 use Rattle.lines.specs.Lines.{name_byte, all_bytes}
-use Rattle.text_rules.specs.Tables.{Use, always_used, used_by_flag, for_text}
-use Rattle.text_rules.specs.Tables.{width_part, digits_part, decimals_part, use_part, flag_part, by_flag_use, text_use, Column, TextForm, line_form, use_of, column_of, columns_of, column_at}
+use Rattle.text_rules.specs.declared.Use.{Use}
+use Rattle.text_rules.specs.declared.Use.TheVariants.{Always, ByFlag, Text}
+use Rattle.text_rules.specs.declared.Column.{Column}
+use Rattle.text_rules.specs.Tables.{width_part, digits_part, decimals_part, use_part, flag_part, by_flag_use, text_use, TextForm, line_form, use_of, column_of, columns_of, column_at}
 use Rattle.text_rules.specs.Columns.{column_start, column_width, line_width, line_pitch, is_text, holds_text, content_by, is_cell, part_of, flag_of, content_of, wrong_cell, cell_read}
 use Rattle.text_rules.specs.Well.{columns_well}
 use Rattle.text_rules.proofs.Tables.{columns-length, column_row, end_line}
@@ -49,7 +51,7 @@ module _ (cs : List Column) (rows : List ℕ) (j : ℕ) where
 
 -- A column that holds text.
 
-is_text_lem : (a b : Bool) (column : ℕ) → is_text (cond a for_text (cond b (used_by_flag column) always_used)) ≡ a
+is_text_lem : (a b : Bool) (column : ℕ) → is_text (cond a Text (cond b (ByFlag column) Always)) ≡ a
 unfolding is_text
 is_text_lem true b column = refl
 is_text_lem false true column = refl
@@ -62,11 +64,11 @@ text_row columns k h =
     ap (λ (c : Column). is_text c.used) (column_row columns k h)
     ∙ is_text_lem (eqb (get_or row use_part 0) text_use) (eqb (get_or row use_part 0) by_flag_use) (get_or row flag_part 0)
 
-text_use_lem : (u : Use) → is_text u ≡ true → u ≡ for_text
+text_use_lem : (u : Use) → is_text u ≡ true → u ≡ Text
 unfolding is_text
-text_use_lem always_used e = absurd (false≢true e)
-text_use_lem (used_by_flag column) e = absurd (false≢true e)
-text_use_lem for_text e = refl
+text_use_lem Always e = absurd (false≢true e)
+text_use_lem (ByFlag column) e = absurd (false≢true e)
+text_use_lem Text e = refl
 
 -- its fault in the j-th line
 pub words_wrong : (t : TextForm) (rows : List ℕ) (k j : ℕ) → k < length t.columns → holds_text t.columns k ≡ true

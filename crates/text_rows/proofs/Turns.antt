@@ -14,7 +14,8 @@ use Rattle.sequences.proofs.Below.{sum_none, sum_more, sum_grows, cond_le, first
 use Rattle.digits.specs.declared.Size.{Size}
 use Rattle.digits.specs.declared.Size.TheVariants.{Known, Ill}
 use Rattle.lines.specs.Lines.{name_byte, all_bytes}
-use Rattle.text_rules.specs.Tables.{width_part, digits_part, decimals_part, use_part, flag_part, text_use, Column, TextForm, line_form, columns_of}
+use Rattle.text_rules.specs.declared.Column.{Column}
+use Rattle.text_rules.specs.Tables.{width_part, digits_part, decimals_part, use_part, flag_part, text_use, TextForm, line_form, columns_of}
 use Rattle.text_rules.specs.Columns.{column_start, column_width, line_width, line_pitch, holds_text, numbers_before, line_numbers, cell_read}
 use Rattle.text_rules.specs.Well.{columns_well}
 use Rattle.text_rules.proofs.Tables.{columns-length, start_first, start_next, end_line}

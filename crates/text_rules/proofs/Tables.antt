@@ -1,28 +1,16 @@
--- Tables that are lent: the k-th column is that of the k-th row, and the k-th field the k-th that is lent. Where the columns of a
--- line stand.
-use mathlib.Core.Path.{◌≡◌, refl, ap}
-use mathlib.Core.List.{List, [], ◌∷◌}
-use Prim.Native.Nat.{ℕ, zero, suc, ◌+◌, ◌≤◌, ◌<◌}
-use native.Mathlib.Nat.{le_of_suc-le-suc, not-suc-le-zero}
+-- The table of fields that is lent: its k-th field. Where the columns of a line stand.
+use mathlib.Core.Path.{◌≡◌, refl}
+use mathlib.Core.List.{List}
+use Prim.Native.Nat.{ℕ, suc, ◌+◌, ◌≤◌, ◌<◌}
 use native.Mathlib.Omega.{arith}
 use lib.ListN.{length, get_or}
 use Rattle.std.proofs.lemmas.List.{length-map, get_or-map}
 use Rattle.sequences.specs.Below.{sum_below}
 use Rattle.sequences.proofs.Below.{sum_grows}
+use Rattle.text_rules.specs.declared.Column.{Column}
 use Rattle.text_rules.specs.declared.Field.{Field as LentField}
-use Rattle.text_rules.specs.Tables.{Column, column_of, columns_of, column_at, field_of, fields_of, no_field, field_at}
+use Rattle.text_rules.specs.Tables.{field_of, fields_of, no_field, field_at}
 use Rattle.text_rules.specs.Columns.{column_width, column_start, line_width}
-
-pub columns-length : (rows : List (List ℕ)) → length (columns_of rows) ≡ length rows
-unfolding columns_of
-columns-length [] = refl
-columns-length (r ∷ rs) = ap suc (columns-length rs)
-
-pub column_row : (rows : List (List ℕ)) (k : ℕ) → k < length rows → column_at (columns_of rows) k ≡ column_of (get_or rows k [])
-unfolding columns_of column_at
-column_row [] k h = absurd (not-suc-le-zero h)
-column_row (r ∷ rs) zero h = refl
-column_row (r ∷ rs) (suc k) h = column_row rs k (le_of_suc-le-suc h)
 
 -- Fields.
 

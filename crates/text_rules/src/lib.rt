@@ -2,28 +2,170 @@
 // the head. The definitions are in specs/.
 #![tactic(auto)]
 
+ghost use Rattle.std.specs.Prelude.{◌≡◌, ◌≤◌, ◌<◌, true, length};
+ghost use Rattle.text_rules.specs.Columns.{column_start, line_width, line_pitch, is_text, used_by};
+ghost use Rattle.text_rules.specs.Well.{columns_well, most_line};
+ghost use Rattle.text_rules.specs.Tables.{line_form};
+
 use digits::Form;
+use std::marker::Model;
 
-// A row of a table of columns: width, digits (0: as many as there are), decimals, when the column is used, and the flag table's
-// column that says so where a flag does.
-pub const COLUMN_PARTS: usize = 5;
+// When a column is used: always, by that column of the flag table, or for text.
+#[derive(Clone, Copy)]
+pub enum Use {
+    Always,
+    ByFlag(usize),
+    Text,
+}
 
-pub const WIDTH: usize = 0;
+impl Use {
+    #[tactic(auto, unfolding(crate::specs::Columns::is_text))]
+    pub fn is_text(self) -> bool
+        ensures { result ≡ is_text self }
+    {
+        matches!(self, Use::Text)
+    }
 
-pub const DIGITS: usize = 1;
+    // Whether a column that is not for text has a number in a line with that flag.
+    #[tactic(auto, unfolding(crate::specs::Columns::used_by))]
+    pub fn has_number(self, flags: &[[bool; flags::COLUMNS]; flags::FLAGS], flag: u64) -> bool
+        ensures { result ≡ used_by flags.now flag self }
+    {
+        match self {
+            Use::ByFlag(column) => flags::entry_in(flags, flag, column),
+            Use::Always | Use::Text => true,
+        }
+    }
+}
 
-pub const DECIMALS: usize = 2;
+// A column of a component line. Its number has so many digits (0: as many as there are) and decimals.
+#[derive(Clone, Copy)]
+pub struct Column {
+    pub width: usize,
+    pub digits: usize,
+    pub decimals: usize,
+    pub used: Use,
+}
 
-pub const USE: usize = 3;
+// The columns of a component line, in their order, where they are well made.
+#[derive(Drop)]
+pub struct Columns<'a> {
+    table: &'a [Column],
+}
 
-pub const FLAG_COLUMN: usize = 4;
+impl<'a> Model for Columns<'a> {
+    ghost use Rattle.std.specs.Prelude.{◌≡◌, true, List};
+    ghost use Rattle.text_rules.specs.declared.Column.{Column};
 
-// When a column is used: always, by the line's flag, or for text.
-pub const ALWAYS: usize = 0;
+    ghost Value = { List Column };
 
-pub const BY_FLAG: usize = 1;
+    ghost use Rattle.text_rules.specs.Well.{columns_well};
 
-pub const TEXT: usize = 2;
+    ghost view = { λ c. c.table.now };
+
+    ghost invariant = { λ c. columns_well c.table.now ≡ true };
+}
+
+impl<'a> Columns<'a> {
+    pub fn new(table: &'a [Column]) -> Self
+        requires { columns_well table.now ≡ true }
+        ensures { result ≡ table.now }
+    {
+        Columns { table }
+    }
+
+    // Each of them.
+    pub fn table(&self) -> &[Column]
+        ensures value { result.now ≡ self.now }
+        ensures well { columns_well result.now ≡ true }
+    {
+        self.table
+    }
+
+    // Where column k starts.
+    pub fn start(&self, k: usize) -> usize
+        requires { k ≤ length self.now }
+        ensures value { result ≡ column_start self.now k }
+        ensures within { result ≤ line_width self.now }
+    {
+        let mut at = 0;
+        for column in &self.table[..k] {
+            at += column.width + 1;
+        }
+        at
+    }
+
+    // How many bytes a line has.
+    pub fn width(&self) -> usize
+        ensures value { result ≡ line_width self.now }
+        ensures most { result ≤ most_line }
+    {
+        self.start(self.table.len())
+    }
+
+    // How many bytes a line has with its end.
+    #[tactic(auto, unfolding(crate::specs::Columns::line_pitch))]
+    pub fn pitch(&self) -> usize
+        ensures { result ≡ line_pitch self.now }
+    {
+        self.width() + 2
+    }
+}
+
+// A form as far as its component lines go: their columns, which of them has the flag, and the flag table.
+#[derive(Drop)]
+pub struct LineForm<'a> {
+    columns: Columns<'a>,
+    flag_at: usize,
+    flags: &'a [[bool; flags::COLUMNS]; flags::FLAGS],
+}
+
+impl<'a> Model for LineForm<'a> {
+    ghost use Rattle.std.specs.Prelude.{◌<◌, length};
+    ghost use Rattle.text_rules.specs.Tables.{TextForm, line_form};
+
+    ghost Value = { TextForm };
+
+    ghost view = { λ f. line_form f.columns f.flag_at f.flags.now };
+
+    ghost invariant = { λ f. f.flag_at < length f.columns };
+}
+
+impl<'a> LineForm<'a> {
+    pub fn new(
+        columns: &'a [Column],
+        flag_at: usize,
+        flags: &'a [[bool; flags::COLUMNS]; flags::FLAGS],
+    ) -> Self
+        requires { (columns_well columns.now ≡ true) × (flag_at < length columns.now) }
+        ensures { result ≡ line_form columns.now flag_at flags.now }
+    {
+        LineForm {
+            columns: Columns::new(columns),
+            flag_at,
+            flags,
+        }
+    }
+
+    pub fn columns(&self) -> &Columns<'a>
+        ensures { result.now ≡ self.now.columns }
+    {
+        &self.columns
+    }
+
+    pub fn flags(&self) -> &[[bool; flags::COLUMNS]; flags::FLAGS]
+        ensures { result.now ≡ self.now.flags }
+    {
+        self.flags
+    }
+
+    pub fn flag_at(&self) -> usize
+        ensures value { result ≡ self.now.flag_at }
+        ensures within { result < length self.now.columns }
+    {
+        self.flag_at
+    }
+}
 
 // What more than its form a field's value has to be: nothing, a date, or one of 0 and 1.
 #[derive(Clone, Copy, PartialEq, Eq)]

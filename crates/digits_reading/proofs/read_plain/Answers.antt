@@ -1,7 +1,5 @@
 -- `digits_reading::read_plain` meets its contract: what stands before the point is read, then the decimals are read on.
-use mathlib.Core.Path.{sym, ◌∙◌}
-use native.Mathlib.Omega.{arith}
-use lib.Seq.{length-take-le}
+use Rattle.std.proofs.Common.{sym, ◌∙◌}
 use Rattle.digits.proofs.Read.{known_within, plain_whole, plain_short, plain_point, plain_ill, plain_known}
 use Rattle.digits.proofs.Put.{rest_all}
 use Rattle.digits_reading.proofs.read_plain.Goals as goal
@@ -15,18 +13,14 @@ returns-then-s-k c = plain_short _ _ c.if-k-eq0.false c.if-s-k.true
 pub returns-then-s-p-ne46 : goal.returns-then-s-p-ne46
 returns-then-s-p-ne46 c = plain_point _ _ c.if-k-eq0.false c.if-s-p-ne46.true
 
-pub slice_bounds-read_whole-end : goal.slice_bounds-read_whole-end
-slice_bounds-read_whole-end c = sym (length-take-le _ _ (omega arith))
+pub returns-in_err-head : goal.returns-in_err-head
+returns-in_err-head c =
+    c.from_residual.ensures ∙ plain_ill _ _ c.if-k-eq0.false _ (sym c.read_whole-2.ensures ∙ c.in_err-head.was)
 
 pub read_on-requires : goal.read_on-requires
-read_on-requires c =
-    known_within _ _ _ (sym c.read_whole-head.ensures ∙ c.in-Known.is)
+read_on-requires c = known_within _ _ _ (sym c.read_whole-2.ensures ∙ c.in_ok-head.was)
 
-pub returns-in-Ill : goal.returns-in-Ill
-returns-in-Ill c =
-    plain_ill _ _ c.if-k-eq0.false _ (sym c.read_whole-head.ensures ∙ c.in-Ill.is)
-
-pub returns-in-Known : goal.returns-in-Known
-returns-in-Known c =
-    let whole = sym c.read_whole-head.ensures ∙ c.in-Known.is in
+pub returns : goal.returns
+returns c =
+    let whole = sym c.read_whole-2.ensures ∙ c.in_ok-head.was in
     c.read_on.ensures ∙ (simp rest_all) ∙ plain_known _ _ c.if-k-eq0.false _ c.if-s-p-ne46.false whole

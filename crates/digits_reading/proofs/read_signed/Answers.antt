@@ -1,8 +1,5 @@
 -- `digits_reading::read_signed` meets its contract: a "-" that the form allows is passed, and the number behind it is above 0.
-use mathlib.Core.Path.{◌≡◌, ap, ◌∙◌}
-use mathlib.Core.Bool.{true, false}
-use borrow.Author.Rules.{rules}
-use native.Mathlib.Omega.{arith}
+use Rattle.std.proofs.Common.{◌≡◌, ap, ◌∙◌, true, false, rules, arith}
 use Rattle.digits.specs.Digits.{below_zero, above_zero, has_minus}
 use Rattle.digits.proofs.Put.{rest_all}
 use Rattle.digits.proofs.Sign.{minus_first, minus_unsigned, minus_other, minus_empty, signed_minus, signed_plus}
@@ -11,9 +8,11 @@ use Rattle.digits_reading.proofs.read_signed.Goals as goal
 pub returns-then-s-eq45 : goal.returns-then-s-eq45
 returns-then-s-eq45 c =
     let minus : has_minus c.args.form c.args.s.now ≡ true = minus_first _ _ (search rules) (search rules) in
-    c.below_zero.ensures ∙ ap below_zero c.read_plain.ensures ∙ (simp rest_all) ∙ signed_minus _ _ minus
+    let done : c.and_then.result ≡ below_zero c.read_plain.result = search rules in
+    done ∙ ap below_zero c.read_plain.ensures ∙ (simp rest_all) ∙ signed_minus _ _ minus
 
 pub returns : goal.returns
 returns c =
     let plain : has_minus c.args.form c.args.s.now ≡ false = grind (arith, minus_other, minus_empty, minus_unsigned) in
-    c.above_zero.ensures ∙ ap above_zero c.read_plain-2.ensures ∙ signed_plus _ _ plain
+    let done : c.map.result ≡ above_zero c.read_plain-2.result = search rules in
+    done ∙ ap above_zero c.read_plain-2.ensures ∙ signed_plus _ _ plain
