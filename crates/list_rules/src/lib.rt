@@ -6,7 +6,7 @@ ghost use Rattle.list_rules.specs.Lent.{ColumnsLent, FieldsLent};
 use digits::Form;
 use layout::Fund;
 use rules::Refusal;
-use text_rules::{Column, Field, Use, ValueKind};
+use text_rules::{Column, Field, Fields, Use, ValueKind};
 
 // The fields of a list but its components, its names and the letters of its first line.
 #[derive(Clone, Copy)]
@@ -281,8 +281,8 @@ pub fn columns() -> [Column; COLUMN_COUNT]
 }
 
 // The fields of the head.
-pub fn field_table() -> &'static [Field<'static>]
-    ensures { FieldsLent result.now }
+pub fn field_table() -> Fields<'static>
+    ensures { FieldsLent result }
 {
-    &FIELDS
+    Fields::new(&FIELDS)
 }
