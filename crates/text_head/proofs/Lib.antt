@@ -1,2 +1,3 @@
 pub mod Lines
 pub mod Shape
+pub mod Fields

@@ -2,7 +2,7 @@
 use mathlib.Core.Bool.{Bool, true, false, cond, not}
 use mathlib.Core.List.{List, []}
 use mathlib.Core.Path.{◌≡◌, refl, sym, ap, subst, subst⁻¹, ◌∙◌}
-use Prim.Native.Nat.{ℕ, suc, ◌+◌, ◌-◌, ◌≤◌, ◌<◌, zero-le}
+use Prim.Native.Nat.{ℕ, ◌+◌, ◌-◌, ◌≤◌, ◌<◌, zero-le}
 use native.Mathlib.Numerals.{add-one}
 use native.Mathlib.Omega.{arith}
 use lib.ListN.{length, get_or, drop, length-drop}
@@ -31,22 +31,28 @@ head_first fs l = refl
 abbrev pub past : LentField
 past = record { name = record { ref_ptr = (0, 0); now = [] }; form = record { digits = 0; decimals = 0; signed = false; width = 0 }; kind = Any }
 
-pub head_named : (fields : List LentField) (i : ℕ) (d : LentField) (l : List ℕ) → i < length fields
-    → is_named (get_or fields i d).name.now l ≡ is_head_line (fields_of fields) (i + 1) l
-unfolding is_head_line field_name field_of
-head_named fields i d l h =
-    let back : i + 1 - 1 ≡ i = omega arith in
-    rw (ne_eqb (i + 1) 0 (λ z. omega arith), le-leb (i + 1) (length (fields_of fields)) (omega (arith, fields-length fields)), back)
-    (ap (λ (f : Field). is_named f.name l) (sym (field_lent fields i d h)))
+module _ (table : List LentField) (fs : List Field) (e : fields_of table ≡ fs) where
+  pub lent_is : (i : ℕ) (d : LentField) → i < length table → field_of (get_or table i d) ≡ field_at fs i
+  lent_is i d h = sym (field_lent table i d h) ∙ ap (λ (l : List Field). field_at l i) e
+
+  pub fields_many : length fs ≡ length table
+  fields_many = sym (ap length e) ∙ fields-length table
+
+  -- the head has two lines more than the table has fields
+  pub lines_are : head_lines fs ≡ length table + 2
+  unfolding head_lines
+  lines_are = ap (λ (n : ℕ). n + 2) fields_many
+
+  pub head_named : (i : ℕ) (d : LentField) (l : List ℕ) → i < length table → is_named (get_or table i d).name.now l ≡ is_head_line fs (i + 1) l
+  unfolding is_head_line field_name field_of
+  head_named i d l h =
+      let back : i + 1 - 1 ≡ i = omega arith in
+      rw (ne_eqb (i + 1) 0 (λ z. omega arith), le-leb (i + 1) (length fs) (omega (arith, fields_many)), back)
+      (ap (λ (f : Field). is_named f.name l) (lent_is i d h))
 
 pub head_tag : (fs : List Field) (l : List ℕ) → same l tag_word ≡ is_head_line fs (length fs + 1) l
 unfolding is_head_line
 head_tag fs l = rw (ne_eqb (length fs + 1) 0 (λ z. omega arith), lt-leb (length fs + 1) (length fs) (omega arith))
-
--- the head has two lines more than the table has fields
-pub lines_are : (fields : List LentField) → head_lines (fields_of fields) ≡ length fields + 2
-unfolding head_lines
-lines_are fields = ap (λ (n : ℕ). n + 2) (fields-length fields)
 
 module _ (fs : List Field) (text : List ℕ) where
   -- line k is at fault

@@ -1,8 +1,8 @@
 -- The head as the code goes through it: a line that is passed, what a field says, and what is found.
-use Rattle.std.specs.Prelude.{ℕ, Bool, cond, List, ltb, length, Option, Some, None, Result, Ok, Err}
+use Rattle.std.specs.Prelude.{ℕ, Bool, cond, List, ltb, length, Option, Result, Ok, Err}
 use Rattle.sequences.specs.Below.{tabulate}
 use Rattle.digits.specs.declared.Figure.{Figure}
-use Rattle.digits.specs.Digits.{plain, figure_of}
+use Rattle.digits.specs.Digits.{plain, figure_of, reading}
 use Rattle.lines.specs.Lines.{next_at}
 use Rattle.text_rules.specs.Tables.{Field}
 use Rattle.text_rules.specs.Head.{head_lines, is_field}
@@ -11,7 +11,7 @@ use Rattle.text_rules.specs.Well.{most_fields}
 
 -- what a field says
 unfoldable pub field_reading : Field → List ℕ → Option Figure
-field_reading f s = cond (is_field f s) (Some (figure_of f.form s)) None
+field_reading f s = reading (is_field f s) (figure_of f.form s)
 
 -- the place behind the line at a place, where it stands; the place itself where it does not
 unfoldable pub line_passed : (List ℕ → Bool) → List ℕ → ℕ → Result ℕ ℕ

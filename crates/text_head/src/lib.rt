@@ -1,19 +1,19 @@
 // The head of a text: its first line, the lines name=value, by a table of fields that is lent, and TAGTAG.
 #![tactic(auto)]
 
-ghost use Rattle.std.specs.Prelude.{ℕ, ◌≡◌, true, Bool, List, ◌≤◌, MatchResult, length};
+ghost use Rattle.std.specs.Prelude.{ℕ, ◌≡◌, Bool, List, ◌≤◌, MatchResult, length};
 ghost use Rattle.std.specs.Fn.{FnOnceReturnsAt};
-ghost use Rattle.digits.specs.Digits.{plain};
-ghost use Rattle.text_rules.specs.Tables.{field_of, fields_of};
+ghost use Rattle.text_rules.specs.Tables.{field_of};
 ghost use Rattle.text_rules.specs.Head.{head_lines, is_kind};
 ghost use Rattle.text_rules.specs.Reading.{wrong_line};
-ghost use Rattle.text_rules.specs.Well.{most_decimals, fields_well};
+ghost use Rattle.text_rules.specs.Well.{most_decimals};
 ghost use Rattle.text_head.specs.Head.{field_reading, line_passed, shape_found, fields_found};
 
 use digits::Figure;
-use text_rules::{Field, MOST_FIELDS, ValueKind};
+use text_rules::{Field, Fields, MOST_FIELDS, ValueKind};
 
 // What more than its form a field's value has to be.
+#[tactic(auto, unfolding(text_rules::specs::Head::is_kind))]
 fn is_kind(kind: ValueKind, v: u64) -> bool
     ensures { result ≡ is_kind kind v }
 {
@@ -25,15 +25,13 @@ fn is_kind(kind: ValueKind, v: u64) -> bool
 }
 
 // What a field says.
+#[tactic(auto, unfolding(crate::specs::Head::field_reading, text_rules::specs::Tables::field_of, text_rules::specs::Head::is_field))]
 fn read_field(field: &Field, s: &[u8]) -> Option<Figure>
     requires { field.now.form.decimals ≤ most_decimals }
     ensures { result ≡ field_reading (field_of field.now) s.now }
 {
-    let z = match digits_reading::read_number(field.form, s) {
-        digits::Reading::Good(z) => z,
-        digits::Reading::Ill => return None,
-    };
-    Some(z).filter(|z| is_kind(field.kind, z.size))
+    let z = digits_reading::read_number(field.form, s)?;
+    is_kind(field.kind, z.size).then_some(z)
 }
 
 // The place behind the line at a place, where it has its end and passes the test; the place itself where it does not.
@@ -53,37 +51,29 @@ fn pass_line<F: FnOnce(&[u8]) -> bool>(text: &[u8], at: usize, test: F) -> Resul
 }
 
 // Refusal 18 in the head: the place behind it, or that of its first wrong line.
-pub fn head_shape(fields: &[Field], text: &[u8]) -> Result<usize, usize>
-    requires { fields_well (fields_of fields.now) ≡ true }
-    ensures value { result ≡ shape_found (fields_of fields.now) text.now }
-    ensures place_in_bounds { MatchResult result (λ place. place ≤ length text.now) (λ place. place ≤ length text.now) }
+pub fn head_shape(fields: &Fields, text: &[u8]) -> Result<usize, usize>
+    ensures { (result ≡ shape_found fields.now text.now) × MatchResult result (λ place. place ≤ length text.now) (λ place. place ≤ length text.now) }
 {
+    let table = fields.table();
     let mut at = pass_line(text, 0, text_lines::is_opening)?;
-    for field in fields {
+    for field in table {
         at = pass_line(text, at, |line| lines::is_named(field.name, line))?;
     }
     pass_line(text, at, |line| lines::same_bytes(line, b"TAGTAG"))
 }
 
-pub fn blank_figure() -> Figure
-    ensures { result ≡ plain 0 }
+// Refusal 19 in the head, where its lines stand: the figures, or the place of the first wrong field.
+pub fn head_fields(fields: &Fields, text: &[u8]) -> Result<[Figure; MOST_FIELDS], usize>
+    requires { wrong_line fields.now text.now ≡ head_lines fields.now }
+    ensures { result ≡ fields_found fields.now text.now }
 {
-    Figure {
+    let table = fields.table();
+    let mut figures = [Figure {
         negative: false,
         size: 0,
-    }
-}
-
-// Refusal 19 in the head, where its lines stand: the figures, or the place of the first wrong field.
-pub fn head_fields(fields: &[Field], text: &[u8]) -> Result<[Figure; MOST_FIELDS], usize>
-    requires fields_made { fields_well (fields_of fields.now) ≡ true }
-    requires text_value { wrong_line (fields_of fields.now) text.now ≡ head_lines (fields_of fields.now) }
-    ensures { result ≡ fields_found (fields_of fields.now) text.now }
-{
-    let blank = blank_figure();
-    let mut figures = [blank; MOST_FIELDS];
+    }; MOST_FIELDS];
     let mut at = lines::line_len(text) + 2;
-    for (k, field) in fields.iter().enumerate() {
+    for (k, field) in table.iter().enumerate() {
         let end = at + lines::line_len(&text[at..]);
         let value = at + (field.name.len() + 1);
         figures[k] = read_field(field, &text[value..end]).ok_or(value)?;
