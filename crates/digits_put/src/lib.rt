@@ -42,9 +42,7 @@ pub fn put_fixed(dst: &mut [u8], at: usize, k: usize, n: u64) -> usize
     ensures { Written dst.old at (fixed k n) dst.new result }
 {
     let mut m = n;
-    let mut i = k;
-    while 0 < i {
-        i -= 1;
+    for i in (0..k).rev() {
         dst[at + i] = b'0' + (m % 10) as u8;
         m /= 10;
     }

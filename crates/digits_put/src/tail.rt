@@ -10,9 +10,7 @@ pub fn put_last(dst: &mut [u8], end: usize, k: usize, n: u32) -> u32
 {
     let at = end - k;
     let mut m = n;
-    let mut i = k;
-    while 0 < i {
-        i -= 1;
+    for i in (0..k).rev() {
         let q = m / 10;
         dst[at + i] = b'0' + (m - q * 10) as u8;
         m = q;
