@@ -7,6 +7,7 @@ use native.Mathlib.Numerals.{add-one}
 use native.Mathlib.Nat.{add_assoc, add-zero}
 use lib.ListN.{length, get_or, take, drop, set, replicate, replicate-append-replicate, length-set, length-append, length-take, length-drop, take-append-drop}
 use lib.Seq.{take_all, set_split, take-suc, set_at, length-take-le, take_at, drop_at, drop-drop}
+use borrow.Rule.Slice.PartMut.{put_mid}
 use Rattle.digits.specs.Written.{put, Written}
 
 -- nothing written
@@ -75,6 +76,11 @@ written-length {d} {d₁} {at} {p} {xs} u h = rw u.bytes (put-length d at xs h)
 -- a part `&s[a..]`, as the borrow checker has it
 pub rest_all : (a : ℕ) (s : List ℕ) → take (length s - a) (drop a s) ≡ drop a s
 rest_all a s = take_all (length s - a) (drop a s) (omega (arith, length-drop a s))
+
+-- what is written into a part, as the borrow checker has it
+pub written_part : (d : List ℕ) (at k : ℕ) (xs ys : List ℕ) (next : ℕ) → ys ≡ xs → k ≡ length xs → next ≡ at + k → Written d at xs (put_mid at k d ys) next
+unfolding put
+written_part d at k xs ys next e l n = record { bytes = rw (e, ← l) (ap (λ (z : List ℕ). take at d ++ (xs ++ z)) (drop-drop k at d)); next = n ∙ rw l }
 
 -- ---- a loop that writes one byte a turn: after i turns xs is written
 pub record Growing (d : List ℕ) (at : ℕ) (xs : List ℕ) (d' : List ℕ) (i : ℕ) : Type 0 where
