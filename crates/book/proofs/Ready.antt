@@ -1,8 +1,8 @@
 -- An accepted creation or redemption has what its move asks: each number of an account is at most the day's total.
-use mathlib.Core.Path.{◌≡◌, refl, ap}
+use mathlib.Core.Path.{◌≡◌, ap}
 use mathlib.Core.List.{List}
 use mathlib.Core.Logic.{⊎_elim}
-use Prim.Native.Nat.{ℕ, ◌+◌, ◌*◌, ◌≤◌, ◌<◌}
+use Prim.Native.Nat.{ℕ, ◌+◌, ◌*◌, ◌^◌, ◌≤◌, ◌<◌}
 use native.Mathlib.Nat.{eq-or-lt_of_le}
 use native.Mathlib.Omega.{arith}
 use lib.ListN.{length}
@@ -10,21 +10,22 @@ use Rattle.sequences.specs.Stretch.{over}
 use Rattle.sequences.proofs.Below.{sum_part}
 use Rattle.sequences.proofs.Stretch.{within, stretch-length}
 use Rattle.units.proofs.Laws.{under}
-use Rattle.lots.specs.Lots.{handable, lots_total}
-use Rattle.fund.specs.Fund.{ceiling}
+use Rattle.lots.specs.Lots.{lots_total}
 use Rattle.fund.proofs.Laws.{components_fine}
 use Rattle.layout.specs.Day.{Day}
 use Rattle.layout.specs.Book.{cash, head_at, lots_at, width, account, head_total, line_total, counter}
+use Rattle.rules.specs.declared.Kind.{Kind}
+use Rattle.rules.specs.declared.Kind.TheVariants.{Creation, Redemption}
 use Rattle.rules.specs.declared.Rooms.{Rooms}
 use Rattle.rules.specs.Opening.{most_cash}
 use Rattle.rules.specs.Sound.{most_units}
-use Rattle.rules.specs.Orders.{creation, redemption, baskets, fund_count}
+use Rattle.rules.specs.Orders.{number_of, opposite_kind, baskets, fund_count}
 use Rattle.rules.specs.Creation.{creation_due}
-use Rattle.rules.specs.Redemption.{units_available, redemption_paid}
+use Rattle.rules.specs.Redemption.{redemption_paid}
 use Rattle.rules.specs.Kinds.{moved_by}
 use Rattle.rules.proofs.SoundDay.{SoundDay}
 use Rattle.rules.proofs.Accepted.{Orders, Creates, Redeems}
-use Rattle.book.specs.Ready.{StockReady, OrderReady}
+use Rattle.book.specs.Ready.{StockReady, LotsReady, OrderReady}
 
 -- what a sound day says of one account
 module _ {d : Day} {b ps : List ℕ} (s : SoundDay d b ps) (a : ℕ) (a_in : a < d.accounts) where
@@ -45,7 +46,7 @@ module _ {d : Day} {b ps : List ℕ} (s : SoundDay d b ps) (a : ℕ) (a_in : a <
       (eq-or-lt_of_le h)
 
 -- what both kinds of order have, with the cash c
-module _ {d : Day} {b ps : List ℕ} {kind a units : ℕ} (c : ℕ) (s : SoundDay d b ps) (o : Orders d b kind a units) (two : kind < 2) (most : c ≤ most_cash) where
+module _ {d : Day} {b ps : List ℕ} {kind : Kind} {a units : ℕ} (c : ℕ) (s : SoundDay d b ps) (o : Orders d b kind a units) (most : c ≤ most_cash) where
   stock_ready : StockReady d (account d b a) (baskets d units)
   stock_ready =
       record {
@@ -55,52 +56,54 @@ module _ {d : Day} {b ps : List ℕ} {kind a units : ℕ} (c : ℕ) (s : SoundDa
         held = λ i l. omega (arith, line_most s a o.account_in i (omega arith));
       }
 
-  order_ready : ((kind ≡ creation → ⊥) → units ≤ handable (lots_at (account d b a) d.count))
-      → (kind ≡ creation → c ≤ head_at (account d b a) cash)
-      → ((kind ≡ creation → ⊥) → (i : ℕ) → i < d.count → moved_by kind d (account d b a) (baskets d units) i ≤ (lots_at (account d b 0) i).old)
-      → ((kind ≡ creation → ⊥) → c ≤ head_at (account d b 0) cash)
+  order_ready : LotsReady (opposite_kind kind) (lots_at (account d b a) d.count) units
+      → (kind ≡ Creation → c ≤ head_at (account d b a) cash)
+      → (kind ≡ Redemption → (i : ℕ) → i < d.count → moved_by kind d (account d b a) (baskets d units) i ≤ (lots_at (account d b 0) i).old)
+      → (opposite_kind kind ≡ Creation → c ≤ head_at (account d b 0) cash)
       → OrderReady kind d b a units (baskets d units) c
   unfolding fund_count
-  order_ready handed pays delivers fund_pays =
+  order_ready lots pays delivers fund_pays =
       let zero_in : 0 < d.accounts = omega (arith, s.own.accounts_low) in
-      let units_small : units ≤ ceiling = omega (arith, o.below_ceiling) in
       record {
         account_low = o.account_low;
         account_in = account_in s a o.account_in;
-        side =
+        stock = stock_ready;
+        rest =
             record {
-              kind_in = two;
-              stock = stock_ready;
-              handed = handed;
-              units_fit = omega (arith, line_most s a o.account_in d.count (omega arith));
-              pays = pays;
-              cash_fits = omega (arith, head_most s a o.account_in cash, s.book.money);
-              count_fits = omega (arith, head_most s a o.account_in (counter kind), o.below_ceiling);
+              line_in_lem = omega (arith, stretch-length (width d) b a (account_in s a o.account_in));
+              lots = lots;
+              money = record { there = pays; fits = omega (arith, head_most s a o.account_in cash, s.book.money) };
+              count_fits = omega (arith, head_most s a o.account_in (counter (number_of kind)), o.below_ceiling);
             };
         fund = record { room = λ i l. omega (arith, line_most s 0 zero_in i (omega arith)); delivers = delivers };
-        fund_pays = fund_pays;
-        fund_fits = omega (arith, head_most s 0 zero_in cash, s.book.money);
+        fund_money = record { there = fund_pays; fits = omega (arith, head_most s 0 zero_in cash, s.book.money) };
       }
 
+  units_fit : (lots_at (account d b a) d.count).got + units < 2 ^ 64
+  unfolding fund_count
+  units_fit = omega (arith, line_most s a o.account_in d.count (omega arith), o.below_ceiling)
+
 pub creation_ready : {d : Day} {b ps : List ℕ} {a units : ℕ} {rooms : Rooms} → Creates d b ps a units rooms
-    → OrderReady creation d b a units (baskets d units) (creation_due d (account d b a) ps (baskets d units))
+    → OrderReady Creation d b a units (baskets d units) (creation_due d (account d b a) ps (baskets d units))
 creation_ready {d} {b} {ps} {a} {units} {rooms} r =
     let s = r.sound in
     let o = r.order in
-    order_ready _ s o (omega arith) (omega (arith, r.money, head_most s a o.account_in cash, s.book.money))
-    (λ n. absurd (n refl))
+    let most : creation_due d (account d b a) ps (baskets d units) ≤ most_cash = omega (arith, r.money, head_most s a o.account_in cash, s.book.money) in
+    order_ready _ s o most
+    (record { there = λ e. absurd (cc e); fits = units_fit _ s o most })
     (λ _. r.money)
-    (λ n. absurd (n refl))
-    (λ n. absurd (n refl))
+    (λ e. absurd (cc e))
+    (λ e. absurd (cc e))
 
 pub redemption_ready : {d : Day} {b ps : List ℕ} {a units : ℕ} {rooms : Rooms} → Redeems d b ps a units rooms
-    → OrderReady redemption d b a units (baskets d units) (redemption_paid d (baskets d units))
-unfolding moved_by units_available
+    → OrderReady Redemption d b a units (baskets d units) (redemption_paid d (baskets d units))
+unfolding moved_by
 redemption_ready {d} {b} {ps} {a} {units} {rooms} r =
     let s = r.sound in
     let o = r.order in
-    order_ready _ s o (omega arith) (omega (arith, r.money, head_most s 0 (omega (arith, s.own.accounts_low)) cash, s.book.money))
-    (λ _. r.handed)
-    (λ e. absurd (omega arith))
+    let most : redemption_paid d (baskets d units) ≤ most_cash = omega (arith, r.money, head_most s 0 (omega (arith, s.own.accounts_low)) cash, s.book.money) in
+    order_ready _ s o most
+    (record { there = λ _. r.handed; fits = units_fit _ s o most })
+    (λ e. absurd (cc e))
     (λ _. r.stocked)
     (λ _. r.money)

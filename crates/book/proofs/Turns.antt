@@ -12,6 +12,7 @@ use Rattle.lots.specs.declared.Lots.{Lots}
 use Rattle.layout.specs.Day.{Day}
 use Rattle.layout.specs.Book.{width, account, lots_at, put_lots, on_line, each_line}
 use Rattle.rules.specs.Lines.{component_of}
+use Rattle.rules.specs.declared.Kind.{Kind}
 use Rattle.rules.specs.Kinds.{moved_by, stock_lots, fund_lots}
 use Rattle.layout.proofs.Account.{on_length, each-length, each_later, each_more}
 use Rattle.book.specs.Moved.{moved_of, stock_by, fund_by, with_sides, line_moves, stock_moves}
@@ -26,7 +27,7 @@ on_none : (f : Lots → Lots) (l : ℕ) (s : List ℕ) → f (lots_at s l) ≡ l
 unfolding on_line put_lots lots_at
 on_none f l s e = rw e (simp set-get_or)
 
-module _ (kind w a l : ℕ) (b : List ℕ) (low : 0 < a) (fits : a * w + w ≤ length b) where
+module _ (kind : Kind) (w a l : ℕ) (b : List ℕ) (low : 0 < a) (fits : a * w + w ≤ length b) where
   -- moving nothing changes nothing
   pub line_none : b ≡ line_moves kind w a l 0 b
   unfolding line_moves
@@ -50,7 +51,7 @@ module _ (kind w a l : ℕ) (b : List ℕ) (low : 0 < a) (fits : a * w + w ≤ l
 
 -- The lines below i.
 
-module _ (kind : ℕ) (d : Day) (b : List ℕ) (a m : ℕ) (low : 0 < a) (fits : a * width d + width d ≤ length b) where
+module _ (kind : Kind) (d : Day) (b : List ℕ) (a m : ℕ) (low : 0 < a) (fits : a * width d + width d ≤ length b) where
   abbrev fund : ℕ → List ℕ
   fund i = each_line (fund_by kind d (account d b a) m) i (account d b 0)
 

@@ -1,51 +1,58 @@
 -- An order's stages one after the other: what each leaves for the next, and that together they are the definition.
 use mathlib.Core.Path.{◌≡◌, sym, ap, ◌∙◌}
-use mathlib.Core.List.{List}
+use mathlib.Core.List.{List, ◌++◌}
 use Prim.Native.Nat.{ℕ, ◌+◌, ◌*◌, ◌^◌, ◌≤◌, ◌<◌}
 use native.Mathlib.Omega.{arith}
-use lib.ListN.{length}
+use lib.ListN.{length, take, drop}
 use Rattle.sequences.specs.Stretch.{stretch_of, on_stretch}
 use Rattle.sequences.proofs.Stretch.{stretch-length, put-length}
 use Rattle.lots.specs.declared.Lots.{Lots}
-use Rattle.lots.specs.Lots.{handable}
 use Rattle.layout.specs.Places.{lines_from}
 use Rattle.layout.specs.Day.{Day}
-use Rattle.layout.specs.Book.{cash, width_of, width, account, head_at, put_head, lots_at, on_line, each_line, counter, behind_line}
-use Rattle.rules.specs.Orders.{creation, account_side, fund_side}
-use Rattle.rules.specs.Kinds.{unit_lots, account_cash, fund_cash, order_moves}
+use Rattle.layout.specs.Book.{cash, width_of, width, account, head_at, put_head, lots_at, put_lots, on_line, each_line, counter}
+use Rattle.rules.specs.declared.Kind.{Kind}
+use Rattle.rules.specs.Orders.{number_of, opposite_kind, account_side, fund_side}
+use Rattle.rules.specs.Kinds.{stock_lots, unit_lots, account_cash, fund_cash, order_moves}
 use Rattle.layout.proofs.Account.{put-head-length, on_length, head_on, head_each, each_later}
-use Rattle.rules.proofs.Sides.{fund-length}
+use Rattle.rules.proofs.Sides.{number-below, fund-length}
 use Rattle.book.specs.Moved.{stock_by, fund_by, with_sides, stock_moves, rest_of, rest_moves}
-use Rattle.book.specs.Ready.{RestReady, OrderReady}
-use Rattle.book.proofs.Sides.{account_kept, sides_by, sides_again}
+use Rattle.book.specs.Ready.{CashReady, AccountRest, RestReady, OrderReady}
+use Rattle.book.proofs.Stock.{units_opposite}
+use Rattle.book.proofs.Sides.{account_kept, first_is, first_put, sides_by, sides_again}
 use Rattle.book.proofs.Turns.{fund_long, own_long, lines-length, lines_own, lines_fund}
 
+-- its units, read and stored
+pub units_moved : (kind k : Kind) (n units : ℕ) (s u : List ℕ) (x y : Lots) → k ≡ opposite_kind kind → x ≡ lots_at s n → y ≡ stock_lots k x units → u ≡ put_lots s n y
+    → u ≡ on_line (λ z. unit_lots kind z units) n s
+unfolding on_line
+units_moved kind k n units s u x y ek ex ey eu = rw (eu, ey, ex, ek, units_opposite)
+
 -- the account's stretch u when its units have moved
-module _ (kind n units c : ℕ) (s u : List ℕ) (eu : u ≡ on_line (λ x. unit_lots kind x units) n s) where
+module _ (kind : Kind) (n units c : ℕ) (s u : List ℕ) (eu : u ≡ on_line (λ x. unit_lots kind x units) n s) where
   head_same : (k : ℕ) → k < lines_from → head_at u k ≡ head_at s k
   head_same k h = rw eu (head_on (λ x. unit_lots kind x units) n s k h)
 
-  pub head_ready : (kind < 2) × (behind_line n ≤ length s) → (kind ≡ creation → c ≤ head_at s cash) → head_at s cash + c < 2 ^ 64 → head_at s (counter kind) + units < 2 ^ 64
-      → ((kind < 2) × (2 < length u)) × ((kind ≡ creation → c ≤ head_at u cash) × ((head_at u cash + c < 2 ^ 64) × (head_at u (counter kind) + units < 2 ^ 64)))
-  head_ready h pays fits counts =
+  pub head_ready : AccountRest kind n s units c
+      → (lines_from ≤ length u) × CashReady kind (head_at u cash) c × (head_at u (counter (number_of kind)) + units < 2 ^ 64)
+  head_ready p =
       let long : length u ≡ length s = ap length eu ∙ on_length (λ x. unit_lots kind x units) n s in
-      rw (head_same cash (omega arith), head_same (counter kind) (omega (arith, h.0))) ((h.0, omega (arith, h.1)), (pays, (fits, counts)))
+      rw (head_same cash (omega arith), head_same (counter (number_of kind)) (omega (arith, number-below kind))) (omega (arith, p.line_in_lem), p.money, p.count_fits)
 
-  pub rest_is : kind < 2 → put_head (counter kind) (head_at u (counter kind) + units) (put_head cash (account_cash kind (head_at u cash) c) u) ≡ rest_of kind n units c s
+  pub rest_is : put_head (counter (number_of kind)) (head_at u (counter (number_of kind)) + units) (put_head cash (account_cash kind (head_at u cash) c) u) ≡ rest_of kind n units c s
   unfolding rest_of
-  rest_is h = rw (head_same cash (omega arith), head_same (counter kind) (omega arith), eu)
+  rest_is = rw (head_same cash (omega arith), head_same (counter (number_of kind)) (omega (arith, number-below kind)), eu)
 
 -- the book t when the fund's cash has moved, in a fund of n components
-module _ (kind n : ℕ) (b : List ℕ) (a units c w : ℕ) (t : List ℕ) (p : RestReady kind n b a units c) (ew : w ≡ width_of n)
-    (et : t ≡ on_stretch w 0 (λ f. put_head cash (fund_cash kind (head_at f cash) c) f) b) where
+module _ (kind : Kind) (n : ℕ) (b : List ℕ) (a units c w : ℕ) (t : List ℕ) (p : RestReady kind n b a units c) (ew : w ≡ width_of n)
+    (et : t ≡ put_head cash (fund_cash kind (head_at (take w b) cash) c) (take w b) ++ drop w b) where
   abbrev paid : List ℕ → List ℕ
-  paid f = put_head cash (fund_cash kind (head_at f cash) c) f
+  paid s = put_head cash (fund_cash kind (head_at s cash) c) s
 
   paid_long : length (paid (stretch_of (width_of n) b 0)) ≡ width_of n
   paid_long = put-head-length cash _ (stretch_of (width_of n) b 0) ∙ stretch-length (width_of n) b 0 (omega (arith, p.account_in))
 
   is : t ≡ on_stretch (width_of n) 0 paid b
-  is = rw ew at et
+  is = et ∙ first_put w b _ ∙ rw (first_is w b, ew)
 
   account_same : stretch_of (width_of n) t a ≡ stretch_of (width_of n) b a
   account_same = rw is (account_kept (width_of n) a b p.account_low p.account_in (paid (stretch_of (width_of n) b 0)) paid_long)
@@ -53,12 +60,8 @@ module _ (kind n : ℕ) (b : List ℕ) (a units c w : ℕ) (t : List ℕ) (p : R
   t_size : length t ≡ length b
   t_size = rw is (put-length (width_of n) b 0 (paid (stretch_of (width_of n) b 0)) (omega (arith, p.account_in)) paid_long)
 
-  pub account_rest_ready : (a * w + w ≤ length t) × (((kind < 2) × (behind_line n ≤ w)) × (((kind ≡ creation → ⊥) → units ≤ handable (lots_at (stretch_of w t a) n))
-      × (((lots_at (stretch_of w t a) n).got + units < 2 ^ 64) × ((kind ≡ creation → c ≤ head_at (stretch_of w t a) cash)
-      × ((head_at (stretch_of w t a) cash + c < 2 ^ 64) × (head_at (stretch_of w t a) (counter kind) + units < 2 ^ 64))))))
-  account_rest_ready =
-      rw (ew, account_same, t_size)
-      (p.account_in, ((p.kind_in, omega arith), (p.handed, (p.units_fit, (p.pays, (p.cash_fits, p.count_fits))))))
+  pub account_rest_ready : (a * w + w ≤ length t) × AccountRest kind n (stretch_of w t a) units c
+  account_rest_ready = rw (ew, account_same, t_size) (p.account_in, p.rest)
 
   pub rest_moved : (u : List ℕ) → u ≡ on_stretch w a (rest_of kind n units c) t → u ≡ rest_moves kind n a units c b
   unfolding rest_moves
@@ -69,7 +72,7 @@ module _ (kind n : ℕ) (b : List ℕ) (a units c w : ℕ) (t : List ℕ) (p : R
       ∙ sides_by (width_of n) a b p.account_low p.account_in paid (rest_of kind n units c) paid_long)
 
 -- the book t when its stock has moved
-module _ (kind : ℕ) (d : Day) (b : List ℕ) (a units m c : ℕ) (t : List ℕ) (p : OrderReady kind d b a units m c) (et : t ≡ stock_moves kind d a m d.count b) where
+module _ (kind : Kind) (d : Day) (b : List ℕ) (a units m c : ℕ) (t : List ℕ) (p : OrderReady kind d b a units m c) (et : t ≡ stock_moves kind d a m d.count b) where
   abbrev f : ℕ → Lots → Lots
   f = fund_by kind d (account d b a) m
 
@@ -90,23 +93,25 @@ module _ (kind : ℕ) (d : Day) (b : List ℕ) (a units m c : ℕ) (t : List ℕ
 
   pub rest_ready : RestReady kind d.count t a units c
   rest_ready =
-      let s = p.side in
+      let r = p.rest in
       let unit : lots_at own d.count ≡ lots_at (account d b a) d.count = each_later g d.count (account d b a) d.count (omega arith) in
       let money : head_at own cash ≡ head_at (account d b a) cash = head_each g d.count (account d b a) cash (omega arith) in
-      let counter : head_at own (counter kind) ≡ head_at (account d b a) (counter kind) = head_each g d.count (account d b a) (counter kind) (omega (arith, s.kind_in)) in
+      let counter : head_at own (counter (number_of kind)) ≡ head_at (account d b a) (counter (number_of kind)) =
+      head_each g d.count (account d b a) (counter (number_of kind)) (omega (arith, number-below kind)) in
       let fund-money : head_at fund cash ≡ head_at (account d b 0) cash = head_each f d.count (account d b 0) cash (omega arith) in
       record {
-        kind_in = s.kind_in;
-        count_high = s.stock.count_high;
+        count_high = p.stock.count_high;
         account_low = p.account_low;
         account_in = rw (lines-length kind d b a m p.account_low p.account_in d.count t et) p.account_in;
-        handed = rw (own_is, unit) s.handed;
-        units_fit = rw (own_is, unit) s.units_fit;
-        pays = rw (own_is, money) s.pays;
-        cash_fits = rw (own_is, money) s.cash_fits;
-        count_fits = rw (own_is, counter) s.count_fits;
-        fund_pays = rw (fund_is, fund-money) p.fund_pays;
-        fund_fits = rw (fund_is, fund-money) p.fund_fits;
+        rest =
+            rw own_is
+            (record {
+              line_in_lem = omega (arith, own_long kind d b a m p.account_low p.account_in d.count);
+              lots = rw unit r.lots;
+              money = rw money r.money;
+              count_fits = rw counter r.count_fits;
+            });
+        fund_money = rw (fund_is, fund-money) p.fund_money;
       }
 
   fund_side_lem : put_head cash (fund_cash kind (head_at fund cash) c) fund ≡ fund_side d.count f (fund_cash kind (head_at (account d b 0) cash) c) (account d b 0)
@@ -116,7 +121,7 @@ module _ (kind : ℕ) (d : Day) (b : List ℕ) (a units m c : ℕ) (t : List ℕ
   account_side_lem : rest_of kind d.count units c own
       ≡ account_side d.count kind units g (λ x. unit_lots kind x units) (account_cash kind (head_at (account d b a) cash) c) (account d b a)
   unfolding rest_of account_side
-  account_side_lem = rw (head_each g d.count (account d b a) cash (omega arith), head_each g d.count (account d b a) (counter kind) (omega (arith, p.side.kind_in)))
+  account_side_lem = rw (head_each g d.count (account d b a) cash (omega arith), head_each g d.count (account d b a) (counter (number_of kind)) (omega (arith, number-below kind)))
 
   pub order_is : (u : List ℕ) → u ≡ rest_moves kind d.count a units c t → u ≡ order_moves kind d a units m c b
   unfolding rest_moves stock_moves order_moves

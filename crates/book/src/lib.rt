@@ -4,8 +4,11 @@
 ghost use Rattle.std.specs.Prelude.{◌≡◌, ◌+◌, ◌*◌, ◌≤◌, ◌<◌, length};
 ghost use Rattle.sequences.specs.Stretch.{stretch_of, on_stretch};
 ghost use Rattle.layout.specs.Book.{behind_line, head_at, lots_at, put_lots};
+ghost use Rattle.rules.specs.Kinds.{stock_lots};
+ghost use Rattle.book.specs.Ready.{LotsReady};
 
 use lots::Lots;
+use rules::Kind;
 
 // The fund's account.
 pub const FUND: usize = 0;
@@ -39,4 +42,16 @@ pub fn put_lots_of(book: &mut [u64], w: usize, a: usize, line: usize, x: Lots)
     let start = a * w;
     let end = start + w;
     layout::put_lots(&mut book[start..end], line, x);
+}
+
+// What an account's lots become when it hands in `q` of them on a creation, or gets `q` on a redemption.
+#[tactic(auto, unfolding(rules::specs::Kinds::stock_lots))]
+pub fn account_lots(kind: Kind, x: Lots, q: u64) -> Lots
+    requires { LotsReady kind x q }
+    ensures { result ≡ stock_lots kind x q }
+{
+    match kind {
+        Kind::Creation => x.hand_in(q),
+        Kind::Redemption => x.get(q),
+    }
 }

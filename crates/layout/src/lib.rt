@@ -9,7 +9,7 @@ ghost use Rattle.digits.specs.Digits.{cap, capped};
 ghost use Rattle.layout.specs.Places.{most_components, component_width, basket_width, limit_count, fund_width, day_width, record_width, report_width, answer_width};
 ghost use Rattle.layout.specs.Components.{blank, component_at, places_of};
 ghost use Rattle.layout.specs.Fund.{signed_at, signed_numbers, fund_at, fund_numbers};
-ghost use Rattle.layout.specs.Day.{day_head_at, basket_at, day_numbers};
+ghost use Rattle.layout.specs.Day.{Day, day_of, day_head_at, basket_at, day_at, day_numbers};
 ghost use Rattle.layout.specs.Book.{width_of, behind_line, lots_at, put_lots};
 ghost use Rattle.layout.specs.Records.{record_at, record_numbers};
 ghost use Rattle.layout.specs.Reports.{report_numbers};
@@ -17,6 +17,7 @@ ghost use Rattle.layout.specs.Answers.{put_reply};
 
 use digits::Figure;
 use lots::Lots;
+use std::marker::Model;
 use units::{Money, Rate};
 
 #[derive(Clone, Copy)]
@@ -147,6 +148,7 @@ pub fn blank_component() -> Component
 }
 
 // The i-th component of a run.
+#[tactic(auto, unfolding(crate::specs::Components::component_at))]
 pub fn component_at(run: &[u64], i: usize) -> Component
     requires { component_width * i + component_width ≤ length run.now }
     ensures { result ≡ component_at run.now i }
@@ -173,13 +175,11 @@ pub fn component_of(basket: &[u64], i: usize) -> Component
 // The most that is read of a signed number's size.
 const MOST_SIZE: u64 = 1_000_000_000_000_000_000;
 
+#[tactic(auto, using(std::proofs::lemmas::Bool::Decides::nat_tests), unfolding(digits::specs::Digits::capped))]
 fn capped_size(size: u64) -> u64
     ensures { result ≡ capped size }
 {
-    if MOST_SIZE < size {
-        return MOST_SIZE;
-    }
-    size
+    size.min(MOST_SIZE)
 }
 
 // A signed number, of a sign and a size.
@@ -208,30 +208,20 @@ fn limits_at(run: &[u64], at: usize) -> [u64; LIMITS]
     requires { at + limit_count ≤ length run.now }
     ensures { result ≡ tabulate (λ k. get_or run.now (at + k) 0) limit_count }
 {
-    [
-        run[at],
-        run[at + 1],
-        run[at + 2],
-        run[at + 3],
-        run[at + 4],
-        run[at + 5],
-        run[at + 6],
-        run[at + 7],
-    ]
+    let mut limits = [0; LIMITS];
+    limits.copy_from_slice(&run[at..at + LIMITS]);
+    limits
 }
 
 fn put_limits(run: &mut [u64], at: usize, limits: [u64; LIMITS])
     requires { at + limit_count ≤ length run.old }
     ensures { run.new ≡ sets run.old at (tabulate (λ k. get_or limits k 0) limit_count) }
 {
-    let mut k = 0;
-    while k < LIMITS {
-        run[at + k] = limits[k];
-        k += 1;
-    }
+    run[at..at + LIMITS].copy_from_slice(&limits);
 }
 
 // The fund whose numbers start at a place of a run.
+#[tactic(auto, unfolding(crate::specs::Fund::fund_at))]
 pub fn fund_of(run: &[u64], at: usize) -> Fund
     requires { at + fund_width ≤ length run.now }
     ensures { result ≡ fund_at run.now at }
@@ -257,11 +247,11 @@ pub fn put_fund(run: &mut [u64], at: usize, f: Fund)
     run[at + 2] = f.max_cash_ratio.0;
     run[at + 3] = f.switch;
     put_signed(run, at + CASH_AT, f.estimated_cash);
-    let limits = f.limits;
-    put_limits(run, at + LIMITS_FROM, limits);
+    put_limits(run, at + LIMITS_FROM, f.limits);
 }
 
 // The accounts of a day's run.
+#[tactic(auto, unfolding(crate::specs::Day::day_head_at))]
 pub fn accounts_of(day: &[u64]) -> usize
     requires { length day.now ≡ day_width }
     ensures { result ≡ (day_head_at day.now).accounts }
@@ -270,6 +260,7 @@ pub fn accounts_of(day: &[u64]) -> usize
 }
 
 // Its count of components.
+#[tactic(auto, unfolding(crate::specs::Day::day_head_at))]
 pub fn count_of(day: &[u64]) -> usize
     requires { length day.now ≡ day_width }
     ensures { result ≡ (day_head_at day.now).count }
@@ -278,6 +269,7 @@ pub fn count_of(day: &[u64]) -> usize
 }
 
 // Its head.
+#[tactic(auto, unfolding(crate::specs::Day::day_head_at))]
 pub fn head_of(day: &[u64]) -> DayHead
     requires { length day.now ≡ day_width }
     ensures { result ≡ day_head_at day.now }
@@ -298,28 +290,79 @@ pub fn basket_of(day: &[u64]) -> &[u64]
     &day[BASKET_FROM..]
 }
 
-// Stores numbers at the front of a run.
-fn put_front(run: &mut [u64], numbers: &[u64])
-    requires { length numbers.now ≤ length run.old }
-    ensures { run.new ≡ numbers.now ++ drop (length numbers.now) run.old }
-{
-    let mut k = 0;
-    while k < numbers.len() {
-        run[k] = numbers[k];
-        k += 1;
+// A day where it lies: its head, and its basket. Contracts see it as the day.
+#[derive(Drop)]
+pub struct DayView<'a> {
+    head: DayHead,
+    basket: &'a [u64],
+}
+
+impl<'a> Model for DayView<'a> {
+    ghost Value = { Day };
+
+    ghost view = { λ x. day_of x.head x.basket.now };
+
+    ghost invariant = { λ x. length x.basket.now ≡ basket_width };
+}
+
+impl<'a> DayView<'a> {
+    // The day of a head and a basket.
+    pub fn new(head: DayHead, basket: &'a [u64]) -> Self
+        requires { length basket.now ≡ basket_width }
+        ensures { result ≡ day_of head basket.now }
+    {
+        DayView { head, basket }
+    }
+
+    pub fn accounts(&self) -> usize
+        ensures { result ≡ self.now.accounts }
+    {
+        self.head.accounts
+    }
+
+    // How many components it has.
+    pub fn count(&self) -> usize
+        ensures { result ≡ self.now.count }
+    {
+        self.head.count
+    }
+
+    pub fn fund(&self) -> Fund
+        ensures { result ≡ self.now.fund }
+    {
+        self.head.fund
+    }
+
+    // Component i.
+    pub fn component(&self, i: usize) -> Component
+        requires { i < most_components }
+        ensures { result ≡ get_or self.now.components i blank }
+    {
+        component_of(self.basket, i)
+    }
+
+    // Its head.
+    pub fn head(&self) -> DayHead
+        ensures { result ≡ record { accounts = self.now.accounts; count = self.now.count; fund = self.now.fund } }
+    {
+        self.head
+    }
+
+    // Its basket.
+    pub fn basket(&self) -> &[u64]
+        ensures length { length result.now ≡ basket_width }
+        ensures components { places_of (component_at result.now) most_components ≡ self.now.components }
+    {
+        self.basket
     }
 }
 
-// Makes the numbers of a run from a place on 0.
-fn clear_from(run: &mut [u64], from: usize)
-    requires { from ≤ length run.old }
-    ensures { run.new ≡ take from run.old ++ replicate (length run.old - from) 0 }
+// The day in a run.
+pub fn view_of(run: &[u64]) -> DayView<'_>
+    requires { length run.now ≡ day_width }
+    ensures { result ≡ day_at run.now }
 {
-    let mut k = from;
-    while k < run.len() {
-        run[k] = 0;
-        k += 1;
-    }
+    DayView::new(head_of(run), basket_of(run))
 }
 
 // Stores components as a basket: zeros stand behind them.
@@ -327,8 +370,9 @@ fn put_basket(basket: &mut [u64], components: &[u64])
     requires { length components.now ≤ length basket.old }
     ensures { basket.new ≡ components.now ++ replicate (length basket.old - length components.now) 0 }
 {
-    put_front(basket, components);
-    clear_from(basket, components.len());
+    let (front, rest) = basket.split_at_mut(components.len());
+    front.copy_from_slice(components);
+    rest.fill(0);
 }
 
 // Stores a day.
@@ -352,6 +396,7 @@ pub fn width_of(count: usize) -> usize
 }
 
 // The lots of a line, read off a stretch.
+#[tactic(auto, unfolding(crate::specs::Book::lots_at))]
 pub fn lots_at(stretch: &[u64], line: usize) -> Lots
     requires { behind_line line ≤ length stretch.now }
     ensures { result ≡ lots_at stretch.now line }
@@ -364,6 +409,7 @@ pub fn lots_at(stretch: &[u64], line: usize) -> Lots
     }
 }
 
+#[tactic(auto, unfolding(crate::specs::Book::put_lots))]
 pub fn put_lots(stretch: &mut [u64], line: usize, x: Lots)
     requires { behind_line line ≤ length stretch.old }
     ensures { stretch.new ≡ put_lots stretch.old line x }
@@ -375,6 +421,7 @@ pub fn put_lots(stretch: &mut [u64], line: usize, x: Lots)
 }
 
 // The k-th record of a run.
+#[tactic(auto, unfolding(crate::specs::Records::record_at))]
 pub fn record_at(list: &[u64], k: usize) -> Record
     requires { record_width * k + record_width ≤ length list.now }
     ensures { result ≡ record_at list.now k }
@@ -420,6 +467,7 @@ pub fn put_report(list: &mut [u64], k: usize, r: Report)
 }
 
 // Stores the i-th answer: a refusal's number, its place, the value of an accepted call and the count of an order's reports.
+#[tactic(auto, unfolding(crate::specs::Answers::put_reply))]
 pub fn put_answer(answers: &mut [u64], i: usize, number: u64, place: u64, value: u64, reports: u64)
     requires { answer_width * i + answer_width ≤ length answers.old }
     ensures { answers.new ≡ put_reply answers.old i (record { number = number; place = place; value = value; reports = reports }) }

@@ -13,7 +13,8 @@ use Rattle.sequences.specs.Below.{first_below}
 use Rattle.sequences.proofs.Below.{first-le, first_same}
 use Rattle.sequences.proofs.Stretch.{within}
 use Rattle.flags.specs.Table.{flag_table}
-use Rattle.text_rules.specs.Tables.{Column, TextForm, line_form, columns_of}
+use Rattle.text_rules.specs.declared.Column.{Column}
+use Rattle.text_rules.specs.Tables.{TextForm, line_form, columns_of}
 use Rattle.text_rules.specs.Columns.{column_start, line_width, line_pitch, flag_of, content_of, wrong_cell, column_fault, cell_read, numbers_read}
 use Rattle.text_rules.specs.Reading.{body_start, row_start, row_count, row_of, wrong_row, column_place}
 use Rattle.text_rows.specs.declared.CellFault.{CellFault}

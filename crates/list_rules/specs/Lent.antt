@@ -1,13 +1,8 @@
 -- What functions that are lent the tables ask of them: that they are the Shanghai form's.
-use Rattle.std.specs.Prelude.{ℕ, ◌≡◌, List, length}
-use Rattle.text_rules.specs.Tables.{columns_of, fields_of, name_before}
-use Rattle.list_rules.specs.Shanghai.{shanghai_columns, shanghai_fields}
+use Rattle.std.specs.Prelude.{◌≡◌, List}
+use Rattle.text_rules.specs.Tables.{Field}
+use Rattle.list_rules.specs.Shanghai.{shanghai_fields}
 
--- the rows that are lent are the table of columns
-abbrev pub ColumnsLent : List (List ℕ) → Type 0
-ColumnsLent rows = columns_of rows ≡ shanghai_columns
-
--- the rows and the names that are lent are the table of fields
-pub record FieldsLent (rows : List (List ℕ)) (names : List ℕ) : Type 0 where
-  pub fields_are : fields_of rows names ≡ shanghai_fields
-  pub all_named : length names ≡ name_before rows (length rows)
+-- the fields that are lent are those of the form
+abbrev pub FieldsLent : List Field → Type 0
+FieldsLent fields = fields ≡ shanghai_fields

@@ -1,10 +1,15 @@
 -- The Shanghai form of the text: its table of columns, its table of fields, and which is which.
-use Rattle.std.specs.Prelude.{ℕ, Bool, true, false, List, [], ◌∷◌, ◌++◌}
+use Rattle.std.specs.Prelude.{ℕ, Bool, true, false, List, [], ◌∷◌}
 use Rattle.flags.specs.Table.{flag_table, rate_used, amount_used}
 use Rattle.digits.specs.declared.Form.{Form}
 use Rattle.lines.specs.Words.{bytes}
 use Rattle.text_rules.specs.Dates.{date_digits}
-use Rattle.text_rules.specs.Tables.{Use, always_used, used_by_flag, for_text, Column, Kind, any_value, date_value, zero_or_one_value, Field, TextForm}
+use Rattle.text_rules.specs.declared.Use.{Use}
+use Rattle.text_rules.specs.declared.Use.TheVariants.{Always, ByFlag, Text}
+use Rattle.text_rules.specs.declared.Column.{Column}
+use Rattle.text_rules.specs.Tables.{Field, TextForm, line_form}
+use Rattle.text_rules.specs.declared.ValueKind.{ValueKind}
+use Rattle.text_rules.specs.declared.ValueKind.TheVariants.{Any, Date, ZeroOrOne}
 
 -- ---- the columns of a component line
 abbrev column : ℕ → ℕ → ℕ → Use → Column
@@ -14,19 +19,19 @@ column width digits decimals used = record { width = width; digits = digits; dec
 unfoldable pub shanghai_columns : List Column
 shanghai_columns =
     -- code
-    column 6 6 0 always_used
+    column 6 6 0 Always
     -- name
-    ∷ column 8 0 0 for_text
+    ∷ column 8 0 0 Text
     -- quantity
-    ∷ column 8 0 0 always_used
+    ∷ column 8 0 0 Always
     -- flag
-    ∷ column 1 1 0 always_used
+    ∷ column 1 1 0 Always
     -- premium
-    ∷ column 7 0 5 (used_by_flag rate_used)
+    ∷ column 7 0 5 (ByFlag rate_used)
     -- discount
-    ∷ column 7 0 5 (used_by_flag rate_used)
+    ∷ column 7 0 5 (ByFlag rate_used)
     -- amount
-    ∷ column 12 0 3 (used_by_flag amount_used)
+    ∷ column 12 0 3 (ByFlag amount_used)
     ∷ []
 
 -- which is which
@@ -59,7 +64,7 @@ name_width = 8
 abbrev form : ℕ → ℕ → Bool → Form
 form digits decimals signed = record { digits = digits; decimals = decimals; signed = signed; width = 0 }
 
-abbrev field : List ℕ → Form → Kind → Field
+abbrev field : List ℕ → Form → ValueKind → Field
 field name f kind = record { name = name; form = f; kind = kind }
 
 -- a whole number, so many digits, money with two decimals, and the same with a sign
@@ -78,35 +83,27 @@ signed_money = form 0 2 true
 -- name, form and kind
 unfoldable pub shanghai_fields : List Field
 shanghai_fields =
-    field (bytes "Fundid1") (fixed_digits 6) any_value
-    ∷ field (bytes "CreationRedemptionUnit") whole any_value
-    ∷ field (bytes "MaxCashRatio") (form 0 5 false) any_value
-    ∷ field (bytes "Publish") whole zero_or_one_value
-    ∷ field (bytes "CreationRedemption") whole any_value
-    ∷ field (bytes "Recordnum") whole any_value
-    ∷ field (bytes "EstimateCashComponent") signed_money any_value
-    ∷ field (bytes "TradingDay") (fixed_digits date_digits) date_value
-    ∷ field (bytes "PreTradingDay") (fixed_digits date_digits) date_value
-    ∷ field (bytes "CashComponent") signed_money any_value
-    ∷ field (bytes "NAVperCU") money any_value
-    ∷ field (bytes "NAV") (form 0 4 false) any_value
-    ∷ field (bytes "CreationLimit") whole any_value
-    ∷ field (bytes "RedemptionLimit") whole any_value
-    ∷ field (bytes "CreationLimitPerUser") whole any_value
-    ∷ field (bytes "RedemptionLimitPerUser") whole any_value
-    ∷ field (bytes "NetCreationLimit") whole any_value
-    ∷ field (bytes "NetRedemptionLimit") whole any_value
-    ∷ field (bytes "NetCreationLimitPerUser") whole any_value
-    ∷ field (bytes "NetRedemptionLimitPerUser") whole any_value
+    field (bytes "Fundid1") (fixed_digits 6) Any
+    ∷ field (bytes "CreationRedemptionUnit") whole Any
+    ∷ field (bytes "MaxCashRatio") (form 0 5 false) Any
+    ∷ field (bytes "Publish") whole ZeroOrOne
+    ∷ field (bytes "CreationRedemption") whole Any
+    ∷ field (bytes "Recordnum") whole Any
+    ∷ field (bytes "EstimateCashComponent") signed_money Any
+    ∷ field (bytes "TradingDay") (fixed_digits date_digits) Date
+    ∷ field (bytes "PreTradingDay") (fixed_digits date_digits) Date
+    ∷ field (bytes "CashComponent") signed_money Any
+    ∷ field (bytes "NAVperCU") money Any
+    ∷ field (bytes "NAV") (form 0 4 false) Any
+    ∷ field (bytes "CreationLimit") whole Any
+    ∷ field (bytes "RedemptionLimit") whole Any
+    ∷ field (bytes "CreationLimitPerUser") whole Any
+    ∷ field (bytes "RedemptionLimitPerUser") whole Any
+    ∷ field (bytes "NetCreationLimit") whole Any
+    ∷ field (bytes "NetRedemptionLimit") whole Any
+    ∷ field (bytes "NetCreationLimitPerUser") whole Any
+    ∷ field (bytes "NetRedemptionLimitPerUser") whole Any
     ∷ []
-
--- their names, one behind the other
-unfoldable pub names_of : List Field → List ℕ
-names_of [] = []
-names_of (f ∷ fs) = f.name ++ names_of fs
-
-unfoldable pub shanghai_names : List ℕ
-shanghai_names = names_of shanghai_fields
 
 -- how many they are, and which is which
 abbrev pub field_count : ℕ
@@ -151,6 +148,9 @@ unit_value_field = 11
 abbrev pub limits_field : ℕ
 limits_field = 12
 
--- ---- the form
+-- ---- the form, and the same as far as its component lines go
 unfoldable pub shanghai : TextForm
 shanghai = record { fields = shanghai_fields; columns = shanghai_columns; flag_at = flag_column; flags = flag_table }
+
+abbrev pub shanghai_lines : TextForm
+shanghai_lines = line_form shanghai_columns flag_column flag_table

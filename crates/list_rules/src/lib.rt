@@ -2,12 +2,13 @@
 #![tactic(auto)]
 
 ghost use Rattle.std.specs.Prelude.{◌≡◌};
-ghost use Rattle.list_rules.specs.Shanghai.{shanghai_names};
-ghost use Rattle.list_rules.specs.Lent.{ColumnsLent, FieldsLent};
+ghost use Rattle.list_rules.specs.Shanghai.{shanghai_lines};
+ghost use Rattle.list_rules.specs.Lent.{FieldsLent};
 
+use digits::Form;
 use layout::Fund;
 use rules::Refusal;
-use text_rules::{ALWAYS, ANY, BY_FLAG, COLUMN_PARTS, DATE, FIELD_PARTS, TEXT, WIDTH, ZERO_OR_ONE};
+use text_rules::{Column, Field, Fields, LineForm, Use, ValueKind};
 
 // The fields of a list but its components, its names and the letters of its first line.
 #[derive(Clone, Copy)]
@@ -54,26 +55,60 @@ pub const NAME: usize = 1;
 
 pub const FLAG: usize = 3;
 
-// Width, digits, decimals, use, and the flag table's column where a flag decides.
-const COLUMNS: [[usize; COLUMN_PARTS]; COLUMN_COUNT] = [
+const COLUMNS: [Column; COLUMN_COUNT] = [
     // Code.
-    [6, 6, 0, ALWAYS, 0],
+    Column {
+        width: 6,
+        digits: 6,
+        decimals: 0,
+        used: Use::Always,
+    },
     // Name.
-    [8, 0, 0, TEXT, 0],
+    Column {
+        width: NAME_WIDTH,
+        digits: 0,
+        decimals: 0,
+        used: Use::Text,
+    },
     // Quantity.
-    [8, 0, 0, ALWAYS, 0],
+    Column {
+        width: 8,
+        digits: 0,
+        decimals: 0,
+        used: Use::Always,
+    },
     // Flag.
-    [1, 1, 0, ALWAYS, 0],
+    Column {
+        width: 1,
+        digits: 1,
+        decimals: 0,
+        used: Use::Always,
+    },
     // Premium.
-    [7, 0, 5, BY_FLAG, flags::RATE_USED],
+    Column {
+        width: 7,
+        digits: 0,
+        decimals: 5,
+        used: Use::ByFlag(flags::RATE_USED),
+    },
     // Discount.
-    [7, 0, 5, BY_FLAG, flags::RATE_USED],
+    Column {
+        width: 7,
+        digits: 0,
+        decimals: 5,
+        used: Use::ByFlag(flags::RATE_USED),
+    },
     // Amount.
-    [12, 0, 3, BY_FLAG, flags::AMOUNT_USED],
+    Column {
+        width: 12,
+        digits: 0,
+        decimals: 3,
+        used: Use::ByFlag(flags::AMOUNT_USED),
+    },
 ];
 
 // How many bytes a component's name has.
-pub const NAME_WIDTH: usize = COLUMNS[NAME][WIDTH];
+pub const NAME_WIDTH: usize = 8;
 
 // How many fields the head has, and which is which.
 pub const FIELD_COUNT: usize = 20;
@@ -104,90 +139,151 @@ pub const UNIT_VALUE: usize = 11;
 
 pub const LIMITS: usize = 12;
 
-// Length of the name, digits, decimals, sign and kind.
-const FIELDS: [[usize; FIELD_PARTS]; FIELD_COUNT] = [
-    // Fundid1.
-    [7, 6, 0, 0, ANY],
-    // CreationRedemptionUnit.
-    [22, 0, 0, 0, ANY],
-    // MaxCashRatio.
-    [12, 0, 5, 0, ANY],
-    // Publish.
-    [7, 0, 0, 0, ZERO_OR_ONE],
-    // CreationRedemption.
-    [18, 0, 0, 0, ANY],
-    // Recordnum.
-    [9, 0, 0, 0, ANY],
-    // EstimateCashComponent.
-    [21, 0, 2, 1, ANY],
-    // TradingDay.
-    [10, 8, 0, 0, DATE],
-    // PreTradingDay.
-    [13, 8, 0, 0, DATE],
-    // CashComponent.
-    [13, 0, 2, 1, ANY],
-    // NAVperCU.
-    [8, 0, 2, 0, ANY],
-    // NAV.
-    [3, 0, 4, 0, ANY],
-    // CreationLimit.
-    [13, 0, 0, 0, ANY],
-    // RedemptionLimit.
-    [15, 0, 0, 0, ANY],
-    // CreationLimitPerUser.
-    [20, 0, 0, 0, ANY],
-    // RedemptionLimitPerUser.
-    [22, 0, 0, 0, ANY],
-    // NetCreationLimit.
-    [16, 0, 0, 0, ANY],
-    // NetRedemptionLimit.
-    [18, 0, 0, 0, ANY],
-    // NetCreationLimitPerUser.
-    [23, 0, 0, 0, ANY],
-    // NetRedemptionLimitPerUser.
-    [25, 0, 0, 0, ANY],
+// Their forms: a whole number, a code of six digits, a date, and with decimals a ratio, a unit's value and money.
+const WHOLE: Form = Form {
+    digits: 0,
+    decimals: 0,
+    signed: false,
+    width: 0,
+};
+
+const CODE: Form = Form { digits: 6, ..WHOLE };
+
+const DATE: Form = Form { digits: 8, ..WHOLE };
+
+const RATIO: Form = Form {
+    decimals: 5,
+    ..WHOLE
+};
+
+const UNIT_MONEY: Form = Form {
+    decimals: 4,
+    ..WHOLE
+};
+
+const MONEY: Form = Form {
+    decimals: 2,
+    ..WHOLE
+};
+
+const SIGNED_MONEY: Form = Form {
+    signed: true,
+    ..MONEY
+};
+
+const FIELDS: [Field<'static>; FIELD_COUNT] = [
+    Field {
+        name: b"Fundid1",
+        form: CODE,
+        kind: ValueKind::Any,
+    },
+    Field {
+        name: b"CreationRedemptionUnit",
+        form: WHOLE,
+        kind: ValueKind::Any,
+    },
+    Field {
+        name: b"MaxCashRatio",
+        form: RATIO,
+        kind: ValueKind::Any,
+    },
+    Field {
+        name: b"Publish",
+        form: WHOLE,
+        kind: ValueKind::ZeroOrOne,
+    },
+    Field {
+        name: b"CreationRedemption",
+        form: WHOLE,
+        kind: ValueKind::Any,
+    },
+    Field {
+        name: b"Recordnum",
+        form: WHOLE,
+        kind: ValueKind::Any,
+    },
+    Field {
+        name: b"EstimateCashComponent",
+        form: SIGNED_MONEY,
+        kind: ValueKind::Any,
+    },
+    Field {
+        name: b"TradingDay",
+        form: DATE,
+        kind: ValueKind::Date,
+    },
+    Field {
+        name: b"PreTradingDay",
+        form: DATE,
+        kind: ValueKind::Date,
+    },
+    Field {
+        name: b"CashComponent",
+        form: SIGNED_MONEY,
+        kind: ValueKind::Any,
+    },
+    Field {
+        name: b"NAVperCU",
+        form: MONEY,
+        kind: ValueKind::Any,
+    },
+    Field {
+        name: b"NAV",
+        form: UNIT_MONEY,
+        kind: ValueKind::Any,
+    },
+    Field {
+        name: b"CreationLimit",
+        form: WHOLE,
+        kind: ValueKind::Any,
+    },
+    Field {
+        name: b"RedemptionLimit",
+        form: WHOLE,
+        kind: ValueKind::Any,
+    },
+    Field {
+        name: b"CreationLimitPerUser",
+        form: WHOLE,
+        kind: ValueKind::Any,
+    },
+    Field {
+        name: b"RedemptionLimitPerUser",
+        form: WHOLE,
+        kind: ValueKind::Any,
+    },
+    Field {
+        name: b"NetCreationLimit",
+        form: WHOLE,
+        kind: ValueKind::Any,
+    },
+    Field {
+        name: b"NetRedemptionLimit",
+        form: WHOLE,
+        kind: ValueKind::Any,
+    },
+    Field {
+        name: b"NetCreationLimitPerUser",
+        form: WHOLE,
+        kind: ValueKind::Any,
+    },
+    Field {
+        name: b"NetRedemptionLimitPerUser",
+        form: WHOLE,
+        kind: ValueKind::Any,
+    },
 ];
 
-// Their names, one behind the other.
-pub const NAMES_SIZE: usize = 295;
-
-const NAMES: [u8; NAMES_SIZE] = *b"Fundid1\
-    CreationRedemptionUnit\
-    MaxCashRatio\
-    Publish\
-    CreationRedemption\
-    Recordnum\
-    EstimateCashComponent\
-    TradingDay\
-    PreTradingDay\
-    CashComponent\
-    NAVperCU\
-    NAV\
-    CreationLimit\
-    RedemptionLimit\
-    CreationLimitPerUser\
-    RedemptionLimitPerUser\
-    NetCreationLimit\
-    NetRedemptionLimit\
-    NetCreationLimitPerUser\
-    NetRedemptionLimitPerUser";
-
-// The tables, to be lent: the columns of a component line.
-pub fn columns() -> [[usize; COLUMN_PARTS]; COLUMN_COUNT]
-    ensures { ColumnsLent result }
+// The form as far as its component lines go.
+pub fn line_form() -> LineForm<'static>
+    ensures { result ≡ shanghai_lines }
 {
-    COLUMNS
+    LineForm::new(&COLUMNS, FLAG, &flags::TABLE)
 }
 
-// The fields of the head, and their names.
-pub fn field_rows() -> [[usize; FIELD_PARTS]; FIELD_COUNT]
-    ensures { FieldsLent result shanghai_names }
+// The fields of the head.
+pub fn field_table() -> Fields<'static>
+    ensures { FieldsLent result }
 {
-    FIELDS
-}
-
-pub fn names() -> [u8; NAMES_SIZE]
-    ensures { result ≡ shanghai_names }
-{
-    NAMES
+    Fields::new(&FIELDS)
 }

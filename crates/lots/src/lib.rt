@@ -4,7 +4,7 @@
 ghost use Rattle.std.specs.Prelude.{◌≡◌, ◌+◌, ◌≤◌, ◌<◌, ◌^◌};
 ghost use Rattle.lots.specs.Lots.{sell_of, hand_in_of, buy_of, get_of, take_in_of, pay_out_of, sellable, handable};
 
-#[derive(Clone, Copy)]
+#[derive(Clone, Copy, PartialEq, Eq)]
 pub struct Lots {
     pub old: u64,
     pub bought: u64,
@@ -35,15 +35,14 @@ impl Lots {
     {
         if q <= self.got {
             return Lots {
-                old: self.old,
-                bought: self.bought,
                 got: self.got - q,
+                ..self
             };
         }
         Lots {
             old: self.old - (q - self.got),
-            bought: self.bought,
             got: 0,
+            ..self
         }
     }
 
@@ -54,15 +53,14 @@ impl Lots {
     {
         if q <= self.bought {
             return Lots {
-                old: self.old,
                 bought: self.bought - q,
-                got: self.got,
+                ..self
             };
         }
         Lots {
             old: self.old - (q - self.bought),
             bought: 0,
-            got: self.got,
+            ..self
         }
     }
 
@@ -72,9 +70,8 @@ impl Lots {
         ensures { result ≡ buy_of self q }
     {
         Lots {
-            old: self.old,
             bought: self.bought + q,
-            got: self.got,
+            ..self
         }
     }
 
@@ -84,9 +81,8 @@ impl Lots {
         ensures { result ≡ get_of self q }
     {
         Lots {
-            old: self.old,
-            bought: self.bought,
             got: self.got + q,
+            ..self
         }
     }
 
@@ -97,8 +93,7 @@ impl Lots {
     {
         Lots {
             old: self.old + q,
-            bought: self.bought,
-            got: self.got,
+            ..self
         }
     }
 
@@ -109,8 +104,7 @@ impl Lots {
     {
         Lots {
             old: self.old - q,
-            bought: self.bought,
-            got: self.got,
+            ..self
         }
     }
 }

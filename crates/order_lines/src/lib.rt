@@ -10,14 +10,15 @@ ghost use Rattle.order_lines.specs.Lines.{creation_line, redemption_line, amount
 ghost use Rattle.order_lines.specs.Ready.{Ranged};
 
 use layout::Component;
+use rules::Kind;
 use units::Money;
 
 // One component in an order of so many baskets.
 #[derive(Clone, Copy)]
 pub struct Line {
     pub short: bool,
-    pub missing: u64,
-    pub worth: Money,
+    // What missing stock is worth for which cash stands, without the premium.
+    pub missing: Option<Money>,
     pub cash: Money,
     pub shanghai: bool,
     pub moved: u64,
@@ -27,49 +28,33 @@ pub struct Line {
 pub fn chosen(test: bool, x: Money, y: Money) -> Money
     ensures { result ≡ cond test x y }
 {
-    if test {
-        return x;
-    }
-    y
+    if test { x } else { y }
 }
 
 // Whether a component of which stock moves, with no cash for a shortage, is short.
+#[tactic(auto, unfolding(sequences::specs::Every::every))]
 fn is_short(moves: bool, in_cash: bool, need: u64, have: u64) -> bool
     ensures { result ≡ every (moves ∷ not in_cash ∷ ltb have need ∷ []) }
 {
-    if !moves {
-        return false;
-    }
-    if in_cash {
-        return false;
-    }
-    have < need
+    moves && !in_cash && have < need
 }
 
 // What is missing where cash stands for a shortage.
 fn missing_of(in_cash: bool, need: u64, have: u64) -> u64
     ensures { result ≡ cond in_cash (need - have) 0 }
 {
-    if !in_cash {
-        return 0;
+    if in_cash {
+        need.saturating_sub(have)
+    } else {
+        0
     }
-    if need <= have {
-        return 0;
-    }
-    need - have
 }
 
 // What moves of a need, at most so much.
 fn moved_of(moves: bool, need: u64, most: u64) -> u64
     ensures { result ≡ cond moves (min need most) 0 }
 {
-    if !moves {
-        return 0;
-    }
-    if need <= most {
-        return need;
-    }
-    most
+    if moves { need.min(most) } else { 0 }
 }
 
 // A component in a creation of m baskets, for an account that has so much of it to hand in.
@@ -87,10 +72,9 @@ fn creation_line(c: Component, have: u64, price: u64, m: u64) -> Line
     let cash = chosen(moves, worth, amount).with_premium(c.premium);
     Line {
         short: is_short(moves, in_cash, need, have),
-        missing: missing,
-        worth: worth,
-        cash: cash,
-        shanghai: shanghai,
+        missing: (0 < missing).then_some(worth),
+        cash,
+        shanghai,
         moved: moved_of(moves, need, have),
     }
 }
@@ -107,34 +91,33 @@ fn redemption_line(c: Component, have: u64, m: u64) -> Line
     let paid = Money(m * c.amount.0).with_discount(c.discount);
     Line {
         short: have < moved,
-        missing: 0,
-        worth: Money(0),
+        missing: None,
         cash: chosen(moves, Money(0), paid),
-        shanghai: shanghai,
-        moved: moved,
+        shanghai,
+        moved,
     }
 }
 
 // An amount that stands for a component: with the premium on creation, less the discount on redemption.
-fn amount_due(kind: usize, c: Component, amount: Money) -> Money
+#[tactic(auto, unfolding(crate::specs::Lines::amount_due))]
+fn amount_due(kind: Kind, c: Component, amount: Money) -> Money
     requires { Ranged c × (amount.0 ≤ 1_999_999_999_980) }
     ensures { result.0 ≡ amount_due kind c amount.0 }
 {
-    if kind == rules::CREATION {
-        return amount.with_premium(c.premium);
+    match kind {
+        Kind::Creation => amount.with_premium(c.premium),
+        Kind::Redemption => amount.with_discount(c.discount),
     }
-    amount.with_discount(c.discount)
 }
 
 // A component of which no stock moves, in an order of m baskets: its amount alone.
-pub fn amount_line(kind: usize, c: Component, m: u64) -> Line
+pub fn amount_line(kind: Kind, c: Component, m: u64) -> Line
     requires { Ranged c × (m ≤ most_baskets) }
     ensures { result ≡ amount_line kind c m }
 {
     Line {
         short: false,
-        missing: 0,
-        worth: Money(0),
+        missing: None,
         cash: amount_due(kind, c, Money(m * c.amount.0)),
         shanghai: flags::entry_of(c.flag, flags::SHANGHAI),
         moved: 0,
@@ -142,22 +125,21 @@ pub fn amount_line(kind: usize, c: Component, m: u64) -> Line
 }
 
 // A component in an order of either kind.
-pub fn order_line(kind: usize, c: Component, have: u64, price: u64, m: u64) -> Line
+#[tactic(auto, unfolding(crate::specs::Lines::order_line))]
+pub fn order_line(kind: Kind, c: Component, have: u64, price: u64, m: u64) -> Line
     requires { Ranged c × (m ≤ most_baskets) × (price ≤ most_price) }
     ensures { result ≡ order_line kind c have price m }
 {
-    if kind == rules::CREATION {
-        return creation_line(c, have, price, m);
+    match kind {
+        Kind::Creation => creation_line(c, have, price, m),
+        Kind::Redemption => redemption_line(c, have, m),
     }
-    redemption_line(c, have, m)
 }
 
 // Whether stock of a component moves and is there in full.
+#[tactic(auto, unfolding(sequences::specs::Every::every))]
 pub fn is_covered(flag: u64, need: u64, have: u64) -> bool
     ensures { result ≡ every (leb need have ∷ entry flag stock_moves ∷ []) }
 {
-    if have < need {
-        return false;
-    }
-    flags::entry_of(flag, flags::STOCK_MOVES)
+    need <= have && flags::entry_of(flag, flags::STOCK_MOVES)
 }

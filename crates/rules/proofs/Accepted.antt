@@ -12,9 +12,11 @@ use Rattle.sequences.proofs.Below.{first_all, first_stops}
 use Rattle.sequences.proofs.Every.{every_at, inside_facts}
 use Rattle.sequences.proofs.Checks.{all_passed, accepted_reply}
 use Rattle.lots.specs.Lots.{sellable}
-use Rattle.fund.specs.Fund.{ceiling, limit_of, cumulative_limit, cumulative_limit_each, net_limit, net_limit_each}
+use Rattle.fund.specs.Fund.{ceiling, cumulative_limit, cumulative_limit_each, net_limit, net_limit_each}
 use Rattle.layout.specs.Day.{Day}
 use Rattle.layout.specs.Book.{cash, head_at, lots_at, account}
+use Rattle.rules.specs.declared.Kind.{Kind}
+use Rattle.rules.specs.declared.Kind.TheVariants.{Creation, Redemption}
 use Rattle.rules.specs.declared.Rooms.{Rooms}
 use Rattle.rules.specs.declared.Counts.{Counts}
 use Rattle.rules.specs.Replies.{made_reply}
@@ -22,7 +24,7 @@ use Rattle.rules.specs.Lent.{too_short}
 use Rattle.rules.specs.Sound.{on_sound_day, most_price}
 use Rattle.rules.specs.Price.{price_checks, price_reply}
 use Rattle.rules.specs.Trade.{is_investor, trade_means, trade_checks, trade_reply}
-use Rattle.rules.specs.Orders.{creation, redemption, baskets, most_baskets, whole_baskets, form_checks, switch_allows, within_limit, count_of, fund_count, within_limits, permission_checks}
+use Rattle.rules.specs.Orders.{limit_for, opposite_kind, baskets, most_baskets, whole_baskets, form_checks, switch_allows, within_limit, count_of, fund_count, within_limits, permission_checks}
 use Rattle.rules.specs.Creation.{first_short, is_short, creation_due, creation_counts, creation_means, creation_checks, creation_reply}
 use Rattle.rules.specs.Redemption.{delivered, fund_lacks, first_lacking, units_available, redemption_paid, redemption_counts, redemption_means, redemption_checks, redemption_reply}
 use Rattle.rules.proofs.SoundDay.{SoundDay, sound_facts}
@@ -102,19 +104,19 @@ limit_fact limit units e pos = go (eqb limit 0) refl e
     go false f g = leb-true units limit g
 
 -- what the first two stages of an order say, for a kind of order
-pub record Orders (d : Day) (b : List ℕ) (kind a units : ℕ) : Type 0 where
+pub record Orders (d : Day) (b : List ℕ) (kind : Kind) (a units : ℕ) : Type 0 where
   pub account_low : 0 < a
   pub account_in : a < d.accounts
   pub whole : units % d.fund.basket_size ≡ 0
   pub baskets_low : 1 ≤ baskets d units
   pub baskets_high : baskets d units ≤ most_baskets
-  pub limit : 0 < limit_of d.fund cumulative_limit kind → fund_count d b kind + units ≤ limit_of d.fund cumulative_limit kind
-  pub limit_each : 0 < limit_of d.fund cumulative_limit_each kind → count_of d b kind a + units ≤ limit_of d.fund cumulative_limit_each kind
-  pub net_limit_lem : 0 < limit_of d.fund net_limit kind → fund_count d b kind + units - fund_count d b (1 - kind) ≤ limit_of d.fund net_limit kind
-  pub net_limit_each_lem : 0 < limit_of d.fund net_limit_each kind → count_of d b kind a + units - count_of d b (1 - kind) a ≤ limit_of d.fund net_limit_each kind
+  pub limit : 0 < limit_for d cumulative_limit kind → fund_count d b kind + units ≤ limit_for d cumulative_limit kind
+  pub limit_each : 0 < limit_for d cumulative_limit_each kind → count_of d b kind a + units ≤ limit_for d cumulative_limit_each kind
+  pub net_limit_lem : 0 < limit_for d net_limit kind → fund_count d b kind + units - fund_count d b (opposite_kind kind) ≤ limit_for d net_limit kind
+  pub net_limit_each_lem : 0 < limit_for d net_limit_each kind → count_of d b kind a + units - count_of d b (opposite_kind kind) a ≤ limit_for d net_limit_each kind
   pub below_ceiling : fund_count d b kind + units ≤ ceiling
 
-pub order_facts : (d : Day) (b : List ℕ) (kind a units : ℕ) → 2 ≤ d.accounts → is_investor d.accounts a ≡ true → whole_baskets most_baskets d units ≡ true
+pub order_facts : (d : Day) (b : List ℕ) (kind : Kind) (a units : ℕ) → 2 ≤ d.accounts → is_investor d.accounts a ≡ true → whole_baskets most_baskets d units ≡ true
     → within_limits d b kind a units ≡ true → Orders d b kind a units
 unfolding whole_baskets within_limits
 order_facts d b kind a units two i w l =
@@ -123,10 +125,10 @@ order_facts d b kind a units two i w l =
     let count = inside_facts 1 most_baskets (baskets d units) (whole 1) in
     let at =
     every_at
-    (within_limit (limit_of d.fund cumulative_limit kind) (fund_count d b kind + units)
-    ∷ within_limit (limit_of d.fund cumulative_limit_each kind) (count_of d b kind a + units)
-    ∷ within_limit (limit_of d.fund net_limit kind) (fund_count d b kind + units - fund_count d b (1 - kind))
-    ∷ within_limit (limit_of d.fund net_limit_each kind) (count_of d b kind a + units - count_of d b (1 - kind) a)
+    (within_limit (limit_for d cumulative_limit kind) (fund_count d b kind + units)
+    ∷ within_limit (limit_for d cumulative_limit_each kind) (count_of d b kind a + units)
+    ∷ within_limit (limit_for d net_limit kind) (fund_count d b kind + units - fund_count d b (opposite_kind kind))
+    ∷ within_limit (limit_for d net_limit_each kind) (count_of d b kind a + units - count_of d b (opposite_kind kind) a)
     ∷ leb (fund_count d b kind + units) ceiling
     ∷ []) l in
     record {
@@ -157,8 +159,8 @@ listed_facts rooms counts e =
 -- an accepted creation
 pub record Creates (d : Day) (b ps : List ℕ) (a units : ℕ) (rooms : Rooms) : Type 0 where
   pub sound : SoundDay d b ps
-  pub order : Orders d b creation a units
-  pub allowed : switch_allows d creation ≡ true
+  pub order : Orders d b Creation a units
+  pub allowed : switch_allows d Creation ≡ true
   pub stocked : (i : ℕ) → i < d.count → is_short d (account d b a) (baskets d units) i ≡ false
   pub money : creation_due d (account d b a) ps (baskets d units) ≤ head_at (account d b a) cash
   pub listed : Listed rooms (creation_counts d (account d b a) ps units)
@@ -171,7 +173,7 @@ creation_facts d b ps a units rooms e =
     let short = first_stops (is_short d (account d b a) (baskets d units)) d.count p.1.1.1.1.1.0 in
     record {
       sound = sound;
-      order = order_facts d b creation a units sound.own.accounts_low (not-false _ p.1.0) (not-false _ p.1.1.0) (not-false _ p.1.1.1.1.0);
+      order = order_facts d b Creation a units sound.own.accounts_low (not-false _ p.1.0) (not-false _ p.1.1.0) (not-false _ p.1.1.1.1.0);
       allowed = not-false _ p.1.1.1.0;
       stocked = first_all (is_short d (account d b a) (baskets d units)) d.count short;
       money = ltb-false _ _ p.1.1.1.1.1.1.1.1.0;
@@ -187,8 +189,8 @@ creation_made d b ps a units rooms e = accepted_reply (on_sound_day d b ps (crea
 -- an accepted redemption
 pub record Redeems (d : Day) (b ps : List ℕ) (a units : ℕ) (rooms : Rooms) : Type 0 where
   pub sound : SoundDay d b ps
-  pub order : Orders d b redemption a units
-  pub allowed : switch_allows d redemption ≡ true
+  pub order : Orders d b Redemption a units
+  pub allowed : switch_allows d Redemption ≡ true
   -- units created today, which are got, are not among them
   pub handed : units ≤ (lots_at (account d b a) d.count).bought + (lots_at (account d b a) d.count).old
   pub stocked : (i : ℕ) → i < d.count → delivered d (baskets d units) i ≤ (lots_at (account d b 0) i).old
@@ -203,7 +205,7 @@ redemption_facts d b ps a units rooms e =
     let lacks = first_stops (fund_lacks d (account d b 0) (baskets d units)) d.count p.1.1.1.1.1.1.0 in
     record {
       sound = sound;
-      order = order_facts d b redemption a units sound.own.accounts_low (not-false _ p.1.0) (not-false _ p.1.1.0) (not-false _ p.1.1.1.1.0);
+      order = order_facts d b Redemption a units sound.own.accounts_low (not-false _ p.1.0) (not-false _ p.1.1.0) (not-false _ p.1.1.1.1.0);
       allowed = not-false _ p.1.1.1.0;
       handed = omega (arith, ltb-false (units_available d (account d b a)) units p.1.1.1.1.1.0);
       stocked = λ i h. ltb-false _ _ (first_all (fund_lacks d (account d b 0) (baskets d units)) d.count lacks i h);

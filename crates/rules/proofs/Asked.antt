@@ -1,43 +1,33 @@
 -- An ask comes to what the rules of its kind say, and the code's text for both kinds says the same.
 use mathlib.Core.Path.{◌≡◌, refl}
-use mathlib.Core.Bool.{Bool, true, false, cond}
 use mathlib.Core.List.{List}
-use Prim.Native.Nat.{ℕ, ◌<◌}
-use native.Mathlib.Decide.{ℕ_discrete}
-use native.Mathlib.Omega.{arith}
-use lib.Dec.{eqb}
+use Prim.Native.Nat.{ℕ}
 use Rattle.layout.specs.Day.{Day}
+use Rattle.rules.specs.declared.Kind.{Kind}
+use Rattle.rules.specs.declared.Kind.TheVariants.{Creation, Redemption}
 use Rattle.rules.specs.declared.Ask.{Ask}
 use Rattle.rules.specs.declared.Rooms.{Rooms}
 use Rattle.rules.specs.Lent.{Lent}
 use Rattle.layout.specs.Book.{account}
-use Rattle.rules.specs.Orders.{creation, redemption, baskets}
+use Rattle.rules.specs.Orders.{baskets}
 use Rattle.rules.specs.Creation.{creation_due, creation_records, creation_reports, creation_reply, creation_moves, created_book, created_lists}
 use Rattle.rules.specs.Redemption.{redemption_paid, redemption_records, redemption_reports, redemption_reply, redemption_moves, redeemed_book, redeemed_lists}
 use Rattle.rules.specs.Kinds.{by_kind, creation_of, redemption_of, all_cash, moved_by, stock_lots, fund_lots, unit_lots, account_cash, fund_cash}
 use Rattle.rules.specs.Kinds.{order_moves, records_by, reports_by, cash_by, asked_cash, asked_records, asked_reports, counts_by, asked_checks, asked_reply, asked_moves, asked_book, asked_lists}
 
 -- what holds of creation and of redemption holds of a kind
-pub by_kind_lem : (P : ℕ → Type 0) → P creation → P redemption → (kind : ℕ) → kind < 2 → P kind
-by_kind_lem P x y kind h = go (ℕ_discrete kind creation)
-  where
-    go : Dec (kind ≡ creation) → P kind
-    go (yes e) = rw e x
-    go (no n) =
-        let e : kind ≡ redemption = omega arith in
-        rw e y
+pub by_kind_lem : (P : Kind → Type 0) → P Creation → P Redemption → (kind : Kind) → P kind
+by_kind_lem P x y Creation = x
+by_kind_lem P x y Redemption = y
 
 -- what is chosen by a kind has what both have
-pub either_kind : {A : Type 0} (P : A → Type 0) (x y : A) → P x → P y → (kind : ℕ) → P (by_kind kind x y)
-either_kind P x y p q kind = go (eqb kind creation)
-  where
-    go : (b : Bool) → P (cond b x y)
-    go true = p
-    go false = q
+pub either_kind : {A : Type 0} (P : A → Type 0) (x y : A) → P x → P y → (kind : Kind) → P (by_kind kind x y)
+either_kind P x y p q Creation = p
+either_kind P x y p q Redemption = q
 
 -- and so of an ask
-pub by_ask : (P : Ask → Type 0) → ((a units : ℕ) → P (creation_of a units)) → ((a units : ℕ) → P (redemption_of a units)) → (k : Ask) → k.kind < 2 → P k
-by_ask P x y k h = by_kind_lem (λ kind. P (record { kind = kind; account = k.account; units = k.units })) (x k.account k.units) (y k.account k.units) k.kind h
+pub by_ask : (P : Ask → Type 0) → ((a units : ℕ) → P (creation_of a units)) → ((a units : ℕ) → P (redemption_of a units)) → (k : Ask) → P k
+by_ask P x y k = by_kind_lem (λ kind. P (record { kind = kind; account = k.account; units = k.units })) (x k.account k.units) (y k.account k.units) k.kind
 
 module _ (d : Day) (b ps : List ℕ) (a units : ℕ) where
   pub creation_asked : (rooms : Rooms) → asked_reply d b ps (creation_of a units) rooms ≡ creation_reply d b ps a units rooms
@@ -65,7 +55,7 @@ module _ (d : Day) (b ps : List ℕ) (a units : ℕ) where
   redeemed_lists_lem lent = refl
 
 -- the records, the reports and the moves of an ask, by the text for both kinds
-pub asked_records_lem : (d : Day) (s ps : List ℕ) (k : Ask) → k.kind < 2
+pub asked_records_lem : (d : Day) (s ps : List ℕ) (k : Ask)
     → records_by k.kind d s k.units (baskets d k.units) (asked_cash d s ps k) ≡ asked_records d s ps k
 unfolding records_by creation_records redemption_records moved_by asked_cash cash_by asked_records
 asked_records_lem d s ps =
@@ -73,7 +63,7 @@ asked_records_lem d s ps =
     (λ a units. refl)
     (λ a units. refl)
 
-pub asked_reports_lem : (d : Day) (s ps : List ℕ) (k : Ask) → k.kind < 2
+pub asked_reports_lem : (d : Day) (s ps : List ℕ) (k : Ask)
     → reports_by k.kind d s k.units (baskets d k.units) (asked_cash d s ps k) ≡ asked_reports d s ps k
 unfolding reports_by creation_reports redemption_reports moved_by asked_cash cash_by asked_reports
 asked_reports_lem d s ps =
@@ -81,7 +71,7 @@ asked_reports_lem d s ps =
     (λ a units. refl)
     (λ a units. refl)
 
-pub asked_moves_lem : (d : Day) (b ps : List ℕ) (k : Ask) → k.kind < 2
+pub asked_moves_lem : (d : Day) (b ps : List ℕ) (k : Ask)
     → order_moves k.kind d k.account k.units (baskets d k.units) (all_cash (asked_cash d (account d b k.account) ps k)) b ≡ asked_moves d ps k b
 unfolding order_moves creation_moves redemption_moves moved_by stock_lots fund_lots unit_lots account_cash fund_cash asked_cash cash_by creation_due redemption_paid asked_moves
 asked_moves_lem d b ps =

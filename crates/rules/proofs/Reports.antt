@@ -16,9 +16,10 @@ use Rattle.layout.specs.declared.Report.{Report}
 use Rattle.layout.specs.Records.{record_at, with_records}
 use Rattle.layout.specs.Reports.{group_of}
 use Rattle.layout.proofs.Records.{record_read}
+use Rattle.rules.specs.declared.Kind.{Kind}
+use Rattle.rules.specs.declared.Kind.TheVariants.{Creation, Redemption}
 use Rattle.rules.specs.declared.CashByMarket.{CashByMarket}
-use Rattle.rules.specs.Orders.{creation}
-use Rattle.rules.specs.Records.{side_b, side_s, record_of, stock_record, order_records}
+use Rattle.rules.specs.Records.{record_of, stock_record, order_records}
 use Rattle.rules.specs.Reports.{stock_type, shanghai_kind, other_kind, move_report, present, cash_groups, cash_reports, stock_report, order_reports, turned, opposite}
 use Rattle.rules.specs.Kinds.{all_cash, stock_side, rest_side, moved_by, reports_by, cash_report_count}
 
@@ -58,21 +59,15 @@ line_read_lem d stock rest units moved other shanghai list k h =
     ∙ get_or-append (join_below (stock_record d stock moved) d.count) _ no_record k h
 
 -- with the sides turned
-pub turned_stock : (kind : ℕ) → turned (stock_side kind) ≡ rest_side kind
+pub turned_stock : (kind : Kind) → turned (stock_side kind) ≡ rest_side kind
 unfolding turned
-turned_stock kind = go (eqb kind creation)
-  where
-    go : (b : Bool) → cond (eqb (cond b side_s side_b) side_b) side_s side_b ≡ cond b side_b side_s
-    go true = refl
-    go false = refl
+turned_stock Creation = refl
+turned_stock Redemption = refl
 
-pub turned_rest : (kind : ℕ) → turned (rest_side kind) ≡ stock_side kind
+pub turned_rest : (kind : Kind) → turned (rest_side kind) ≡ stock_side kind
 unfolding turned
-turned_rest kind = go (eqb kind creation)
-  where
-    go : (b : Bool) → cond (eqb (cond b side_b side_s) side_b) side_s side_b ≡ cond b side_s side_b
-    go true = refl
-    go false = refl
+turned_rest Creation = refl
+turned_rest Redemption = refl
 
 opposite_cash : (side : ℕ) (gs : List Group) → map opposite (cash_reports side gs) ≡ cash_reports (turned side) gs
 opposite_cash side [] = refl
@@ -94,7 +89,7 @@ opposite_order d stock rest units moved other shanghai =
     ))
 
 -- so the fund's of an order of either kind are the investor's with stock and the rest on each other's side
-pub fund_reports : (kind : ℕ) (d : Day) (s : List ℕ) (units m : ℕ) (c : CashByMarket)
+pub fund_reports : (kind : Kind) (d : Day) (s : List ℕ) (units m : ℕ) (c : CashByMarket)
     → map opposite (reports_by kind d s units m c) ≡ order_reports d (rest_side kind) (stock_side kind) units (moved_by kind d s m) c.other.0 c.shanghai.0
 unfolding reports_by
 fund_reports kind d s units m c =
@@ -114,7 +109,7 @@ cash_count_lem side c = go (eqb c.shanghai.0 0) refl (eqb c.other.0 0) refl
     go false p b q = rw (ne_eqb (all_cash c) 0 (λ e. eqb-false c.shanghai.0 0 p (omega arith)))
 
 -- all reports to a party: the unit's, one for each record of stock, and that of cash
-pub report_count : (kind : ℕ) (d : Day) (s : List ℕ) (units m : ℕ) (c : CashByMarket)
+pub report_count : (kind : Kind) (d : Day) (s : List ℕ) (units m : ℕ) (c : CashByMarket)
     → length (reports_by kind d s units m c) ≡ 1 + length (join_below (stock_record d (stock_side kind) (moved_by kind d s m)) d.count) + cash_report_count c
 unfolding reports_by order_reports
 report_count kind d s units m c =

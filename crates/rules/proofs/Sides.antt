@@ -4,11 +4,14 @@ use mathlib.Core.Logic.{◌≢◌}
 use mathlib.Core.List.{List}
 use Prim.Native.Nat.{ℕ, ◌+◌, ◌≤◌, ◌<◌}
 use native.Mathlib.Omega.{arith}
+use Rattle.std.proofs.Common.{lit<}
 use lib.ListN.{length}
 use Rattle.lots.specs.declared.Lots.{Lots}
 use Rattle.layout.specs.Places.{lines_from}
 use Rattle.layout.specs.Book.{cash, head_at, put_head, lots_at, on_line, each_line, line_from, behind_line, counter}
-use Rattle.rules.specs.Orders.{account_side, fund_side}
+use Rattle.rules.specs.declared.Kind.{Kind}
+use Rattle.rules.specs.declared.Kind.TheVariants.{Creation, Redemption}
+use Rattle.rules.specs.Orders.{number_of, account_side, fund_side}
 use Rattle.layout.proofs.Account.{put-head-length, head-put-same, head-put-other, lots-put-head, on_length, head_on, on_other, on_same, each-length, head_each, each_later, each_at}
 
 -- one line changed by f, and cash set to c: a side of a trade
@@ -31,8 +34,13 @@ module _ (f : Lots → Lots) (line c : ℕ) (s : List ℕ) where
   pub side_other : (l : ℕ) → l ≢ line → lots_at side l ≡ lots_at s l
   side_other l n = lots-put-head cash c (on_line f line s) (omega arith) l ∙ on_other f line s l n
 
+-- a kind's number is 0 or 1
+pub number-below : (kind : Kind) → number_of kind < 2
+number-below Creation = lit< tt
+number-below Redemption = lit< tt
+
 -- the account's side of an order of n components
-module _ (n kind units : ℕ) (f : ℕ → Lots → Lots) (g : Lots → Lots) (c : ℕ) (s : List ℕ) where
+module _ (n : ℕ) (kind : Kind) (units : ℕ) (f : ℕ → Lots → Lots) (g : Lots → Lots) (c : ℕ) (s : List ℕ) where
   abbrev lined : List ℕ
   lined = on_line g n (each_line f n s)
 
@@ -45,43 +53,43 @@ module _ (n kind units : ℕ) (f : ℕ → Lots → Lots) (g : Lots → Lots) (c
   pub account-length : length (account_side n kind units f g c s) ≡ length s
   unfolding account_side
   account-length =
-      put-head-length (counter kind) (head_at s (counter kind) + units) (put_head cash c lined)
+      put-head-length (counter (number_of kind)) (head_at s (counter (number_of kind)) + units) (put_head cash c lined)
       ∙ put-head-length cash c lined
       ∙ lined-length
 
   pub account_cash_lem : behind_line n ≤ length s → head_at (account_side n kind units f g c s) cash ≡ c
   unfolding account_side
   account_cash_lem h =
-      head-put-other (counter kind) (head_at s (counter kind) + units) (put_head cash c lined) cash (omega arith)
+      head-put-other (counter (number_of kind)) (head_at s (counter (number_of kind)) + units) (put_head cash c lined) cash (omega arith)
       ∙ head-put-same cash c lined (omega (arith, lined-length))
 
-  pub account_count : kind < 2 → behind_line n ≤ length s → head_at (account_side n kind units f g c s) (counter kind) ≡ head_at s (counter kind) + units
+  pub account_count : behind_line n ≤ length s → head_at (account_side n kind units f g c s) (counter (number_of kind)) ≡ head_at s (counter (number_of kind)) + units
   unfolding account_side
-  account_count k h =
-      head-put-same (counter kind) (head_at s (counter kind) + units) (put_head cash c lined) (omega (arith, put-head-length cash c lined, lined-length))
+  account_count h =
+      head-put-same (counter (number_of kind)) (head_at s (counter (number_of kind)) + units) (put_head cash c lined) (omega (arith, number-below kind, put-head-length cash c lined, lined-length))
 
-  pub account_head : (k : ℕ) → 0 < k → k < lines_from → k ≢ counter kind → head_at (account_side n kind units f g c s) k ≡ head_at s k
+  pub account_head : (k : ℕ) → 0 < k → k < lines_from → k ≢ counter (number_of kind) → head_at (account_side n kind units f g c s) k ≡ head_at s k
   unfolding account_side
   account_head k p q r =
-      head-put-other (counter kind) (head_at s (counter kind) + units) (put_head cash c lined) k r
+      head-put-other (counter (number_of kind)) (head_at s (counter (number_of kind)) + units) (put_head cash c lined) k r
       ∙ head-put-other cash c lined k (omega arith)
       ∙ lined_head k q
 
-  account_lots : kind < 2 → (l : ℕ) → lots_at (account_side n kind units f g c s) l ≡ lots_at lined l
+  account_lots : (l : ℕ) → lots_at (account_side n kind units f g c s) l ≡ lots_at lined l
   unfolding account_side
-  account_lots k l =
-      lots-put-head (counter kind) (head_at s (counter kind) + units) (put_head cash c lined) (omega arith) l
+  account_lots l =
+      lots-put-head (counter (number_of kind)) (head_at s (counter (number_of kind)) + units) (put_head cash c lined) (omega (arith, number-below kind)) l
       ∙ lots-put-head cash c lined (omega arith) l
 
-  pub account_line : kind < 2 → behind_line n ≤ length s → (l : ℕ) → l < n → lots_at (account_side n kind units f g c s) l ≡ f l (lots_at s l)
-  account_line k h l q =
-      account_lots k l
+  pub account_line : behind_line n ≤ length s → (l : ℕ) → l < n → lots_at (account_side n kind units f g c s) l ≡ f l (lots_at s l)
+  account_line h l q =
+      account_lots l
       ∙ on_other g n (each_line f n s) l (omega arith)
       ∙ each_at f n s l (omega arith) q
 
-  pub account_unit : kind < 2 → behind_line n ≤ length s → lots_at (account_side n kind units f g c s) n ≡ g (lots_at s n)
-  account_unit k h =
-      account_lots k n
+  pub account_unit : behind_line n ≤ length s → lots_at (account_side n kind units f g c s) n ≡ g (lots_at s n)
+  account_unit h =
+      account_lots n
       ∙ on_same g n (each_line f n s) (omega (arith, each-length f n s))
       ∙ ap g (each_later f n s n (omega arith))
 

@@ -9,6 +9,7 @@ use Rattle.lots.specs.Lots.{hand_in_of, get_of, take_in_of, handable}
 use Rattle.layout.specs.Day.{Day}
 use Rattle.layout.specs.declared.Record.{Record}
 use Rattle.layout.specs.declared.Report.{Report}
+use Rattle.rules.specs.declared.Kind.TheVariants.{Creation}
 use Rattle.rules.specs.declared.Rooms.{Rooms}
 use Rattle.rules.specs.declared.Counts.{Counts}
 use Rattle.rules.specs.Replies.{made_reply, if_accepted}
@@ -16,7 +17,7 @@ use Rattle.layout.specs.Book.{cash, head_at, lots_at, width, account}
 use Rattle.rules.specs.Lines.{moves_stock, cash_for_shortage, creation_rate, creation_amount, price_of}
 use Rattle.rules.specs.Sound.{on_sound_day}
 use Rattle.rules.specs.Value.{reference_value, has_value}
-use Rattle.rules.specs.Orders.{creation, baskets, form_checks, permission_checks, need, shanghai_cash, other_cash, account_side, fund_side}
+use Rattle.rules.specs.Orders.{baskets, form_checks, permission_checks, need, shanghai_cash, other_cash, account_side, fund_side}
 use Rattle.rules.specs.Records.{side_b, side_s, order_records}
 use Rattle.rules.specs.Reports.{order_reports}
 use Rattle.rules.specs.Lent.{Lent, rooms_in, counts_of, too_short, with_order}
@@ -94,7 +95,7 @@ creation_means d s ps units rooms =
 
 unfoldable pub creation_checks : Day → List ℕ → List ℕ → ℕ → ℕ → Rooms → List Check
 creation_checks d b ps a units rooms =
-    form_checks d a units ++ (permission_checks d b creation a units ++ creation_means d (account d b a) ps units rooms)
+    form_checks d a units ++ (permission_checks d b Creation a units ++ creation_means d (account d b a) ps units rooms)
 
 unfoldable pub creation_reply : Day → List ℕ → List ℕ → ℕ → ℕ → Rooms → Reply
 creation_reply d b ps a units rooms =
@@ -104,7 +105,7 @@ creation_reply d b ps a units rooms =
 unfoldable pub creation_moves : Day → List ℕ → ℕ → ℕ → List ℕ → List ℕ
 creation_moves d ps a units b =
     on_stretch (width d) a
-    (λ s. account_side d.count creation units (λ i x. hand_in_of x (handed_in d (account d b a) (baskets d units) i)) (λ x. get_of x units)
+    (λ s. account_side d.count Creation units (λ i x. hand_in_of x (handed_in d (account d b a) (baskets d units) i)) (λ x. get_of x units)
     (head_at s cash - creation_due d (account d b a) ps (baskets d units)) s)
     (on_stretch (width d) 0
     (λ f. fund_side d.count (λ i x. take_in_of x (handed_in d (account d b a) (baskets d units) i)) (head_at f cash + creation_due d (account d b a) ps (baskets d units)) f)

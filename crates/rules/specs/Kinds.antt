@@ -6,6 +6,8 @@ use Rattle.sequences.specs.Stretch.{on_stretch}
 use Rattle.lots.specs.declared.Lots.{Lots}
 use Rattle.lots.specs.Lots.{hand_in_of, get_of, take_in_of, pay_out_of}
 use Rattle.layout.specs.Day.{Day}
+use Rattle.rules.specs.declared.Kind.{Kind}
+use Rattle.rules.specs.declared.Kind.TheVariants.{Creation, Redemption}
 use Rattle.rules.specs.declared.Ask.{Ask}
 use Rattle.rules.specs.declared.CashByMarket.{CashByMarket}
 use Rattle.layout.specs.declared.Record.{Record}
@@ -15,21 +17,22 @@ use Rattle.rules.specs.declared.Counts.{Counts}
 use Rattle.rules.specs.Replies.{made_reply, if_accepted}
 use Rattle.layout.specs.Book.{cash, head_at, width, account}
 use Rattle.rules.specs.Sound.{on_sound_day}
-use Rattle.rules.specs.Orders.{creation, redemption, baskets, other_cash, shanghai_cash, account_side, fund_side}
+use Rattle.rules.specs.Orders.{baskets, other_cash, shanghai_cash, account_side, fund_side}
 use Rattle.rules.specs.Records.{side_b, side_s, order_records}
 use Rattle.rules.specs.Reports.{order_reports}
 use Rattle.rules.specs.Lent.{Lent, rooms_in, counts_of, with_order}
 use Rattle.rules.specs.Creation.{handed_in, creation_cash, creation_records, creation_reports, creation_means, creation_checks, creation_moves}
 use Rattle.rules.specs.Redemption.{delivered, redemption_cash, redemption_records, redemption_reports, redemption_means, redemption_checks, redemption_moves}
 
-abbrev pub by_kind : {A : Type 0} → ℕ → A → A → A
-by_kind kind x y = cond (eqb kind creation) x y
+abbrev pub by_kind : {A : Type 0} → Kind → A → A → A
+by_kind Creation x y = x
+by_kind Redemption x y = y
 
 abbrev pub creation_of : ℕ → ℕ → Ask
-creation_of a units = record { kind = creation; account = a; units = units }
+creation_of a units = record { kind = Creation; account = a; units = units }
 
 abbrev pub redemption_of : ℕ → ℕ → Ask
-redemption_of a units = record { kind = redemption; account = a; units = units }
+redemption_of a units = record { kind = Redemption; account = a; units = units }
 
 -- Cash by market: of all components, where component i has f i; all of it; and none.
 abbrev pub by_market : Day → (ℕ → ℕ) → CashByMarket
@@ -42,27 +45,27 @@ abbrev pub no_cash : CashByMarket
 no_cash = record { shanghai = record { 0 = 0 }; other = record { 0 = 0 } }
 
 -- the stock of component i that an order of m baskets moves, for an account with the stretch s
-unfoldable pub moved_by : ℕ → Day → List ℕ → ℕ → ℕ → ℕ
+unfoldable pub moved_by : Kind → Day → List ℕ → ℕ → ℕ → ℕ
 moved_by kind d s m i = by_kind kind (handed_in d s m i) (delivered d m i)
 
 -- what that makes of the account's lots, and of the fund's, and what the units make of the account's
-unfoldable pub stock_lots : ℕ → Lots → ℕ → Lots
+unfoldable pub stock_lots : Kind → Lots → ℕ → Lots
 stock_lots kind x q = by_kind kind (hand_in_of x q) (get_of x q)
 
-unfoldable pub fund_lots : ℕ → Lots → ℕ → Lots
+unfoldable pub fund_lots : Kind → Lots → ℕ → Lots
 fund_lots kind x q = by_kind kind (take_in_of x q) (pay_out_of x q)
 
-unfoldable pub unit_lots : ℕ → Lots → ℕ → Lots
+unfoldable pub unit_lots : Kind → Lots → ℕ → Lots
 unit_lots kind x q = by_kind kind (get_of x q) (hand_in_of x q)
 
 -- cash c goes from the account to the fund, or the other way
-unfoldable pub account_cash : ℕ → ℕ → ℕ → ℕ
+unfoldable pub account_cash : Kind → ℕ → ℕ → ℕ
 account_cash kind held c = by_kind kind (held - c) (held + c)
 
-unfoldable pub fund_cash : ℕ → ℕ → ℕ → ℕ
+unfoldable pub fund_cash : Kind → ℕ → ℕ → ℕ
 fund_cash kind held c = by_kind kind (held + c) (held - c)
 
-unfoldable pub order_moves : ℕ → Day → ℕ → ℕ → ℕ → ℕ → List ℕ → List ℕ
+unfoldable pub order_moves : Kind → Day → ℕ → ℕ → ℕ → ℕ → List ℕ → List ℕ
 order_moves kind d a units m c b =
     on_stretch (width d) a
     (λ s. account_side d.count kind units (λ i x. stock_lots kind x (moved_by kind d (account d b a) m i)) (λ x. unit_lots kind x units) (account_cash kind (head_at s cash) c) s)
@@ -71,17 +74,17 @@ order_moves kind d a units m c b =
     b)
 
 -- the records: stock is S on creation and B on redemption, and the rest the other side
-abbrev pub stock_side : ℕ → ℕ
+abbrev pub stock_side : Kind → ℕ
 stock_side kind = by_kind kind side_s side_b
 
-abbrev pub rest_side : ℕ → ℕ
+abbrev pub rest_side : Kind → ℕ
 rest_side kind = by_kind kind side_b side_s
 
-unfoldable pub records_by : ℕ → Day → List ℕ → ℕ → ℕ → CashByMarket → List Record
+unfoldable pub records_by : Kind → Day → List ℕ → ℕ → ℕ → CashByMarket → List Record
 records_by kind d s units m c = order_records d (stock_side kind) (rest_side kind) units (moved_by kind d s m) c.other.0 c.shanghai.0
 
 -- the investor's reports, with the same sides
-unfoldable pub reports_by : ℕ → Day → List ℕ → ℕ → ℕ → CashByMarket → List Report
+unfoldable pub reports_by : Kind → Day → List ℕ → ℕ → ℕ → CashByMarket → List Report
 reports_by kind d s units m c = order_reports d (stock_side kind) (rest_side kind) units (moved_by kind d s m) c.other.0 c.shanghai.0
 
 -- how many reports tell an order's cash
@@ -89,7 +92,7 @@ unfoldable pub cash_report_count : CashByMarket → ℕ
 cash_report_count c = cond (eqb (all_cash c) 0) 0 1
 
 -- What an ask comes to, for an account with the stretch s and a fund with the stretch f: the cash, the records, the reports, and the third stage.
-unfoldable pub cash_by : ℕ → Day → List ℕ → List ℕ → ℕ → CashByMarket
+unfoldable pub cash_by : Kind → Day → List ℕ → List ℕ → ℕ → CashByMarket
 cash_by kind d s ps m = by_market d (by_kind kind (creation_cash d s ps m) (redemption_cash d m))
 
 unfoldable pub asked_cash : Day → List ℕ → List ℕ → Ask → CashByMarket

@@ -8,13 +8,14 @@ use Rattle.lots.specs.Lots.{hand_in_of, get_of, pay_out_of, handable}
 use Rattle.layout.specs.Day.{Day}
 use Rattle.layout.specs.declared.Record.{Record}
 use Rattle.layout.specs.declared.Report.{Report}
+use Rattle.rules.specs.declared.Kind.TheVariants.{Redemption}
 use Rattle.rules.specs.declared.Rooms.{Rooms}
 use Rattle.rules.specs.declared.Counts.{Counts}
 use Rattle.rules.specs.Replies.{made_reply, if_accepted}
 use Rattle.layout.specs.Book.{cash, head_at, lots_at, width, account}
 use Rattle.rules.specs.Lines.{moves_stock, redemption_rate, redemption_amount}
 use Rattle.rules.specs.Sound.{on_sound_day}
-use Rattle.rules.specs.Orders.{redemption, baskets, form_checks, permission_checks, need, shanghai_cash, other_cash, account_side, fund_side}
+use Rattle.rules.specs.Orders.{baskets, form_checks, permission_checks, need, shanghai_cash, other_cash, account_side, fund_side}
 use Rattle.rules.specs.Records.{side_b, side_s, order_records}
 use Rattle.rules.specs.Reports.{order_reports}
 use Rattle.rules.specs.Lent.{Lent, rooms_in, counts_of, too_short, with_order}
@@ -72,7 +73,7 @@ redemption_means d s f units rooms =
 
 unfoldable pub redemption_checks : Day → List ℕ → ℕ → ℕ → Rooms → List Check
 redemption_checks d b a units rooms =
-    form_checks d a units ++ (permission_checks d b redemption a units ++ redemption_means d (account d b a) (account d b 0) units rooms)
+    form_checks d a units ++ (permission_checks d b Redemption a units ++ redemption_means d (account d b a) (account d b 0) units rooms)
 
 unfoldable pub redemption_reply : Day → List ℕ → List ℕ → ℕ → ℕ → Rooms → Reply
 redemption_reply d b ps a units rooms =
@@ -82,7 +83,7 @@ redemption_reply d b ps a units rooms =
 unfoldable pub redemption_moves : Day → ℕ → ℕ → List ℕ → List ℕ
 redemption_moves d a units b =
     on_stretch (width d) a
-    (λ s. account_side d.count redemption units (λ i x. get_of x (delivered d (baskets d units) i)) (λ x. hand_in_of x units) (head_at s cash + redemption_paid d (baskets d units)) s)
+    (λ s. account_side d.count Redemption units (λ i x. get_of x (delivered d (baskets d units) i)) (λ x. hand_in_of x units) (head_at s cash + redemption_paid d (baskets d units)) s)
     (on_stretch (width d) 0
     (λ f. fund_side d.count (λ i x. pay_out_of x (delivered d (baskets d units) i)) (head_at f cash - redemption_paid d (baskets d units)) f)
     b)

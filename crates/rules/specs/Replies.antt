@@ -1,16 +1,11 @@
 -- "Calls and what turns them back": the paper's number, place, value and count of reports for every answer.
-use Rattle.std.specs.Prelude.{cond}
+use Rattle.std.specs.Prelude.{cond, ⊤, Result, Ok, Err}
+use Rattle.units.specs.declared.ReferenceValue.{ReferenceValue}
 use Rattle.sequences.specs.Checks.{Reply, reply, is_accepted}
 use Rattle.rules.specs.declared.Refusal.{Refusal}
 use Rattle.rules.specs.declared.Refusal.TheVariants.{Sizes, FundField, Component, Total, UnsoundDay, NoSuchLine, QuantityOrPrice, Account, ShortOfStock, ShortOfCash}
 use Rattle.rules.specs.declared.Refusal.TheVariants.{NotWholeBaskets, Switch, Limit, NoReferenceValue, CashRatio, ListTooShort, FundShort, TextLine, TextField, RecordCount}
-use Rattle.rules.specs.declared.Answer.{Answer}
-use Rattle.rules.specs.declared.Answer.TheVariants.{Done, Refused}
 use Rattle.rules.specs.declared.Counts.{Counts}
-use Rattle.rules.specs.declared.OrderAnswer.{OrderAnswer}
-use Rattle.rules.specs.declared.OrderAnswer.TheVariants.{Made, Refused as OrderRefused}
-use Rattle.rules.specs.declared.ValueAnswer.{ValueAnswer}
-use Rattle.rules.specs.declared.ValueAnswer.TheVariants.{Worth, Refused as ValueRefused}
 
 -- a refusal's number and place
 abbrev pub refusal_reply : Refusal → Reply
@@ -35,21 +30,24 @@ refusal_reply (TextLine place) = reply 18 place 0
 refusal_reply (TextField place) = reply 19 place 0
 refusal_reply RecordCount = reply 20 0 0
 
-abbrev pub answer_reply : Answer → Reply
-answer_reply Done = reply 0 0 0
-answer_reply (Refused why) = refusal_reply why
+-- the answer of opening, price and trade
+abbrev pub answer_reply : Result ⊤ Refusal → Reply
+answer_reply (Ok done) = reply 0 0 0
+answer_reply (Err why) = refusal_reply why
 
 -- an order that is made
 abbrev pub made_reply : Counts → Reply
 made_reply made = record { number = 0; place = 0; value = made.records; reports = made.reports }
 
-abbrev pub order_answer_reply : OrderAnswer → Reply
-order_answer_reply (Made counts) = made_reply counts
-order_answer_reply (OrderRefused why) = refusal_reply why
+-- the answer of creation and redemption
+abbrev pub order_answer_reply : Result Counts Refusal → Reply
+order_answer_reply (Ok counts) = made_reply counts
+order_answer_reply (Err why) = refusal_reply why
 
-abbrev pub value_answer_reply : ValueAnswer → Reply
-value_answer_reply (Worth v) = reply 0 0 v.0
-value_answer_reply (ValueRefused why) = refusal_reply why
+-- the answer of the reference value
+abbrev pub value_answer_reply : Result ReferenceValue Refusal → Reply
+value_answer_reply (Ok v) = reply 0 0 v.0
+value_answer_reply (Err why) = refusal_reply why
 
 -- what an accepted call leaves, and what was there where it is refused
 abbrev pub if_accepted : {A : Type 0} → Reply → A → A → A

@@ -4,11 +4,12 @@
 ghost use Rattle.std.specs.Prelude.{◌≡◌, ◌<◌, ◌^◌};
 ghost use Rattle.rules.specs.Kinds.{all_cash, cash_report_count, creation_of, redemption_of};
 ghost use Rattle.rules.specs.Lent.{rooms_of};
+ghost use Rattle.rules.specs.Orders.{kind_at, number_of, opposite_kind};
 
-use units::{Money, ReferenceValue};
+use units::Money;
 
 // Why a call is turned back, with a place where the paper gives one. specs/Replies.antt has the paper's numbers.
-#[derive(Clone, Copy)]
+#[derive(Clone, Copy, PartialEq, Eq, Debug)]
 pub enum Refusal {
     Sizes,
     FundField,
@@ -30,13 +31,6 @@ pub enum Refusal {
     TextLine(usize),
     TextField(usize),
     RecordCount,
-}
-
-// The answer of opening, price and trade.
-#[derive(Clone, Copy)]
-pub enum Answer {
-    Done,
-    Refused(Refusal),
 }
 
 // How many records an order makes, and how many reports for each of its two parties.
@@ -65,29 +59,51 @@ pub fn rooms_of(records: usize, investor: usize, fund: usize) -> Rooms
     }
 }
 
-// The answer of creation and redemption.
-#[derive(Clone, Copy)]
-pub enum OrderAnswer {
-    Made(Counts),
-    Refused(Refusal),
+// The two kinds of order.
+#[derive(Clone, Copy, PartialEq, Eq, Debug)]
+pub enum Kind {
+    Creation,
+    Redemption,
 }
 
-// The answer of the reference value.
-#[derive(Clone, Copy)]
-pub enum ValueAnswer {
-    Worth(ReferenceValue),
-    Refused(Refusal),
+impl Kind {
+    // Its number, as limits and counters are laid out.
+    pub fn number(self) -> usize
+        ensures { result ≡ number_of self }
+    {
+        match self {
+            Kind::Creation => 0,
+            Kind::Redemption => 1,
+        }
+    }
+
+    // The other kind.
+    pub fn opposite(self) -> Kind
+        ensures { result ≡ opposite_kind self }
+    {
+        match self {
+            Kind::Creation => Kind::Redemption,
+            Kind::Redemption => Kind::Creation,
+        }
+    }
 }
 
-// The two kinds of order, as limits and counters are laid out.
-pub const CREATION: usize = 0;
-
-pub const REDEMPTION: usize = 1;
+impl From<usize> for Kind {
+    // The kind that has a number: 0 is creation, and every other is redemption.
+    fn from(number: usize) -> Kind
+        ensures { result ≡ kind_at number }
+    {
+        match number {
+            0 => Kind::Creation,
+            _ => Kind::Redemption,
+        }
+    }
+}
 
 // What an order asks: its kind, the account, and how many units.
-#[derive(Clone, Copy)]
+#[derive(Clone, Copy, PartialEq, Eq, Debug)]
 pub struct Ask {
-    pub kind: usize,
+    pub kind: Kind,
     pub account: usize,
     pub units: u64,
 }
@@ -97,7 +113,7 @@ pub fn creation(account: usize, units: u64) -> Ask
     ensures { result ≡ creation_of account units }
 {
     Ask {
-        kind: CREATION,
+        kind: Kind::Creation,
         account,
         units,
     }
@@ -108,10 +124,20 @@ pub fn redemption(account: usize, units: u64) -> Ask
     ensures { result ≡ redemption_of account units }
 {
     Ask {
-        kind: REDEMPTION,
+        kind: Kind::Redemption,
         account,
         units,
     }
+}
+
+// A trade: a quantity of a line at a price a unit, from a seller to a buyer.
+#[derive(Clone, Copy)]
+pub struct Trade {
+    pub line: usize,
+    pub quantity: u64,
+    pub price: Money,
+    pub seller: usize,
+    pub buyer: usize,
 }
 
 // The cash of an order, by market.

@@ -3,6 +3,7 @@ use mathlib.Core.Path.{◌≡◌, refl, sym, ap, ◌∙◌, subst}
 use mathlib.Core.Bool.{Bool, true, false, ◌||◌, ◌&&◌, cond, false≢true, or-true}
 use mathlib.Core.List.{List, [], ◌∷◌, ◌++◌}
 use mathlib.Core.Logic.{⊎_elim}
+use Rattle.std.specs.Prelude.{Some, None}
 use Prim.Native.Nat.{ℕ, zero, suc, ◌+◌, ◌*◌, ◌≤◌, ◌<◌, zero-le}
 use native.Mathlib.Nat.{suc-mul, lt-suc_self, le_step, zero-mul, not-suc-le-zero, eq-or-lt_of_le, le_of_suc-le-suc, le_refl, le-suc, le_of_eq, le_antisymm, not-suc-le_self}
 use native.Mathlib.Numerals.{add-one}
@@ -11,8 +12,8 @@ use native.Mathlib.Omega.{arith}
 use lib.Dec.{ltb, eqb}
 use lib.ListN.{length, get_or, length-append, get_or-append}
 use lib.Seq.{get_or_at, ext_get_or}
-use borrow.Author.Tests.{lt-ltb, le-ltb, ltb-false, eq-eqb, ne_eqb}
-use Rattle.sequences.specs.Below.{sum_below, any_below, all_below, first_below, join_below, tabulate}
+use borrow.Author.Tests.{lt-ltb, le-ltb, ltb-true, ltb-false, eq-eqb, ne_eqb}
+use Rattle.sequences.specs.Below.{sum_below, any_below, all_below, first_below, below, join_below, tabulate}
 
 -- Sums.
 
@@ -226,6 +227,36 @@ first_same f g (suc n) e = rw (first_same f g n (λ k h. e k (le_step h)), e n (
 -- a search that stops below n has not passed all
 pub first_stops : (f : ℕ → Bool) (n : ℕ) → ltb (first_below f n) n ≡ false → first_below f n ≡ n
 first_stops f n e = le_antisymm (first-le f n) (ltb-false _ _ e)
+
+-- What a search answers.
+
+pub below-some : (n k : ℕ) → k < n → below n k ≡ Some k
+below-some n k l = rw (lt-ltb k n l)
+
+pub below-none : (n k : ℕ) → n ≤ k → below n k ≡ None
+below-none n k l = rw (le-ltb k n l)
+
+-- a place that it gives, and that there is none
+pub below_some_facts : (n k i : ℕ) → Some i ≡ below n k → (k ≡ i) × (k < n)
+below_some_facts n k i e = go (ltb k n) refl
+  where
+    go : (b : Bool) → ltb k n ≡ b → (k ≡ i) × (k < n)
+    go true q = (cc (simp q at e), ltb-true k n q)
+    go false q = absurd (cc (simp q at e))
+
+pub below_none_fact : (n k : ℕ) → None ≡ below n k → n ≤ k
+below_none_fact n k e = go (ltb k n) refl
+  where
+    go : (b : Bool) → ltb k n ≡ b → n ≤ k
+    go true q = absurd (cc (simp q at e))
+    go false q = ltb-false k n q
+
+-- a search of n places that finds none, one that goes on past a place, and one that ends at a place
+pub first_none_below : (f : ℕ → Bool) (n : ℕ) → first_below f n ≡ n → None ≡ below n (first_below f n)
+first_none_below f n e = sym (below-none n (first_below f n) (le_of_eq (sym e)))
+
+pub first_some_below : (f : ℕ → Bool) (n i : ℕ) → i < n → first_below f i ≡ i → f i ≡ true → Some i ≡ below n (first_below f n)
+first_some_below f n i l e t = rw (first_here f n i l e t, lt-ltb i n l)
 
 -- Joins and tables.
 

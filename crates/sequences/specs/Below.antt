@@ -1,5 +1,5 @@
 -- Sums, tests, searches, joins and tables over the indices below a number.
-use Rattle.std.specs.Prelude.{Bool, true, false, ◌||◌, ◌&&◌, cond, List, [], ◌∷◌, ◌++◌, ℕ, zero, suc, ◌+◌, ltb}
+use Rattle.std.specs.Prelude.{Bool, true, false, ◌||◌, ◌&&◌, cond, List, [], ◌∷◌, ◌++◌, Option, Some, None, ℕ, zero, suc, ◌+◌, ltb}
 
 -- f 0 + f 1 + .. + f (n - 1)
 unfoldable pub sum_below : (ℕ → ℕ) → ℕ → ℕ
@@ -20,6 +20,10 @@ all_below f (suc n) = all_below f n && f n
 unfoldable pub first_below : (ℕ → Bool) → ℕ → ℕ
 first_below f zero = 0
 first_below f (suc n) = cond (ltb (first_below f n) n) (first_below f n) (cond (f n) n (suc n))
+
+-- the place k where it is below n, and None where it is not: what a search of n places answers
+abbrev pub below : ℕ → ℕ → Option ℕ
+below n k = cond (ltb k n) (Some k) None
 
 module _ {A : Type 0} where
   -- f 0 ++ f 1 ++ .. ++ f (n - 1)

@@ -14,7 +14,7 @@ use Rattle.digits.specs.Fits.{Fits}
 use Rattle.digits.specs.Written.{put, Written}
 use Rattle.digits.proofs.Put.{put-before, put-length, growing_again}
 use Rattle.digits.proofs.Count.{fixed-length, decimal-length}
-use Rattle.text_rules.specs.Tables.{Column}
+use Rattle.text_rules.specs.declared.Column.{Column}
 use Rattle.text_rules.specs.Columns.{number_form}
 use Rattle.text_rules.specs.Well.{most_decimals, most_digits}
 use Rattle.text_rules.proofs.Well.{WellColumn}

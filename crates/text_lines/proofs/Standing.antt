@@ -12,7 +12,7 @@ use Rattle.sequences.specs.Below.{first_below}
 use Rattle.sequences.proofs.Below.{first_none, first_more, first_here}
 use Rattle.lines.specs.Lines.{line_len, ended, first_line}
 use Rattle.lines.proofs.Laws.{first-length, line_room, part_ended, part_open, part_first}
-use Rattle.text_rules.specs.Tables.{Column}
+use Rattle.text_rules.specs.declared.Column.{Column}
 use Rattle.text_rules.specs.Columns.{line_width, line_pitch, is_row}
 use Rattle.text_rules.specs.Reading.{line_of, line_stands, rows_from}
 

@@ -14,7 +14,8 @@ use Rattle.sequences.specs.Below.{join_below}
 use Rattle.sequences.proofs.Below.{first-le}
 use Rattle.sequences.proofs.Stretch.{part_within}
 use Rattle.digits.proofs.Read.{compare}
-use Rattle.text_rules.specs.Tables.{Column, TextForm}
+use Rattle.text_rules.specs.declared.Column.{Column}
+use Rattle.text_rules.specs.Tables.{TextForm}
 use Rattle.text_rules.specs.Columns.{line_width, line_pitch, numbers_before, line_numbers, holds_text, cell_read, numbers_read}
 use Rattle.text_rows.specs.Rows.{row_in, fault_row, lines_before, column_kept, numbers_kept}
 use Rattle.text_lines.proofs.Standing.{lines_room, pitch_line}

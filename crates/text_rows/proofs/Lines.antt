@@ -10,12 +10,13 @@ use lib.ListN.{length, get_or, take, drop, length-drop}
 use lib.Seq.{length-take-le, get_or-take, get_or-drop, drop-drop}
 use borrow.Author.Tests.{eqb-false, eq-eqb, ne_eqb}
 use Rattle.sequences.proofs.Stretch.{part_within}
-use Rattle.digits.specs.declared.Size.{Size}
-use Rattle.digits.specs.declared.Size.TheVariants.{Known, Ill}
+use Rattle.std.specs.Prelude.{Option, Some, None}
 use Rattle.digits.proofs.Read.{size_ill, size_known}
 use Rattle.lines.specs.Lines.{name_byte, all_bytes}
-use Rattle.text_rules.specs.Tables.{Use, always_used, used_by_flag, for_text}
-use Rattle.text_rules.specs.Tables.{width_part, digits_part, decimals_part, use_part, flag_part, by_flag_use, text_use, Column, TextForm, line_form, use_of, column_of, columns_of, column_at}
+use Rattle.text_rules.specs.declared.Use.{Use}
+use Rattle.text_rules.specs.declared.Use.TheVariants.{Always, ByFlag, Text}
+use Rattle.text_rules.specs.declared.Column.{Column}
+use Rattle.text_rules.specs.Tables.{width_part, digits_part, decimals_part, use_part, flag_part, by_flag_use, text_use, TextForm, line_form, use_of, column_of, columns_of, column_at}
 use Rattle.text_rules.specs.Columns.{column_start, column_width, line_width, line_pitch, is_text, holds_text, content_by, is_cell, part_of, flag_of, content_of, wrong_cell, cell_read}
 use Rattle.text_rules.specs.Well.{columns_well}
 use Rattle.text_rules.proofs.Tables.{columns-length, column_row, end_line}
@@ -49,7 +50,7 @@ module _ (cs : List Column) (rows : List ℕ) (j : ℕ) where
 
 -- A column that holds text.
 
-is_text_lem : (a b : Bool) (column : ℕ) → is_text (cond a for_text (cond b (used_by_flag column) always_used)) ≡ a
+is_text_lem : (a b : Bool) (column : ℕ) → is_text (cond a Text (cond b (ByFlag column) Always)) ≡ a
 unfolding is_text
 is_text_lem true b column = refl
 is_text_lem false true column = refl
@@ -62,11 +63,11 @@ text_row columns k h =
     ap (λ (c : Column). is_text c.used) (column_row columns k h)
     ∙ is_text_lem (eqb (get_or row use_part 0) text_use) (eqb (get_or row use_part 0) by_flag_use) (get_or row flag_part 0)
 
-text_use_lem : (u : Use) → is_text u ≡ true → u ≡ for_text
+text_use_lem : (u : Use) → is_text u ≡ true → u ≡ Text
 unfolding is_text
-text_use_lem always_used e = absurd (false≢true e)
-text_use_lem (used_by_flag column) e = absurd (false≢true e)
-text_use_lem for_text e = refl
+text_use_lem Always e = absurd (false≢true e)
+text_use_lem (ByFlag column) e = absurd (false≢true e)
+text_use_lem Text e = refl
 
 -- its fault in the j-th line
 pub words_wrong : (t : TextForm) (rows : List ℕ) (k j : ℕ) → k < length t.columns → holds_text t.columns k ≡ true
@@ -77,18 +78,18 @@ words_wrong t rows k j h e = rw (text_use_lem _ e, part_in_lem t.columns rows j 
 
 -- What is read of a column with a number, in the j-th line.
 
-pub reading_at : TextForm → List ℕ → ℕ → Size
+pub reading_at : TextForm → List ℕ → ℕ → Option ℕ
 reading_at t l k = cell_reading t.flags (flag_of t l) (column_at t.columns k) (part_of t.columns k l)
 
 module _ (t : TextForm) (l : List ℕ) (k : ℕ) where
   abbrev is_good : Bool
   is_good = is_cell (content_of t l k) (column_at t.columns k) (part_of t.columns k l)
 
-  pub reading_ill : reading_at t l k ≡ Ill → wrong_cell t l k ≡ true
+  pub reading_ill : reading_at t l k ≡ None → wrong_cell t l k ≡ true
   unfolding reading_at cell_reading wrong_cell content_of cell_read
   reading_ill e = ap not (size_ill is_good (cell_read t l k) e)
 
-  pub reading_known : {v : ℕ} → reading_at t l k ≡ Known v → (wrong_cell t l k ≡ false) × (v ≡ cell_read t l k)
+  pub reading_known : {v : ℕ} → reading_at t l k ≡ Some v → (wrong_cell t l k ≡ false) × (v ≡ cell_read t l k)
   unfolding reading_at cell_reading wrong_cell content_of cell_read
   reading_known {v} e = let p = size_known is_good (cell_read t l k) v e in (ap not p.0, sym p.1)
 
@@ -104,7 +105,7 @@ module _ (flags : List (List Bool)) (columns : List (List ℕ)) (flag_at : ℕ) 
       → {flag : ℕ} → flag ≡ get_or rows (p + start) 0 - 48
       → {used : Bool} → used ≡ is_used flags (get_or (get_or columns k []) use_part 0) (get_or (get_or columns k []) flag_part 0) flag
       → {w : ℕ} → w ≡ get_or (get_or columns k []) width_part 0
-      → {size : Size} → size ≡ cell_size used (get_or (get_or columns k []) digits_part 0) (get_or (get_or columns k []) decimals_part 0) (take (p + at + w - (p + at)) (drop (p + at) rows))
+      → {size : Option ℕ} → size ≡ cell_size used (get_or (get_or columns k []) digits_part 0) (get_or (get_or columns k []) decimals_part 0) (take (p + at + w - (p + at)) (drop (p + at) rows))
       → size ≡ reading_at (line_form cs flag_at flags) (row_in cs rows j) k
   unfolding reading_at flag_of
   cell_in k h words there {p} {at} e f g {flag} i {used} u {w} ew s =

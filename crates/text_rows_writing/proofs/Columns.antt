@@ -14,7 +14,10 @@ use Rattle.digits.specs.Digits.{plain}
 use Rattle.digits.specs.Fits.{Fits}
 use Rattle.digits.specs.Written.{put}
 use Rattle.lines.specs.Lines.{line_text}
-use Rattle.text_rules.specs.Tables.{Use, always_used, used_by_flag, for_text, Column, TextForm, column_at}
+use Rattle.text_rules.specs.declared.Use.{Use}
+use Rattle.text_rules.specs.declared.Use.TheVariants.{Always, ByFlag, Text}
+use Rattle.text_rules.specs.declared.Column.{Column}
+use Rattle.text_rules.specs.Tables.{TextForm, column_at}
 use Rattle.text_rules.specs.Columns.{column_width, column_start, line_width, line_pitch, is_text, holds_text, words_before, line_words, number_cell}
 use Rattle.text_rules.specs.Columns.{blank_cell, content_by, number_form, cell_text, cell_at, part_at, content_at, column_text, row_text}
 use Rattle.text_rules.specs.Well.{columns_well}
@@ -34,9 +37,9 @@ module _ (flags : List (List Bool)) (flag : ℕ) (c : Column) (n : ℕ) (s : Lis
 
   pub used_text_lem : (u : Use) → is_text u ≡ false → used_text (used_by flags flag u) c n ≡ cell_text (content_by flags flag u) c n s ++ 124 ∷ []
   unfolding is_text used_by content_by
-  used_text_lem always_used h = switch_text true
-  used_text_lem (used_by_flag column) h = switch_text _
-  used_text_lem for_text h = absurd (true≢false h)
+  used_text_lem Always h = switch_text true
+  used_text_lem (ByFlag column) h = switch_text _
+  used_text_lem Text h = absurd (true≢false h)
 
   switch_fits : (b : Bool) → b ≡ true → CellFits (cond b number_cell blank_cell) c n s → Fits (number_form c) (plain n)
   switch_fits true e f = f
@@ -44,15 +47,15 @@ module _ (flags : List (List Bool)) (flag : ℕ) (c : Column) (n : ℕ) (s : Lis
 
   pub used_fits : (u : Use) → is_text u ≡ false → used_by flags flag u ≡ true → CellFits (content_by flags flag u) c n s → Fits (number_form c) (plain n)
   unfolding is_text used_by content_by
-  used_fits always_used h e f = f
-  used_fits (used_by_flag column) h e f = switch_fits _ e f
-  used_fits for_text h e f = absurd (true≢false h)
+  used_fits Always h e f = f
+  used_fits (ByFlag column) h e f = switch_fits _ e f
+  used_fits Text h e f = absurd (true≢false h)
 
   pub words_text : (u : Use) → is_text u ≡ true → cell_text (content_by flags flag u) c n s ≡ s
   unfolding is_text content_by cell_text
-  words_text always_used h = absurd (false≢true h)
-  words_text (used_by_flag column) h = absurd (false≢true h)
-  words_text for_text h = refl
+  words_text Always h = absurd (false≢true h)
+  words_text (ByFlag column) h = absurd (false≢true h)
+  words_text Text h = refl
 
   -- a cell has its width
   switch_length : (b : Bool) → WellColumn c → CellFits (cond b number_cell blank_cell) c n s → length (cell_text (cond b number_cell blank_cell) c n s) ≡ c.width
@@ -63,9 +66,9 @@ module _ (flags : List (List Bool)) (flag : ℕ) (c : Column) (n : ℕ) (s : Lis
   cell-length : (u : Use) → WellColumn c → CellFits (content_by flags flag u) c n s → (is_text u ≡ true → length s ≡ c.width)
       → length (cell_text (content_by flags flag u) c n s) ≡ c.width
   unfolding is_text content_by
-  cell-length always_used well f h = switch_length true well f
-  cell-length (used_by_flag column) well f h = switch_length (entry_in flags flag column) well f
-  cell-length for_text well f h = rw (words_text for_text refl) (h refl)
+  cell-length Always well f h = switch_length true well f
+  cell-length (ByFlag column) well f h = switch_length (entry_in flags flag column) well f
+  cell-length Text well f h = rw (words_text Text refl) (h refl)
 
 -- ---- blanks
 three : (m a w : ℕ) → a + w ≤ m → m ≡ a + (w + (m - (a + w)))

@@ -11,7 +11,9 @@ use lib.ListN.{length, get_or}
 use borrow.Author.Tests.{ne_eqb}
 use Rattle.sequences.specs.Below.{sum_below}
 use Rattle.sequences.proofs.Below.{cond_le}
-use Rattle.text_rules.specs.Tables.{always_used, used_by_flag, Column, use_of, column_of, columns_of, by_flag_use, text_use, width_part, use_part, flag_part}
+use Rattle.text_rules.specs.declared.Use.TheVariants.{Always, ByFlag}
+use Rattle.text_rules.specs.declared.Column.{Column}
+use Rattle.text_rules.specs.Tables.{use_of, column_of, columns_of, by_flag_use, text_use, width_part, use_part, flag_part}
 use Rattle.text_rules.specs.Columns.{column_width, column_start, line_width, is_text, holds_text, numbers_before, words_before}
 use Rattle.text_rules.specs.Well.{columns_well, most_line}
 use Rattle.text_rules.proofs.Tables.{column_row, columns-length, end_line}
@@ -28,7 +30,7 @@ text_use_lem : (used column : ℕ) → used ≡ text_use → is_text (use_of use
 unfolding use_of is_text
 text_use_lem used column e = rw e
 
-not_text : (column : ℕ) (b : Bool) → is_text (cond b (used_by_flag column) always_used) ≡ false
+not_text : (column : ℕ) (b : Bool) → is_text (cond b (ByFlag column) Always) ≡ false
 unfolding is_text
 not_text column true = refl
 not_text column false = refl

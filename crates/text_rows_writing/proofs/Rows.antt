@@ -14,7 +14,8 @@ use Rattle.sequences.proofs.Below.{sum_grows}
 use Rattle.sequences.proofs.Stretch.{within, stretch-length, stretch_at, join_ext}
 use Rattle.digits.specs.Digits.{plain}
 use Rattle.digits.specs.Fits.{Fits}
-use Rattle.text_rules.specs.Tables.{Column, TextForm, column_at}
+use Rattle.text_rules.specs.declared.Column.{Column}
+use Rattle.text_rules.specs.Tables.{TextForm, column_at}
 use Rattle.text_rules.specs.Columns.{column_width, column_start, line_width, line_pitch, is_text, holds_text, numbers_before, words_before, line_numbers, line_words}
 use Rattle.text_rules.specs.Columns.{number_form, cell_at, part_at, content_at, column_text}
 use Rattle.text_rules.specs.Writing.{numbers_at, words_at, rows_text}

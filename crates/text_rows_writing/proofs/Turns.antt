@@ -6,7 +6,8 @@ use Prim.Native.Nat.{ℕ, ◌+◌, ◌*◌, ◌≤◌, ◌<◌}
 use native.Mathlib.Omega.{arith}
 use lib.ListN.{length, get_or}
 use Rattle.sequences.proofs.Below.{all_at}
-use Rattle.text_rules.specs.Tables.{Column, column_of, columns_of, line_form, text_use, width_part, use_part}
+use Rattle.text_rules.specs.declared.Column.{Column}
+use Rattle.text_rules.specs.Tables.{column_of, columns_of, line_form, text_use, width_part, use_part}
 use Rattle.text_rules.specs.Columns.{column_width, line_width, line_pitch, numbers_before, line_numbers, line_words}
 use Rattle.text_rules.specs.Well.{most_line, column_well, columns_well, flag_well}
 use Rattle.text_rules.proofs.Tables.{columns-length, column_row, end_line}

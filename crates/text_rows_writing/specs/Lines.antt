@@ -5,7 +5,8 @@ use Rattle.sequences.specs.Stretch.{stretch_of, on_stretch}
 use Rattle.digits.specs.Digits.{plain}
 use Rattle.digits.specs.Fits.{Fits}
 use Rattle.digits.specs.Written.{put}
-use Rattle.text_rules.specs.Tables.{Column, TextForm, columns_of, line_form}
+use Rattle.text_rules.specs.declared.Column.{Column}
+use Rattle.text_rules.specs.Tables.{TextForm, columns_of, line_form}
 use Rattle.text_rules.specs.Columns.{column_start, line_pitch, numbers_before, words_before, line_numbers, line_words, number_form, column_text}
 use Rattle.text_rules.specs.Writing.{numbers_at, words_at}
 use Rattle.text_rules.specs.Well.{columns_well, flag_well}

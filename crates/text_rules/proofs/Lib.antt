@@ -1,3 +1,4 @@
 pub mod Tables
 pub mod Well
 pub mod Dates
+pub mod Placed

@@ -1,53 +1,27 @@
--- Tables as rows of numbers: the k-th column and the k-th field are those of the k-th row. Where the columns of a line stand.
-use mathlib.Core.Path.{◌≡◌, refl, sym, ap, ◌∙◌}
-use mathlib.Core.List.{List, [], ◌∷◌}
-use Prim.Native.Nat.{ℕ, zero, suc, ◌+◌, ◌≤◌, ◌<◌}
-use native.Mathlib.Nat.{le_of_suc-le-suc, not-suc-le-zero}
+-- The table of fields that is lent: the k-th field is the k-th that is lent. Where the columns of a line stand.
+use mathlib.Core.Path.{◌≡◌, refl}
+use mathlib.Core.List.{List}
+use Prim.Native.Nat.{ℕ, suc, ◌+◌, ◌≤◌, ◌<◌}
 use native.Mathlib.Omega.{arith}
-use lib.ListN.{length, get_or, take, drop}
-use lib.Seq.{drop-drop}
+use lib.ListN.{length, get_or}
+use Rattle.std.proofs.lemmas.List.{length-map, get_or-map}
 use Rattle.sequences.specs.Below.{sum_below}
-use Rattle.sequences.proofs.Below.{sum_none, sum_head, sum_grows}
-use Rattle.text_rules.specs.Tables.{Column, column_of, columns_of, column_at, name_part, field_of, fields_of, field_at, name_before}
+use Rattle.sequences.proofs.Below.{sum_grows}
+use Rattle.text_rules.specs.declared.Column.{Column}
+use Rattle.text_rules.specs.declared.Field.{Field as LentField}
+use Rattle.text_rules.specs.Tables.{field_of, fields_of, no_field, field_at}
 use Rattle.text_rules.specs.Columns.{column_width, column_start, line_width}
-
-pub columns-length : (rows : List (List ℕ)) → length (columns_of rows) ≡ length rows
-unfolding columns_of
-columns-length [] = refl
-columns-length (r ∷ rs) = ap suc (columns-length rs)
-
-pub column_row : (rows : List (List ℕ)) (k : ℕ) → k < length rows → column_at (columns_of rows) k ≡ column_of (get_or rows k [])
-unfolding columns_of column_at
-column_row [] k h = absurd (not-suc-le-zero h)
-column_row (r ∷ rs) zero h = refl
-column_row (r ∷ rs) (suc k) h = column_row rs k (le_of_suc-le-suc h)
 
 -- Fields.
 
-before_none : (rows : List (List ℕ)) → name_before rows 0 ≡ 0
-unfolding name_before
-before_none rows = sum_none _
-
-pub fields-length : (rows : List (List ℕ)) (names : List ℕ) → length (fields_of rows names) ≡ length rows
+pub fields-length : (fs : List LentField) → length (fields_of fs) ≡ length fs
 unfolding fields_of
-fields-length [] names = refl
-fields-length (r ∷ rs) names = ap suc (fields-length rs _)
+fields-length fs = length-map fs field_of
 
--- where a name starts behind the first
-before_first : (r : List ℕ) (rs : List (List ℕ)) (k : ℕ) → name_before (r ∷ rs) (suc k) ≡ get_or r name_part 0 + name_before rs k
-unfolding name_before
-before_first r rs k = sum_head (λ i. get_or (get_or (r ∷ rs) i []) name_part 0) k
-
--- the k-th field is that of the k-th row, with its name
-pub field_row : (rows : List (List ℕ)) (names : List ℕ) (k : ℕ) → k < length rows
-    → field_at (fields_of rows names) k ≡ field_of (get_or rows k []) (take (get_or (get_or rows k []) name_part 0) (drop (name_before rows k) names))
+-- the k-th field is the k-th that is lent
+pub field_lent : (fs : List LentField) (k : ℕ) (d : LentField) → k < length fs → field_at (fields_of fs) k ≡ field_of (get_or fs k d)
 unfolding fields_of field_at
-field_row [] names k h = absurd (not-suc-le-zero h)
-field_row (r ∷ rs) names zero h = ap (λ (n : ℕ). field_of r (take (get_or r name_part 0) (drop n names))) (sym (before_none (r ∷ rs)))
-field_row (r ∷ rs) names (suc k) h =
-    field_row rs (drop (get_or r name_part 0) names) k (le_of_suc-le-suc h)
-    ∙ ap (λ (l : List ℕ). field_of (get_or rs k []) (take (get_or (get_or rs k []) name_part 0) l))
-    (drop-drop (name_before rs k) (get_or r name_part 0) names ∙ ap (λ (n : ℕ). drop n names) (sym (before_first r rs k)))
+field_lent fs k d h = get_or-map field_of fs k d no_field h
 
 -- Columns: each starts behind the bar of the one before it
 module _ (cs : List Column) where

@@ -10,7 +10,10 @@ use Rattle.sequences.specs.Below.{all_below}
 use Rattle.sequences.proofs.Below.{all_at}
 use Rattle.sequences.proofs.Every.{every_at}
 use Rattle.lines.specs.Lines.{other_byte, all_bytes}
-use Rattle.text_rules.specs.Tables.{Use, always_used, used_by_flag, for_text, Column, Field, TextForm, column_at, field_at}
+use Rattle.text_rules.specs.declared.Use.{Use}
+use Rattle.text_rules.specs.declared.Use.TheVariants.{Always, ByFlag, Text}
+use Rattle.text_rules.specs.declared.Column.{Column}
+use Rattle.text_rules.specs.Tables.{Field, TextForm, column_at, field_at}
 use Rattle.text_rules.specs.Columns.{line_width}
 use Rattle.text_rules.specs.Well.{most_width, most_line, most_decimals, most_digits, most_fields, column_well, columns_well, is_always, flag_well, field_well, fields_well, form_well}
 
@@ -54,13 +57,13 @@ pub record WellFlag (cs : List Column) (k : ℕ) : Type 0 where
   pub there : k < length cs
   pub width : (column_at cs k).width ≡ 1
   pub digits : (column_at cs k).digits ≡ 1
-  pub always : (column_at cs k).used ≡ always_used
+  pub always : (column_at cs k).used ≡ Always
 
-is_always_lem : (u : Use) → is_always u ≡ true → u ≡ always_used
+is_always_lem : (u : Use) → is_always u ≡ true → u ≡ Always
 unfolding is_always
-is_always_lem always_used e = refl
-is_always_lem (used_by_flag column) e = absurd (false≢true e)
-is_always_lem for_text e = absurd (false≢true e)
+is_always_lem Always e = refl
+is_always_lem (ByFlag column) e = absurd (false≢true e)
+is_always_lem Text e = absurd (false≢true e)
 
 pub flag_facts : (cs : List Column) (k : ℕ) → flag_well cs k ≡ true → WellFlag cs k
 unfolding flag_well

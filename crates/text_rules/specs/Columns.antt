@@ -6,7 +6,11 @@ use Rattle.flags.specs.Table.{entry_in}
 use Rattle.digits.specs.declared.Form.{Form}
 use Rattle.digits.specs.Digits.{plain, is_number, figure_of, number_text, all_blank}
 use Rattle.lines.specs.Lines.{name_byte, all_bytes}
-use Rattle.text_rules.specs.Tables.{Use, always_used, used_by_flag, for_text, Column, TextForm, column_at}
+use Rattle.text_rules.specs.declared.Use.{Use}
+use Rattle.text_rules.specs.declared.Use.TheVariants.{Always, ByFlag, Text}
+use Rattle.text_rules.specs.declared.Column.{Column}
+use Rattle.text_rules.specs.declared.Taken.{Taken}
+use Rattle.text_rules.specs.Tables.{TextForm, column_at}
 
 -- ---- where the columns stand, and how long the line is, without and with its 0D 0A
 unfoldable pub column_width : List Column → ℕ → ℕ
@@ -23,9 +27,9 @@ line_pitch cs = line_width cs + 2
 
 -- a column holds text or a number; how many numbers and how many bytes of text stand before column k, and in a whole line
 unfoldable pub is_text : Use → Bool
-is_text always_used = false
-is_text (used_by_flag column) = false
-is_text for_text = true
+is_text Always = false
+is_text (ByFlag column) = false
+is_text Text = true
 
 unfoldable pub holds_text : List Column → ℕ → Bool
 holds_text cs k = is_text (column_at cs k).used
@@ -42,6 +46,10 @@ line_numbers cs = numbers_before cs (length cs)
 unfoldable pub line_words : List Column → ℕ
 line_words cs = words_before cs (length cs)
 
+-- what the columns before column k take of a line
+unfoldable pub taken_before : List Column → ℕ → Taken
+taken_before cs k = record { bytes = column_start cs k; numbers = numbers_before cs k; words = words_before cs k }
+
 -- ---- what a column has in a line with that flag: words, a number, or blanks
 pub data Content : Type 0 where
   words_cell : Content
@@ -49,9 +57,15 @@ pub data Content : Type 0 where
   blank_cell : Content
 
 unfoldable pub content_by : List (List Bool) → ℕ → Use → Content
-content_by flags flag always_used = number_cell
-content_by flags flag (used_by_flag column) = cond (entry_in flags flag column) number_cell blank_cell
-content_by flags flag for_text = words_cell
+content_by flags flag Always = number_cell
+content_by flags flag (ByFlag column) = cond (entry_in flags flag column) number_cell blank_cell
+content_by flags flag Text = words_cell
+
+-- a column with that use has something to say in a line with that flag
+unfoldable pub used_by : List (List Bool) → ℕ → Use → Bool
+used_by flags flag Always = true
+used_by flags flag (ByFlag column) = entry_in flags flag column
+used_by flags flag Text = true
 
 unfoldable pub number_form : Column → Form
 number_form c = record { digits = c.digits; decimals = c.decimals; signed = false; width = c.width }

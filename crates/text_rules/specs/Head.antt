@@ -7,7 +7,9 @@ use Rattle.digits.specs.Digits.{is_number, figure_of, number_text}
 use Rattle.lines.specs.Words.{bytes}
 use Rattle.lines.specs.Lines.{same, is_named, letter_byte, all_bytes}
 use Rattle.text_rules.specs.Dates.{is_date}
-use Rattle.text_rules.specs.Tables.{Kind, any_value, date_value, zero_or_one_value, Field, field_at}
+use Rattle.text_rules.specs.declared.ValueKind.{ValueKind}
+use Rattle.text_rules.specs.declared.ValueKind.TheVariants.{Any, Date, ZeroOrOne}
+use Rattle.text_rules.specs.Tables.{Field, field_at}
 
 -- all lines of the head
 unfoldable pub head_lines : List Field → ℕ
@@ -16,10 +18,10 @@ head_lines fs = length fs + 2
 unfoldable pub field_name : List Field → ℕ → List ℕ
 field_name fs k = (field_at fs k).name
 
-unfoldable pub is_kind : Kind → ℕ → Bool
-is_kind any_value v = true
-is_kind date_value v = is_date v
-is_kind zero_or_one_value v = leb v 1
+unfoldable pub is_kind : ValueKind → ℕ → Bool
+is_kind Any v = true
+is_kind Date v = is_date v
+is_kind ZeroOrOne v = leb v 1
 
 -- the characters of a field are as they are to be written
 unfoldable pub is_field : Field → List ℕ → Bool

@@ -5,7 +5,8 @@ use Rattle.sequences.specs.Checks.{Check, check}
 use Rattle.digits.specs.declared.Figure.{Figure}
 use Rattle.digits.specs.Digits.{figure_of}
 use Rattle.lines.specs.Lines.{ended, first_line, next_at, same}
-use Rattle.text_rules.specs.Tables.{Field, Column, TextForm, field_at}
+use Rattle.text_rules.specs.declared.Column.{Column}
+use Rattle.text_rules.specs.Tables.{Field, TextForm, field_at}
 use Rattle.text_rules.specs.Head.{head_lines, field_name, is_field, is_head_line, letters_of, is_opening, end_word}
 use Rattle.text_rules.specs.Columns.{column_start, line_width, line_pitch, is_row, column_fault, numbers_read, words_read}
 

@@ -1,33 +1,18 @@
--- The tables that a form of the text goes by: the columns of a component line and the fields of the head, and the same as rows
--- of numbers, which the code is lent.
-use Rattle.std.specs.Prelude.{ℕ, Bool, false, cond, List, [], ◌∷◌, eqb, get_or, take, drop}
-use Rattle.sequences.specs.Below.{sum_below}
+-- The tables that a form of the text goes by: the columns of a component line and the fields of the head, whose names the code is
+-- lent by reference.
+use Rattle.std.specs.Prelude.{ℕ, Bool, false, List, [], get_or, map}
 use Rattle.digits.specs.declared.Form.{Form}
-
--- when a column is used: always, by that column of the flag table, or for text
-pub data Use : Type 0 where
-  always_used : Use
-  used_by_flag : ℕ → Use
-  for_text : Use
-
--- a column: its width, how many digits (0: as many as there are) and decimals its number has, and when it is used
-pub record Column : Type 0 where
-  pub width : ℕ
-  pub digits : ℕ
-  pub decimals : ℕ
-  pub used : Use
-
--- what more than its form a field's value has to be: nothing, a date, or one of 0 and 1
-pub data Kind : Type 0 where
-  any_value : Kind
-  date_value : Kind
-  zero_or_one_value : Kind
+use Rattle.text_rules.specs.declared.Use.TheVariants.{Always}
+use Rattle.text_rules.specs.declared.Column.{Column}
+use Rattle.text_rules.specs.declared.ValueKind.{ValueKind}
+use Rattle.text_rules.specs.declared.ValueKind.TheVariants.{Any}
+use Rattle.text_rules.specs.declared.Field.{Field as LentField}
 
 -- a field of the head: its name, the form of its number, and its kind
 pub record Field : Type 0 where
   pub name : List ℕ
   pub form : Form
-  pub kind : Kind
+  pub kind : ValueKind
 
 -- a form of the text: fields, columns, which column has the flag, and the flag table
 pub record TextForm : Type 0 where
@@ -40,100 +25,19 @@ pub record TextForm : Type 0 where
 abbrev pub line_form : List Column → ℕ → List (List Bool) → TextForm
 line_form columns flag_at flags = record { fields = []; columns = columns; flag_at = flag_at; flags = flags }
 
--- ---- rows of numbers: the places of their parts, and what they say
-abbrev pub width_part : ℕ
-width_part = 0
+-- ---- a field that the code is lent has its name by reference
+unfoldable pub field_of : LentField → Field
+field_of f = record { name = f.name.now; form = f.form; kind = f.kind }
 
-abbrev pub digits_part : ℕ
-digits_part = 1
-
-abbrev pub decimals_part : ℕ
-decimals_part = 2
-
-abbrev pub use_part : ℕ
-use_part = 3
-
-abbrev pub flag_part : ℕ
-flag_part = 4
-
-abbrev pub column_parts : ℕ
-column_parts = 5
-
-abbrev pub by_flag_use : ℕ
-by_flag_use = 1
-
-abbrev pub text_use : ℕ
-text_use = 2
-
-unfoldable pub use_of : ℕ → ℕ → Use
-use_of used column = cond (eqb used text_use) for_text (cond (eqb used by_flag_use) (used_by_flag column) always_used)
-
-unfoldable pub column_of : List ℕ → Column
-column_of r =
-    record {
-      width = get_or r width_part 0;
-      digits = get_or r digits_part 0;
-      decimals = get_or r decimals_part 0;
-      used = use_of (get_or r use_part 0) (get_or r flag_part 0);
-    }
-
-unfoldable pub columns_of : List (List ℕ) → List Column
-columns_of [] = []
-columns_of (r ∷ rs) = column_of r ∷ columns_of rs
-
-abbrev pub name_part : ℕ
-name_part = 0
-
-abbrev pub field_digits_part : ℕ
-field_digits_part = 1
-
-abbrev pub field_decimals_part : ℕ
-field_decimals_part = 2
-
-abbrev pub signed_part : ℕ
-signed_part = 3
-
-abbrev pub kind_part : ℕ
-kind_part = 4
-
-abbrev pub field_parts : ℕ
-field_parts = 5
-
-abbrev pub date_kind : ℕ
-date_kind = 1
-
-abbrev pub zero_or_one_kind : ℕ
-zero_or_one_kind = 2
-
-unfoldable pub kind_of : ℕ → Kind
-kind_of kind = cond (eqb kind date_kind) date_value (cond (eqb kind zero_or_one_kind) zero_or_one_value any_value)
-
-unfoldable pub form_of : List ℕ → Form
-form_of r =
-    record {
-      digits = get_or r field_digits_part 0;
-      decimals = get_or r field_decimals_part 0;
-      signed = eqb (get_or r signed_part 0) 1;
-      width = 0;
-    }
-
-unfoldable pub field_of : List ℕ → List ℕ → Field
-field_of r name = record { name = name; form = form_of r; kind = kind_of (get_or r kind_part 0) }
-
--- the names stand one behind the other, and where the k-th starts
-unfoldable pub fields_of : List (List ℕ) → List ℕ → List Field
-fields_of [] names = []
-fields_of (r ∷ rs) names = field_of r (take (get_or r name_part 0) names) ∷ fields_of rs (drop (get_or r name_part 0) names)
-
-unfoldable pub name_before : List (List ℕ) → ℕ → ℕ
-name_before rows k = sum_below (λ i. get_or (get_or rows i []) name_part 0) k
+unfoldable pub fields_of : List LentField → List Field
+fields_of fs = map field_of fs
 
 -- ---- past the end of a table
 abbrev pub no_column : Column
-no_column = record { width = 0; digits = 0; decimals = 0; used = always_used }
+no_column = record { width = 0; digits = 0; decimals = 0; used = Always }
 
 abbrev pub no_field : Field
-no_field = record { name = []; form = record { digits = 0; decimals = 0; signed = false; width = 0 }; kind = any_value }
+no_field = record { name = []; form = record { digits = 0; decimals = 0; signed = false; width = 0 }; kind = Any }
 
 unfoldable pub column_at : List Column → ℕ → Column
 column_at cs k = get_or cs k no_column

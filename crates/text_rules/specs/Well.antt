@@ -3,7 +3,10 @@ use Rattle.std.specs.Prelude.{ℕ, ◌+◌, Bool, true, false, ◌&&◌, ◌||�
 use Rattle.sequences.specs.Below.{all_below}
 use Rattle.sequences.specs.Every.{every}
 use Rattle.lines.specs.Lines.{other_byte, all_bytes}
-use Rattle.text_rules.specs.Tables.{Use, always_used, used_by_flag, for_text, Column, Field, TextForm, column_at, field_at}
+use Rattle.text_rules.specs.declared.Use.{Use}
+use Rattle.text_rules.specs.declared.Use.TheVariants.{Always, ByFlag, Text}
+use Rattle.text_rules.specs.declared.Column.{Column}
+use Rattle.text_rules.specs.Tables.{Field, TextForm, column_at, field_at}
 use Rattle.text_rules.specs.Columns.{line_width}
 
 -- the widest column, and the longest line
@@ -38,9 +41,9 @@ columns_well cs = all_below (λ k. column_well (column_at cs k)) (length cs) && 
 
 -- the flag is one digit, in every line
 unfoldable pub is_always : Use → Bool
-is_always always_used = true
-is_always (used_by_flag column) = false
-is_always for_text = false
+is_always Always = true
+is_always (ByFlag column) = false
+is_always Text = false
 
 unfoldable pub flag_well : List Column → ℕ → Bool
 flag_well cs k =

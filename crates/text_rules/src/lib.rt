@@ -1,48 +1,273 @@
-// What a text of lines promises, whatever its form: the parts of its two tables, of the columns of a line and of the fields of
-// the head. The definitions are in specs/.
+// What a text of lines promises, whatever its form: its two tables, of the columns of a line and of the fields of the head. The
+// definitions are in specs/.
 #![tactic(auto)]
 
-// A row of a table of columns: width, digits (0: as many as there are), decimals, when the column is used, and the flag table's
-// column that says so where a flag does.
-pub const COLUMN_PARTS: usize = 5;
+ghost use Rattle.std.specs.Prelude.{◌≡◌, ◌+◌, ◌≤◌, ◌<◌, true, length};
+ghost use Rattle.text_rules.specs.Columns.{column_start, line_width, line_pitch, is_text, used_by, taken_before};
+ghost use Rattle.text_rules.specs.Well.{columns_well, fields_well, most_line};
+ghost use Rattle.text_rules.specs.Tables.{fields_of, line_form};
 
-pub const WIDTH: usize = 0;
+use digits::Form;
+use std::marker::Model;
 
-pub const DIGITS: usize = 1;
+// When a column is used: always, by that column of the flag table, or for text.
+#[derive(Clone, Copy)]
+pub enum Use {
+    Always,
+    ByFlag(usize),
+    Text,
+}
 
-pub const DECIMALS: usize = 2;
+impl Use {
+    #[tactic(auto, unfolding(crate::specs::Columns::is_text))]
+    pub fn is_text(self) -> bool
+        ensures { result ≡ is_text self }
+    {
+        matches!(self, Use::Text)
+    }
 
-pub const USE: usize = 3;
+    // Whether a column that is not for text has a number in a line with that flag.
+    #[tactic(auto, unfolding(crate::specs::Columns::used_by))]
+    pub fn has_number(self, flags: &[[bool; flags::COLUMNS]; flags::FLAGS], flag: u64) -> bool
+        ensures { result ≡ used_by flags.now flag self }
+    {
+        match self {
+            Use::ByFlag(column) => flags::entry_in(flags, flag, column),
+            Use::Always | Use::Text => true,
+        }
+    }
+}
 
-pub const FLAG_COLUMN: usize = 4;
+// A column of a component line. Its number has so many digits (0: as many as there are) and decimals.
+#[derive(Clone, Copy)]
+pub struct Column {
+    pub width: usize,
+    pub digits: usize,
+    pub decimals: usize,
+    pub used: Use,
+}
 
-// When a column is used: always, by the line's flag, or for text.
-pub const ALWAYS: usize = 0;
+// What some columns take of a line: bytes with their bars, numbers, and bytes of text.
+#[derive(Clone, Copy)]
+pub struct Taken {
+    pub bytes: usize,
+    pub numbers: usize,
+    pub words: usize,
+}
 
-pub const BY_FLAG: usize = 1;
+// The columns of a component line, in their order, where they are well made.
+#[derive(Drop)]
+pub struct Columns<'a> {
+    table: &'a [Column],
+}
 
-pub const TEXT: usize = 2;
+impl<'a> Model for Columns<'a> {
+    ghost use Rattle.std.specs.Prelude.{◌≡◌, true, List};
+    ghost use Rattle.text_rules.specs.declared.Column.{Column};
 
-// A row of a table of fields: the length of the name, digits and decimals as above, 1 where a "-" may stand, and the kind. The
-// names stand one behind the other in a run of their own.
-pub const FIELD_PARTS: usize = 5;
+    ghost Value = { List Column };
 
-pub const NAME_LENGTH: usize = 0;
+    ghost use Rattle.text_rules.specs.Well.{columns_well};
 
-pub const FIELD_DIGITS: usize = 1;
+    ghost view = { λ c. c.table.now };
 
-pub const FIELD_DECIMALS: usize = 2;
+    ghost invariant = { λ c. columns_well c.table.now ≡ true };
+}
 
-pub const SIGNED: usize = 3;
+impl<'a> Columns<'a> {
+    pub fn new(table: &'a [Column]) -> Self
+        requires { columns_well table.now ≡ true }
+        ensures { result ≡ table.now }
+    {
+        Columns { table }
+    }
 
-pub const KIND: usize = 4;
+    // Each of them.
+    pub fn table(&self) -> &[Column]
+        ensures value { result.now ≡ self.now }
+        ensures well { columns_well result.now ≡ true }
+    {
+        self.table
+    }
+
+    // What the columns before column k take with column k, from what those before it take.
+    pub fn past(&self, k: usize, taken: Taken) -> Taken
+        requires { (k < length self.now) × (taken ≡ taken_before self.now k) }
+        ensures { result ≡ taken_before self.now (k + 1) }
+    {
+        let table = self.table;
+        let column = table[k];
+        let bytes = taken.bytes + (column.width + 1);
+        if column.used.is_text() {
+            Taken {
+                bytes,
+                words: taken.words + column.width,
+                ..taken
+            }
+        } else {
+            Taken {
+                bytes,
+                numbers: taken.numbers + 1,
+                ..taken
+            }
+        }
+    }
+
+    // What the columns before column k take.
+    pub fn taken_before(&self, k: usize) -> Taken
+        requires { k ≤ length self.now }
+        ensures { result ≡ taken_before self.now k }
+    {
+        let mut taken = Taken {
+            bytes: 0,
+            numbers: 0,
+            words: 0,
+        };
+        for i in 0..k {
+            taken = self.past(i, taken);
+        }
+        taken
+    }
+
+    // What a whole line takes.
+    pub fn whole(&self) -> Taken
+        ensures { result ≡ taken_before self.now (length self.now) }
+    {
+        self.taken_before(self.table.len())
+    }
+
+    // Where column k starts.
+    pub fn start(&self, k: usize) -> usize
+        requires { k ≤ length self.now }
+        ensures value { result ≡ column_start self.now k }
+        ensures within { result ≤ line_width self.now }
+    {
+        self.taken_before(k).bytes
+    }
+
+    // How many bytes a line has.
+    pub fn width(&self) -> usize
+        ensures value { result ≡ line_width self.now }
+        ensures most { result ≤ most_line }
+    {
+        self.start(self.table.len())
+    }
+
+    // How many bytes a line has with its end.
+    #[tactic(auto, unfolding(crate::specs::Columns::line_pitch))]
+    pub fn pitch(&self) -> usize
+        ensures { result ≡ line_pitch self.now }
+    {
+        self.width() + 2
+    }
+}
+
+// A form as far as its component lines go: their columns, which of them has the flag, and the flag table.
+#[derive(Drop)]
+pub struct LineForm<'a> {
+    columns: Columns<'a>,
+    flag_at: usize,
+    flags: &'a [[bool; flags::COLUMNS]; flags::FLAGS],
+}
+
+impl<'a> Model for LineForm<'a> {
+    ghost use Rattle.std.specs.Prelude.{◌<◌, length};
+    ghost use Rattle.text_rules.specs.Tables.{TextForm, line_form};
+
+    ghost Value = { TextForm };
+
+    ghost view = { λ f. line_form f.columns f.flag_at f.flags.now };
+
+    ghost invariant = { λ f. f.flag_at < length f.columns };
+}
+
+impl<'a> LineForm<'a> {
+    pub fn new(
+        columns: &'a [Column],
+        flag_at: usize,
+        flags: &'a [[bool; flags::COLUMNS]; flags::FLAGS],
+    ) -> Self
+        requires { (columns_well columns.now ≡ true) × (flag_at < length columns.now) }
+        ensures { result ≡ line_form columns.now flag_at flags.now }
+    {
+        LineForm {
+            columns: Columns::new(columns),
+            flag_at,
+            flags,
+        }
+    }
+
+    pub fn columns(&self) -> &Columns<'a>
+        ensures { result.now ≡ self.now.columns }
+    {
+        &self.columns
+    }
+
+    pub fn flags(&self) -> &[[bool; flags::COLUMNS]; flags::FLAGS]
+        ensures { result.now ≡ self.now.flags }
+    {
+        self.flags
+    }
+
+    pub fn flag_at(&self) -> usize
+        ensures value { result ≡ self.now.flag_at }
+        ensures within { result < length self.now.columns }
+    {
+        self.flag_at
+    }
+}
 
 // What more than its form a field's value has to be: nothing, a date, or one of 0 and 1.
-pub const ANY: usize = 0;
+#[derive(Clone, Copy, PartialEq, Eq)]
+pub enum ValueKind {
+    Any,
+    Date,
+    ZeroOrOne,
+}
 
-pub const DATE: usize = 1;
+// A field of the head: its name, the form of its number, and its kind.
+#[derive(Clone, Copy)]
+pub struct Field<'a> {
+    pub name: &'a [u8],
+    pub form: Form,
+    pub kind: ValueKind,
+}
 
-pub const ZERO_OR_ONE: usize = 2;
+// The fields of the head, in their order, where they are well made.
+#[derive(Drop)]
+pub struct Fields<'a> {
+    table: &'a [Field<'a>],
+}
+
+impl<'a> Model for Fields<'a> {
+    ghost use Rattle.std.specs.Prelude.{◌≡◌, true, List};
+    ghost use Rattle.text_rules.specs.Tables.{Field, fields_of};
+
+    ghost Value = { List Field };
+
+    ghost use Rattle.text_rules.specs.Well.{fields_well};
+
+    ghost view = { λ f. fields_of f.table.now };
+
+    ghost invariant = { λ f. fields_well (fields_of f.table.now) ≡ true };
+}
+
+impl<'a> Fields<'a> {
+    pub fn new(table: &'a [Field<'a>]) -> Self
+        requires { fields_well (fields_of table.now) ≡ true }
+        ensures { result ≡ fields_of table.now }
+    {
+        Fields { table }
+    }
+
+    // Each of them.
+    pub fn table(&self) -> &[Field<'a>]
+        ensures value { fields_of result.now ≡ self.now }
+        ensures well { fields_well self.now ≡ true }
+    {
+        self.table
+    }
+}
 
 // How many fields there is room for.
 pub const MOST_FIELDS: usize = 24;

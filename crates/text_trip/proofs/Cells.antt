@@ -10,7 +10,7 @@ use lib.ListN.{length, get_or, take, drop, length-drop}
 use lib.Seq.{length-take-le, drop-cons, take_all}
 use Rattle.sequences.specs.Below.{sum_below, join_below}
 use Rattle.sequences.proofs.Below.{sum_grows}
-use Rattle.text_rules.specs.Tables.{Column}
+use Rattle.text_rules.specs.declared.Column.{Column}
 use Rattle.text_rules.specs.Columns.{column_width, holds_text, numbers_before, words_before, line_numbers, line_words, cell_at, part_at}
 use Rattle.text_trip.proofs.Below.{join-same, parts-take, parts-length, part-take}
 

@@ -15,7 +15,10 @@ use Rattle.digits.specs.declared.Form.{Form}
 use Rattle.digits.specs.Digits.{plain, fixed, whole_text, plain_text, signed_text, number_text, cap, capped, from, blanks, is_digit, all_digits, is_shaped, is_whole, is_plain, plain_size}
 use Rattle.digits.specs.Digits.{has_minus, is_signed, signed_figure, trimmed, is_number, figure_of}
 use Rattle.digits.specs.Fits.{Fits}
-use Rattle.text_rules.specs.Tables.{Use, always_used, used_by_flag, for_text, Column, TextForm, column_at}
+use Rattle.text_rules.specs.declared.Use.{Use}
+use Rattle.text_rules.specs.declared.Use.TheVariants.{Always, ByFlag, Text}
+use Rattle.text_rules.specs.declared.Column.{Column}
+use Rattle.text_rules.specs.Tables.{TextForm, column_at}
 use Rattle.text_rules.specs.Columns.{is_text, holds_text, Content, words_cell, number_cell, blank_cell, content_by, number_form}
 use Rattle.text_rules.proofs.Well.{WellColumn, WellForm, WellFlag, column_well_lem, flag_facts}
 
@@ -27,13 +30,13 @@ Holds blank_cell b = b ≡ false
 
 pub content_holds : (flags : List (List Bool)) (flag : ℕ) (u : Use) → Holds (content_by flags flag u) (is_text u)
 unfolding content_by is_text
-content_holds flags flag always_used = refl
-content_holds flags flag (used_by_flag column) = case (entry_in flags flag column)
+content_holds flags flag Always = refl
+content_holds flags flag (ByFlag column) = case (entry_in flags flag column)
   where
     case : (b : Bool) → Holds (cond b number_cell blank_cell) false
     case true = refl
     case false = refl
-content_holds flags flag for_text = refl
+content_holds flags flag Text = refl
 
 -- Columns of one digit.
 

@@ -18,7 +18,7 @@ use Rattle.digits.proofs.Count.{digits-cons, from_below}
 use Rattle.digits.proofs.Sign.{minus_unsigned}
 use Rattle.digits.proofs.Trip.{number_again, figure_sign, blank_is}
 use Rattle.lines.specs.Lines.{name_byte, all_bytes}
-use Rattle.text_rules.specs.Tables.{Column}
+use Rattle.text_rules.specs.declared.Column.{Column}
 use Rattle.text_rules.specs.Columns.{Content, words_cell, number_cell, blank_cell, number_form, is_cell, cell_of, cell_text}
 use Rattle.text_rules.specs.Well.{most_width}
 use Rattle.text_rules.proofs.Well.{WellColumn}

@@ -12,7 +12,8 @@ use Rattle.sequences.specs.Below.{sum_below, join_below}
 use Rattle.sequences.proofs.Below.{all_at}
 use Rattle.lines.specs.Lines.{line_len, ended, first_line, next_at, line_text, same}
 use Rattle.lines.proofs.Laws.{first-length, line_bytes, ended_split, same_is}
-use Rattle.text_rules.specs.Tables.{Column, TextForm}
+use Rattle.text_rules.specs.declared.Column.{Column}
+use Rattle.text_rules.specs.Tables.{TextForm}
 use Rattle.text_rules.specs.Head.{end_word}
 use Rattle.text_rules.specs.Columns.{column_width, column_start, line_width, line_pitch, is_row}
 use Rattle.text_rules.specs.Reading.{start_of, line_of, line_stands, body_start, row_start, row_count, end_start, row_of}

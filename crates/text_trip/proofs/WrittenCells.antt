@@ -9,7 +9,7 @@ use Rattle.digits.specs.declared.Figure.{Figure}
 use Rattle.digits.specs.Digits.{plain}
 use Rattle.digits.proofs.Trip.{number_read, figure_read_lem, number_width, blank_all}
 use Rattle.lines.proofs.Laws.{no_cr, names-no_cr}
-use Rattle.text_rules.specs.Tables.{Column}
+use Rattle.text_rules.specs.declared.Column.{Column}
 use Rattle.text_rules.specs.Columns.{Content, words_cell, number_cell, blank_cell, number_form, is_cell, cell_of, cell_text}
 use Rattle.text_rules.proofs.Well.{WellColumn}
 use Rattle.text_trip.specs.Trips.{CellFits}

@@ -12,7 +12,8 @@ use Rattle.digits.specs.declared.Form.{Form}
 use Rattle.digits.specs.Digits.{plain, number_text}
 use Rattle.digits.specs.Fits.{Fits}
 use Rattle.lines.proofs.Laws.{no_cr, no_cr-append}
-use Rattle.text_rules.specs.Tables.{Column, TextForm, column_at}
+use Rattle.text_rules.specs.declared.Column.{Column}
+use Rattle.text_rules.specs.Tables.{TextForm, column_at}
 use Rattle.text_rules.specs.Columns.{column_width, column_start, line_width, holds_text, line_numbers, line_words, Content, number_cell, content_by, cell_text}
 use Rattle.text_rules.specs.Columns.{is_cell, cell_of, is_row, part_of, flag_of, content_of, wrong_cell, column_fault}
 use Rattle.text_rules.specs.Columns.{cell_read, numbers_read, words_read, cell_at, part_at, content_at, column_text, row_text}

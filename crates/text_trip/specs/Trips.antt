@@ -7,7 +7,8 @@ use Rattle.sequences.specs.Checks.{passes}
 use Rattle.digits.specs.Digits.{plain, cap}
 use Rattle.digits.specs.Fits.{Fits}
 use Rattle.lines.specs.Lines.{line_text, name_byte, all_bytes}
-use Rattle.text_rules.specs.Tables.{Field, Column, TextForm, column_at, field_at}
+use Rattle.text_rules.specs.declared.Column.{Column}
+use Rattle.text_rules.specs.Tables.{Field, TextForm, column_at, field_at}
 use Rattle.text_rules.specs.Columns.{line_numbers, line_words, Content, words_cell, number_cell, blank_cell, holds_text, number_form, cell_at, part_at, content_at}
 use Rattle.text_rules.specs.Head.{head_lines, field_name, is_kind, is_letters}
 use Rattle.text_rules.specs.Reading.{start_of, line_of, body_start, row_count, shape_checks, field_checks, figure_read, letters_read, run_read, texts_read}

@@ -12,7 +12,7 @@ use Rattle.sequences.proofs.Every.{every_at}
 use Rattle.units.specs.declared.ReferenceValue.{ReferenceValue}
 use Rattle.layout.specs.Day.{Day}
 use Rattle.rules.specs.declared.Refusal.{Refusal}
-use Rattle.rules.specs.declared.ValueAnswer.TheVariants.{Worth, Refused}
+use Rattle.std.specs.Prelude.{Ok, Err}
 use Rattle.rules.specs.Replies.{refusal_reply, value_answer_reply}
 use Rattle.rules.proofs.Replies.{refused}
 use Rattle.rules.specs.Value.{lacks_price, cash_taken, worth_before, reference_value, has_value, value_checks}
@@ -37,13 +37,13 @@ falls true x r n e = absurd (false≢true (sym n ∙ ap is_accepted e))
 falls false x r n e = refl
 
 module _ (d : Day) (ps : List ℕ) where
-  pub worth_facts : (v : ReferenceValue) → value_answer_reply (Worth v) ≡ answered (value_checks d ps) (reference_value d ps)
+  pub worth_facts : (v : ReferenceValue) → value_answer_reply (Ok v) ≡ answered (value_checks d ps) (reference_value d ps)
       → (has_value d ps ≡ true) × (v.0 ≡ reference_value d ps) × (v.0 ≤ 9_999_999)
   unfolding value_checks answering
   worth_facts v e =
       let s = stands (has_value d ps) v.0 (reference_value d ps) e in
       (s.0, s.1, omega (arith, s.1, value_range d ps s.0))
 
-  pub refused_facts : (why : Refusal) → value_answer_reply (Refused why) ≡ answered (value_checks d ps) (reference_value d ps) → has_value d ps ≡ false
+  pub refused_facts : (why : Refusal) → value_answer_reply (Err why) ≡ answered (value_checks d ps) (reference_value d ps) → has_value d ps ≡ false
   unfolding value_checks answering
   refused_facts why e = falls (has_value d ps) (reference_value d ps) (refusal_reply why) (refused why) e

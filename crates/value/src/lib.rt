@@ -12,13 +12,14 @@ ghost use Rattle.rules.specs.Replies.{value_answer_reply};
 ghost use Rattle.value.specs.Worth.{worth, lacks, value_from, Countable, Priceable};
 
 use layout::{Component, DayHead};
-use rules::{Refusal, ValueAnswer};
+use rules::Refusal;
 use units::{Money, ReferenceValue};
 
 // The most that a reference value may be.
 const MOST_VALUE: u64 = 9_999_999;
 
 // What a component adds to the sum.
+#[tactic(auto, unfolding(crate::specs::Worth::worth))]
 fn worth_of(c: Component, price: u64) -> Money
     requires { Countable c price }
     ensures { result.0 ≡ worth c price }
@@ -30,19 +31,15 @@ fn worth_of(c: Component, price: u64) -> Money
 }
 
 // Whether a component that is counted by its price has none.
+#[tactic(auto, unfolding(crate::specs::Worth::lacks, sequences::specs::Every::every))]
 fn lacks_price(c: Component, price: u64) -> bool
     ensures { result ≡ lacks c price }
 {
-    if !flags::entry_of(c.flag, flags::PRICED) {
-        return false;
-    }
-    if c.quantity == 0 {
-        return false;
-    }
-    price == 0
+    flags::entry_of(c.flag, flags::PRICED) && c.quantity != 0 && price == 0
 }
 
 // What the estimated cash adds to the sum. This function and the next are all that computes with signed numbers.
+#[tactic(auto, using(crate::proofs::Sign::small))]
 fn cash_added(e: i64) -> Money
     requires { cash_in_range e ≡ true }
     ensures { result.0 ≡ cash_added e }
@@ -50,21 +47,23 @@ fn cash_added(e: i64) -> Money
     if e < 0 {
         return Money(0);
     }
-    Money(10 * (e as u64))
+    Money(10 * e.unsigned_abs())
 }
 
 // What it takes from the sum.
+#[tactic(auto, using(crate::proofs::Sign::small))]
 fn cash_taken(e: i64) -> Money
     requires { cash_in_range e ≡ true }
     ensures { result.0 ≡ cash_taken e }
 {
     if e < 0 {
-        return Money(10 * ((0 - e) as u64));
+        return Money(10 * e.unsigned_abs());
     }
     Money(0)
 }
 
 // A basket's worth by the unit, rounded.
+#[tactic(auto, unfolding(units::specs::Units::rounded))]
 fn per_unit(basket: Money, size: u64) -> ReferenceValue
     requires { (basket.0 ≤ 400_000_000_000_000_000) × (1 ≤ size) × (size ≤ 99_999_999) }
     ensures { result.0 ≡ rounded (10 * basket.0) size }
@@ -74,38 +73,39 @@ fn per_unit(basket: Money, size: u64) -> ReferenceValue
 }
 
 // The answer from the sum of the components and what the estimated cash adds to it and takes from it.
-fn value_with(sum: Money, added: Money, taken: Money, size: u64) -> ValueAnswer
+fn value_with(sum: Money, added: Money, taken: Money, size: u64) -> Result<ReferenceValue, Refusal>
     requires { (sum.0 + added.0 ≤ 400_000_000_000_000_000) × (1 ≤ size) × (size ≤ 99_999_999) }
     ensures { value_answer_reply result ≡ value_from (sum.0 + added.0) taken.0 size }
 {
     let before = sum.plus(added);
     if before.0 < taken.0 {
-        return ValueAnswer::Refused(Refusal::NoReferenceValue);
+        return Err(Refusal::NoReferenceValue);
     }
     let value = per_unit(Money(before.0 - taken.0), size);
     if MOST_VALUE < value.0 {
-        return ValueAnswer::Refused(Refusal::NoReferenceValue);
+        return Err(Refusal::NoReferenceValue);
     }
-    ValueAnswer::Worth(value)
+    Ok(value)
 }
 
 // Refusal 14, or the value. It looks at the day and the prices only.
-pub fn reference_value(d: DayHead, basket: &[u64], prices: &[u64]) -> ValueAnswer
+pub fn reference_value(
+    d: DayHead,
+    basket: &[u64],
+    prices: &[u64],
+) -> Result<ReferenceValue, Refusal>
     requires priceable { Priceable (day_of d basket.now) prices.now }
     requires basket_len { length basket.now ≡ basket_width }
     ensures { value_answer_reply result ≡ answered (value_checks (day_of d basket.now) prices.now) (reference_value (day_of d basket.now) prices.now) }
 {
-    let n = d.count;
     let mut sum = Money(0);
-    let mut i = 0;
-    while i < n {
+    for i in 0..d.count {
         let c = layout::component_of(basket, i);
         let price = prices[i];
         if lacks_price(c, price) {
-            return ValueAnswer::Refused(Refusal::NoReferenceValue);
+            return Err(Refusal::NoReferenceValue);
         }
         sum = sum.plus(worth_of(c, price));
-        i += 1;
     }
     let e = d.fund.estimated_cash;
     let added = cash_added(e);

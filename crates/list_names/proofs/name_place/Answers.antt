@@ -5,7 +5,7 @@ use Prim.Native.Nat.{◌+◌, ◌*◌, ◌≤◌}
 use native.Mathlib.Omega.{arith}
 use lib.ListN.{length}
 use borrow.Author.Rules.{rules}
-use Rattle.text_rules.specs.Tables.{Column}
+use Rattle.text_rules.specs.declared.Column.{Column}
 use Rattle.text_rules.specs.Columns.{column_start}
 use Rattle.list_rules.specs.Shanghai.{name_column}
 use Rattle.list_rules.proofs.Lent.{columns_well_lem}

@@ -1,7 +1,7 @@
 -- `list_rows::read_rows` meets its contract: the lines are a part of the text, and the fault found in them has its place.
 use mathlib.Core.Path.{sym, ap, ◌∙◌}
 use mathlib.Core.List.{List}
-use Rattle.text_rules.specs.Tables.{Column}
+use Rattle.text_rules.specs.declared.Column.{Column}
 use Rattle.text_rules.specs.Columns.{line_pitch, column_start}
 use Prim.Native.Nat.{◌*◌}
 use native.Mathlib.Omega.{arith}

@@ -1,5 +1,6 @@
+-- `value::reference_value` meets its contract: a component without its price ends it, and past the loop the sum decides.
 use mathlib.Core.Path.{◌≡◌, sym, ap, ◌∙◌}
-use Prim.Native.Nat.{◌+◌, zero-le}
+use Prim.Native.Nat.{◌+◌}
 use native.Mathlib.Omega.{arith}
 use borrow.Author.Rules.{rules}
 use mir.Syntax.{w64}
@@ -14,10 +15,7 @@ use Rattle.value.proofs.Laws.{sum_next, priced_next, sum_small, unpriced, priced
 use Rattle.value.proofs.reference_value.Goals as goal
 
 pub loop-i-init : goal.loop-i-init
-loop-i-init c = (zero-le, any_none _, sym (sum_none _))
-
-pub component_of-c-requires : goal.component_of-c-requires
-component_of-c-requires c = (omega arith, c.requires.basket_len)
+loop-i-init c = (any_none _, sym (sum_none _))
 
 pub returns-then-lacks_price : goal.returns-then-lacks_price
 unfolding price_of
@@ -36,7 +34,7 @@ unfolding price_of
 plus-sum-requires c =
     let d = day_of c.args.d c.args.basket.now in
     let more : c.loop-i.sum.0 + c.worth_of.result.0 ≡ sum_below (worth_at d c.args.prices.now) (c.loop-i.i + 1) =
-    rw (c.loop-i.invariant.2, c.worth_of.ensures, c.component_of-c.ensures) (sum_next d _ _) in
+    rw (c.loop-i.invariant.1, c.worth_of.ensures, c.component_of-c.ensures) (sum_next d _ _) in
     omega (arith, more, sum_small d c.args.prices.now c.requires.priceable (c.loop-i.i + 1) (omega arith))
 
 pub loop-i-preserved : goal.loop-i-preserved
@@ -44,9 +42,8 @@ unfolding price_of
 loop-i-preserved c =
     let d = day_of c.args.d c.args.basket.now in
     let priced = rw c.component_of-c.ensures at (sym c.lacks_price.ensures ∙ c.if-lacks_price.false) in (
-      omega arith,
-      priced_next d _ _ c.loop-i.invariant.1 priced,
-      c.plus-sum.ensures ∙ rw (c.loop-i.invariant.2, c.worth_of.ensures, c.component_of-c.ensures) (sum_next d _ _),
+      priced_next d _ _ c.loop-i.invariant.0 priced,
+      c.plus-sum.ensures ∙ rw (c.loop-i.invariant.1, c.worth_of.ensures, c.component_of-c.ensures) (sum_next d _ _),
     )
 
 -- the machine reads the estimated cash back
@@ -66,7 +63,7 @@ value_with-requires c =
     let back : to_z w64 (of_z w64 c.args.d.fund.estimated_cash) ≡ c.args.d.fund.estimated_cash = search rules in
     let added : c.cash_added-added.result.0 ≡ cash_added c.args.d.fund.estimated_cash = c.cash_added-added.ensures ∙ ap cash_added back in
     let small = sum_small d c.args.prices.now c.requires.priceable c.loop-i.i (omega arith) in
-    (omega (arith, c.loop-i.invariant.2, small, added, added_small _ c.requires.priceable.cash), omega arith, omega arith)
+    (omega (arith, c.loop-i.invariant.1, small, added, added_small _ c.requires.priceable.cash), omega arith, omega arith)
 
 pub returns : goal.returns
 unfolding worth_before
@@ -75,5 +72,5 @@ returns c =
     let back : to_z w64 (of_z w64 c.args.d.fund.estimated_cash) ≡ c.args.d.fund.estimated_cash = search rules in
     let e : c.loop-i.i ≡ c.args.d.count = omega arith in
     c.value_with.ensures
-    ∙ rw (c.loop-i.invariant.2, c.cash_added-added.ensures ∙ ap cash_added back, c.cash_taken-taken.ensures, back, e)
-    (priced_all d _ (rw e at c.loop-i.invariant.1))
+    ∙ rw (c.loop-i.invariant.1, c.cash_added-added.ensures ∙ ap cash_added back, c.cash_taken-taken.ensures, back, e)
+    (priced_all d _ (rw e at c.loop-i.invariant.0))

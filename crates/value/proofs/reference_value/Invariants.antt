@@ -1,8 +1,7 @@
--- `value::reference_value` meets its contract. The loop's invariant: no component below `i` lacks its price, and `sum` is what those
--- components are worth. Past the loop the sum decides.
+-- The loop's invariant: no component below `i` lacks its price, and `sum` is what those
+-- components are worth.
 use mathlib.Core.Path.{◌≡◌}
 use mathlib.Core.Bool.{false}
-use Prim.Native.Nat.{◌-◌, ◌≤◌}
 use Rattle.sequences.specs.Below.{sum_below, any_below}
 use Rattle.layout.specs.Day.{day_of}
 use Rattle.rules.specs.Value.{worth_at, lacks_price}
@@ -10,7 +9,4 @@ use Rattle.value.proofs.reference_value.Given as goal
 
 abbrev pub invariant-loop-i : goal.invariant-loop-i
 invariant-loop-i l =
-    (l.i ≤ l.n) × (any_below (lacks_price (day_of l.d l.basket) l.prices) l.i ≡ false) × (l.sum.0 ≡ sum_below (worth_at (day_of l.d l.basket) l.prices) l.i)
-
-abbrev pub decreases-loop-i : goal.decreases-loop-i
-decreases-loop-i l = l.n - l.i
+    (any_below (lacks_price (day_of l.d l.basket) l.prices) l.i ≡ false) × (l.sum.0 ≡ sum_below (worth_at (day_of l.d l.basket) l.prices) l.i)

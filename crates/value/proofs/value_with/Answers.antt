@@ -10,9 +10,6 @@ use Rattle.value.proofs.value_with.Goals as goal
 pub returns-then-before-taken : goal.returns-then-before-taken
 returns-then-before-taken c = value_negative _ _ _ (omega (arith, c.plus-before.ensures))
 
-pub per_unit-value-requires : goal.per_unit-value-requires
-per_unit-value-requires c = (omega (arith, c.plus-before.ensures), omega arith, omega arith)
-
 -- the value in the definition's terms
 abbrev found : Start → ℕ
 found c = rounded (10 * (c.args.sum.0 + c.args.added.0 - c.args.taken.0)) c.args.size
