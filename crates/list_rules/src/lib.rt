@@ -26,17 +26,9 @@ pub struct ListFields {
     pub count: usize,
 }
 
-// The answer of reading, with the count of components, and of writing, with the count of bytes.
-#[derive(Clone, Copy)]
-pub enum ListAnswer {
-    Done(usize),
-    Refused(Refusal),
-}
-
-// What reading hands back: the fields, and where the component lines start; blank fields and 0 where it is refused.
+// What reading hands back: the fields, and where the component lines start.
 #[derive(Clone, Copy)]
 pub struct ListRead {
-    pub answer: ListAnswer,
     pub fields: ListFields,
     pub first_row: usize,
 }
