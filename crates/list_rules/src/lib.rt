@@ -2,8 +2,7 @@
 #![tactic(auto)]
 
 ghost use Rattle.std.specs.Prelude.{◌≡◌};
-ghost use Rattle.list_rules.specs.Shanghai.{shanghai_lines};
-ghost use Rattle.list_rules.specs.Lent.{FieldsLent};
+ghost use Rattle.list_rules.specs.Shanghai.{shanghai_fields, shanghai_lines};
 
 use digits::Form;
 use layout::Fund;
@@ -275,7 +274,7 @@ pub fn line_form() -> LineForm<'static>
 
 // The fields of the head.
 pub fn field_table() -> Fields<'static>
-    ensures { FieldsLent result }
+    ensures { result ≡ shanghai_fields }
 {
     Fields::new(&FIELDS)
 }
