@@ -58,6 +58,7 @@ pub fn settle(
     ensures book { book.new ≡ order_moves ask.kind day.now ask.account ask.units m (all_cash cash) book.old }
     ensures list { list.new ≡ with_records (records_by ask.kind day.now (account day.now book.old ask.account) ask.units m cash) list.old }
 {
+    let count = day.count();
     let first_code = day.fund().first_code;
     let units = ask.units;
     let side = order_records::rest_side(ask.kind).number();
@@ -65,12 +66,5 @@ pub fn settle(
     let stock_at = order_records::put_record(list, 0, unit);
     let cash_at = settle_stock(ask, day, book, m, list, stock_at);
     order_records::put_after_stock(list, cash_at, first_code, side, units, cash);
-    order_units::move_rest(
-        ask.kind,
-        day.count(),
-        book,
-        ask.account,
-        units,
-        cash.total(),
-    );
+    order_units::move_rest(ask.kind, count, book, ask.account, units, cash.total());
 }

@@ -25,12 +25,12 @@ put_after_stock-requires-clause-fits c =
 
 pub move_rest-requires : goal.move_rest-requires
 move_rest-requires c =
-    rw (c.count.ensures, c.total.ensures) (rest_ready c.args.ask.kind c.args.day.now _ _ _ _ _ _ c.requires.order_ready c.settle_stock-cash_at.ensures.book)
+    rw (c.count-count.ensures, c.total.ensures) (rest_ready c.args.ask.kind c.args.day.now _ _ _ _ _ _ c.requires.order_ready c.settle_stock-cash_at.ensures.book)
 
 pub returns-clause-book : goal.returns-clause-book
 returns-clause-book c =
     order_is c.args.ask.kind c.args.day.now _ _ _ _ _ _ c.requires.order_ready c.settle_stock-cash_at.ensures.book _
-    (rw (c.count.ensures, c.total.ensures) at c.move_rest.ensures)
+    (rw (c.count-count.ensures, c.total.ensures) at c.move_rest.ensures)
 
 pub returns-clause-list : goal.returns-clause-list
 returns-clause-list c =
