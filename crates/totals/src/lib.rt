@@ -127,7 +127,7 @@ fn add_capped(total: u64, x: u64) -> u64
     requires { total ≤ top }
     ensures { result ≡ min (total + x) top }
 {
-    total.saturating_add(x).min(TOP)
+    total + x.min(TOP - total)
 }
 
 // The total of one place over all rows, as far as 2^62.
