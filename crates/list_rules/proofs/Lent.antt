@@ -1,5 +1,4 @@
 -- The Shanghai form is well made and has so many fields, and the tables that are lent are well made too.
-use Prim.Native.Nat.{ℕ, ◌+◌}
 use mathlib.Core.Path.{◌≡◌, refl, ap, ◌∙◌}
 use mathlib.Core.Bool.{true}
 use mathlib.Core.List.{List}
@@ -7,14 +6,13 @@ use lib.ListN.{length}
 use Rattle.sequences.specs.Below.{sum_below, all_below}
 use Rattle.sequences.specs.Every.{every}
 use Rattle.lines.specs.Lines.{other_byte, all_bytes}
-use Rattle.text_rules.specs.declared.Column.{Column}
 use Rattle.text_rules.specs.declared.Field.{Field as LentField}
 use Rattle.text_rules.specs.Tables.{fields_of, column_at, field_at}
-use Rattle.text_rules.specs.Columns.{column_width, column_start, line_width, line_pitch}
+use Rattle.text_rules.specs.Columns.{column_width, column_start, line_width}
 use Rattle.text_rules.specs.Well.{column_well, columns_well, is_always, flag_well, field_well, fields_well, form_well}
 use Rattle.text_rules.proofs.Well.{form_facts}
 use Rattle.list_rules.specs.Shanghai.{shanghai, shanghai_columns, shanghai_fields, field_count, flag_column}
-use Rattle.list_rules.specs.Lent.{ColumnsLent, FieldsLent}
+use Rattle.list_rules.specs.Lent.{FieldsLent}
 
 pub shanghai_well : form_well shanghai ≡ true
 unfolding form_well every fields_well field_well columns_well column_well flag_well is_always shanghai shanghai_columns shanghai_fields
@@ -25,23 +23,14 @@ pub fields_count : length shanghai_fields ≡ field_count
 unfolding shanghai_fields
 fields_count = refl
 
-module _ (columns : List Column) (lent : ColumnsLent columns) where
-  pub columns_well_lem : columns_well columns ≡ true
-  unfolding shanghai
-  columns_well_lem = ap columns_well lent ∙ (form_facts shanghai shanghai_well).columns
+pub shanghai_columns_well : columns_well shanghai_columns ≡ true
+unfolding shanghai
+shanghai_columns_well = (form_facts shanghai shanghai_well).columns
 
-  pub flag_well_lem : flag_well columns flag_column ≡ true
-  unfolding shanghai
-  flag_well_lem = ap (λ (cs : List Column). flag_well cs flag_column) lent ∙ (form_facts shanghai shanghai_well).flag
-
-  pub columns_many : length columns ≡ length shanghai_columns
-  columns_many = ap length lent
+pub shanghai_flag_well : flag_well shanghai_columns flag_column ≡ true
+unfolding shanghai
+shanghai_flag_well = (form_facts shanghai shanghai_well).flag
 
 pub fields_well_lem : (fields : List LentField) → FieldsLent fields → fields_well (fields_of fields) ≡ true
 unfolding shanghai
 fields_well_lem fields lent = ap fields_well lent ∙ (form_facts shanghai shanghai_well).fields
-
--- what a line takes with its end
-pub pitch_is : (columns : List Column) → ColumnsLent columns → (width : ℕ) → width ≡ line_width columns → width + 2 ≡ line_pitch shanghai_columns
-unfolding line_pitch
-pitch_is columns e width f = ap (λ (n : ℕ). n + 2) (f ∙ ap line_width e)

@@ -7,9 +7,9 @@ use Rattle.text_rules.specs.Dates.{date_digits}
 use Rattle.text_rules.specs.declared.Use.{Use}
 use Rattle.text_rules.specs.declared.Use.TheVariants.{Always, ByFlag, Text}
 use Rattle.text_rules.specs.declared.Column.{Column}
+use Rattle.text_rules.specs.Tables.{Field, TextForm, line_form}
 use Rattle.text_rules.specs.declared.ValueKind.{ValueKind}
 use Rattle.text_rules.specs.declared.ValueKind.TheVariants.{Any, Date, ZeroOrOne}
-use Rattle.text_rules.specs.Tables.{Field, TextForm}
 
 -- ---- the columns of a component line
 abbrev column : ℕ → ℕ → ℕ → Use → Column
@@ -148,6 +148,9 @@ unit_value_field = 11
 abbrev pub limits_field : ℕ
 limits_field = 12
 
--- ---- the form
+-- ---- the form, and the same as far as its component lines go
 unfoldable pub shanghai : TextForm
 shanghai = record { fields = shanghai_fields; columns = shanghai_columns; flag_at = flag_column; flags = flag_table }
+
+abbrev pub shanghai_lines : TextForm
+shanghai_lines = line_form shanghai_columns flag_column flag_table

@@ -1,12 +1,14 @@
 // What the list text promises: the types of a list and its answers, and the tables of its form. The definitions are in specs/.
 #![tactic(auto)]
 
-ghost use Rattle.list_rules.specs.Lent.{ColumnsLent, FieldsLent};
+ghost use Rattle.std.specs.Prelude.{◌≡◌};
+ghost use Rattle.list_rules.specs.Shanghai.{shanghai_lines};
+ghost use Rattle.list_rules.specs.Lent.{FieldsLent};
 
 use digits::Form;
 use layout::Fund;
 use rules::Refusal;
-use text_rules::{Column, Field, Use, ValueKind};
+use text_rules::{Column, Field, LineForm, Use, ValueKind};
 
 // The fields of a list but its components, its names and the letters of its first line.
 #[derive(Clone, Copy)]
@@ -272,12 +274,11 @@ const FIELDS: [Field<'static>; FIELD_COUNT] = [
     },
 ];
 
-// The tables, to be lent: the columns of a component line.
-#[tactic(auto, unfolding(crate::specs::Shanghai::shanghai_columns))]
-pub fn columns() -> [Column; COLUMN_COUNT]
-    ensures { ColumnsLent result }
+// The form as far as its component lines go.
+pub fn line_form() -> LineForm<'static>
+    ensures { result ≡ shanghai_lines }
 {
-    COLUMNS
+    LineForm::new(&COLUMNS, FLAG, &flags::TABLE)
 }
 
 // The fields of the head.

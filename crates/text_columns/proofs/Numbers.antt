@@ -10,8 +10,7 @@ use lib.ListN.{length, get_or, take, drop, length-drop}
 use lib.Pow.{pow-add}
 use lib.Seq.{length-take-le, get_or-drop, drop-drop, take-add, drop_at}
 use borrow.Author.Tests.{eq-eqb, ne_eqb}
-use Rattle.digits.specs.declared.Size.{Size}
-use Rattle.digits.specs.declared.Size.TheVariants.{Known, Ill}
+use Rattle.std.specs.Prelude.{Option, Some, None}
 use Rattle.digits.specs.Digits.{blanks, all_blank, from, cap, capped, is_shaped, is_whole, is_plain}
 use Rattle.digits.specs.Digits.{plain_size, has_minus, is_signed, signed_figure, trimmed, is_number, figure_of, size_reading, read_on}
 use Rattle.digits.proofs.Put.{rest_all}
@@ -43,10 +42,10 @@ module _ (n : ℕ) (s : List ℕ) (b : ℕ) (first : b ≡ blanks s) where
   unfolding behind
   number_rest = number_whole n s ∙ rw (rest_all b s, first)
 
-  pub right_ill : {t : Bool} → t ≡ is_shaped n rest → t ≡ false → Ill ≡ number_size (right_form n 0) s
+  pub right_ill : {t : Bool} → t ≡ is_shaped n rest → t ≡ false → None ≡ number_size (right_form n 0) s
   right_ill e f = whole_ill n rest _ (sym e ∙ f) ∙ sym number_rest
 
-  pub right_known : {t : Bool} → t ≡ is_shaped n rest → t ≡ true → {r : Size} → r ≡ read_on 0 rest → r ≡ number_size (right_form n 0) s
+  pub right_known : {t : Bool} → t ≡ is_shaped n rest → t ≡ true → {r : Option ℕ} → r ≡ read_on 0 rest → r ≡ number_size (right_form n 0) s
   right_known e f g = g ∙ whole_known n rest (sym e ∙ f) ∙ sym number_rest
 
 -- the cap only lessens a number
@@ -104,7 +103,7 @@ module _ (d : ℕ) (s : List ℕ) (some : 0 < d) (long : d < length s) where
     unfolding behind
     byte_behind = get_or-drop (blanks s) s place_behind 0 ∙ ap (λ (k : ℕ). get_or s k 0) place_behind_lem
 
-  pub point_missing : (get_or s place 0 ≡ 46 → ⊥) → Ill ≡ number_size (right_form 0 d) s
+  pub point_missing : (get_or s place 0 ≡ 46 → ⊥) → None ≡ number_size (right_form 0 d) s
   unfolding behind right_form
   point_missing h =
       compare (blanks s) place
@@ -128,8 +127,8 @@ module _ (d : ℕ) (s : List ℕ) (some : 0 < d) (long : d < length s) where
     unfolding right_form
     head_is = number_whole 0 (take place s) ∙ ap (λ (l : List ℕ). size_reading (is_whole 0 l) (capped (from 0 l))) head_part
 
-    pub head_ill : number_size (right_form 0 0) (take place s) ≡ Ill → Ill ≡ number_size (right_form 0 d) s
-    head_ill e = plain_ill (right_form 0 d) (behind s) decimals_some _ (sym head_is ∙ e) ∙ sym (number_plain 0 d s)
+    pub head_none : number_size (right_form 0 0) (take place s) ≡ None → None ≡ number_size (right_form 0 d) s
+    head_none e = plain_ill (right_form 0 d) (behind s) decimals_some _ (sym head_is ∙ e) ∙ sym (number_plain 0 d s)
 
     -- what stands behind it
     tail_part : take (length s - (place + 1)) (drop (place + 1) s) ≡ drop (place_behind + 1) (behind s)
@@ -138,16 +137,16 @@ module _ (d : ℕ) (s : List ℕ) (some : 0 < d) (long : d < length s) where
         let e : place + 1 ≡ blanks s + (place_behind + 1) = omega (arith, place_behind_lem before.0) in
         rest_all (place + 1) s ∙ ap (λ (k : ℕ). drop k s) e ∙ sym (drop-drop (place_behind + 1) (blanks s) s)
 
-    pub head_known : (v : ℕ) → number_size (right_form 0 0) (take place s) ≡ Known v → {r : Size}
+    pub head_some : (v : ℕ) → number_size (right_form 0 0) (take place s) ≡ Some v → {r : Option ℕ}
         → r ≡ read_on v (take (length s - (place + 1)) (drop (place + 1) s)) → r ≡ number_size (right_form 0 d) s
-    head_known v e g =
+    head_some v e g =
         g
         ∙ ap (read_on v) tail_part
         ∙ plain_known (right_form 0 d) (behind s) decimals_some v (byte_behind before.0 ∙ point) (sym head_is ∙ e)
         ∙ sym (number_plain 0 d s)
 
     -- what is read before the point leaves room for the decimals
-    head_below : (v : ℕ) → number_size (right_form 0 0) (take place s) ≡ Known v → v + 1 ≤ 10 ^ place
+    head_below : (v : ℕ) → number_size (right_form 0 0) (take place s) ≡ Some v → v + 1 ≤ 10 ^ place
     unfolding behind
     head_below v e =
         let head : List ℕ = behind (take place s) in
@@ -156,7 +155,7 @@ module _ (d : ℕ) (s : List ℕ) (some : 0 < d) (long : d < length s) where
         let low = from_below head (whole_facts 0 head k.0).1 in
         omega (arith, k.1, capped_below (from 0 head), low, pow-le-pow_right {n = 10} (omega arith) short)
 
-    pub head_room : (v : ℕ) → length s ≤ most_width → number_size (right_form 0 0) (take place s) ≡ Known v
+    pub head_room : (v : ℕ) → length s ≤ most_width → number_size (right_form 0 0) (take place s) ≡ Some v
         → (v + 1) * 10 ^ length (take (length s - (place + 1)) (drop (place + 1) s)) ≤ cap
     head_room v narrow e =
         let l : length (take (length s - (place + 1)) (drop (place + 1) s)) ≡ d = omega (arith, ap length (rest_all (place + 1) s), length-drop (place + 1) s) in
@@ -165,8 +164,8 @@ module _ (d : ℕ) (s : List ℕ) (some : 0 < d) (long : d < length s) where
 
 -- A column of blanks.
 
-pub blanks_yes : (s : List ℕ) → all_blank s ≡ true → Known 0 ≡ size_reading (all_blank s) 0
+pub blanks_yes : (s : List ℕ) → all_blank s ≡ true → Some 0 ≡ size_reading (all_blank s) 0
 blanks_yes s e = rw e
 
-pub blanks_no : (s : List ℕ) → all_blank s ≡ false → Ill ≡ size_reading (all_blank s) 0
+pub blanks_no : (s : List ℕ) → all_blank s ≡ false → None ≡ size_reading (all_blank s) 0
 blanks_no s e = rw e

@@ -1,14 +1,12 @@
-// Lines that stand in a text: the first one and its letters, and the component lines, by a table of columns that is lent.
+// Lines that stand in a text: the first one and its letters, and the component lines, by their columns.
 #![tactic(auto)]
 
-ghost use Rattle.std.specs.Prelude.{◌≡◌, true, ◌+◌, ◌*◌, ◌≤◌, length};
-ghost use Rattle.text_rules.specs.Tables.{columns_of};
+ghost use Rattle.std.specs.Prelude.{◌≡◌, ◌+◌, ◌*◌, ◌≤◌, length};
 ghost use Rattle.text_rules.specs.Columns.{line_width, line_pitch, is_row};
 ghost use Rattle.text_rules.specs.Head.{is_letters, is_opening};
 ghost use Rattle.text_rules.specs.Reading.{line_stands, rows_from, letters_read};
-ghost use Rattle.text_rules.specs.Well.{columns_well};
 
-use text_rules::COLUMN_PARTS;
+use text_rules::Columns;
 
 // Whether the letters are 1 to 8 letters or digits.
 pub fn is_letters(s: &[u8]) -> bool
@@ -55,10 +53,10 @@ pub fn letters(text: &[u8]) -> &[u8]
 }
 
 // Whether a component line with its end stands at a place.
-fn row_stands(columns: &[[usize; COLUMN_PARTS]], width: usize, text: &[u8], at: usize) -> bool
-    requires columns_value { (columns_well (columns_of columns.now) ≡ true) × (width ≡ line_width (columns_of columns.now)) }
+fn row_stands(columns: &Columns, width: usize, text: &[u8], at: usize) -> bool
+    requires columns_value { width ≡ line_width columns.now }
     requires at_in_bounds { at ≤ length text.now }
-    ensures { result ≡ line_stands (is_row (columns_of columns.now)) text.now at }
+    ensures { result ≡ line_stands (is_row columns.now) text.now at }
 {
     let n = lines::likely_len(&text[at..], width);
     if text.len() - at <= n {
@@ -68,13 +66,12 @@ fn row_stands(columns: &[[usize; COLUMN_PARTS]], width: usize, text: &[u8], at: 
 }
 
 // How many component lines stand from a place on, before the first line that is none.
-pub fn row_count(columns: &[[usize; COLUMN_PARTS]], text: &[u8], start: usize) -> usize
-    requires columns_value { columns_well (columns_of columns.now) ≡ true }
-    requires start_in_bounds { start ≤ length text.now }
-    ensures value { result ≡ rows_from (columns_of columns.now) text.now start }
-    ensures columns_in_bounds { start + result * line_pitch (columns_of columns.now) ≤ length text.now }
+pub fn row_count(columns: &Columns, text: &[u8], start: usize) -> usize
+    requires { start ≤ length text.now }
+    ensures value { result ≡ rows_from columns.now text.now start }
+    ensures columns_in_bounds { start + result * line_pitch columns.now ≤ length text.now }
 {
-    let width = text_columns::line_width(columns);
+    let width = columns.width();
     let mut at = start;
     let mut j = 0;
     while row_stands(columns, width, text, at) {

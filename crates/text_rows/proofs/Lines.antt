@@ -10,8 +10,7 @@ use lib.ListN.{length, get_or, take, drop, length-drop}
 use lib.Seq.{length-take-le, get_or-take, get_or-drop, drop-drop}
 use borrow.Author.Tests.{eqb-false, eq-eqb, ne_eqb}
 use Rattle.sequences.proofs.Stretch.{part_within}
-use Rattle.digits.specs.declared.Size.{Size}
-use Rattle.digits.specs.declared.Size.TheVariants.{Known, Ill}
+use Rattle.std.specs.Prelude.{Option, Some, None}
 use Rattle.digits.proofs.Read.{size_ill, size_known}
 use Rattle.lines.specs.Lines.{name_byte, all_bytes}
 use Rattle.text_rules.specs.declared.Use.{Use}
@@ -79,18 +78,18 @@ words_wrong t rows k j h e = rw (text_use_lem _ e, part_in_lem t.columns rows j 
 
 -- What is read of a column with a number, in the j-th line.
 
-pub reading_at : TextForm → List ℕ → ℕ → Size
+pub reading_at : TextForm → List ℕ → ℕ → Option ℕ
 reading_at t l k = cell_reading t.flags (flag_of t l) (column_at t.columns k) (part_of t.columns k l)
 
 module _ (t : TextForm) (l : List ℕ) (k : ℕ) where
   abbrev is_good : Bool
   is_good = is_cell (content_of t l k) (column_at t.columns k) (part_of t.columns k l)
 
-  pub reading_ill : reading_at t l k ≡ Ill → wrong_cell t l k ≡ true
+  pub reading_ill : reading_at t l k ≡ None → wrong_cell t l k ≡ true
   unfolding reading_at cell_reading wrong_cell content_of cell_read
   reading_ill e = ap not (size_ill is_good (cell_read t l k) e)
 
-  pub reading_known : {v : ℕ} → reading_at t l k ≡ Known v → (wrong_cell t l k ≡ false) × (v ≡ cell_read t l k)
+  pub reading_known : {v : ℕ} → reading_at t l k ≡ Some v → (wrong_cell t l k ≡ false) × (v ≡ cell_read t l k)
   unfolding reading_at cell_reading wrong_cell content_of cell_read
   reading_known {v} e = let p = size_known is_good (cell_read t l k) v e in (ap not p.0, sym p.1)
 
@@ -106,7 +105,7 @@ module _ (flags : List (List Bool)) (columns : List (List ℕ)) (flag_at : ℕ) 
       → {flag : ℕ} → flag ≡ get_or rows (p + start) 0 - 48
       → {used : Bool} → used ≡ is_used flags (get_or (get_or columns k []) use_part 0) (get_or (get_or columns k []) flag_part 0) flag
       → {w : ℕ} → w ≡ get_or (get_or columns k []) width_part 0
-      → {size : Size} → size ≡ cell_size used (get_or (get_or columns k []) digits_part 0) (get_or (get_or columns k []) decimals_part 0) (take (p + at + w - (p + at)) (drop (p + at) rows))
+      → {size : Option ℕ} → size ≡ cell_size used (get_or (get_or columns k []) digits_part 0) (get_or (get_or columns k []) decimals_part 0) (take (p + at + w - (p + at)) (drop (p + at) rows))
       → size ≡ reading_at (line_form cs flag_at flags) (row_in cs rows j) k
   unfolding reading_at flag_of
   cell_in k h words there {p} {at} e f g {flag} i {used} u {w} ew s =

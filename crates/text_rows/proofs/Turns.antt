@@ -11,8 +11,7 @@ use lib.ListN.{length, get_or, take, drop, set, length-set}
 use borrow.Author.Tests.{eq-eqb}
 use Rattle.sequences.specs.Below.{first_below}
 use Rattle.sequences.proofs.Below.{sum_none, sum_more, sum_grows, cond_le, first_none, first_more, first_here, first_same}
-use Rattle.digits.specs.declared.Size.{Size}
-use Rattle.digits.specs.declared.Size.TheVariants.{Known, Ill}
+use Rattle.std.specs.Prelude.{Option, Some, None}
 use Rattle.lines.specs.Lines.{name_byte, all_bytes}
 use Rattle.text_rules.specs.declared.Column.{Column}
 use Rattle.text_rules.specs.Tables.{width_part, digits_part, decimals_part, use_part, flag_part, text_use, TextForm, line_form, columns_of}
@@ -236,7 +235,7 @@ module _ (columns : List (List ℕ)) (flag_at : ℕ) (rows : List ℕ) (pitch st
         slot = omega (arith, v.few, next);
       }
 
-  module _ (flags : List (List Bool)) (words : holds_text (columns_of columns) k ≡ false) (p j : ℕ) {used : Bool} {size : Size} (line : p ≡ j * pitch)
+  module _ (flags : List (List Bool)) (words : holds_text (columns_of columns) k ≡ false) (p j : ℕ) {used : Bool} {size : Option ℕ} (line : p ≡ j * pitch)
       (by : used ≡ is_used flags (get_or (get_or columns k []) use_part 0) (get_or (get_or columns k []) flag_part 0) (get_or rows (p + start) 0 - 48))
       (reads : size
       ≡ cell_size used (get_or (get_or columns k []) digits_part 0) (get_or (get_or columns k []) decimals_part 0)
@@ -249,11 +248,11 @@ module _ (columns : List (List ℕ)) (flag_at : ℕ) (rows : List ℕ) (pitch st
         cell_in flags columns flag_at rows j lines.well k here.there words lines.flag
         (line ∙ ap (λ (x : ℕ). j * x) lines.pitched) here.starts flagged refl by refl reads
 
-    pub cell_ill : size ≡ Ill → wrong_at form rows k j ≡ true
+    pub cell_ill : size ≡ None → wrong_at form rows k j ≡ true
     unfolding wrong_at
     cell_ill e = reading_ill form (row_in (columns_of columns) rows j) k (sym reads_cell ∙ e)
 
-    pub cell_known : {x : ℕ} → size ≡ Known x → (wrong_at form rows k j ≡ false) × (x ≡ cell_read form (row_in (columns_of columns) rows j) k)
+    pub cell_known : {x : ℕ} → size ≡ Some x → (wrong_at form rows k j ≡ false) × (x ≡ cell_read form (row_in (columns_of columns) rows j) k)
     unfolding wrong_at
     cell_known e = reading_known form (row_in (columns_of columns) rows j) k (sym reads_cell ∙ e)
 

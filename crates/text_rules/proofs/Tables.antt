@@ -1,4 +1,4 @@
--- The table of fields that is lent: its k-th field. Where the columns of a line stand.
+-- The table of fields that is lent: the k-th field is the k-th that is lent. Where the columns of a line stand.
 use mathlib.Core.Path.{◌≡◌, refl}
 use mathlib.Core.List.{List}
 use Prim.Native.Nat.{ℕ, suc, ◌+◌, ◌≤◌, ◌<◌}

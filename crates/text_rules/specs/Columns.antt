@@ -9,6 +9,7 @@ use Rattle.lines.specs.Lines.{name_byte, all_bytes}
 use Rattle.text_rules.specs.declared.Use.{Use}
 use Rattle.text_rules.specs.declared.Use.TheVariants.{Always, ByFlag, Text}
 use Rattle.text_rules.specs.declared.Column.{Column}
+use Rattle.text_rules.specs.declared.Taken.{Taken}
 use Rattle.text_rules.specs.Tables.{TextForm, column_at}
 
 -- ---- where the columns stand, and how long the line is, without and with its 0D 0A
@@ -44,6 +45,10 @@ line_numbers cs = numbers_before cs (length cs)
 
 unfoldable pub line_words : List Column → ℕ
 line_words cs = words_before cs (length cs)
+
+-- what the columns before column k take of a line
+unfoldable pub taken_before : List Column → ℕ → Taken
+taken_before cs k = record { bytes = column_start cs k; numbers = numbers_before cs k; words = words_before cs k }
 
 -- ---- what a column has in a line with that flag: words, a number, or blanks
 pub data Content : Type 0 where

@@ -1,4 +1,4 @@
--- The tables that a form of the text goes by: the columns of a component line, and the fields of the head, whose names the code is
+-- The tables that a form of the text goes by: the columns of a component line and the fields of the head, whose names the code is
 -- lent by reference.
 use Rattle.std.specs.Prelude.{ℕ, Bool, false, List, [], get_or, map}
 use Rattle.digits.specs.declared.Form.{Form}
@@ -25,8 +25,7 @@ pub record TextForm : Type 0 where
 abbrev pub line_form : List Column → ℕ → List (List Bool) → TextForm
 line_form columns flag_at flags = record { fields = []; columns = columns; flag_at = flag_at; flags = flags }
 
--- ---- the fields that are lent
--- a field that the code is lent has its name by reference
+-- ---- a field that the code is lent has its name by reference
 unfoldable pub field_of : LentField → Field
 field_of f = record { name = f.name.now; form = f.form; kind = f.kind }
 

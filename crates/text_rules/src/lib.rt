@@ -1,9 +1,9 @@
-// What a text of lines promises, whatever its form: the parts of its two tables, of the columns of a line and of the fields of
-// the head. The definitions are in specs/.
+// What a text of lines promises, whatever its form: its two tables, of the columns of a line and of the fields of the head. The
+// definitions are in specs/.
 #![tactic(auto)]
 
-ghost use Rattle.std.specs.Prelude.{◌≡◌, ◌≤◌, ◌<◌, true, length};
-ghost use Rattle.text_rules.specs.Columns.{column_start, line_width, line_pitch, is_text, used_by};
+ghost use Rattle.std.specs.Prelude.{◌≡◌, ◌+◌, ◌≤◌, ◌<◌, true, length};
+ghost use Rattle.text_rules.specs.Columns.{column_start, line_width, line_pitch, is_text, used_by, taken_before};
 ghost use Rattle.text_rules.specs.Well.{columns_well, most_line};
 ghost use Rattle.text_rules.specs.Tables.{line_form};
 
@@ -47,6 +47,14 @@ pub struct Column {
     pub used: Use,
 }
 
+// What some columns take of a line: bytes with their bars, numbers, and bytes of text.
+#[derive(Clone, Copy)]
+pub struct Taken {
+    pub bytes: usize,
+    pub numbers: usize,
+    pub words: usize,
+}
+
 // The columns of a component line, in their order, where they are well made.
 #[derive(Drop)]
 pub struct Columns<'a> {
@@ -82,17 +90,59 @@ impl<'a> Columns<'a> {
         self.table
     }
 
+    // What the columns before column k take with column k, from what those before it take.
+    pub fn past(&self, k: usize, taken: Taken) -> Taken
+        requires { (k < length self.now) × (taken ≡ taken_before self.now k) }
+        ensures { result ≡ taken_before self.now (k + 1) }
+    {
+        let table = self.table;
+        let column = table[k];
+        let bytes = taken.bytes + (column.width + 1);
+        if column.used.is_text() {
+            Taken {
+                bytes,
+                words: taken.words + column.width,
+                ..taken
+            }
+        } else {
+            Taken {
+                bytes,
+                numbers: taken.numbers + 1,
+                ..taken
+            }
+        }
+    }
+
+    // What the columns before column k take.
+    pub fn taken_before(&self, k: usize) -> Taken
+        requires { k ≤ length self.now }
+        ensures { result ≡ taken_before self.now k }
+    {
+        let mut taken = Taken {
+            bytes: 0,
+            numbers: 0,
+            words: 0,
+        };
+        for i in 0..k {
+            taken = self.past(i, taken);
+        }
+        taken
+    }
+
+    // What a whole line takes.
+    pub fn whole(&self) -> Taken
+        ensures { result ≡ taken_before self.now (length self.now) }
+    {
+        self.taken_before(self.table.len())
+    }
+
     // Where column k starts.
     pub fn start(&self, k: usize) -> usize
         requires { k ≤ length self.now }
         ensures value { result ≡ column_start self.now k }
         ensures within { result ≤ line_width self.now }
     {
-        let mut at = 0;
-        for column in &self.table[..k] {
-            at += column.width + 1;
-        }
-        at
+        self.taken_before(k).bytes
     }
 
     // How many bytes a line has.
