@@ -12,6 +12,7 @@ use Rattle.sequences.proofs.Runs.{sets_append, join_grows}
 use Rattle.units.specs.Units.{split_size}
 use Rattle.layout.specs.Day.{Day}
 use Rattle.rules.specs.declared.Ask.{Ask}
+use Rattle.rules.specs.declared.Kind.{Kind}
 use Rattle.rules.specs.declared.CashByMarket.{CashByMarket}
 use Rattle.layout.specs.declared.Record.{Record}
 use Rattle.rules.specs.Lines.{component_of, code_of}
@@ -106,7 +107,7 @@ pub line_one : (code side q : ℕ) → (q ≡ 0 → ⊥) → line_record code si
 unfolding line_record
 line_one code side q n = rw (lt-ltb 0 q (omega arith))
 
-module _ (kind : ℕ) (d : Day) (s : List ℕ) (m : ℕ) where
+module _ (kind : Kind) (d : Day) (s : List ℕ) (m : ℕ) where
   -- the records of the components below i
   unfoldable pub stock_below : ℕ → List Record
   stock_below i = join_below (stock_record d (stock_side kind) (moved_by kind d s m)) i
