@@ -19,6 +19,7 @@ use Rattle.rules.specs.declared.Ask.{Ask}
 use Rattle.rules.specs.declared.Refusal.{Refusal}
 use Rattle.layout.specs.Book.{cash, head_at}
 use Rattle.rules.specs.declared.Rooms.{Rooms}
+use Rattle.rules.specs.declared.Counts.{Counts}
 use Rattle.rules.specs.Replies.{refusal_reply, made_reply, value_answer_reply}
 use Rattle.rules.specs.Orders.{baskets}
 use Rattle.rules.specs.Creation.{available, first_short, missing_worth, is_missing, creation_due, ratio_passed, creation_means}
@@ -66,11 +67,11 @@ module _ (d : Day) (ps : List ℕ) (m : ℕ) (worth : Money) where
 
 -- the stages, from a scan
 module _ (d : Day) (ps : List ℕ) (kind : Kind) (m : ℕ) (t : Scan) (held : ℕ) (rooms : Rooms) where
-  pub ratio_passes : reply 0 0 0 ≡ answered (ratio_tests d ps m t.missing) 0
-      → answering (last_tests (cash_number kind) (cash_place kind d.count) held (all_cash t.cash) rooms (scan_counts t)) (made_reply (scan_counts t))
+  pub ratio_passes : (n due : ℕ) (counts : Counts) → n ≡ d.count → due ≡ all_cash t.cash → counts ≡ scan_counts t → reply 0 0 0 ≡ answered (ratio_tests d ps m t.missing) 0
+      → answering (last_tests (cash_number kind) (cash_place kind n) held due rooms counts) (made_reply counts)
       ≡ answering (money_tests d ps kind m t held rooms) (made_reply (scan_counts t))
   unfolding money_tests
-  ratio_passes e = stage_passed (ratio_tests d ps m t.missing) _ _ (ratio_numbered d ps m t.missing) e
+  ratio_passes n due counts en ed ec e = rw (en, ed, ec) (stage_passed (ratio_tests d ps m t.missing) _ _ (ratio_numbered d ps m t.missing) e)
 
   pub ratio_stops : (why : Refusal) → refusal_reply why ≡ answered (ratio_tests d ps m t.missing) 0
       → refusal_reply why ≡ answering (money_tests d ps kind m t held rooms) (made_reply (scan_counts t))

@@ -12,5 +12,5 @@ returns-in_err-ratio_answer c =
 
 pub returns : goal.returns
 returns c =
-    (rw (c.counts_of-counts.ensures, c.total-due.ensures, c.count-n.ensures) at c.last_answer.ensures)
-    ∙ ratio_passes _ _ _ _ _ _ _ (ap answer_reply (sym c.in_ok-ratio_answer.was) ∙ c.ratio_answer.ensures)
+    c.last_answer.ensures
+    ∙ ratio_passes _ _ _ _ _ _ _ _ _ _ c.count-n.ensures c.total-due.ensures c.counts_of-counts.ensures (ap answer_reply (sym c.in_ok-ratio_answer.was) ∙ c.ratio_answer.ensures)
