@@ -6,8 +6,7 @@ use lib.ListN.{length}
 use Rattle.sequences.specs.Below.{sum_below, all_below}
 use Rattle.sequences.specs.Every.{every}
 use Rattle.lines.specs.Lines.{other_byte, all_bytes}
-use Rattle.text_rules.specs.declared.Field.{Field as LentField}
-use Rattle.text_rules.specs.Tables.{fields_of, column_at, field_at}
+use Rattle.text_rules.specs.Tables.{Field, column_at, field_at}
 use Rattle.text_rules.specs.Columns.{column_width, column_start, line_width}
 use Rattle.text_rules.specs.Well.{column_well, columns_well, is_always, flag_well, field_well, fields_well, form_well}
 use Rattle.text_rules.proofs.Well.{form_facts}
@@ -31,6 +30,6 @@ pub shanghai_flag_well : flag_well shanghai_columns flag_column ≡ true
 unfolding shanghai
 shanghai_flag_well = (form_facts shanghai shanghai_well).flag
 
-pub fields_well_lem : (fields : List LentField) → FieldsLent fields → fields_well (fields_of fields) ≡ true
+pub fields_well_lem : (fields : List Field) → FieldsLent fields → fields_well fields ≡ true
 unfolding shanghai
 fields_well_lem fields lent = ap fields_well lent ∙ (form_facts shanghai shanghai_well).fields

@@ -8,7 +8,7 @@ ghost use Rattle.list_rules.specs.Lent.{FieldsLent};
 use digits::Form;
 use layout::Fund;
 use rules::Refusal;
-use text_rules::{Column, Field, LineForm, Use, ValueKind};
+use text_rules::{Column, Field, Fields, LineForm, Use, ValueKind};
 
 // The fields of a list but its components, its names and the letters of its first line.
 #[derive(Clone, Copy)]
@@ -282,8 +282,8 @@ pub fn line_form() -> LineForm<'static>
 }
 
 // The fields of the head.
-pub fn field_table() -> &'static [Field<'static>]
-    ensures { FieldsLent result.now }
+pub fn field_table() -> Fields<'static>
+    ensures { FieldsLent result }
 {
-    &FIELDS
+    Fields::new(&FIELDS)
 }
