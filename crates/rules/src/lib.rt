@@ -199,6 +199,13 @@ pub enum Side {
 }
 
 impl Side {
+    // Its number.
+    pub fn number(self) -> u64
+        ensures { result ≡ side_number self }
+    {
+        self as u64
+    }
+
     // The other side.
     #[tactic(auto, unfolding(crate::specs::Reports::turned))]
     pub fn opposite(self) -> Side
