@@ -118,7 +118,8 @@ pub fn report(
     ensures fund { fund.new ≡ with_reports (told_reports (rest_side kind) (stock_side kind) records.now (reports - cash_report_count cash - 1) cash) fund.old }
 {
     let stock = order_records::stock_side(kind);
+    let rest = order_records::rest_side(kind);
     let n = reports - cash.reports() - 1;
     put_reports(investor, records, n, stock, cash);
-    put_reports(fund, records, n, stock.opposite(), cash);
+    put_reports(fund, records, n, rest, cash);
 }

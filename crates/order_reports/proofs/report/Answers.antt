@@ -6,4 +6,4 @@ pub returns-clause-investor : goal.returns-clause-investor
 returns-clause-investor c = rw (c.reports.ensures, c.stock_side-stock.ensures, turned_stock) at c.put_reports.ensures
 
 pub returns-clause-fund : goal.returns-clause-fund
-returns-clause-fund c = rw (c.reports.ensures, c.opposite.ensures, c.stock_side-stock.ensures, turned_stock, turned_rest) at c.put_reports-2.ensures
+returns-clause-fund c = rw (c.reports.ensures, c.rest_side-rest.ensures, turned_rest) at c.put_reports-2.ensures
