@@ -4,8 +4,8 @@
 
 ghost use Rattle.std.specs.Prelude.{◌≡◌, ◌+◌, ◌≤◌, ◌<◌, true, length};
 ghost use Rattle.text_rules.specs.Columns.{column_start, line_width, line_pitch, is_text, used_by, taken_before};
-ghost use Rattle.text_rules.specs.Well.{columns_well, most_line};
-ghost use Rattle.text_rules.specs.Tables.{line_form};
+ghost use Rattle.text_rules.specs.Well.{columns_well, fields_well, most_line};
+ghost use Rattle.text_rules.specs.Tables.{fields_of, line_form, column_at};
 
 use digits::Form;
 use std::marker::Model;
@@ -198,9 +198,20 @@ impl<'a> LineForm<'a> {
     }
 
     pub fn columns(&self) -> &Columns<'a>
-        ensures { result.now ≡ self.now.columns }
+        ensures value { result.now ≡ self.now.columns }
+        ensures well { columns_well self.now.columns ≡ true }
     {
-        &self.columns
+        let columns = &self.columns;
+        let _ = &columns.table;
+        columns
+    }
+
+    #[tactic(auto, unfolding(crate::specs::Tables::column_at))]
+    pub fn column(&self, k: usize) -> Column
+        requires { k < length self.now.columns }
+        ensures { result ≡ column_at self.now.columns k }
+    {
+        self.columns.table()[k]
     }
 
     pub fn flags(&self) -> &[[bool; flags::COLUMNS]; flags::FLAGS]
@@ -209,11 +220,13 @@ impl<'a> LineForm<'a> {
         self.flags
     }
 
-    pub fn flag_at(&self) -> usize
-        ensures value { result ≡ self.now.flag_at }
-        ensures within { result < length self.now.columns }
+    // What the columns before the flag's take.
+    pub fn before_flag(&self) -> Taken
+        ensures value { result ≡ taken_before self.now.columns self.now.flag_at }
+        ensures within { self.now.flag_at < length self.now.columns }
     {
-        self.flag_at
+        let flag_at = self.flag_at;
+        self.columns.taken_before(flag_at)
     }
 }
 
@@ -231,6 +244,42 @@ pub struct Field<'a> {
     pub name: &'a [u8],
     pub form: Form,
     pub kind: ValueKind,
+}
+
+// The fields of the head, in their order, where they are well made.
+#[derive(Drop)]
+pub struct Fields<'a> {
+    table: &'a [Field<'a>],
+}
+
+impl<'a> Model for Fields<'a> {
+    ghost use Rattle.std.specs.Prelude.{◌≡◌, true, List};
+    ghost use Rattle.text_rules.specs.Tables.{Field, fields_of};
+
+    ghost Value = { List Field };
+
+    ghost use Rattle.text_rules.specs.Well.{fields_well};
+
+    ghost view = { λ f. fields_of f.table.now };
+
+    ghost invariant = { λ f. fields_well (fields_of f.table.now) ≡ true };
+}
+
+impl<'a> Fields<'a> {
+    pub fn new(table: &'a [Field<'a>]) -> Self
+        requires { fields_well (fields_of table.now) ≡ true }
+        ensures { result ≡ fields_of table.now }
+    {
+        Fields { table }
+    }
+
+    // Each of them.
+    pub fn table(&self) -> &[Field<'a>]
+        ensures value { fields_of result.now ≡ self.now }
+        ensures well { fields_well self.now ≡ true }
+    {
+        self.table
+    }
 }
 
 // How many fields there is room for.

@@ -1,5 +1,4 @@
 -- By its use a column takes words or a number, and always its width and a bar.
-use mathlib.Core.Path.{sym}
 use native.Mathlib.Omega.{arith}
 use Rattle.text_rules.proofs.Placed.{past_low, past_text, past_number}
 use Rattle.text_rules.proofs.Columns.past.Goals as goal
