@@ -2,8 +2,7 @@
 #![tactic(auto)]
 
 ghost use Rattle.std.specs.Prelude.{◌≡◌};
-ghost use Rattle.list_rules.specs.Shanghai.{shanghai_lines};
-ghost use Rattle.list_rules.specs.Lent.{FieldsLent};
+ghost use Rattle.list_rules.specs.Shanghai.{shanghai_fields, shanghai_lines};
 
 use digits::Form;
 use layout::Fund;
@@ -26,17 +25,9 @@ pub struct ListFields {
     pub count: usize,
 }
 
-// The answer of reading, with the count of components, and of writing, with the count of bytes.
-#[derive(Clone, Copy)]
-pub enum ListAnswer {
-    Done(usize),
-    Refused(Refusal),
-}
-
-// What reading hands back: the fields, and where the component lines start; blank fields and 0 where it is refused.
+// What reading hands back: the fields, and where the component lines start.
 #[derive(Clone, Copy)]
 pub struct ListRead {
-    pub answer: ListAnswer,
     pub fields: ListFields,
     pub first_row: usize,
 }
@@ -283,7 +274,7 @@ pub fn line_form() -> LineForm<'static>
 
 // The fields of the head.
 pub fn field_table() -> Fields<'static>
-    ensures { FieldsLent result }
+    ensures { result ≡ shanghai_fields }
 {
     Fields::new(&FIELDS)
 }

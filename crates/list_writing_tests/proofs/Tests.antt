@@ -1,44 +1,25 @@
--- What the tests of the code say of a list.
-use mathlib.Core.Path.{◌≡◌, refl, sym}
-use mathlib.Core.Bool.{Bool, true, false, ◌&&◌}
-use Prim.Native.Nat.{ℕ, ◌*◌, ◌≤◌, ◌<◌, min}
-use native.Mathlib.Nat.{min-eq_left, min_comm}
-use native.Mathlib.Omega.{arith}
-use lib.Dec.{eqb}
-use borrow.Author.Tests.{le-leb, lt-leb, eq-eqb, ne_eqb}
-use Rattle.layout.specs.Places.{most_components, component_width}
-use Rattle.list_rules.specs.Shanghai.{name_width}
-use Rattle.sequences.specs.Every.{every, inside}
-use Rattle.list_writing_tests.specs.Lengths.{lengths_fit}
+-- The first place at fault, by the numbers or by the names.
+use Rattle.std.proofs.Common.{◌≡◌, ◌∙◌, sym, ap, ℕ, ◌≤◌, ◌<◌, min, Option, Some, None, arith}
+use Rattle.sequences.specs.Below.{below}
+use Rattle.sequences.proofs.Below.{below-some, below-none, below_some_facts, below_none_fact}
 
-and_last : (b : Bool) → b ≡ (b && true)
-and_last true = refl
-and_last false = refl
+module _ (n x y : ℕ) where
+  pub both_below : (a b : ℕ) → Some a ≡ below n x → Some b ≡ below n y → Some (min a b) ≡ below n (min x y)
+  both_below a b p q =
+      let f = below_some_facts n x a p in
+      let g = below_some_facts n y b q in
+      rw (← f.0, ← g.0) (sym (below-some n (min x y) (omega (arith, f.1))))
 
--- refusal 1's test
-module _ (count run names : ℕ) where
-  pub count_low : count < 1 → false ≡ lengths_fit count run names
-  unfolding lengths_fit every inside
-  count_low h = rw (lt-leb 1 count h)
+  pub first_only : (a : ℕ) → Some a ≡ below n x → None ≡ below n y → Some a ≡ below n (min x y)
+  first_only a p q =
+      let f = below_some_facts n x a p in
+      let g = below_none_fact n y q in
+      let e : x ≡ min x y = omega (arith, f.1, g) in
+      p ∙ ap (below n) e
 
-  module _ (low : 1 ≤ count) where
-    pub count_high : most_components < count → false ≡ lengths_fit count run names
-    unfolding lengths_fit every inside
-    count_high h = rw (le-leb 1 count low, lt-leb count most_components h)
-
-    module _ (high : count ≤ most_components) where
-      pub run_other : (run ≡ component_width * count → ⊥) → false ≡ lengths_fit count run names
-      unfolding lengths_fit every inside
-      run_other h = rw (le-leb 1 count low, le-leb count most_components high, ne_eqb run (component_width * count) h)
-
-      pub names_decide : run ≡ component_width * count → eqb names (name_width * count) ≡ lengths_fit count run names
-      unfolding lengths_fit every inside
-      names_decide h = rw (le-leb 1 count low, le-leb count most_components high, eq-eqb run (component_width * count) h) (and_last (eqb names (name_width * count)))
-
--- the lower of two places
-module _ (a b x y : ℕ) (p : a ≡ x) (q : b ≡ y) where
-  pub first_lower : a < b → a ≡ min x y
-  first_lower h = rw (← p, ← q) (sym (min-eq_left (omega arith)))
-
-  pub second_lower : b ≤ a → b ≡ min x y
-  second_lower h = rw (← p, ← q) (rw (min_comm a b) (sym (min-eq_left h)))
+  pub second_only : (b : Option ℕ) → None ≡ below n x → b ≡ below n y → b ≡ below n (min x y)
+  second_only None p q = sym (below-none n (min x y) (omega (arith, below_none_fact n x p, below_none_fact n y q)))
+  second_only (Some v) p q =
+      let g = below_some_facts n y v q in
+      let e : y ≡ min x y = omega (arith, below_none_fact n x p, g.1) in
+      q ∙ ap (below n) e

@@ -5,44 +5,28 @@ ghost use Rattle.std.specs.Prelude.{◌≡◌, true, [], ◌∷◌, ◌++◌, �
 ghost use Rattle.digits.specs.Digits.{plain, number_text};
 ghost use Rattle.digits.specs.Fits.{Fits};
 ghost use Rattle.digits.specs.Written.{put};
-ghost use Rattle.text_rules.specs.Tables.{column_of, use_of};
 ghost use Rattle.text_rules.specs.Columns.{number_form};
 ghost use Rattle.text_rules.specs.Well.{column_well};
-ghost use Rattle.text_cells_writing.specs.Cells.{used_by, used_text};
+ghost use Rattle.text_cells_writing.specs.Cells.{used_text};
 
 use digits::{Figure, Form};
-use text_rules::COLUMN_PARTS;
+use text_rules::Column;
 
 // Numbers below it have 32 bits, and almost all are: they are written from the right, the others by their form.
 const SMALL: u64 = 4_294_967_296;
 
-// Whether a column that is not for text has a number in a line with that flag.
-pub fn is_used(
-    flags: &[[bool; flags::COLUMNS]; flags::FLAGS],
-    used: usize,
-    column: usize,
-    flag: u64,
-) -> bool
-    ensures { result ≡ used_by flags.now flag (use_of used column) }
-{
-    if used == text_rules::BY_FLAG {
-        return flags::entry_in(flags, flag, column);
-    }
-    true
-}
-
 // Writes a small number into its cell, which holds only blanks.
-fn put_small(cell: &mut [u8], column: [usize; COLUMN_PARTS], n: u32)
-    requires column_value { (column_well (column_of column) ≡ true) × (cell.old ≡ replicate (column_of column).width 32) }
-    requires fits { Fits (number_form (column_of column)) (plain n) }
-    ensures { cell.new ≡ number_text (number_form (column_of column)) (plain n) }
+fn put_small(cell: &mut [u8], column: Column, n: u32)
+    requires column_value { (column_well column ≡ true) × (cell.old ≡ replicate column.width 32) }
+    requires fits { Fits (number_form column) (plain n) }
+    ensures { cell.new ≡ number_text (number_form column) (plain n) }
 {
-    let width = column[text_rules::WIDTH];
-    if column[text_rules::DIGITS] != 0 {
+    let width = column.width;
+    if column.digits != 0 {
         digits_put::tail::put_last(cell, width, width, n);
         return;
     }
-    let decimals = column[text_rules::DECIMALS];
+    let decimals = column.decimals;
     if decimals == 0 {
         digits_put::tail::put_whole(cell, width, n);
         return;
@@ -54,20 +38,20 @@ fn put_small(cell: &mut [u8], column: [usize; COLUMN_PARTS], n: u32)
 }
 
 // Writes a number into its cell, which holds only blanks.
-fn put_number(cell: &mut [u8], column: [usize; COLUMN_PARTS], n: u64)
-    requires column_value { (column_well (column_of column) ≡ true) × (cell.old ≡ replicate (column_of column).width 32) }
-    requires fits { Fits (number_form (column_of column)) (plain n) }
-    ensures { cell.new ≡ number_text (number_form (column_of column)) (plain n) }
+fn put_number(cell: &mut [u8], column: Column, n: u64)
+    requires column_value { (column_well column ≡ true) × (cell.old ≡ replicate column.width 32) }
+    requires fits { Fits (number_form column) (plain n) }
+    ensures { cell.new ≡ number_text (number_form column) (plain n) }
 {
     if n < SMALL {
         put_small(cell, column, n as u32);
         return;
     }
     let form = Form {
-        digits: column[text_rules::DIGITS],
-        decimals: column[text_rules::DECIMALS],
+        digits: column.digits,
+        decimals: column.decimals,
         signed: false,
-        width: column[text_rules::WIDTH],
+        width: column.width,
     };
     let z = Figure {
         negative: false,
@@ -77,13 +61,13 @@ fn put_number(cell: &mut [u8], column: [usize; COLUMN_PARTS], n: u64)
 }
 
 // Writes a number into its place in a line, where the column is used, and the bar behind it.
-pub fn put_cell(line: &mut [u8], at: usize, column: [usize; COLUMN_PARTS], used: bool, n: u64)
-    requires column_value { (column_well (column_of column) ≡ true) × (at + (column_of column).width < length line.old) }
-    requires line_value { take (column_of column).width (drop at line.old) ≡ replicate (column_of column).width 32 }
-    requires fits { used ≡ true → Fits (number_form (column_of column)) (plain n) }
-    ensures { line.new ≡ put line.old at (used_text used (column_of column) n) }
+pub fn put_cell(line: &mut [u8], at: usize, column: Column, used: bool, n: u64)
+    requires column_value { (column_well column ≡ true) × (at + column.width < length line.old) }
+    requires line_value { take column.width (drop at line.old) ≡ replicate column.width 32 }
+    requires fits { used ≡ true → Fits (number_form column) (plain n) }
+    ensures { line.new ≡ put line.old at (used_text used column n) }
 {
-    let e = at + column[text_rules::WIDTH];
+    let e = at + column.width;
     if !used {
         line[e] = text_rules::BAR;
         return;

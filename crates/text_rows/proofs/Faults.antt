@@ -14,6 +14,7 @@ use Rattle.sequences.proofs.Below.{first-le, first_end, first_same, first_here, 
 use Rattle.text_rules.specs.Tables.{TextForm}
 use Rattle.text_rules.specs.Columns.{wrong_cell, column_fault}
 use Rattle.text_rows.specs.declared.CellFault.{CellFault}
+use Rattle.std.specs.Prelude.{Option, Some, None}
 use Rattle.text_rows.specs.Rows.{row_in, fault_row, fault_in, lines_before}
 use Rattle.text_rows.specs.Turns.{cells_fault}
 use Rattle.text_rows.proofs.First.{found, first_some, first_within}
@@ -53,25 +54,17 @@ module _ (t : TextForm) (rows : List ℕ) where
     unfolding fault_row column_fault any_at
     lines_fault = lines_any (length t.columns) ∙ first_same _ _ count (λ j h. sym (first_some (wrong_cell t (row_in t.columns rows j)) (length t.columns)))
 
-    -- the column of that fault, as the columns are gone through
-    pub column_before : ℕ → ℕ
-    column_before zero = length t.columns
-    column_before (suc k) = cond (ltb (lines_before t rows count (suc k)) (lines_before t rows count k)) k (column_before k)
-
-    pub column_none : column_before 0 ≡ length t.columns
-    unfolding column_before
-    column_none = refl
-
-    pub column_more : (k : ℕ) → column_before (suc k) ≡ cond (ltb (lines_before t rows count (suc k)) (lines_before t rows count k)) k (column_before k)
-    unfolding column_before
-    column_more k = refl
-
     -- the first k columns of line j
     first_in : ℕ → ℕ → ℕ
     first_in k j = first_below (wrong_cell t (row_in t.columns rows j)) k
 
-    column_said : ℕ → ℕ
-    column_said k = cond (ltb (lines_before t rows count k) count) (first_in k (lines_before t rows count k)) (length t.columns)
+    -- the fault in the first k columns
+    pub fault_before : ℕ → Option CellFault
+    fault_before k = cond (ltb (lines_before t rows count k) count) (Some (record { row = lines_before t rows count k; column = first_in k (lines_before t rows count k) })) None
+
+    pub fault_first : None ≡ fault_before 0
+    unfolding fault_before
+    fault_first = rw (lines_none, le-ltb count count (le_refl count))
 
     -- no column before k is at fault in an earlier line
     none_before : (k j : ℕ) → j < lines_before t rows count k → first_in k j ≡ k
@@ -85,32 +78,28 @@ module _ (t : TextForm) (rows : List ℕ) where
     unfolding first_in any_at
     some_at k h = first_some _ k ∙ ap (any_at k) (lines_any k) ∙ (found (any_at k) count).passes (subst (λ (n : ℕ). n < count) (lines_any k) h)
 
-    said_same : (k : ℕ) → lines_before t rows count (suc k) ≡ lines_before t rows count k → column_said (suc k) ≡ column_said k
-    unfolding column_said first_in first_below
-    said_same k e =
-        ap (λ (n : ℕ). cond (ltb n count) (first_in (suc k) n) (length t.columns)) e ∙ ⊎_elim
+    -- column k finds none in an earlier line, or the first one
+    pub fault_same : (k : ℕ) → lines_before t rows count (suc k) ≡ lines_before t rows count k → fault_before (suc k) ≡ fault_before k
+    unfolding fault_before first_in first_below
+    fault_same k e =
+        ap (λ (n : ℕ). cond (ltb n count) (Some (record { row = n; column = first_in (suc k) n })) None) e
+        ∙ ⊎_elim
         (λ q. rw (le-ltb (lines_before t rows count k) count (omega (arith, q))))
         (λ h. rw (lt-ltb (lines_before t rows count k) count h, some_at k h))
         (eq-or-lt_of_le (lines-le k))
 
-    said_earlier : (k : ℕ) → lines_before t rows count (suc k) < lines_before t rows count k → column_said (suc k) ≡ k
-    unfolding column_said first_in wrong_at
-    said_earlier k h =
+    pub fault_here : (k : ℕ) → lines_before t rows count (suc k) < lines_before t rows count k
+        → Some (record { row = lines_before t rows count (suc k); column = k }) ≡ fault_before (suc k)
+    unfolding fault_before first_in wrong_at
+    fault_here k h =
         let low : lines_before t rows count (suc k) < count = omega (arith, lines-le k) in
         let v = found (wrong_at k) (lines_before t rows count k) in
         let passes : wrong_at k (lines_before t rows count (suc k)) ≡ true = ap (wrong_at k) (lines_more k) ∙ v.passes (subst (λ (n : ℕ). n < lines_before t rows count k) (lines_more k) h) in
-        rw (lt-ltb (lines_before t rows count (suc k)) count low)
-        (first_here (wrong_cell t (row_in t.columns rows (lines_before t rows count (suc k)))) (suc k) k (le_refl (suc k)) (none_before k _ h) passes)
+        rw (
+          lt-ltb (lines_before t rows count (suc k)) count low,
+          first_here (wrong_cell t (row_in t.columns rows (lines_before t rows count (suc k)))) (suc k) k (le_refl (suc k)) (none_before k _ h) passes,
+        )
 
-    column-said : (k : ℕ) → column_before k ≡ column_said k
-    unfolding column_before column_said
-    column-said zero = rw (lines_none, le-ltb count count (le_refl count))
-    column-said (suc k) = ⊎_elim
-        (λ q. rw (le-ltb (lines_before t rows count (suc k)) (lines_before t rows count k) (omega (arith, q))) (column-said k ∙ sym (said_same k q)))
-        (λ h. rw (lt-ltb (lines_before t rows count (suc k)) (lines_before t rows count k) h) (sym (said_earlier k h)))
-        (eq-or-lt_of_le (subst (λ (n : ℕ). n ≤ lines_before t rows count k) (sym (lines_more k)) (first-le (wrong_at k) (lines_before t rows count k))))
-
-    pub fault_found : {row column : ℕ} → row ≡ lines_before t rows count (length t.columns) → column ≡ column_before (length t.columns)
-        → ◌≡◌ {A = CellFault} (record { row = row; column = column }) (fault_in t rows count)
-    unfolding fault_in column_fault column_said first_in
-    fault_found e f = rw (e, f, column-said (length t.columns), lines_fault)
+    pub fault_found : fault_before (length t.columns) ≡ fault_in t rows count
+    unfolding fault_in fault_before column_fault first_in
+    fault_found = rw lines_fault

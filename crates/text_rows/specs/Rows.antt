@@ -1,5 +1,5 @@
 -- The component lines of a text as a run of bytes of their own, and what reading them column by column finds and keeps.
-use Rattle.std.specs.Prelude.{ℕ, zero, suc, ◌+◌, ◌*◌, cond, List, ltb, length, take, drop, set}
+use Rattle.std.specs.Prelude.{ℕ, zero, suc, ◌+◌, ◌*◌, cond, List, ltb, length, take, drop, set, Option, Some, None}
 use Rattle.sequences.specs.Below.{first_below}
 use Rattle.text_rules.specs.declared.Column.{Column}
 use Rattle.text_rules.specs.Tables.{TextForm}
@@ -10,18 +10,15 @@ use Rattle.text_rows.specs.declared.CellFault.{CellFault}
 unfoldable pub row_in : List Column → List ℕ → ℕ → List ℕ
 row_in cs rows j = take (line_width cs) (drop (j * line_pitch cs) rows)
 
--- the first line with a column at fault, and that column; the counts of lines and of columns where there is none
+-- the first line with a column at fault, their count where there is none
 unfoldable pub fault_row : TextForm → List ℕ → ℕ → ℕ
 fault_row t rows count = first_below (λ j. ltb (column_fault t (row_in t.columns rows j)) (length t.columns)) count
 
-unfoldable pub fault_in : TextForm → List ℕ → ℕ → CellFault
+-- that line and the column
+unfoldable pub fault_in : TextForm → List ℕ → ℕ → Option CellFault
 fault_in t rows count =
-    record {
-      row = fault_row t rows count;
-      column =
-          cond (ltb (fault_row t rows count) count) (column_fault t (row_in t.columns rows (fault_row t rows count)))
-          (length t.columns);
-    }
+    cond (ltb (fault_row t rows count) count)
+    (Some (record { row = fault_row t rows count; column = column_fault t (row_in t.columns rows (fault_row t rows count)) })) None
 
 -- how many lines come before the first at fault in one of the first k columns
 unfoldable pub lines_before : TextForm → List ℕ → ℕ → ℕ → ℕ

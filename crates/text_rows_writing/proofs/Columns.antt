@@ -19,12 +19,12 @@ use Rattle.text_rules.specs.declared.Use.TheVariants.{Always, ByFlag, Text}
 use Rattle.text_rules.specs.declared.Column.{Column}
 use Rattle.text_rules.specs.Tables.{TextForm, column_at}
 use Rattle.text_rules.specs.Columns.{column_width, column_start, line_width, line_pitch, is_text, holds_text, words_before, line_words, number_cell}
-use Rattle.text_rules.specs.Columns.{blank_cell, content_by, number_form, cell_text, cell_at, part_at, content_at, column_text, row_text}
+use Rattle.text_rules.specs.Columns.{blank_cell, content_by, used_by, number_form, cell_text, cell_at, part_at, content_at, column_text, row_text}
 use Rattle.text_rules.specs.Well.{columns_well}
 use Rattle.text_rules.proofs.Tables.{end_line}
 use Rattle.text_rules.proofs.Well.{WellColumn, column_well_lem}
 use Rattle.text_trip.specs.Trips.{CellFits, RowFits}
-use Rattle.text_cells_writing.specs.Cells.{used_by, used_text}
+use Rattle.text_cells_writing.specs.Cells.{used_text}
 use Rattle.text_cells_writing.proofs.Cells.{number-length}
 use Rattle.text_rows_writing.specs.Lines.{line_so_far}
 

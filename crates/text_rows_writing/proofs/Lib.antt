@@ -1,4 +1,3 @@
-pub mod Places
 pub mod Stretches
 pub mod Columns
 pub mod Rows

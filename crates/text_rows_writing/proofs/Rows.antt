@@ -3,7 +3,7 @@ use mathlib.Core.Path.{◌≡◌, sym, ap, ◌∙◌, subst}
 use mathlib.Core.Bool.{Bool, true, false, cond}
 use mathlib.Core.List.{List, [], ◌∷◌, ◌++◌}
 use Prim.Native.Nat.{ℕ, suc, ◌+◌, ◌-◌, ◌*◌, ◌≤◌, ◌<◌}
-use native.Mathlib.Nat.{add-zero, add-sub_cancel_left}
+use native.Mathlib.Nat.{add-sub_cancel_left}
 use native.Mathlib.Numerals.{add-one}
 use native.Mathlib.Omega.{arith}
 use lib.ListN.{length, get_or, take, drop, replicate, length-append, length-drop, length-replicate}
@@ -17,15 +17,15 @@ use Rattle.digits.specs.Fits.{Fits}
 use Rattle.text_rules.specs.declared.Column.{Column}
 use Rattle.text_rules.specs.Tables.{TextForm, column_at}
 use Rattle.text_rules.specs.Columns.{column_width, column_start, line_width, line_pitch, is_text, holds_text, numbers_before, words_before, line_numbers, line_words}
-use Rattle.text_rules.specs.Columns.{number_form, cell_at, part_at, content_at, column_text}
+use Rattle.text_rules.specs.Columns.{number_form, used_by, cell_at, part_at, content_at, column_text}
 use Rattle.text_rules.specs.Writing.{numbers_at, words_at, rows_text}
 use Rattle.text_rules.specs.Well.{columns_well, flag_well}
 use Rattle.text_rules.proofs.Tables.{end_line}
 use Rattle.text_rules.proofs.Well.{WellColumn, flag_facts}
-use Rattle.text_cells_writing.specs.Cells.{used_by, used_text}
+use Rattle.text_cells_writing.specs.Cells.{used_text}
 use Rattle.text_cells_writing.proofs.Cells.{used-length}
 use Rattle.text_rows_writing.specs.Lines.{number_at, word_at, lines_put, BlankAt, NumbersFit, RowsReady, RowsSoFar}
-use Rattle.text_rows_writing.proofs.Stretches.{InLine, part_stretch, lines_same, lines_long, lines_here}
+use Rattle.text_rows_writing.proofs.Stretches.{part_stretch, lines_same, lines_long, lines_here}
 use Rattle.text_rows_writing.proofs.Columns.{used_text_lem, used_fits, words_text, blank_part, words_room, text-length, line_first, line_blank, line_next, line_last}
 
 -- the number of a column that holds one stands within those of the line
@@ -37,16 +37,13 @@ number_inside cs k h e =
 
 -- ---- a number column in a line i, from a run in which the line's numbers start at q
 module _ (flags : List (List Bool)) (c : Column) (run : List ℕ) (stride flagPlace place : ℕ) where
-  module _ {count n i q : ℕ} (l : InLine stride 0 count n q i) {used : Bool} (told : used ≡ used_by flags (get_or run (q + flagPlace) 0) c.used) where
-    start : q ≡ i * stride
-    start = l.place ∙ add-zero (i * stride)
-
-    pub number_here : used_text used c (get_or run (q + place) 0) ≡ number_at flags c run stride flagPlace place i
+  module _ (i : ℕ) {used : Bool} (told : used ≡ used_by flags (get_or run (i * stride + flagPlace) 0) c.used) where
+    pub number_here : used_text used c (get_or run (i * stride + place) 0) ≡ number_at flags c run stride flagPlace place i
     unfolding number_at
-    number_here = rw (told, start)
+    number_here = rw told
 
-    pub number_fits : NumbersFit flags c run stride flagPlace place count → i < count → used ≡ true → Fits (number_form c) (plain (get_or run (q + place) 0))
-    number_fits fit h u = rw start (fit i h (rw start at (sym told ∙ u)))
+    pub number_fits : {count : ℕ} → NumbersFit flags c run stride flagPlace place count → i < count → used ≡ true → Fits (number_form c) (plain (get_or run (i * stride + place) 0))
+    number_fits fit h u = fit i h (sym told ∙ u)
 
   -- what is written into a line ends in it
   pub numbers_held : (at w count : ℕ) → WellColumn c → at + c.width < w → NumbersFit flags c run stride flagPlace place count
@@ -59,9 +56,9 @@ pub part_long : (q k : ℕ) (s : List ℕ) → q + k ≤ length s → length (ta
 part_long q k s h = rw (add-sub_cancel_left q k) (length-take-le k (drop q s) (rw length-drop (omega arith)))
 
 module _ (width : ℕ) (texts : List ℕ) (stride place : ℕ) where
-  pub word_here : {count n i q : ℕ} → InLine stride place count n q i → take (q + width - q) (drop q texts) ++ 124 ∷ [] ≡ word_at width texts stride place i
+  pub word_here : (i : ℕ) → take (i * stride + place + width - (i * stride + place)) (drop (i * stride + place) texts) ++ 124 ∷ [] ≡ word_at width texts stride place i
   unfolding word_at
-  word_here {count} {n} {i} {q} l = rw (add-sub_cancel_left q width, l.place)
+  word_here i = rw (add-sub_cancel_left (i * stride + place) width)
 
   pub words_held : (at w count : ℕ) → length texts ≡ count * stride → place + width ≤ stride → at + width < w
       → (i : ℕ) → i < count → at + length (word_at width texts stride place i) ≤ w

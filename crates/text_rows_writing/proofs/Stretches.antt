@@ -1,9 +1,9 @@
 -- A text written into each line of a run: only that line changes, so a line has its own text and keeps the rest.
-use mathlib.Core.Path.{◌≡◌, refl, sym, ap, ap₂, ◌∙◌}
+use mathlib.Core.Path.{◌≡◌, refl, sym, ap, ◌∙◌}
 use mathlib.Core.List.{List, ◌++◌, append_assoc}
 use mathlib.Core.Logic.{⊎_elim}
 use Prim.Native.Nat.{ℕ, zero, suc, ◌+◌, ◌*◌, ◌≤◌, ◌<◌}
-use native.Mathlib.Nat.{add_assoc, zero-add, zero-mul, suc-mul, eq-or-lt_of_le, le_of_suc-le-suc, le_step, le_antisymm, lt-suc_self, not-suc-le-zero}
+use native.Mathlib.Nat.{add_assoc, eq-or-lt_of_le, le_of_suc-le-suc, le_step, lt-suc_self, not-suc-le-zero}
 use native.Mathlib.Numerals.{add-one}
 use native.Mathlib.Omega.{arith}
 use lib.ListN.{length, take, drop, length-drop, take-append-drop}
@@ -86,64 +86,36 @@ module _ (w at : ℕ) (text : ℕ → List ℕ) (b : List ℕ) (count : ℕ) (lo
         ∙ lines_here n j (omega arith) l)
         (eq-or-lt_of_le (le_of_suc-le-suc h))
 
--- ---- a place that goes from line to line: p is `at` from the start of line j, in a run of n elements
-pub record InLine (w at count n p j : ℕ) : Type 0 where
-  pub long : n ≡ count * w
-  pub start : at ≤ w
-  pub place : p ≡ j * w + at
-
-pub place_first : {w at count n : ℕ} → n ≡ count * w → at ≤ w → InLine w at count n at 0
-place_first {w} {at} long start = record { long = long; start = start; place = rw zero-mul (sym (zero-add at)) }
-
-module _ {w at count n p j : ℕ} (l : InLine w at count n p j) where
-  pub place_next : InLine w at count n (p + w) (j + 1)
-  place_next = record { long = l.long; start = l.start; place = omega (arith, l.place, ap (λ (i : ℕ). i * w) (add-one j) ∙ suc-mul j w) }
-
-  module _ (below : j < count) where
-    pub place_within : (k : ℕ) → at + k < w → p + k < n
-    place_within k h = omega (arith, l.place, l.long, within w j count below)
-
-    pub place_end : (k : ℕ) → at + k ≤ w → p + k ≤ n
-    place_end k h = omega (arith, l.place, l.long, within w j count below)
-
-    -- the next place is no overflow
-    pub place_low : p + w ≤ n + n
-    place_low = omega (arith, l.place, l.long, l.start, within w j count below)
-
--- ---- the loop over the lines: those below j have their text, and p is the place of line j's
-pub record PutBelow (w at : ℕ) (text : ℕ → List ℕ) (b : List ℕ) (count : ℕ) (b' : List ℕ) (p j : ℕ) : Type 0 where
-  pub high : j ≤ count
+-- ---- the loop over the lines: those below j have their text
+pub record PutBelow (w at : ℕ) (text : ℕ → List ℕ) (b : List ℕ) (count : ℕ) (b' : List ℕ) (j : ℕ) : Type 0 where
   pub room : (i : ℕ) → i < count → at + length (text i) ≤ w
   pub before : length b ≡ count * w
   pub bytes : b' ≡ lines_put w at text j b
-  pub line : InLine w at count (length b') p j
+  pub long : length b' ≡ count * w
 
-pub put-start : (w at : ℕ) (text : ℕ → List ℕ) (b : List ℕ) (count : ℕ) → length b ≡ count * w → at ≤ w → ((i : ℕ) → i < count → at + length (text i) ≤ w)
-    → PutBelow w at text b count b at 0
+pub put-start : (w at : ℕ) (text : ℕ → List ℕ) (b : List ℕ) (count : ℕ) → length b ≡ count * w → ((i : ℕ) → i < count → at + length (text i) ≤ w) → PutBelow w at text b count b 0
 unfolding lines_put
-put-start w at text b count long start room = record { high = omega arith; room = room; before = long; bytes = refl; line = place_first long start }
+put-start w at text b count long room = record { room = room; before = long; bytes = refl; long = long }
 
-module _ {w at : ℕ} {text : ℕ → List ℕ} {b : List ℕ} {count : ℕ} {b' : List ℕ} {p j : ℕ} (v : PutBelow w at text b count b' p j) where
-  pub put_end : count ≤ j → b' ≡ lines_put w at text count b
-  put_end h = v.bytes ∙ ap (λ (n : ℕ). lines_put w at text n b) (le_antisymm v.high h)
+module _ {w at : ℕ} {text : ℕ → List ℕ} {b : List ℕ} {count : ℕ} {b' : List ℕ} {j : ℕ} (v : PutBelow w at text b count b' j) where
+  pub put_end : j ≡ count → b' ≡ lines_put w at text count b
+  put_end e = v.bytes ∙ ap (λ (n : ℕ). lines_put w at text n b) e
 
   module _ (below : j < count) where
     here : j * w + w ≤ length b'
-    here = rw v.line.long (within w j count below)
+    here = rw v.long (within w j count below)
 
     -- what stands there is as it was
-    pub put_later : (k : ℕ) → at + k < w → take k (drop p b') ≡ take k (drop at (stretch_of w b j))
+    pub put_later : (k : ℕ) → at + k < w → take k (drop (j * w + at) b') ≡ take k (drop at (stretch_of w b j))
     put_later k h =
-        ap (λ (q : ℕ). take k (drop q b')) v.line.place
-        ∙ part_stretch w b' j at k (omega arith)
+        part_stretch w b' j at k (omega arith)
         ∙ ap (λ (s : List ℕ). take k (drop at s)) (ap (λ (s : List ℕ). stretch_of w s j) v.bytes ∙ lines_later w at text b count v.before v.room j j (omega arith) below)
 
-    pub put-again : {b'' xs : List ℕ} → b'' ≡ put b' p xs → xs ≡ text j → PutBelow w at text b count b'' (p + w) (j + 1)
+    pub put-again : {b'' xs : List ℕ} → b'' ≡ put b' (j * w + at) xs → xs ≡ text j → PutBelow w at text b count b'' (j + 1)
     unfolding lines_put
     put-again {b''} {xs} e t =
-        let next : j + 1 ≤ count = omega arith in
         let same : b'' ≡ lines_put w at text (j + 1) b =
-        e ∙ ap₂ (put b') v.line.place t ∙ sym (line-put w j at b' (text j) here (v.room j below)) ∙ rw (v.bytes, add-one j, lines_put)
+        e ∙ ap (put b' (j * w + at)) t ∙ sym (line-put w j at b' (text j) here (v.room j below)) ∙ rw (v.bytes, add-one j, lines_put)
         in
-        let long : length b'' ≡ length b' = ap length same ∙ lines_long w at text b count v.before v.room (j + 1) next ∙ v.before ∙ sym v.line.long in
-        record { high = next; room = v.room; before = v.before; bytes = same; line = rw long (place_next v.line) }
+        let long : length b'' ≡ count * w = ap length same ∙ lines_long w at text b count v.before v.room (j + 1) (omega arith) ∙ v.before in
+        record { room = v.room; before = v.before; bytes = same; long = long }

@@ -6,17 +6,13 @@ use Rattle.digits.specs.Digits.{plain}
 use Rattle.digits.specs.Fits.{Fits}
 use Rattle.digits.specs.Written.{put}
 use Rattle.text_rules.specs.declared.Column.{Column}
-use Rattle.text_rules.specs.Tables.{TextForm, columns_of, line_form}
-use Rattle.text_rules.specs.Columns.{column_start, line_pitch, numbers_before, words_before, line_numbers, line_words, number_form, column_text}
+use Rattle.text_rules.specs.declared.Taken.{Taken}
+use Rattle.text_rules.specs.Tables.{TextForm}
+use Rattle.text_rules.specs.Columns.{column_start, line_pitch, line_numbers, line_words, number_form, column_text, used_by, taken_before}
 use Rattle.text_rules.specs.Writing.{numbers_at, words_at}
 use Rattle.text_rules.specs.Well.{columns_well, flag_well}
 use Rattle.text_trip.specs.Trips.{RowFits}
-use Rattle.text_cells_writing.specs.Cells.{used_by, used_text}
-use Rattle.text_rows_writing.specs.declared.Taken.{Taken}
-
--- what the columns before column k take of a line
-unfoldable pub taken_before : List Column → ℕ → Taken
-taken_before cs k = record { bytes = column_start cs k; numbers = numbers_before cs k; words = words_before cs k }
+use Rattle.text_cells_writing.specs.Cells.{used_text}
 
 -- a number column's text in the i-th line, from a run that has so many numbers a line, the number and the flag at their places among them
 unfoldable pub number_at : List (List Bool) → Column → List ℕ → ℕ → ℕ → ℕ → ℕ → List ℕ
@@ -67,7 +63,3 @@ pub record RowsReady (t : TextForm) (run texts : List ℕ) (count : ℕ) : Type 
 pub record RowsSoFar (t : TextForm) (run texts : List ℕ) (count k : ℕ) (b : List ℕ) : Type 0 where
   pub long : length b ≡ count * line_pitch t.columns
   pub lines : (i : ℕ) → i < count → stretch_of (line_pitch t.columns) b i ≡ line_so_far t (numbers_at t run i) (words_at t texts i) k
-
--- every line has all columns of a table
-abbrev pub RowsWhole : List (List ℕ) → ℕ → List (List Bool) → List ℕ → List ℕ → ℕ → List ℕ → Type 0
-RowsWhole table flag_at flags run texts count b = RowsSoFar (line_form (columns_of table) flag_at flags) run texts count (length table) b

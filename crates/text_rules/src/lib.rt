@@ -5,7 +5,7 @@
 ghost use Rattle.std.specs.Prelude.{◌≡◌, ◌+◌, ◌≤◌, ◌<◌, true, length};
 ghost use Rattle.text_rules.specs.Columns.{column_start, line_width, line_pitch, is_text, used_by, taken_before};
 ghost use Rattle.text_rules.specs.Well.{columns_well, fields_well, most_line};
-ghost use Rattle.text_rules.specs.Tables.{fields_of, line_form};
+ghost use Rattle.text_rules.specs.Tables.{fields_of, line_form, column_at};
 
 use digits::Form;
 use std::marker::Model;
@@ -58,7 +58,7 @@ pub struct Taken {
 // The columns of a component line, in their order, where they are well made.
 #[derive(Drop)]
 pub struct Columns<'a> {
-    table: &'a [Column],
+    all: &'a [Column],
 }
 
 impl<'a> Model for Columns<'a> {
@@ -69,9 +69,9 @@ impl<'a> Model for Columns<'a> {
 
     ghost use Rattle.text_rules.specs.Well.{columns_well};
 
-    ghost view = { λ c. c.table.now };
+    ghost view = { λ c. c.all.now };
 
-    ghost invariant = { λ c. columns_well c.table.now ≡ true };
+    ghost invariant = { λ c. columns_well c.all.now ≡ true };
 }
 
 impl<'a> Columns<'a> {
@@ -79,7 +79,7 @@ impl<'a> Columns<'a> {
         requires { columns_well table.now ≡ true }
         ensures { result ≡ table.now }
     {
-        Columns { table }
+        Columns { all: table }
     }
 
     // Each of them.
@@ -87,7 +87,7 @@ impl<'a> Columns<'a> {
         ensures value { result.now ≡ self.now }
         ensures well { columns_well result.now ≡ true }
     {
-        self.table
+        self.all
     }
 
     // What the columns before column k take with column k, from what those before it take.
@@ -95,8 +95,7 @@ impl<'a> Columns<'a> {
         requires { (k < length self.now) × (taken ≡ taken_before self.now k) }
         ensures { result ≡ taken_before self.now (k + 1) }
     {
-        let table = self.table;
-        let column = table[k];
+        let column = self.table()[k];
         let bytes = taken.bytes + (column.width + 1);
         if column.used.is_text() {
             Taken {
@@ -133,7 +132,7 @@ impl<'a> Columns<'a> {
     pub fn whole(&self) -> Taken
         ensures { result ≡ taken_before self.now (length self.now) }
     {
-        self.taken_before(self.table.len())
+        self.taken_before(self.table().len())
     }
 
     // Where column k starts.
@@ -150,7 +149,7 @@ impl<'a> Columns<'a> {
         ensures value { result ≡ line_width self.now }
         ensures most { result ≤ most_line }
     {
-        self.start(self.table.len())
+        self.start(self.table().len())
     }
 
     // How many bytes a line has with its end.
@@ -198,9 +197,20 @@ impl<'a> LineForm<'a> {
     }
 
     pub fn columns(&self) -> &Columns<'a>
-        ensures { result.now ≡ self.now.columns }
+        ensures value { result.now ≡ self.now.columns }
+        ensures well { columns_well self.now.columns ≡ true }
     {
-        &self.columns
+        let columns = &self.columns;
+        let _ = &columns.all;
+        columns
+    }
+
+    #[tactic(auto, unfolding(crate::specs::Tables::column_at))]
+    pub fn column(&self, k: usize) -> Column
+        requires { k < length self.now.columns }
+        ensures { result ≡ column_at self.now.columns k }
+    {
+        self.columns.table()[k]
     }
 
     pub fn flags(&self) -> &[[bool; flags::COLUMNS]; flags::FLAGS]
@@ -209,11 +219,13 @@ impl<'a> LineForm<'a> {
         self.flags
     }
 
-    pub fn flag_at(&self) -> usize
-        ensures value { result ≡ self.now.flag_at }
-        ensures within { result < length self.now.columns }
+    // What the columns before the flag's take.
+    pub fn before_flag(&self) -> Taken
+        ensures value { result ≡ taken_before self.now.columns self.now.flag_at }
+        ensures within { self.now.flag_at < length self.now.columns }
     {
-        self.flag_at
+        let flag_at = self.flag_at;
+        self.columns.taken_before(flag_at)
     }
 }
 

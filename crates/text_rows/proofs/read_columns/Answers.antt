@@ -1,36 +1,38 @@
+-- Each column is read as far as the line where an earlier one is at fault.
+use mathlib.Core.Path.{sym, ap, ◌∙◌}
+use mathlib.Core.List.{List}
+use Prim.Native.Nat.{◌+◌}
 use native.Mathlib.Omega.{arith}
-use Rattle.text_columns.proofs.Columns.{column_placed}
-use Rattle.text_lines.proofs.Standing.{pitch_here}
-use Rattle.text_rows.proofs.Turns.{columns_start, columns_lines, columns_here, columns_again, columns_end}
+use lib.ListN.{length}
+use Rattle.text_rules.specs.declared.Column.{Column}
+use Rattle.text_rules.specs.Columns.{taken_before}
+use Rattle.text_rows.proofs.Turns.{columns_start, columns_lines, columns_fine, columns_wrong, columns_end}
+use Rattle.text_rows.proofs.read_columns.Goals.{in-Some, in_default}
 use Rattle.text_rows.proofs.read_columns.Goals as goal
 
 pub loop-k-init : goal.loop-k-init
-loop-k-init c = columns_start _ _ _ _ _ _
+loop-k-init c =
+    columns_start _ _ _ _ (c.taken_before-taken.ensures ∙ ap (λ (cs : List Column). taken_before cs 0) c.columns-columns.ensures.value)
 
-pub read_column-n-requires : goal.read_column-n-requires
-read_column-n-requires c = (
-  columns_lines _ _ _ _ _ _ _ _ _ _ _ _ c.loop-k.invariant c.requires.columns_value.0 c.requires.columns_value.1 c.requires.rows_len
-      (pitch_here _ c.line_width-pitch.ensures.0) c.line_numbers-stride.ensures,
-  columns_here _ _ _ _ _ _ _ _ _ _ _ _ c.loop-k.invariant c.loop-k-test.true,
-)
-
-pub overflow_add-at : goal.overflow_add-at
-overflow_add-at c =
-    let p = column_placed c.args.columns.now c.loop-k.k c.requires.columns_value.0 c.loop-k-test.true in
-    omega (arith, p.next, p.within, p.short)
-
-pub overflow_add-at-in-loop-k : goal.overflow_add-at-in-loop-k
-overflow_add-at-in-loop-k c =
-    let p = column_placed c.args.columns.now c.loop-k.k c.requires.columns_value.0 c.loop-k-test.true in
-    omega (arith, p.next, p.within, p.short, c.loop-k.invariant.starts)
+pub read_column-found-requires : goal.read_column-found-requires
+read_column-found-requires c =
+    let e = c.columns-columns.ensures.value in
+    columns_lines _ _ _ _ _ _ _ _ _ c.loop-k.invariant c.columns-columns.ensures.well
+    (omega (arith, ap length e, ap length c.table-k-end.ensures.value))
+    (c.whole-line.ensures ∙ ap (λ (cs : List Column). taken_before cs (length cs)) e) c.requires
 
 pub loop-k-preserved : goal.loop-k-preserved
 loop-k-preserved c =
-    let p = column_placed _ _ c.requires.columns_value.0 c.loop-k-test.true in
-    columns_again _ _ _ _ _ _ _ _ _ _ _ _ c.loop-k.invariant c.loop-k-test.true p c.read_column-n.ensures.value c.read_column-n.ensures.run_after
-    c.earlier-column.ensures c.numbers_in-place.ensures
+    let past = c.past-taken.ensures ∙ ap (λ (cs : List Column). taken_before cs (c.loop-k.k + 1)) c.columns-columns.ensures.value in
+    let found = c.read_column-found.ensures in
+    elim c.match-found.branch [
+      | in-Some w ↦
+          rw (w.row-is, w.fault-is) (columns_wrong _ _ _ _ _ _ _ _ _ c.loop-k.invariant past found.run_after (sym w.in-Some.is ∙ found.value))
+      | in_default w ↦
+          rw (w.row-is, w.fault-is) (columns_fine _ _ _ _ _ _ _ _ _ c.loop-k.invariant past found.run_after (sym w.in_default.is ∙ found.value))
+    ]
 
 pub returns : goal.returns
 returns c =
-    let h = columns_end _ _ _ _ _ _ _ _ _ _ _ _ c.loop-k.invariant c.loop-k-test.false in
+    let h = columns_end _ _ _ _ _ _ _ _ _ c.loop-k.invariant (omega (arith, ap length c.columns-columns.ensures.value, ap length c.table-k-end.ensures.value)) in
     record { value = h.0; run_after = h.1 }
