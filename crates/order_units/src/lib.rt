@@ -46,7 +46,8 @@ fn account_rest(kind: Kind, stretch: &mut [u64], line: usize, units: u64, c: Mon
     stretch[counter] = count;
 }
 
-// An order beside its stock, in a fund of `count` components: the fund's cash, and the account's units, cash and counter.
+// An order beside its stock, in a fund of `count` components: the fund's cash, and the account's units, cash and counter. The fund's
+// stretch is the book's first.
 pub fn move_rest(kind: Kind, count: usize, book: &mut [u64], a: usize, units: u64, c: Money)
     requires { RestReady kind count book.old a units c.0 }
     ensures { book.new ≡ rest_moves kind count a units c.0 book.old }
