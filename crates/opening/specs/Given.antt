@@ -1,5 +1,5 @@
 -- What the code of opening is given, and the parts of its work.
-use Rattle.std.specs.Prelude.{ℕ, ◌+◌, ◌≡◌, ⊤, true, List, Result, get_or, set}
+use Rattle.std.specs.Prelude.{ℕ, ◌+◌, ◌≡◌, ⊤, true, List, Result, get_or}
 use Rattle.sequences.specs.Checks.{is_accepted}
 use Rattle.sequences.specs.Stretch.{stretch_of, over}
 use Rattle.layout.specs.declared.Fund.{Fund}
@@ -35,7 +35,3 @@ totals_of accounts n holdings =
       fund_units = held_opened n (stretch_of (n + 2) holdings 0);
       cash_total = over (n + 2) accounts cash_opened holdings;
     }
-
--- three numbers from a place on
-unfoldable pub put_three : ℕ → ℕ → ℕ → ℕ → List ℕ → List ℕ
-put_three at a b c s = set (set (set s at a) (at + 1) b) (at + 2) c

@@ -9,9 +9,10 @@ ghost use Rattle.layout.specs.Book.{width_of};
 ghost use Rattle.rules.specs.Replies.{answer_reply};
 ghost use Rattle.totals.specs.Totals.{most_rows};
 ghost use Rattle.rules.specs.Opening.{over_at, total_fault, lent_sizes_fit, opening_reply, opened_stretch};
-ghost use Rattle.opening.specs.Given.{given, Outcome, totals_in, totals_of, put_three};
+ghost use Rattle.opening.specs.Given.{given, Outcome, totals_in, totals_of};
 
 use layout::Fund;
+use lots::Lots;
 use rules::Refusal;
 
 // Refusal 4 at a place, by the totals of the holdings' rows and the fund's units: a line, of which `count` is the unit, or one past it for cash.
@@ -99,27 +100,22 @@ fn opening_answer(
     Ok(())
 }
 
-// Three numbers from a place on.
-#[tactic(auto, unfolding(crate::specs::Given::put_three))]
-fn put_three(stretch: &mut [u64], at: usize, a: u64, b: u64, c: u64)
-    requires { at + 2 < length stretch.old }
-    ensures { stretch.new ≡ put_three at a b c stretch.old }
-{
-    stretch[at] = a;
-    stretch[at + 1] = b;
-    stretch[at + 2] = c;
-}
-
 // An account's stretch: its cash and no counters, then each line's holding in old.
 fn open_account(stretch: &mut [u64], held: &[u64], count: usize)
     requires stretch_len { length stretch.old ≡ width_of count }
     requires held_len { length held.now ≡ count + 2 }
     ensures { stretch.new ≡ opened_stretch count held.now }
 {
-    put_three(stretch, layout::CASH, held[0], 0, 0);
+    stretch[layout::CASH] = held[0];
+    stretch[layout::CREATED] = 0;
+    stretch[layout::REDEEMED] = 0;
     for l in 0..count + 1 {
-        let at = layout::LINES_FROM + layout::LINE_WIDTH * l;
-        put_three(stretch, at, held[1 + l], 0, 0);
+        let opened = Lots {
+            old: held[1 + l],
+            bought: 0,
+            got: 0,
+        };
+        layout::put_lots(stretch, l, opened);
     }
 }
 
