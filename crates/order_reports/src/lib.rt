@@ -104,6 +104,7 @@ fn put_reports(list: &mut [u64], records: &[u64], n: usize, stock: Side, cash: C
 }
 
 // The reports of an order, so many to each party. The fund's have all sides opposite to the investor's.
+#[tactic(auto, using(rules::proofs::Reports::turned_stock, rules::proofs::Reports::turned_rest))]
 pub fn report(
     kind: Kind,
     reports: usize,

@@ -24,6 +24,7 @@ fn cash_after(kind: Kind, held: u64, c: Money) -> u64
 }
 
 // The fund's cash goes the opposite way.
+#[tactic(auto, using(book::proofs::Stock::cash_opposite), unfolding(layout::specs::Book::head_at, layout::specs::Book::put_head))]
 fn fund_head(kind: Kind, stretch: &mut [u64], c: Money)
     requires stretch_nonzero { 0 < length stretch.old }
     requires ready { CashReady (opposite_kind kind) (head_at stretch.old cash) c.0 }
