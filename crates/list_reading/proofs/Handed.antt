@@ -13,7 +13,7 @@ use Rattle.std.proofs.Common.{Option, Some, None, Result, Ok, Err}
 use Rattle.sequences.specs.Every.{inside}
 use Rattle.sequences.specs.Below.{below}
 use Rattle.sequences.specs.Checks.{reply, passes}
-use Rattle.sequences.proofs.Below.{table_at, first-le, first_same, first_stops}
+use Rattle.sequences.proofs.Below.{table_at, below_some_facts, below_none_fact, first-le, first_same, first_stops}
 use Rattle.sequences.proofs.Stretch.{within}
 use Rattle.sequences.proofs.Every.{every_at, inside_facts}
 use Rattle.layout.specs.Components.{component_at, places_of}
@@ -50,7 +50,7 @@ use Rattle.list_shape.specs.declared.Rows.{Rows}
 use Rattle.list_shape.specs.Shape.{RowsStand, LineWrong}
 use Rattle.list_reading.specs.Outcome.{ReadOutcome}
 use Rattle.list_reading.specs.Stages.{Found, Spelled, Ranged}
-use Rattle.list_reading.proofs.Replies.{field_wrong, count_wrong, field_facts, fields_pass, reply_18, reply_19_field, reply_19_row, reply_20, reply_2, reply_3, reply_16, reply_0}
+use Rattle.list_reading.proofs.Replies.{field_wrong, row_wrong, count_wrong, field_facts, fields_pass, reply_18, reply_19_field, reply_19_row, reply_20, reply_2, reply_3, reply_16, reply_0}
 use Rattle.list_reading.proofs.Stages.{outcome_refused, outcome_read}
 
 -- the code's search of a line is that of its definition

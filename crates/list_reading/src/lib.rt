@@ -71,20 +71,25 @@ fn read_fields(text: &[u8], rows: Rows, run: &mut [u64]) -> Result<ListRead, Ref
     requires { RowsStand text.now rows }
     ensures { ReadOutcome text.now run.old result run.new }
 {
-    let figures = list_shape::head_fields(text).map_err(Refusal::TextField)?;
+    let figures = match list_shape::head_fields(text) {
+        Ok(figures) => figures,
+        Err(place) => return Err(Refusal::TextField(place)),
+    };
     let mut numbers = [0u64; layout::BASKET_WIDTH];
-    if let Some(place) = list_rows::read_rows(text, rows.start, rows.count, &mut numbers) {
-        return Err(Refusal::TextField(place));
+    match list_rows::read_rows(text, rows.start, rows.count, &mut numbers) {
+        Some(column) => Err(Refusal::TextField(column)),
+        None => read_values(text, rows, figures, &numbers, run),
     }
-    read_values(text, rows, figures, &numbers, run)
 }
 
 // Reads a list: its fields, and its components at the front of the lent run. A refusal changes nothing.
 pub fn read(text: &[u8], run: &mut [u64]) -> Result<ListRead, Refusal>
     ensures { ReadOutcome text.now run.old result run.new }
 {
-    let rows = list_shape::shape_of(text).map_err(Refusal::TextLine)?;
-    read_fields(text, rows, run)
+    match list_shape::shape_of(text) {
+        Ok(rows) => read_fields(text, rows, run),
+        Err(place) => Err(Refusal::TextLine(place)),
+    }
 }
 
 // The letters of a text's first line, as that part of it; an empty part where the line is another.
@@ -117,7 +122,8 @@ pub fn name(text: &[u8], j: usize) -> &[u8]
 {
     match list_shape::shape_of(text) {
         Ok(rows) if j < rows.count => list_names::name_from(text, rows.start, j),
-        _ => &text[..0],
+        Ok(_) => &text[..0],
+        Err(_) => &text[..0],
     }
 }
 

@@ -1,20 +1,23 @@
 -- `list_reading::read_fields` meets its contract: each return is the reply of a law for what was tested before it.
-use Rattle.std.proofs.Common.{◌∙◌, sym, refl, rules, arith}
+use Rattle.std.proofs.Common.{◌≡◌, ◌∙◌, sym, refl, Ok, rules, arith}
+use Rattle.text_head.specs.Head.{fields_found}
+use Rattle.list_rules.specs.Shanghai.{shanghai_fields}
 use Rattle.list_reading.proofs.Stages.{outcome_refused}
 use Rattle.list_reading.proofs.Handed.{field_reply, row_reply_lem, spelled, found}
 use Rattle.list_reading.proofs.read_fields.Goals as goal
 
-pub returns-in_err-figures : goal.returns-in_err-figures
-returns-in_err-figures c = ?
+pub returns-in-Err : goal.returns-in-Err
+returns-in-Err c = outcome_refused _ _ _ (field_reply _ _ c.requires _ _ (sym c.in-Err.is ∙ c.head_fields.ensures))
 
 pub read_rows-requires : goal.read_rows-requires
-read_rows-requires c = ?
+read_rows-requires c = let s = c.requires in record { start_value = (s.start_is, s.count_is); shanghai_columns_in_bounds = s.room }
 
 pub returns-in-Some : goal.returns-in-Some
-returns-in-Some c = ?
+returns-in-Some c =
+    outcome_refused _ _ _ (row_reply_lem _ _ c.requires _ (sym c.in-Ok.is ∙ c.head_fields.ensures) _ _ (sym c.in-Some.is ∙ c.read_rows.ensures.value))
 
 pub read_values-requires : goal.read_values-requires
-read_values-requires c = ?
-
-pub returns : goal.returns
-returns c = ?
+read_values-requires c =
+    let figures = sym c.in-Ok.is ∙ c.head_fields.ensures in
+    let none = sym c.in-None.is ∙ c.read_rows.ensures.value in
+    record { spelled = spelled _ _ c.requires _ figures none; found = found _ _ c.requires _ figures none _ _ c.read_rows.ensures.run_after refl }
