@@ -1,2 +1,1 @@
-mod Sought
 mod Names

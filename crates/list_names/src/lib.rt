@@ -2,6 +2,7 @@
 #![tactic(auto)]
 
 ghost use Rattle.std.specs.Prelude.{◌≡◌, ◌+◌, ◌*◌, ◌≤◌, length};
+ghost use Rattle.sequences.specs.Below.{below};
 ghost use Rattle.list_rules.specs.Shanghai.{name_width};
 ghost use Rattle.list_rules.specs.Reading.{name_place, name_from};
 ghost use Rattle.list_rules.specs.Writing.{name_fault};
@@ -13,24 +14,16 @@ pub fn name_place(text: &[u8], first: usize, j: usize) -> TextPart
     ensures value { result ≡ name_place text.now first j }
     ensures length_in_bounds { result.place + result.length ≤ length text.now }
 {
-    let columns = list_rules::columns();
-    let pitch = text_columns::line_width(&columns) + 2;
-    if text.len() < first {
+    let form = list_rules::line_form();
+    let columns = form.columns();
+    let pitch = columns.pitch();
+    if text.len() < first || (text.len() - first) / pitch <= j {
         return TextPart {
             place: 0,
             length: 0,
         };
     }
-    if (text.len() - first) / pitch <= j {
-        return TextPart {
-            place: 0,
-            length: 0,
-        };
-    }
-    let start = text_columns::column_start(&columns, list_rules::NAME);
-    let lines = j * pitch;
-    let row = first + lines;
-    let place = row + start;
+    let place = first + j * pitch + columns.start(list_rules::NAME);
     TextPart {
         place,
         length: NAME_WIDTH,
@@ -47,23 +40,21 @@ pub fn name_from(text: &[u8], first: usize, j: usize) -> &[u8]
     &text[a..e]
 }
 
-// The first of so many names with a byte that no name has, and their count where there is none. The names are gone through one by
-// one only where there is such a byte.
-pub fn name_fault(names: &[u8], count: usize) -> usize
+// The first of so many names with a byte that no name has. The names are gone through one by one only where there is such a byte.
+#[tactic(auto, using(crate::proofs::Names::names_fine))]
+pub fn name_fault(names: &[u8], count: usize) -> Option<usize>
     requires { count * name_width ≤ length names.now }
-    ensures { result ≡ name_fault names.now count }
+    ensures { result ≡ below count (name_fault names.now count) }
 {
     let n = count * NAME_WIDTH;
     if lines::is_name(&names[..n]) {
-        return count;
+        return None;
     }
-    let mut j = 0;
-    while j < count {
+    for j in 0..count {
         let at = j * NAME_WIDTH;
         if !lines::is_name(&names[at..at + NAME_WIDTH]) {
-            return j;
+            return Some(j);
         }
-        j += 1;
     }
-    j
+    None
 }

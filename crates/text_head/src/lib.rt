@@ -38,7 +38,9 @@ fn read_field(field: &Field, s: &[u8]) -> Option<Figure>
 fn pass_line<F: FnOnce(&[u8]) -> bool>(text: &[u8], at: usize, test: F) -> Result<usize, usize>
     requires callable { F.IsAlwaysCallable test }
     requires at_in_bounds { at ≤ length text.now }
-    ensures { (said : List ℕ → Bool) → ((l : List ℕ) → (b : Bool) → FnOnceReturnsAt F.FnOnce test l b → b ≡ said l) → result ≡ line_passed said text.now at }
+    ensures { (said : List ℕ → Bool)
+        → ((l : List ℕ) → (b : Bool) → FnOnceReturnsAt F.FnOnce test l b → b ≡ said l)
+        → result ≡ line_passed said text.now at }
 {
     let n = lines::line_len(&text[at..]);
     if text.len() - at <= n {
@@ -52,7 +54,8 @@ fn pass_line<F: FnOnce(&[u8]) -> bool>(text: &[u8], at: usize, test: F) -> Resul
 
 // Refusal 18 in the head: the place behind it, or that of its first wrong line.
 pub fn head_shape(fields: &Fields, text: &[u8]) -> Result<usize, usize>
-    ensures { (result ≡ shape_found fields.now text.now) × MatchResult result (λ place. place ≤ length text.now) (λ place. place ≤ length text.now) }
+    ensures { (result ≡ shape_found fields.now text.now)
+        × MatchResult result (λ place. place ≤ length text.now) (λ place. place ≤ length text.now) }
 {
     let table = fields.table();
     let mut at = pass_line(text, 0, text_lines::is_opening)?;

@@ -58,7 +58,7 @@ pub struct Taken {
 // The columns of a component line, in their order, where they are well made.
 #[derive(Drop)]
 pub struct Columns<'a> {
-    table: &'a [Column],
+    all: &'a [Column],
 }
 
 impl<'a> Model for Columns<'a> {
@@ -69,9 +69,9 @@ impl<'a> Model for Columns<'a> {
 
     ghost use Rattle.text_rules.specs.Well.{columns_well};
 
-    ghost view = { λ c. c.table.now };
+    ghost view = { λ c. c.all.now };
 
-    ghost invariant = { λ c. columns_well c.table.now ≡ true };
+    ghost invariant = { λ c. columns_well c.all.now ≡ true };
 }
 
 impl<'a> Columns<'a> {
@@ -79,7 +79,7 @@ impl<'a> Columns<'a> {
         requires { columns_well table.now ≡ true }
         ensures { result ≡ table.now }
     {
-        Columns { table }
+        Columns { all: table }
     }
 
     // Each of them.
@@ -87,7 +87,7 @@ impl<'a> Columns<'a> {
         ensures value { result.now ≡ self.now }
         ensures well { columns_well result.now ≡ true }
     {
-        self.table
+        self.all
     }
 
     // What the columns before column k take with column k, from what those before it take.
@@ -95,8 +95,7 @@ impl<'a> Columns<'a> {
         requires { (k < length self.now) × (taken ≡ taken_before self.now k) }
         ensures { result ≡ taken_before self.now (k + 1) }
     {
-        let table = self.table;
-        let column = table[k];
+        let column = self.table()[k];
         let bytes = taken.bytes + (column.width + 1);
         if column.used.is_text() {
             Taken {
@@ -133,7 +132,7 @@ impl<'a> Columns<'a> {
     pub fn whole(&self) -> Taken
         ensures { result ≡ taken_before self.now (length self.now) }
     {
-        self.taken_before(self.table.len())
+        self.taken_before(self.table().len())
     }
 
     // Where column k starts.
@@ -150,7 +149,7 @@ impl<'a> Columns<'a> {
         ensures value { result ≡ line_width self.now }
         ensures most { result ≤ most_line }
     {
-        self.start(self.table.len())
+        self.start(self.table().len())
     }
 
     // How many bytes a line has with its end.
@@ -202,7 +201,7 @@ impl<'a> LineForm<'a> {
         ensures well { columns_well self.now.columns ≡ true }
     {
         let columns = &self.columns;
-        let _ = &columns.table;
+        let _ = &columns.all;
         columns
     }
 
