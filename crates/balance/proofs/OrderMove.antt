@@ -1,7 +1,7 @@
 -- An order of either kind: its account's side and the fund's, and that they keep what a list of events keeps.
 use mathlib.Core.Path.{◌≡◌, refl, sym, ap, subst, ◌∙◌}
 use mathlib.Core.List.{List}
-use Prim.Native.Nat.{ℕ, ◌+◌, ◌-◌, ◌*◌, ◌≤◌, ◌<◌}
+use Prim.Native.Nat.{ℕ, ◌+◌, ◌*◌, ◌≤◌, ◌<◌}
 use native.Mathlib.Decide.{ℕ_discrete, dec_lt}
 use native.Mathlib.Omega.{arith}
 use lib.ListN.{length}
@@ -43,11 +43,6 @@ pub record Settles (n : ℕ) (s f : List ℕ) (m : Move) (made gone : ℕ) (got 
   pub fund_lines : (l : ℕ) → l < n → lots_total (m.fund_component l (lots_at f l)) + got l ≡ lots_total (lots_at f l) + handed l
   pub fund_bought : (l : ℕ) (x : Lots) → (m.fund_component l x).bought ≡ x.bought
   pub fund_got : (l : ℕ) (x : Lots) → (m.fund_component l x).got ≡ x.got
-
--- the numbers of the two kinds
-opposite_number : (kind : Kind) → number_of (opposite_kind kind) ≡ 1 - number_of kind
-opposite_number Creation = refl
-opposite_number Redemption = refl
 
 module _ (d : Day) (b ps : List ℕ) (kind : Kind) (a units : ℕ) (m : Move) (sound : SoundDay d b ps) (order : Orders d b kind a units) where
   abbrev investor : List ℕ
@@ -121,25 +116,35 @@ module _ (d : Day) (b ps : List ℕ) (kind : Kind) (a units : ℕ) (m : Move) (s
   own_count : head_at investor_after (counter (number_of kind)) ≡ head_at investor (counter (number_of kind)) + units
   own_count = account_count d.count kind units m.component m.unit (m.cash_after investor) investor wide
 
+  numbers_differ : (k : Kind) → counter (number_of (opposite_kind k)) ≡ counter (number_of k) → ⊥
+  numbers_differ Creation q = omega arith
+  numbers_differ Redemption q = omega arith
+
   other_count : head_at investor_after (counter (number_of (opposite_kind kind))) ≡ head_at investor (counter (number_of (opposite_kind kind)))
-  other_count = account_head d.count kind units m.component m.unit (m.cash_after investor) investor (counter (number_of (opposite_kind kind))) (omega arith) (omega (arith, number-below (opposite_kind kind))) (λ q. omega (arith, number-below kind, opposite_number kind))
+  other_count =
+      account_head d.count kind units m.component m.unit (m.cash_after investor) investor (counter (number_of (opposite_kind kind)))
+      (omega arith) (omega (arith, number-below (opposite_kind kind))) (numbers_differ kind)
 
   other_account : (j : Kind) (i : ℕ) → (i ≡ a → ⊥) → Dec (i ≡ 0) → count_of d moved j i ≡ count_of d b j i
   unfolding count_of
-  other_account j i n (yes q) = subst (λ (k : ℕ). head_at (account d moved k) (counter (number_of j)) ≡ head_at (account d b k) (counter (number_of j))) (sym q) (fund_heads (counter (number_of j)) (omega arith) (omega (arith, number-below j)))
+  other_account j i n (yes q) =
+      subst (λ (k : ℕ). head_at (account d moved k) (counter (number_of j)) ≡ head_at (account d b k) (counter (number_of j))) (sym q)
+      (fund_heads (counter (number_of j)) (omega arith) (omega (arith, number-below j)))
   other_account j i n (no p) = ap (λ (x : List ℕ). head_at x (counter (number_of j))) (changed.others i p n)
 
-  rises : (j : Kind) (all : ℕ) (more : ℕ → ℕ) → head_at investor_after (counter (number_of j)) ≡ head_at investor (counter (number_of j)) + all → more a ≡ all → ((i : ℕ) → (a ≡ i → ⊥) → more i ≡ 0)
-      → Rises before after j more all
+  rises : (j : Kind) (all : ℕ) (more : ℕ → ℕ) → head_at investor_after (counter (number_of j)) ≡ head_at investor (counter (number_of j)) + all → more a ≡ all
+      → ((i : ℕ) → (a ≡ i → ⊥) → more i ≡ 0) → Rises before after j more all
   unfolding count_of fund_count head_total
   rises j all more e own none =
+      let here = fund_head d.count m.fund_component (m.fund_cash_after fund) fund (counter (number_of j)) (omega arith) (omega (arith, number-below j)) in
       record {
         counts = λ i h. case i (ℕ_discrete a i);
-        fund_count_lem = omega (arith, sums (λ x. head_at x (counter (number_of j))), fund_head d.count m.fund_component (m.fund_cash_after fund) fund (counter (number_of j)) (omega arith) (omega (arith, number-below j)));
+        fund_count_lem = omega (arith, sums (λ x. head_at x (counter (number_of j))), here);
       }
     where
       case : (i : ℕ) → Dec (a ≡ i) → count_of d moved j i ≡ count_of d b j i + more i
-      case i (yes q) = subst (λ (k : ℕ). count_of d moved j k ≡ count_of d b j k + more k) q (omega (arith, ap (λ (x : List ℕ). head_at x (counter (number_of j))) changed.second))
+      case i (yes q) =
+          subst (λ (k : ℕ). count_of d moved j k ≡ count_of d b j k + more k) q (omega (arith, ap (λ (x : List ℕ). head_at x (counter (number_of j))) changed.second))
       case i (no n) = omega (arith, other_account j i (λ q. n (sym q)) (ℕ_discrete i 0), none i n)
 
   pub own_rises : Rises before after kind (λ i. when_same a i units) units

@@ -17,10 +17,9 @@ use Rattle.layout.specs.Book.{cash, created, redeemed, head_at, put_head, lots_a
 use Rattle.rules.specs.declared.Kind.{Kind}
 use Rattle.rules.specs.declared.Kind.TheVariants.{Creation, Redemption}
 use Rattle.rules.specs.Orders.{number_of, count_of, fund_count}
-use Rattle.rules.proofs.Sides.{number-below}
 use Rattle.rules.specs.Trade.{sell_side, buy_side, trade_moves, traded_book}
 use Rattle.rules.proofs.SoundDay.{Kept, sound_moved}
-use Rattle.rules.proofs.Sides.{side-length, side_cash, side_counter, side_line, side_other}
+use Rattle.rules.proofs.Sides.{number-below, side-length, side_cash, side_counter, side_line, side_other}
 use Rattle.rules.proofs.Accepted.{Trades, trade_facts}
 use Rattle.rules.specs.Lent.{Lent}
 use Rattle.balance.specs.Calls.{State, trade, step}

@@ -70,7 +70,7 @@ module _ (o : Opening) (accepted : is_accepted (opening_reply o) ≡ true) where
   lots_are : (a l : ℕ) → a < (opened_day o).accounts → l ≤ (opened_day o).count → lots_at (account (opened_day o) (opened_book o) a) l ≡ lots (held_opened l (holdings_of o a)) 0 0
   lots_are a l h i = ap (λ (s : List ℕ). lots_at s l) (account_is a h) ∙ opened_lots o.count (holdings_of o a) l (omega (arith, count_is))
 
-  head_none : (kind : Kind) (h : List ℕ) → head_at (opened_stretch o.count h) (counter (number_of kind)) ≡ 0
+  head_none : (kind : Kind) → (h : List ℕ) → head_at (opened_stretch o.count h) (counter (number_of kind)) ≡ 0
   head_none Creation h = opened_created o.count h
   head_none Redemption h = opened_redeemed o.count h
 

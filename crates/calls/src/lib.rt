@@ -18,20 +18,14 @@ use units::ReferenceValue;
 pub fn is_sound(day: &[u64], book: &[u64], prices: &[u64]) -> bool
     ensures { result ≡ is_sound (day_at day.now) book.now prices.now }
 {
-    if day.len() != layout::DAY_WIDTH {
-        return false;
-    }
-    sound::is_sound(layout::head_of(day), layout::basket_of(day), book, prices)
+    day.len() == layout::DAY_WIDTH && sound::is_sound(&layout::view_of(day), book, prices)
 }
 
 // Whether the day has what every call keeps.
 pub fn is_kept(day: &[u64], book: &[u64], prices: &[u64]) -> bool
     ensures { result ≡ is_kept (day_at day.now) book.now prices.now }
 {
-    if day.len() != layout::DAY_WIDTH {
-        return false;
-    }
-    sound::is_kept(layout::head_of(day), layout::basket_of(day), book, prices)
+    day.len() == layout::DAY_WIDTH && sound::is_kept(&layout::view_of(day), book, prices)
 }
 
 // Refusal 5 where the day is not sound. It is tested where it is not known.

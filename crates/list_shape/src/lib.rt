@@ -73,5 +73,5 @@ pub fn head_fields(text: &[u8]) -> Result<[Figure; MOST_FIELDS], usize>
 pub fn is_counted(recordnum: u64, count: usize) -> bool
     ensures { result ≡ is_counted recordnum count }
 {
-    1 <= recordnum && recordnum <= layout::MOST_COMPONENTS as u64 && recordnum == count as u64
+    (1..=layout::MOST_COMPONENTS as u64).contains(&recordnum) && recordnum == count as u64
 }

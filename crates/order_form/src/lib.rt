@@ -117,7 +117,7 @@ pub fn order_form(day: &DayView, book: &[u64], ask: Ask, m: u64) -> Result<(), R
     if !ranges::whole_baskets(fund.basket_size, ask.units, m) {
         return Err(Refusal::NotWholeBaskets);
     }
-    if !ranges::switch_allows(fund.switch, ask.kind.number()) {
+    if !ranges::switch_allows(fund.switch, ask.kind) {
         return Err(Refusal::Switch);
     }
     if !limits_held(day, book, ask) {

@@ -43,6 +43,7 @@ pub fn rest_side(kind: Kind) -> Side
 }
 
 // Writes a record, and gives the next free place, as each of these does.
+#[tactic(auto, using(crate::proofs::Laws::one_written))]
 pub fn put_record(out: &mut [u64], at: usize, r: Record) -> usize
     requires { Fits (r ∷ []) at out.old }
     ensures { Wrote (r ∷ []) at out.old out.new result }

@@ -33,6 +33,7 @@ pub struct Scan {
 }
 
 // What an account can hand in of a line.
+#[tactic(auto, unfolding(rules::specs::Creation::available))]
 pub fn handable_at(stretch: &[u64], line: usize) -> u64
     requires { (behind_line line ≤ length stretch.now) × (available stretch.now line < 2 ^ 64) }
     ensures { result ≡ available stretch.now line }

@@ -24,6 +24,7 @@ fn cash_after(kind: Kind, held: u64, c: Money) -> u64
 }
 
 // The fund's cash goes the opposite way.
+#[tactic(auto, using(book::proofs::Stock::cash_opposite), unfolding(layout::specs::Book::head_at, layout::specs::Book::put_head))]
 fn fund_head(kind: Kind, stretch: &mut [u64], c: Money)
     requires stretch_nonzero { 0 < length stretch.old }
     requires ready { CashReady (opposite_kind kind) (head_at stretch.old cash) c.0 }
@@ -46,7 +47,8 @@ fn account_rest(kind: Kind, stretch: &mut [u64], line: usize, units: u64, c: Mon
     stretch[counter] = count;
 }
 
-// An order beside its stock, in a fund of `count` components: the fund's cash, and the account's units, cash and counter.
+// An order beside its stock, in a fund of `count` components: the fund's cash, and the account's units, cash and counter. The fund's
+// stretch is the book's first.
 pub fn move_rest(kind: Kind, count: usize, book: &mut [u64], a: usize, units: u64, c: Money)
     requires { RestReady kind count book.old a units c.0 }
     ensures { book.new ≡ rest_moves kind count a units c.0 book.old }

@@ -34,6 +34,8 @@ module _ (s : List ℕ) where
   unfolding is_letters
   letters_count e = inside_facts 1 most_letters (length s) ((and-eq-true_iff _ _).0 e).0
 
+pub ruleset letters_cases = (letters_none, letters_more, letters_some)
+
 -- "[ETF", letters, "]"
 module _ (l : List ℕ) where
   -- such a line has 6 bytes and more
@@ -63,6 +65,8 @@ module _ (l : List ℕ) where
     pub opening_last : is_letters (take (length l - 1 - letters_start) (drop letters_start l)) ≡ true → eqb (get_or l (length l - 1) 0) 93 ≡ is_opening l
     unfolding is_opening every
     opening_last e = rw (word, ← opening_part, e, and-true)
+
+pub ruleset opening_cases = (opening_short, opening_other, opening_bare, opening_last)
 
 -- the rest of a part
 pub drop-front : (a n : ℕ) (s : List ℕ) → n ≤ length s → a ≤ n → drop a (take n s) ≡ take (n - a) (drop a s)

@@ -9,33 +9,23 @@ ghost use Rattle.text_rules.specs.Reading.{line_stands, rows_from, letters_read}
 use text_rules::Columns;
 
 // Whether the letters are 1 to 8 letters or digits.
+#[tactic(auto, using(crate::proofs::Opening::letters_cases))]
 pub fn is_letters(s: &[u8]) -> bool
     ensures { result ≡ is_letters s.now }
 {
-    if s.len() < 1 {
-        return false;
-    }
-    if text_rules::MOST_LETTERS < s.len() {
-        return false;
-    }
-    lines::is_letters(s)
+    1 <= s.len() && s.len() <= text_rules::MOST_LETTERS && lines::is_letters(s)
 }
 
 // Whether the line is "[ETF", letters and "]".
+#[tactic(auto, using(crate::proofs::Opening::opening_cases))]
 pub fn is_opening(line: &[u8]) -> bool
     ensures { result ≡ is_opening line.now }
 {
     let n = line.len();
-    if n < text_rules::SHORTEST_OPENING {
-        return false;
-    }
-    if !lines::same_bytes(&line[..text_rules::LETTERS_START], b"[ETF") {
-        return false;
-    }
-    if !is_letters(&line[text_rules::LETTERS_START..n - 1]) {
-        return false;
-    }
-    line[n - 1] == 93
+    text_rules::SHORTEST_OPENING <= n
+        && lines::same_bytes(&line[..text_rules::LETTERS_START], b"[ETF")
+        && is_letters(&line[text_rules::LETTERS_START..n - 1])
+        && line[n - 1] == 93
 }
 
 // The letters of a text's first line, as that part of it; an empty part where the line is another.

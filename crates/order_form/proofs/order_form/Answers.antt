@@ -18,7 +18,7 @@ unfolding whole_baskets baskets switch_allows
 returns-then-not-switch_allows c =
     switched_off _ _ _ (rw (c.is_investor.ensures, c.accounts.ensures) at c.if-not-is_investor.false)
     (rw (c.whole_baskets.ensures, c.fund-fund.ensures) at c.if-not-whole_baskets.false)
-    (rw (c.switch_allows.ensures, c.fund-fund.ensures, c.number.ensures) at c.if-not-switch_allows.true)
+    (rw (c.switch_allows.ensures, c.fund-fund.ensures) at c.if-not-switch_allows.true)
 
 pub limits_held-requires-clause-units_bound : goal.limits_held-requires-clause-units_bound
 unfolding whole_baskets baskets
@@ -32,7 +32,7 @@ unfolding whole_baskets baskets switch_allows
 returns-then-not-limits_held c =
     limit_passed _ _ _ (rw (c.is_investor.ensures, c.accounts.ensures) at c.if-not-is_investor.false)
     (rw (c.whole_baskets.ensures, c.fund-fund.ensures) at c.if-not-whole_baskets.false)
-    (rw (c.switch_allows.ensures, c.fund-fund.ensures, c.number.ensures) at c.if-not-switch_allows.false)
+    (rw (c.switch_allows.ensures, c.fund-fund.ensures) at c.if-not-switch_allows.false)
     (sym c.limits_held.ensures ∙ c.if-not-limits_held.true)
 
 pub returns : goal.returns
@@ -40,5 +40,5 @@ unfolding whole_baskets baskets switch_allows
 returns c =
     form_done _ _ _ (rw (c.is_investor.ensures, c.accounts.ensures) at c.if-not-is_investor.false)
     (rw (c.whole_baskets.ensures, c.fund-fund.ensures) at c.if-not-whole_baskets.false)
-    (rw (c.switch_allows.ensures, c.fund-fund.ensures, c.number.ensures) at c.if-not-switch_allows.false)
+    (rw (c.switch_allows.ensures, c.fund-fund.ensures) at c.if-not-switch_allows.false)
     (sym c.limits_held.ensures ∙ c.if-not-limits_held.false)
