@@ -1,5 +1,6 @@
 -- How long the text of a list is.
-use mathlib.Core.Path.{◌≡◌, ap}
+use mathlib.Core.Path.{◌≡◌, ap, ◌∙◌}
+use mathlib.Core.List.{List}
 use mathlib.Core.Bool.{true, and-eq-true_iff}
 use Prim.Native.Nat.{ℕ, ◌+◌, ◌*◌, ◌≤◌}
 use native.Mathlib.Nat.{mul-le-mul}
@@ -13,7 +14,9 @@ use Rattle.text_rules.specs.Head.{is_letters, end_word, most_letters, end_size}
 use Rattle.text_rules.specs.Columns.{line_width, line_pitch}
 use Rattle.text_rules.specs.Well.{most_line}
 use Rattle.text_rules.proofs.Well.{line_short}
-use Rattle.list_rules.specs.Shanghai.{shanghai_columns}
+use Rattle.text_rules.specs.declared.Column.{Column}
+use Rattle.text_rules.specs.Tables.{TextForm}
+use Rattle.list_rules.specs.Shanghai.{shanghai_columns, shanghai_lines}
 use Rattle.list_rules.specs.Writing.{Listing, text_of, list_checks}
 use Rattle.list_rules.proofs.Lent.{shanghai_columns_well}
 use Rattle.list_trip.proofs.WrittenPassing.{Passing}
@@ -24,6 +27,10 @@ use Rattle.list_writing_tests.proofs.Heads.{head_of}
 pub letters_few : (l : Listing) → Passing l → length l.letters ≤ most_letters
 unfolding is_letters
 letters_few l p = (inside_facts 1 most_letters (length l.letters) ((and-eq-true_iff _ _).0 p.letters).0).1
+
+-- the columns that the code has at hand
+pub our_columns : {form : TextForm} {columns : List Column} → columns ≡ form.columns → form ≡ shanghai_lines → columns ≡ shanghai_columns
+our_columns {form} {columns} e f = e ∙ ap (λ (t : TextForm). t.columns) f
 
 -- the component lines are not too long
 pub lines_low : (count : ℕ) → count ≤ most_components → count * line_pitch shanghai_columns ≤ most_components * (most_line + 2)
