@@ -47,7 +47,8 @@ pub fn name_fault(names: &[u8], count: usize) -> Option<usize>
     ensures { result ≡ below count (name_fault names.now count) }
 {
     let n = count * NAME_WIDTH;
-    if lines::is_name(&names[..n]) {
+    let clean = lines::is_name(&names[..n]);
+    if clean {
         return None;
     }
     for j in 0..count {

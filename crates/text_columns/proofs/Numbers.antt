@@ -76,10 +76,6 @@ before_byte (b ∷ r) (suc p) h e =
 front_part : (n m : ℕ) (l : List ℕ) → n ≤ length l → drop n (take (n + m) l) ≡ take m (drop n l)
 front_part n m l h = rw (take-add n m l) (drop_at (take n l) (take m (drop n l)) n (length-take-le n l h))
 
--- what stands before a place is no wider
-pub head_narrow : (d : ℕ) (s : List ℕ) → length s ≤ most_width → length (take (length s - (d + 1)) s) ≤ most_width
-head_narrow d s h = omega (arith, length-take-le (length s - (d + 1)) s (omega arith), h)
-
 -- A number with decimals, whose point stands at a place of the column.
 
 module _ (d : ℕ) (s : List ℕ) (some : 0 < d) (long : d < length s) where
@@ -161,11 +157,3 @@ module _ (d : ℕ) (s : List ℕ) (some : 0 < d) (long : d < length s) where
         let l : length (take (length s - (place + 1)) (drop (place + 1) s)) ≡ d = omega (arith, ap length (rest_all (place + 1) s), length-drop (place + 1) s) in
         let low : (v + 1) * 10 ^ d ≤ 10 ^ place * 10 ^ d = mul-le-mul_right (10 ^ d) (head_below v e) in
         rw l (omega (arith, low, pow-add 10 place d, narrow_power (place + d) (omega arith)))
-
--- A column of blanks.
-
-pub blanks_yes : (s : List ℕ) → all_blank s ≡ true → Some 0 ≡ size_reading (all_blank s) 0
-blanks_yes s e = rw e
-
-pub blanks_no : (s : List ℕ) → all_blank s ≡ false → None ≡ size_reading (all_blank s) 0
-blanks_no s e = rw e

@@ -56,9 +56,6 @@ module _ (cs : List Column) where
   unfolding line_pitch
   pitch_line = refl
 
-  pub pitch_here : {width : ℕ} → width ≡ line_width cs → width + 2 ≡ line_pitch cs
-  pitch_here e = ap (λ (w : ℕ). w + 2) e ∙ sym pitch_line
-
   -- a component line and its end take the pitch
   row-length : (l : List ℕ) → is_row cs l ≡ true → length l ≡ line_width cs
   unfolding is_row

@@ -10,10 +10,10 @@ loop-j-init c = names_start _
 
 pub returns-then-not-is_name : goal.returns-then-not-is_name
 returns-then-not-is_name c =
-    names_found _ _ c.loop-j.invariant c.is_name-in-loop-j.ensures _ c.loop-j-test.true (ap not c.if-not-is_name.true)
+    names_found _ _ c.loop-j.invariant c.is_name.ensures _ c.loop-j-test.true (ap not c.if-not-is_name.true)
 
 pub loop-j-preserved : goal.loop-j-preserved
-loop-j-preserved c = names_again _ _ c.loop-j.invariant c.is_name-in-loop-j.ensures (ap not c.if-not-is_name.false)
+loop-j-preserved c = names_again _ _ c.loop-j.invariant c.is_name.ensures (ap not c.if-not-is_name.false)
 
 pub returns : goal.returns
 returns c = names_end _ _ _ c.loop-j.invariant (omega arith)
