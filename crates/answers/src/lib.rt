@@ -7,9 +7,10 @@ ghost use Rattle.sequences.specs.Checks.{reply};
 ghost use Rattle.rules.specs.Replies.{refusal_reply, answer_reply, order_answer_reply, value_answer_reply};
 ghost use Rattle.answers.specs.Numbers.{reply_of, Told, ToldOrder};
 
-use rules::{Answer, OrderAnswer, Refusal, ValueAnswer};
+use rules::{Counts, Refusal};
+use units::ReferenceValue;
 
-#[derive(Clone, Copy)]
+#[derive(Clone, Copy, PartialEq, Eq, Debug)]
 pub struct Numbers {
     pub number: u64,
     pub place: u64,
@@ -41,62 +42,70 @@ fn accepted(value: u64) -> Numbers
     }
 }
 
-pub fn of_refusal(why: Refusal) -> Numbers
-    ensures { reply_of result ≡ refusal_reply why }
-{
-    match why {
-        Refusal::Sizes => refused_at(1, 0),
-        Refusal::FundField => refused_at(2, 0),
-        Refusal::Component(place) => refused_at(3, place),
-        Refusal::Total(place) => refused_at(4, place),
-        Refusal::UnsoundDay => refused_at(5, 0),
-        Refusal::NoSuchLine => refused_at(6, 0),
-        Refusal::QuantityOrPrice => refused_at(7, 0),
-        Refusal::Account => refused_at(8, 0),
-        Refusal::ShortOfStock(place) => refused_at(9, place),
-        Refusal::ShortOfCash => refused_at(10, 0),
-        Refusal::NotWholeBaskets => refused_at(11, 0),
-        Refusal::Switch => refused_at(12, 0),
-        Refusal::Limit => refused_at(13, 0),
-        Refusal::NoReferenceValue => refused_at(14, 0),
-        Refusal::CashRatio => refused_at(15, 0),
-        Refusal::ListTooShort => refused_at(16, 0),
-        Refusal::FundShort(place) => refused_at(17, place),
-        Refusal::TextLine(place) => refused_at(18, place),
-        Refusal::TextField(place) => refused_at(19, place),
-        Refusal::RecordCount => refused_at(20, 0),
+impl From<Refusal> for Numbers {
+    ghost from_gives = { λ why numbers. reply_of numbers ≡ refusal_reply why };
+
+    fn from(why: Refusal) -> Numbers {
+        match why {
+            Refusal::Sizes => refused_at(1, 0),
+            Refusal::FundField => refused_at(2, 0),
+            Refusal::Component(place) => refused_at(3, place),
+            Refusal::Total(place) => refused_at(4, place),
+            Refusal::UnsoundDay => refused_at(5, 0),
+            Refusal::NoSuchLine => refused_at(6, 0),
+            Refusal::QuantityOrPrice => refused_at(7, 0),
+            Refusal::Account => refused_at(8, 0),
+            Refusal::ShortOfStock(place) => refused_at(9, place),
+            Refusal::ShortOfCash => refused_at(10, 0),
+            Refusal::NotWholeBaskets => refused_at(11, 0),
+            Refusal::Switch => refused_at(12, 0),
+            Refusal::Limit => refused_at(13, 0),
+            Refusal::NoReferenceValue => refused_at(14, 0),
+            Refusal::CashRatio => refused_at(15, 0),
+            Refusal::ListTooShort => refused_at(16, 0),
+            Refusal::FundShort(place) => refused_at(17, place),
+            Refusal::TextLine(place) => refused_at(18, place),
+            Refusal::TextField(place) => refused_at(19, place),
+            Refusal::RecordCount => refused_at(20, 0),
+        }
     }
 }
 
-pub fn of_answer(answer: Answer) -> Numbers
-    ensures { reply_of result ≡ answer_reply answer }
-{
-    match answer {
-        Answer::Done => accepted(0),
-        Answer::Refused(why) => of_refusal(why),
+impl From<Result<(), Refusal>> for Numbers {
+    ghost from_gives = { λ answer numbers. reply_of numbers ≡ answer_reply answer };
+
+    fn from(answer: Result<(), Refusal>) -> Numbers {
+        match answer {
+            Ok(()) => accepted(0),
+            Err(why) => Numbers::from(why),
+        }
     }
 }
 
-pub fn of_order(answer: OrderAnswer) -> Numbers
-    ensures { reply_of result ≡ order_answer_reply answer }
-{
-    match answer {
-        OrderAnswer::Made(counts) => Numbers {
-            number: 0,
-            place: 0,
-            value: counts.records as u64,
-            reports: counts.reports as u64,
-        },
-        OrderAnswer::Refused(why) => of_refusal(why),
+impl From<Result<Counts, Refusal>> for Numbers {
+    ghost from_gives = { λ answer numbers. reply_of numbers ≡ order_answer_reply answer };
+
+    fn from(answer: Result<Counts, Refusal>) -> Numbers {
+        match answer {
+            Ok(counts) => Numbers {
+                number: 0,
+                place: 0,
+                value: counts.records as u64,
+                reports: counts.reports as u64,
+            },
+            Err(why) => Numbers::from(why),
+        }
     }
 }
 
-pub fn of_value(answer: ValueAnswer) -> Numbers
-    ensures { reply_of result ≡ value_answer_reply answer }
-{
-    match answer {
-        ValueAnswer::Worth(v) => accepted(v.0),
-        ValueAnswer::Refused(why) => of_refusal(why),
+impl From<Result<ReferenceValue, Refusal>> for Numbers {
+    ghost from_gives = { λ answer numbers. reply_of numbers ≡ value_answer_reply answer };
+
+    fn from(answer: Result<ReferenceValue, Refusal>) -> Numbers {
+        match answer {
+            Ok(value) => accepted(value.0),
+            Err(why) => Numbers::from(why),
+        }
     }
 }
 

@@ -13,7 +13,8 @@ use Rattle.lots.specs.Lots.{hand_in_of, get_of, take_in_of, handable}
 use Rattle.layout.specs.Day.{Day}
 use Rattle.layout.specs.Book.{cash, head_at, lots_at, account}
 use Rattle.rules.specs.Lines.{code_of, moves_stock}
-use Rattle.rules.specs.Orders.{creation, baskets, need, fund_count, shanghai_cash, other_cash}
+use Rattle.rules.specs.declared.Kind.TheVariants.{Creation}
+use Rattle.rules.specs.Orders.{baskets, need, fund_count, shanghai_cash, other_cash}
 use Rattle.rules.specs.Records.{side_b, side_s}
 use Rattle.layout.specs.Records.{with_records}
 use Rattle.rules.specs.declared.Rooms.{Rooms}
@@ -101,10 +102,9 @@ module _ (d : Day) (b ps : List ℕ) (a units : ℕ) (rooms : Rooms) (t : Create
       → Keeps (record { day = d; book = b; prices = ps }) (record { day = d; book = creation_moves d ps a units b; prices = ps }) (call_tally d (create a units) lists n)
   unfolding with_order creation_moves fund_count call_sold call_bought call_got call_handed_in call_created call_redeemed call_created_by_all call_redeemed_by_all
   moves_keep k =
-      let low : creation < 2 = omega arith in
-      order_keeps d b ps creation a units move t.sound t.order low settles
-      (own_rises d b ps creation a units move t.sound t.order low)
-      (other_stays d b ps creation a units move t.sound t.order low)
+      order_keeps d b ps Creation a units move t.sound t.order settles
+      (own_rises d b ps Creation a units move t.sound t.order)
+      (other_stays d b ps Creation a units move t.sound t.order)
       t.order.below_ceiling
       (omega (arith, t.sound.book.redeemed_most))
       k

@@ -10,7 +10,9 @@ use Rattle.sequences.specs.Same.{when_same}
 use Rattle.sequences.proofs.Same.{when_same_lem, when_other}
 use Rattle.layout.specs.declared.Fund.{Fund}
 use Rattle.fund.specs.Fund.{limit_of, cumulative_limit, cumulative_limit_each, net_limit, net_limit_each}
-use Rattle.rules.specs.Orders.{creation, redemption}
+use Rattle.rules.specs.declared.Kind.{Kind}
+use Rattle.rules.specs.declared.Kind.TheVariants.{Creation, Redemption}
+use Rattle.rules.specs.Orders.{number_of, opposite_kind, limit_for}
 use Rattle.rules.proofs.Accepted.{Orders, creation_facts, redemption_facts}
 use Rattle.rules.specs.Lent.{Lent}
 use Rattle.balance.specs.Calls.{State, Call, Event, price, trade, create, redeem, value, step, Happened}
@@ -20,22 +22,22 @@ use Rattle.balance.proofs.Relation.{KeptState, count_in, fund_count_in, Tally, S
 use Rattle.balance.proofs.Steps.{refusal_changes_nothing, accepted_keeps, kept_step}
 
 -- the limits on one kind of order, cumulative and net
-pub record KindLimits (s : State) (kind : ℕ) : Type 0 where
-  pub all : Within (limit_of s.day.fund cumulative_limit kind) (fund_count_in s kind)
-  pub each : (a : ℕ) → a < s.day.accounts → Within (limit_of s.day.fund cumulative_limit_each kind) (count_in s kind a)
-  pub net : Within (limit_of s.day.fund net_limit kind) (fund_count_in s kind - fund_count_in s (1 - kind))
-  pub net_each : (a : ℕ) → a < s.day.accounts → Within (limit_of s.day.fund net_limit_each kind) (count_in s kind a - count_in s (1 - kind) a)
+pub record KindLimits (s : State) (kind : Kind) : Type 0 where
+  pub all : Within (limit_for s.day cumulative_limit kind) (fund_count_in s kind)
+  pub each : (a : ℕ) → a < s.day.accounts → Within (limit_for s.day cumulative_limit_each kind) (count_in s kind a)
+  pub net : Within (limit_for s.day net_limit kind) (fund_count_in s kind - fund_count_in s (opposite_kind kind))
+  pub net_each : (a : ℕ) → a < s.day.accounts → Within (limit_for s.day net_limit_each kind) (count_in s kind a - count_in s (opposite_kind kind) a)
 
 pub record Limits (s : State) : Type 0 where
-  pub created : KindLimits s creation
-  pub redeemed : KindLimits s redemption
+  pub created : KindLimits s Creation
+  pub redeemed : KindLimits s Redemption
 
 pub within_less : {limit limit' units units' : ℕ} → limit' ≡ limit → units' ≤ units → Within limit units → Within limit' units'
 within_less e h w p = omega (arith, w (omega arith))
 
-module _ {s t : State} {kind all other-all : ℕ} {each other-each : ℕ → ℕ} (stays : Stays s.day t.day) (own : Rises s t kind each all) (other : Rises s t (1 - kind) other-each other-all) where
-  limit_stays : (limit : ℕ) → limit_of t.day.fund limit kind ≡ limit_of s.day.fund limit kind
-  limit_stays limit = ap (λ (f : Fund). limit_of f limit kind) stays.fund
+module _ {s t : State} {kind : Kind} {all other-all : ℕ} {each other-each : ℕ → ℕ} (stays : Stays s.day t.day) (own : Rises s t kind each all) (other : Rises s t (opposite_kind kind) other-each other-all) where
+  limit_stays : (limit : ℕ) → limit_for t.day limit kind ≡ limit_for s.day limit kind
+  limit_stays limit = ap (λ (f : Fund). limit_of f limit (number_of kind)) stays.fund
 
   in_day : (a : ℕ) → a < t.day.accounts → a < s.day.accounts
   in_day a i = omega (arith, stays.accounts)
@@ -53,14 +55,14 @@ module _ {s t : State} {kind all other-all : ℕ} {each other-each : ℕ → ℕ
   -- an order of the kind: its limits were tested
   module _ {account : ℕ} (order : Orders s.day s.book kind account all) (by : (a : ℕ) → each a ≡ when_same account a all)
       (none : other-all ≡ 0) (none_Each : (a : ℕ) → other-each a ≡ 0) (l : KindLimits s kind) where
-    each_held : (a : ℕ) → a < s.day.accounts → Dec (account ≡ a) → Within (limit_of s.day.fund cumulative_limit_each kind) (count_in t kind a)
+    each_held : (a : ℕ) → a < s.day.accounts → Dec (account ≡ a) → Within (limit_for s.day cumulative_limit_each kind) (count_in t kind a)
     each_held a i (yes q) = within_less refl (omega (arith, own.counts a i, by a, when_same_lem account a all q, ap (count_in s kind) q)) order.limit_each
     each_held a i (no n) = within_less refl (omega (arith, own.counts a i, by a, when_other account a all n)) (l.each a i)
 
-    net_each_held : (a : ℕ) → a < s.day.accounts → Dec (account ≡ a) → Within (limit_of s.day.fund net_limit_each kind) (count_in t kind a - count_in t (1 - kind) a)
+    net_each_held : (a : ℕ) → a < s.day.accounts → Dec (account ≡ a) → Within (limit_for s.day net_limit_each kind) (count_in t kind a - count_in t (opposite_kind kind) a)
     net_each_held a i (yes q) =
         within_less refl
-        (omega (arith, own.counts a i, by a, when_same_lem account a all q, ap (count_in s kind) q, other.counts a i, none_Each a, ap (count_in s (1 - kind)) q))
+        (omega (arith, own.counts a i, by a, when_same_lem account a all q, ap (count_in s kind) q, other.counts a i, none_Each a, ap (count_in s (opposite_kind kind)) q))
         order.net_limit_each_lem
     net_each_held a i (no n) = within_less refl (omega (arith, own.counts a i, by a, when_other account a all n, other.counts a i)) (l.net_each a i)
 

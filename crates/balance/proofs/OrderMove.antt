@@ -1,7 +1,7 @@
 -- An order of either kind: its account's side and the fund's, and that they keep what a list of events keeps.
 use mathlib.Core.Path.{◌≡◌, refl, sym, ap, subst, ◌∙◌}
 use mathlib.Core.List.{List}
-use Prim.Native.Nat.{ℕ, ◌+◌, ◌-◌, ◌*◌, ◌≤◌, ◌<◌}
+use Prim.Native.Nat.{ℕ, ◌+◌, ◌*◌, ◌≤◌, ◌<◌}
 use native.Mathlib.Decide.{ℕ_discrete, dec_lt}
 use native.Mathlib.Omega.{arith}
 use lib.ListN.{length}
@@ -15,9 +15,11 @@ use Rattle.fund.specs.Fund.{ceiling}
 use Rattle.layout.specs.Places.{lines_from}
 use Rattle.layout.specs.Day.{Day}
 use Rattle.layout.specs.Book.{cash, head_at, lots_at, width, account, head_total, line_total, behind_line, counter}
-use Rattle.rules.specs.Orders.{creation, redemption, count_of, fund_count, account_side, fund_side}
+use Rattle.rules.specs.declared.Kind.{Kind}
+use Rattle.rules.specs.declared.Kind.TheVariants.{Creation, Redemption}
+use Rattle.rules.specs.Orders.{number_of, opposite_kind, count_of, fund_count, account_side, fund_side}
 use Rattle.rules.proofs.SoundDay.{SoundDay, Kept, sound_moved}
-use Rattle.rules.proofs.Sides.{account-length, account_cash_lem, account_count, account_head, account_line, account_unit, fund-length, fund_cash_lem, fund_head, fund_line, fund_unit}
+use Rattle.rules.proofs.Sides.{number-below, account-length, account_cash_lem, account_count, account_head, account_line, account_unit, fund-length, fund_cash_lem, fund_head, fund_line, fund_unit}
 use Rattle.rules.proofs.Accepted.{Orders}
 use Rattle.balance.specs.Calls.{State}
 use Rattle.balance.proofs.Relation.{lots_in, fund_count_in, Tally, Drawn, drawn_same, drawn_eq, stays_same, Rises, Keeps}
@@ -42,7 +44,7 @@ pub record Settles (n : ℕ) (s f : List ℕ) (m : Move) (made gone : ℕ) (got 
   pub fund_bought : (l : ℕ) (x : Lots) → (m.fund_component l x).bought ≡ x.bought
   pub fund_got : (l : ℕ) (x : Lots) → (m.fund_component l x).got ≡ x.got
 
-module _ (d : Day) (b ps : List ℕ) (kind a units : ℕ) (m : Move) (sound : SoundDay d b ps) (order : Orders d b kind a units) (either : kind < 2) where
+module _ (d : Day) (b ps : List ℕ) (kind : Kind) (a units : ℕ) (m : Move) (sound : SoundDay d b ps) (order : Orders d b kind a units) where
   abbrev investor : List ℕ
   investor = account d b a
 
@@ -96,10 +98,10 @@ module _ (d : Day) (b ps : List ℕ) (kind a units : ℕ) (m : Move) (sound : So
 
   -- the account's lots after, and the fund's
   line_after : (l : ℕ) → l < d.count → lots_at investor_after l ≡ m.component l (lots_at investor l)
-  line_after l i = account_line d.count kind units m.component m.unit (m.cash_after investor) investor either wide l i
+  line_after l i = account_line d.count kind units m.component m.unit (m.cash_after investor) investor wide l i
 
   unit_after : lots_at investor_after d.count ≡ m.unit (lots_at investor d.count)
-  unit_after = account_unit d.count kind units m.component m.unit (m.cash_after investor) investor either wide
+  unit_after = account_unit d.count kind units m.component m.unit (m.cash_after investor) investor wide
 
   fund_line_after : (l : ℕ) → l < d.count → lots_at fund_after l ≡ m.fund_component l (lots_at fund l)
   fund_line_after l i = fund_line d.count m.fund_component (m.fund_cash_after fund) fund (omega (arith, fund_wide)) l i
@@ -111,40 +113,50 @@ module _ (d : Day) (b ps : List ℕ) (kind a units : ℕ) (m : Move) (sound : So
   fund_heads k p q = ap (λ (x : List ℕ). head_at x k) changed.first ∙ fund_head d.count m.fund_component (m.fund_cash_after fund) fund k p q
 
   -- counters: the order's own kind rises for its account and fund_wide, the other kind stays
-  own_count : head_at investor_after (counter kind) ≡ head_at investor (counter kind) + units
-  own_count = account_count d.count kind units m.component m.unit (m.cash_after investor) investor either wide
+  own_count : head_at investor_after (counter (number_of kind)) ≡ head_at investor (counter (number_of kind)) + units
+  own_count = account_count d.count kind units m.component m.unit (m.cash_after investor) investor wide
 
-  other_count : head_at investor_after (counter (1 - kind)) ≡ head_at investor (counter (1 - kind))
-  other_count = account_head d.count kind units m.component m.unit (m.cash_after investor) investor (counter (1 - kind)) (omega arith) (omega arith) (λ q. omega arith)
+  numbers_differ : (k : Kind) → counter (number_of (opposite_kind k)) ≡ counter (number_of k) → ⊥
+  numbers_differ Creation q = omega arith
+  numbers_differ Redemption q = omega arith
 
-  other_account : (j i : ℕ) → j < 2 → (i ≡ a → ⊥) → Dec (i ≡ 0) → count_of d moved j i ≡ count_of d b j i
+  other_count : head_at investor_after (counter (number_of (opposite_kind kind))) ≡ head_at investor (counter (number_of (opposite_kind kind)))
+  other_count =
+      account_head d.count kind units m.component m.unit (m.cash_after investor) investor (counter (number_of (opposite_kind kind)))
+      (omega arith) (omega (arith, number-below (opposite_kind kind))) (numbers_differ kind)
+
+  other_account : (j : Kind) (i : ℕ) → (i ≡ a → ⊥) → Dec (i ≡ 0) → count_of d moved j i ≡ count_of d b j i
   unfolding count_of
-  other_account j i l n (yes q) = subst (λ (k : ℕ). head_at (account d moved k) (counter j) ≡ head_at (account d b k) (counter j)) (sym q) (fund_heads (counter j) (omega arith) (omega arith))
-  other_account j i l n (no p) = ap (λ (x : List ℕ). head_at x (counter j)) (changed.others i p n)
+  other_account j i n (yes q) =
+      subst (λ (k : ℕ). head_at (account d moved k) (counter (number_of j)) ≡ head_at (account d b k) (counter (number_of j))) (sym q)
+      (fund_heads (counter (number_of j)) (omega arith) (omega (arith, number-below j)))
+  other_account j i n (no p) = ap (λ (x : List ℕ). head_at x (counter (number_of j))) (changed.others i p n)
 
-  rises : (j all : ℕ) (more : ℕ → ℕ) → j < 2 → head_at investor_after (counter j) ≡ head_at investor (counter j) + all → more a ≡ all → ((i : ℕ) → (a ≡ i → ⊥) → more i ≡ 0)
-      → Rises before after j more all
+  rises : (j : Kind) (all : ℕ) (more : ℕ → ℕ) → head_at investor_after (counter (number_of j)) ≡ head_at investor (counter (number_of j)) + all → more a ≡ all
+      → ((i : ℕ) → (a ≡ i → ⊥) → more i ≡ 0) → Rises before after j more all
   unfolding count_of fund_count head_total
-  rises j all more l e own none =
+  rises j all more e own none =
+      let here = fund_head d.count m.fund_component (m.fund_cash_after fund) fund (counter (number_of j)) (omega arith) (omega (arith, number-below j)) in
       record {
         counts = λ i h. case i (ℕ_discrete a i);
-        fund_count_lem = omega (arith, sums (λ x. head_at x (counter j)), fund_head d.count m.fund_component (m.fund_cash_after fund) fund (counter j) (omega arith) (omega arith));
+        fund_count_lem = omega (arith, sums (λ x. head_at x (counter (number_of j))), here);
       }
     where
       case : (i : ℕ) → Dec (a ≡ i) → count_of d moved j i ≡ count_of d b j i + more i
-      case i (yes q) = subst (λ (k : ℕ). count_of d moved j k ≡ count_of d b j k + more k) q (omega (arith, ap (λ (x : List ℕ). head_at x (counter j)) changed.second))
-      case i (no n) = omega (arith, other_account j i l (λ q. n (sym q)) (ℕ_discrete i 0), none i n)
+      case i (yes q) =
+          subst (λ (k : ℕ). count_of d moved j k ≡ count_of d b j k + more k) q (omega (arith, ap (λ (x : List ℕ). head_at x (counter (number_of j))) changed.second))
+      case i (no n) = omega (arith, other_account j i (λ q. n (sym q)) (ℕ_discrete i 0), none i n)
 
   pub own_rises : Rises before after kind (λ i. when_same a i units) units
-  own_rises = rises kind units (λ i. when_same a i units) either own_count (when_same_lem a a units refl) (λ i n. when_other a i units n)
+  own_rises = rises kind units (λ i. when_same a i units) own_count (when_same_lem a a units refl) (λ i n. when_other a i units n)
 
-  pub other_stays : Rises before after (1 - kind) (λ i. 0) 0
-  other_stays = rises (1 - kind) 0 (λ i. 0) (omega arith) (omega (arith, other_count)) refl (λ i n. refl)
+  pub other_stays : Rises before after (opposite_kind kind) (λ i. 0) 0
+  other_stays = rises (opposite_kind kind) 0 (λ i. 0) (omega (arith, other_count)) refl (λ i n. refl)
 
   -- what it keeps where the move settles so, with the counters' rise and the ceiling
   module _ {made gone : ℕ} {got handed each-made each-gone : ℕ → ℕ} (x : Settles d.count investor fund m made gone got handed)
-      (created : Rises before after creation each-made made) (redeemed : Rises before after redemption each-gone gone)
-      (below : fund_count_in before creation + made ≤ ceiling) (redeemed-below : fund_count_in before redemption + gone ≤ ceiling) where
+      (created : Rises before after Creation each-made made) (redeemed : Rises before after Redemption each-gone gone)
+      (below : fund_count_in before Creation + made ≤ ceiling) (redeemed-below : fund_count_in before Redemption + gone ≤ ceiling) where
     money_kept : head_total d moved cash ≡ head_total d b cash
     unfolding head_total
     money_kept =

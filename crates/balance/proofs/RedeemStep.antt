@@ -11,7 +11,8 @@ use Rattle.sequences.proofs.Same.{when_same_lem, when_other}
 use Rattle.lots.specs.Lots.{hand_in_of, get_of, pay_out_of}
 use Rattle.layout.specs.Day.{Day}
 use Rattle.layout.specs.Book.{cash, head_at, lots_at, account}
-use Rattle.rules.specs.Orders.{redemption, baskets, need, fund_count}
+use Rattle.rules.specs.declared.Kind.TheVariants.{Redemption}
+use Rattle.rules.specs.Orders.{baskets, need, fund_count}
 use Rattle.rules.specs.declared.Rooms.{Rooms}
 use Rattle.rules.specs.Lent.{Lent}
 use Rattle.rules.specs.Redemption.{delivered, redemption_paid, redemption_moves, redeemed_book, redeemed_lists}
@@ -71,10 +72,9 @@ module _ (d : Day) (b ps : List ℕ) (a units : ℕ) (rooms : Rooms) (t : Redeem
       → Keeps (record { day = d; book = b; prices = ps }) (record { day = d; book = redemption_moves d a units b; prices = ps }) (call_tally d (redeem a units) made n)
   unfolding redemption_moves fund_count delivered need call_sold call_bought call_got call_handed_in call_created call_redeemed call_created_by_all call_redeemed_by_all
   moves_keep k made n =
-      let low : redemption < 2 = omega arith in
-      order_keeps d b ps redemption a units move t.sound t.order low settles
-      (other_stays d b ps redemption a units move t.sound t.order low)
-      (own_rises d b ps redemption a units move t.sound t.order low)
+      order_keeps d b ps Redemption a units move t.sound t.order settles
+      (other_stays d b ps Redemption a units move t.sound t.order)
+      (own_rises d b ps Redemption a units move t.sound t.order)
       (omega (arith, t.sound.book.created_most))
       t.order.below_ceiling
       k

@@ -9,7 +9,9 @@ use Rattle.lots.specs.declared.Lots.{Lots}
 use Rattle.lots.specs.Lots.{sell_of, buy_of, get_of, hand_in_of, sellable, handable}
 use Rattle.layout.specs.Day.{Day}
 use Rattle.layout.specs.Book.{cash, account, lots_at, head_total, line_total}
-use Rattle.rules.specs.Orders.{creation, redemption, count_of, fund_count}
+use Rattle.rules.specs.declared.Kind.{Kind}
+use Rattle.rules.specs.declared.Kind.TheVariants.{Creation, Redemption}
+use Rattle.rules.specs.Orders.{count_of, fund_count}
 use Rattle.rules.proofs.SoundDay.{Kept}
 use Rattle.sequences.specs.Checks.{is_accepted}
 use Rattle.rules.specs.Lent.{Lent}
@@ -29,10 +31,10 @@ line_in s l = line_total s.day s.book l
 abbrev pub lots_in : State → ℕ → ℕ → Lots
 lots_in s a l = lots_at (account s.day s.book a) l
 
-abbrev pub count_in : State → ℕ → ℕ → ℕ
+abbrev pub count_in : State → Kind → ℕ → ℕ
 count_in s kind a = count_of s.day s.book kind a
 
-abbrev pub fund_count_in : State → ℕ → ℕ
+abbrev pub fund_count_in : State → Kind → ℕ
 fund_count_in s kind = fund_count s.day s.book kind
 
 -- counts of a list of events: quantities by account and line, units by account, and units of all accounts
@@ -138,7 +140,7 @@ stays_then k j =
     }
 
 -- the counters of a kind of order rose by so many units, each account's and the fund's
-pub record Rises (s t : State) (kind : ℕ) (each : ℕ → ℕ) (all : ℕ) : Type 0 where
+pub record Rises (s t : State) (kind : Kind) (each : ℕ → ℕ) (all : ℕ) : Type 0 where
   pub counts : (a : ℕ) → a < s.day.accounts → count_in t kind a ≡ count_in s kind a + each a
   pub fund_count_lem : fund_count_in t kind ≡ fund_count_in s kind + all
 
@@ -152,8 +154,8 @@ pub record Keeps (s t : State) (n : Tally) : Type 0 where
   pub lots : (a l : ℕ) → 0 < a → a < s.day.accounts → l ≤ s.day.count → Drawn (lots_in s a l) (lots_in t a l) (n.sold a l) (n.bought a l) (n.got a l) (n.handed a l)
   pub fund_sold : (l : ℕ) → n.sold 0 l ≡ 0
   pub fund_handed : (l : ℕ) → n.handed 0 l ≡ 0
-  pub created : Rises s t creation n.created n.all_created
-  pub redeemed : Rises s t redemption n.redeemed n.all_redeemed
+  pub created : Rises s t Creation n.created n.all_created
+  pub redeemed : Rises s t Redemption n.redeemed n.all_redeemed
 
 -- the day and the book are the same
 pub keeps_same : {s : State} {ps : List ℕ} → Kept s.day s.book ps → Keeps s (record { day = s.day; book = s.book; prices = ps }) none
@@ -179,7 +181,7 @@ module _ {s t u : State} {n m : Tally} (k : Keeps s t n) (j : Keeps t u m) where
   count_stays : t.day.count ≡ s.day.count
   count_stays = k.stays.count
 
-  rises_then : {kind all all' : ℕ} {each each' : ℕ → ℕ} → Rises s t kind each all → Rises t u kind each' all' → Rises s u kind (λ a. each a + each' a) (all + all')
+  rises_then : {kind : Kind} {all all' : ℕ} {each each' : ℕ → ℕ} → Rises s t kind each all → Rises t u kind each' all' → Rises s u kind (λ a. each a + each' a) (all + all')
   rises_then r q =
       record {
         counts = λ a h. omega (arith, r.counts a h, q.counts a (omega (arith, accounts_stay)));

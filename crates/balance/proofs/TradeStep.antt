@@ -14,10 +14,12 @@ use Rattle.lots.specs.Lots.{sell_of, buy_of, lots_total}
 use Rattle.layout.specs.Places.{lines_from}
 use Rattle.layout.specs.Day.{Day}
 use Rattle.layout.specs.Book.{cash, created, redeemed, head_at, put_head, lots_at, on_line, width, account, head_total, line_total, behind_line, counter}
-use Rattle.rules.specs.Orders.{creation, redemption, count_of, fund_count}
+use Rattle.rules.specs.declared.Kind.{Kind}
+use Rattle.rules.specs.declared.Kind.TheVariants.{Creation, Redemption}
+use Rattle.rules.specs.Orders.{number_of, count_of, fund_count}
 use Rattle.rules.specs.Trade.{sell_side, buy_side, trade_moves, traded_book}
 use Rattle.rules.proofs.SoundDay.{Kept, sound_moved}
-use Rattle.rules.proofs.Sides.{side-length, side_cash, side_counter, side_line, side_other}
+use Rattle.rules.proofs.Sides.{number-below, side-length, side_cash, side_counter, side_line, side_other}
 use Rattle.rules.proofs.Accepted.{Trades, trade_facts}
 use Rattle.rules.specs.Lent.{Lent}
 use Rattle.balance.specs.Calls.{State, trade, step}
@@ -110,12 +112,12 @@ module _ (d : Day) (b ps : List ℕ) (line q p seller buyer : ℕ) (t : Trades d
   count_same k a h i (no m) (yes e) = subst (λ (j : ℕ). head_at (account d after j) k ≡ head_at (account d b j) k) e (buys.counters k h i)
   count_same k a h i (no m) (no n) = ap (λ (x : List ℕ). head_at x k) (changed.others a (λ e. m (sym e)) (λ e. n (sym e)))
 
-  rises : (kind : ℕ) → kind < 2 → Rises from to kind (λ a. 0) 0
+  rises : (kind : Kind) → Rises from to kind (λ a. 0) 0
   unfolding count_of fund_count
-  rises kind h =
+  rises kind =
       record {
-        counts = λ a i. omega (arith, count_same (counter kind) a (omega arith) (omega arith) (ℕ_discrete seller a) (ℕ_discrete buyer a));
-        fund_count_lem = omega (arith, counter_total (counter kind) (omega arith) (omega arith));
+        counts = λ a i. omega (arith, count_same (counter (number_of kind)) a (omega arith) (omega (arith, number-below kind)) (ℕ_discrete seller a) (ℕ_discrete buyer a));
+        fund_count_lem = omega (arith, counter_total (counter (number_of kind)) (omega arith) (omega (arith, number-below kind)));
       }
 
   -- each account's lots
@@ -181,8 +183,8 @@ module _ (d : Day) (b ps : List ℕ) (line q p seller buyer : ℕ) (t : Trades d
         lots = λ a l pos h i. lots a l (ℕ_discrete seller a) (ℕ_discrete buyer a);
         fund_sold = λ l. when_other seller 0 (when_same line l q) (λ e. omega (arith, t.seller_low));
         fund_handed = λ l. refl;
-        created = rises creation (omega arith);
-        redeemed = rises redemption (omega arith);
+        created = rises Creation;
+        redeemed = rises Redemption;
       }
 
 pub trade_keeps : (s : State) (line q p seller buyer : ℕ) (lent : Lent) → AcceptedKeeps s (trade line q p seller buyer) lent

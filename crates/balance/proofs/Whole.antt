@@ -17,7 +17,9 @@ use Rattle.layout.specs.Components.{blank}
 use Rattle.layout.specs.Day.{Day}
 use Rattle.layout.specs.Book.{width_of, head_at, lots_at, account, counter}
 use Rattle.rules.specs.Opening.{Opening, holdings_of, held_opened, opening_reply, opened_day, opened_stretch, opened_book}
-use Rattle.rules.specs.Orders.{creation, redemption, count_of, fund_count}
+use Rattle.rules.specs.declared.Kind.{Kind}
+use Rattle.rules.specs.declared.Kind.TheVariants.{Creation, Redemption}
+use Rattle.rules.specs.Orders.{number_of, count_of, fund_count}
 use Rattle.rules.proofs.OpenedDay.{opened_day_lem, opened_kept, opened_money, opened_line, opened_component, opened_account, opened_lots, opened_created, opened_redeemed, opened_counter}
 use Rattle.balance.specs.Calls.{State, Event, step, Happened}
 use Rattle.balance.specs.Counts.{counted, sold_by, bought_by, got_by, handed_in_by, created_by, redeemed_by, created_by_all, redeemed_by_all}
@@ -68,30 +70,25 @@ module _ (o : Opening) (accepted : is_accepted (opening_reply o) ≡ true) where
   lots_are : (a l : ℕ) → a < (opened_day o).accounts → l ≤ (opened_day o).count → lots_at (account (opened_day o) (opened_book o) a) l ≡ lots (held_opened l (holdings_of o a)) 0 0
   lots_are a l h i = ap (λ (s : List ℕ). lots_at s l) (account_is a h) ∙ opened_lots o.count (holdings_of o a) l (omega (arith, count_is))
 
-  head_none : (kind : ℕ) → kind < 2 → (h : List ℕ) → head_at (opened_stretch o.count h) (counter kind) ≡ 0
-  head_none kind k h = case (ℕ_discrete kind 0)
-    where
-      case : Dec (kind ≡ 0) → head_at (opened_stretch o.count h) (counter kind) ≡ 0
-      case (yes q) = ap (λ (j : ℕ). head_at (opened_stretch o.count h) (counter j)) q ∙ opened_created o.count h
-      case (no n) =
-          let q : kind ≡ 1 = omega arith in
-          ap (λ (j : ℕ). head_at (opened_stretch o.count h) (counter j)) q ∙ opened_redeemed o.count h
+  head_none : (kind : Kind) → (h : List ℕ) → head_at (opened_stretch o.count h) (counter (number_of kind)) ≡ 0
+  head_none Creation h = opened_created o.count h
+  head_none Redemption h = opened_redeemed o.count h
 
-  none_counted : (kind a : ℕ) → kind < 2 → a < (opened_day o).accounts → count_in (opened o) kind a ≡ 0
+  none_counted : (kind : Kind) (a : ℕ) → a < (opened_day o).accounts → count_in (opened o) kind a ≡ 0
   unfolding count_of
-  none_counted kind a k h = ap (λ (s : List ℕ). head_at s (counter kind)) (account_is a h) ∙ head_none kind k (holdings_of o a)
+  none_counted kind a h = ap (λ (s : List ℕ). head_at s (counter (number_of kind))) (account_is a h) ∙ head_none kind (holdings_of o a)
 
-  none_counted_all : (kind : ℕ) → kind < 2 → fund_count_in (opened o) kind ≡ 0
+  none_counted_all : (kind : Kind) → fund_count_in (opened o) kind ≡ 0
   unfolding fund_count
-  none_counted_all kind k = opened_counter o accepted (counter kind) (head_none kind k)
+  none_counted_all kind = opened_counter o accepted (counter (number_of kind)) (head_none kind)
 
-  opened_limits : (kind : ℕ) → kind < 2 → KindLimits (opened o) kind
-  opened_limits kind k =
+  opened_limits : (kind : Kind) → KindLimits (opened o) kind
+  opened_limits kind =
       record {
-        all = λ p. omega (arith, none_counted_all kind k);
-        each = λ a i p. omega (arith, none_counted kind a k i);
-        net = λ p. omega (arith, none_counted_all kind k);
-        net_each = λ a i p. omega (arith, none_counted kind a k i);
+        all = λ p. omega (arith, none_counted_all kind);
+        each = λ a i p. omega (arith, none_counted kind a i);
+        net = λ p. omega (arith, none_counted_all kind);
+        net_each = λ a i p. omega (arith, none_counted kind a i);
       }
 
   -- the statement, for every list of events
@@ -100,7 +97,7 @@ module _ (o : Opening) (accepted : is_accepted (opening_reply o) ≡ true) where
     keeps = list_keeps (opened o) es t h (opened_kept o accepted)
 
     limits : Limits t
-    limits = list_limits (opened o) es t h (opened_kept o accepted) (record { created = opened_limits creation (omega arith); redeemed = opened_limits redemption (omega arith) })
+    limits = list_limits (opened o) es t h (opened_kept o accepted) (record { created = opened_limits Creation; redeemed = opened_limits Redemption })
 
     count_kept : t.day.count ≡ o.count
     count_kept = keeps.stays.count ∙ count_is
@@ -123,20 +120,20 @@ module _ (o : Opening) (accepted : is_accepted (opening_reply o) ≡ true) where
         omega (arith, keeps.lots a l (omega arith) a_in l-in, ap (λ (x : Lots). x.old) x, ap (λ (x : Lots). x.bought) x, ap (λ (x : Lots). x.got) x)
 
     -- the counters of the book are the counts from events
-    all_created : fund_count_in t creation ≡ created_by_all (opened o) es
-    all_created = omega (arith, keeps.created.fund_count_lem, none_counted_all creation (omega arith))
+    all_created : fund_count_in t Creation ≡ created_by_all (opened o) es
+    all_created = omega (arith, keeps.created.fund_count_lem, none_counted_all Creation)
 
-    all_redeemed : fund_count_in t redemption ≡ redeemed_by_all (opened o) es
-    all_redeemed = omega (arith, keeps.redeemed.fund_count_lem, none_counted_all redemption (omega arith))
+    all_redeemed : fund_count_in t Redemption ≡ redeemed_by_all (opened o) es
+    all_redeemed = omega (arith, keeps.redeemed.fund_count_lem, none_counted_all Redemption)
 
-    created_is : (a : ℕ) → a < o.accounts → count_in t creation a ≡ created_by a (opened o) es
-    created_is a i = let a_in : a < (opened_day o).accounts = omega (arith, accounts_is) in omega (arith, keeps.created.counts a a_in, none_counted creation a (omega arith) a_in)
+    created_is : (a : ℕ) → a < o.accounts → count_in t Creation a ≡ created_by a (opened o) es
+    created_is a i = let a_in : a < (opened_day o).accounts = omega (arith, accounts_is) in omega (arith, keeps.created.counts a a_in, none_counted Creation a a_in)
 
-    redeemed_is : (a : ℕ) → a < o.accounts → count_in t redemption a ≡ redeemed_by a (opened o) es
-    redeemed_is a i = let a_in : a < (opened_day o).accounts = omega (arith, accounts_is) in omega (arith, keeps.redeemed.counts a a_in, none_counted redemption a (omega arith) a_in)
+    redeemed_is : (a : ℕ) → a < o.accounts → count_in t Redemption a ≡ redeemed_by a (opened o) es
+    redeemed_is a i = let a_in : a < (opened_day o).accounts = omega (arith, accounts_is) in omega (arith, keeps.redeemed.counts a a_in, none_counted Redemption a a_in)
 
-    limit_is : (limit kind : ℕ) → limit_of o.fund limit kind ≡ limit_of t.day.fund limit kind
-    limit_is limit kind = ap (λ (f : Fund). limit_of f limit kind) (sym fund_kept)
+    limit_is : (limit : ℕ) (kind : Kind) → limit_of o.fund limit (number_of kind) ≡ limit_of t.day.fund limit (number_of kind)
+    limit_is limit kind = ap (λ (f : Fund). limit_of f limit (number_of kind)) (sym fund_kept)
 
     in_day : (a : ℕ) → a < o.accounts → a < t.day.accounts
     in_day a i = omega (arith, accounts_kept)
@@ -155,12 +152,12 @@ module _ (o : Opening) (accepted : is_accepted (opening_reply o) ≡ true) where
           units = omega (arith, keeps.units, opened_line o accepted o.count (omega arith), ap (line_in t) count_kept, ap (line_in (opened o)) count_is);
           sales = λ a l i j. (bounds a l i j (ℕ_discrete a 0)).0;
           handing_in = λ a l i j. (bounds a l i j (ℕ_discrete a 0)).1;
-          creation_limit = within_less (limit_is cumulative_limit creation) (omega (arith, all_created)) limits.created.all;
-          redemption_limit = within_less (limit_is cumulative_limit redemption) (omega (arith, all_redeemed)) limits.redeemed.all;
-          creation_limit_each = λ a i. within_less (limit_is cumulative_limit_each creation) (omega (arith, created_is a i)) (limits.created.each a (in_day a i));
-          redemption_limit_each = λ a i. within_less (limit_is cumulative_limit_each redemption) (omega (arith, redeemed_is a i)) (limits.redeemed.each a (in_day a i));
-          net_creation_limit = within_less (limit_is net_limit creation) (omega (arith, all_created, all_redeemed)) limits.created.net;
-          net_redemption_limit = within_less (limit_is net_limit redemption) (omega (arith, all_created, all_redeemed)) limits.redeemed.net;
-          net_creation_limit_each = λ a i. within_less (limit_is net_limit_each creation) (omega (arith, created_is a i, redeemed_is a i)) (limits.created.net_each a (in_day a i));
-          net_redemption_limit_each = λ a i. within_less (limit_is net_limit_each redemption) (omega (arith, created_is a i, redeemed_is a i)) (limits.redeemed.net_each a (in_day a i));
+          creation_limit = within_less (limit_is cumulative_limit Creation) (omega (arith, all_created)) limits.created.all;
+          redemption_limit = within_less (limit_is cumulative_limit Redemption) (omega (arith, all_redeemed)) limits.redeemed.all;
+          creation_limit_each = λ a i. within_less (limit_is cumulative_limit_each Creation) (omega (arith, created_is a i)) (limits.created.each a (in_day a i));
+          redemption_limit_each = λ a i. within_less (limit_is cumulative_limit_each Redemption) (omega (arith, redeemed_is a i)) (limits.redeemed.each a (in_day a i));
+          net_creation_limit = within_less (limit_is net_limit Creation) (omega (arith, all_created, all_redeemed)) limits.created.net;
+          net_redemption_limit = within_less (limit_is net_limit Redemption) (omega (arith, all_created, all_redeemed)) limits.redeemed.net;
+          net_creation_limit_each = λ a i. within_less (limit_is net_limit_each Creation) (omega (arith, created_is a i, redeemed_is a i)) (limits.created.net_each a (in_day a i));
+          net_redemption_limit_each = λ a i. within_less (limit_is net_limit_each Redemption) (omega (arith, created_is a i, redeemed_is a i)) (limits.redeemed.net_each a (in_day a i));
         }

@@ -5,7 +5,8 @@ use Rattle.layout.specs.Components.{component_at}
 use Rattle.layout.specs.Book.{cash, head_total, line_total}
 use Rattle.rules.specs.Lines.{component_of}
 use Rattle.rules.specs.Opening.{Opening, holdings_of, held_opened, opened_total, opened_cash, opened_day, opened_book, opened_prices}
-use Rattle.rules.specs.Orders.{creation, redemption}
+use Rattle.rules.specs.declared.Kind.TheVariants.{Creation, Redemption}
+use Rattle.rules.specs.Orders.{number_of}
 use Rattle.balance.specs.Calls.{State, Event, Happened}
 use Rattle.balance.specs.Reported.{AllReported}
 use Rattle.balance.specs.Counts.{sold_by, bought_by, got_by, handed_in_by, created_by, redeemed_by, created_by_all, redeemed_by_all}
@@ -37,11 +38,11 @@ pub record Balanced (o : Opening) (es : List Event) (t : State) : Type 0 where
   pub sales : (a l : ℕ) → a < o.accounts → l ≤ o.count → sold_by a l (opened o) es ≤ held_opened l (holdings_of o a) + got_by a l (opened o) es
   pub handing_in : (a l : ℕ) → a < o.accounts → l ≤ o.count → handed_in_by a l (opened o) es ≤ held_opened l (holdings_of o a) + bought_by a l (opened o) es
   -- no limit is passed: cumulative and per account, then net and net per account
-  pub creation_limit : Within (limit_of o.fund cumulative_limit creation) (created_by_all (opened o) es)
-  pub redemption_limit : Within (limit_of o.fund cumulative_limit redemption) (redeemed_by_all (opened o) es)
-  pub creation_limit_each : (a : ℕ) → a < o.accounts → Within (limit_of o.fund cumulative_limit_each creation) (created_by a (opened o) es)
-  pub redemption_limit_each : (a : ℕ) → a < o.accounts → Within (limit_of o.fund cumulative_limit_each redemption) (redeemed_by a (opened o) es)
-  pub net_creation_limit : Within (limit_of o.fund net_limit creation) (created_by_all (opened o) es - redeemed_by_all (opened o) es)
-  pub net_redemption_limit : Within (limit_of o.fund net_limit redemption) (redeemed_by_all (opened o) es - created_by_all (opened o) es)
-  pub net_creation_limit_each : (a : ℕ) → a < o.accounts → Within (limit_of o.fund net_limit_each creation) (created_by a (opened o) es - redeemed_by a (opened o) es)
-  pub net_redemption_limit_each : (a : ℕ) → a < o.accounts → Within (limit_of o.fund net_limit_each redemption) (redeemed_by a (opened o) es - created_by a (opened o) es)
+  pub creation_limit : Within (limit_of o.fund cumulative_limit (number_of Creation)) (created_by_all (opened o) es)
+  pub redemption_limit : Within (limit_of o.fund cumulative_limit (number_of Redemption)) (redeemed_by_all (opened o) es)
+  pub creation_limit_each : (a : ℕ) → a < o.accounts → Within (limit_of o.fund cumulative_limit_each (number_of Creation)) (created_by a (opened o) es)
+  pub redemption_limit_each : (a : ℕ) → a < o.accounts → Within (limit_of o.fund cumulative_limit_each (number_of Redemption)) (redeemed_by a (opened o) es)
+  pub net_creation_limit : Within (limit_of o.fund net_limit (number_of Creation)) (created_by_all (opened o) es - redeemed_by_all (opened o) es)
+  pub net_redemption_limit : Within (limit_of o.fund net_limit (number_of Redemption)) (redeemed_by_all (opened o) es - created_by_all (opened o) es)
+  pub net_creation_limit_each : (a : ℕ) → a < o.accounts → Within (limit_of o.fund net_limit_each (number_of Creation)) (created_by a (opened o) es - redeemed_by a (opened o) es)
+  pub net_redemption_limit_each : (a : ℕ) → a < o.accounts → Within (limit_of o.fund net_limit_each (number_of Redemption)) (redeemed_by a (opened o) es - created_by a (opened o) es)

@@ -1,8 +1,9 @@
 -- A book with the fund's stretch and an account's put in: each is read back, and the two are put in anew in either order.
 use mathlib.Core.Path.{◌≡◌, sym, ap, ◌∙◌}
 use mathlib.Core.List.{List, ◌++◌, append_assoc}
-use Prim.Native.Nat.{ℕ, ◌+◌, ◌*◌, ◌≤◌, ◌<◌}
-use native.Mathlib.Nat.{zero-mul}
+use Prim.Native.Nat.{ℕ, ◌+◌, ◌-◌, ◌*◌, ◌≤◌, ◌<◌}
+use native.Mathlib.Nat.{zero-mul, add-sub_cancel_left}
+use borrow.Rule.Slice.PartMut.{put_mid}
 use native.Mathlib.Omega.{arith}
 use lib.ListN.{length, length-set, take, drop, length-append, length-drop, take-append-drop}
 use lib.Seq.{length-take-le, take_at, drop_at, drop-append-le}
@@ -71,6 +72,20 @@ module _ (w a : ℕ) (b : List ℕ) (low : 0 < a) (fits : a * w + w ≤ length b
   -- a change of the account's stretch leaves the fund's as it is
   pub fund_kept : (s : List ℕ) → length s ≡ w → stretch_of w (put_stretch w b a s) 0 ≡ stretch_of w b 0
   fund_kept s ls = stretch-put-other w b a 0 s (λ z. omega arith) fits ls
+
+-- The fund's stretch is the book's first, and an account's starts in the middle: the parts of the book as they are lent.
+
+pub first_is : (w : ℕ) (b : List ℕ) → take w b ≡ stretch_of w b 0
+unfolding stretch_of
+first_is w b = rw zero-mul
+
+pub first_put : (w : ℕ) (b s : List ℕ) → s ++ drop w b ≡ put_stretch w b 0 s
+unfolding put_stretch
+first_put w b s = rw zero-mul
+
+pub middle_put : (w : ℕ) (b : List ℕ) (a : ℕ) (s : List ℕ) → put_mid (a * w) (a * w + w - a * w) b s ≡ put_stretch w b a s
+unfolding put_stretch
+middle_put w b a s = rw add-sub_cancel_left
 
 -- lots stored leave a stretch as long as it was
 pub put-lots-length : (s : List ℕ) (l : ℕ) (x : Lots) → length (put_lots s l x) ≡ length s

@@ -15,19 +15,6 @@ use Rattle.rules.specs.Orders.{opposite_kind}
 use Rattle.book.specs.Moved.{moved_of}
 
 module _ (c : Component) (m : ℕ) (x : Lots) where
-  pub moved_none : (kind : Kind) → Table.entry c.flag Table.stock_moves ≡ false → moved_of kind c m x ≡ 0
-  unfolding moved_of
-  moved_none Creation e = rw e
-  moved_none Redemption e = rw e
-
-  pub moved_least : Table.entry c.flag Table.stock_moves ≡ true → moved_of Creation c m x ≡ min (m * c.quantity) (handable x)
-  unfolding moved_of
-  moved_least e = rw e
-
-  pub moved_all : Table.entry c.flag Table.stock_moves ≡ true → moved_of Redemption c m x ≡ m * c.quantity
-  unfolding moved_of
-  moved_all e = rw e
-
   -- at most what the baskets need
   pub moved-le : (kind : Kind) → moved_of kind c m x ≤ m * c.quantity
   unfolding moved_of

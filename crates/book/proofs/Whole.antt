@@ -1,24 +1,31 @@
 -- An order's stages one after the other: what each leaves for the next, and that together they are the definition.
 use mathlib.Core.Path.{◌≡◌, sym, ap, ◌∙◌}
-use mathlib.Core.List.{List}
+use mathlib.Core.List.{List, ◌++◌}
 use Prim.Native.Nat.{ℕ, ◌+◌, ◌*◌, ◌^◌, ◌≤◌, ◌<◌}
 use native.Mathlib.Omega.{arith}
-use lib.ListN.{length}
+use lib.ListN.{length, take, drop}
 use Rattle.sequences.specs.Stretch.{stretch_of, on_stretch}
 use Rattle.sequences.proofs.Stretch.{stretch-length, put-length}
 use Rattle.lots.specs.declared.Lots.{Lots}
 use Rattle.layout.specs.Places.{lines_from}
 use Rattle.layout.specs.Day.{Day}
-use Rattle.layout.specs.Book.{cash, width_of, width, account, head_at, put_head, lots_at, on_line, each_line, counter}
+use Rattle.layout.specs.Book.{cash, width_of, width, account, head_at, put_head, lots_at, put_lots, on_line, each_line, counter}
 use Rattle.rules.specs.declared.Kind.{Kind}
-use Rattle.rules.specs.Orders.{number_of, account_side, fund_side}
-use Rattle.rules.specs.Kinds.{unit_lots, account_cash, fund_cash, order_moves}
+use Rattle.rules.specs.Orders.{number_of, opposite_kind, account_side, fund_side}
+use Rattle.rules.specs.Kinds.{stock_lots, unit_lots, account_cash, fund_cash, order_moves}
 use Rattle.layout.proofs.Account.{put-head-length, on_length, head_on, head_each, each_later}
 use Rattle.rules.proofs.Sides.{number-below, fund-length}
 use Rattle.book.specs.Moved.{stock_by, fund_by, with_sides, stock_moves, rest_of, rest_moves}
 use Rattle.book.specs.Ready.{CashReady, AccountRest, RestReady, OrderReady}
-use Rattle.book.proofs.Sides.{account_kept, sides_by, sides_again}
+use Rattle.book.proofs.Stock.{units_opposite}
+use Rattle.book.proofs.Sides.{account_kept, first_is, first_put, sides_by, sides_again}
 use Rattle.book.proofs.Turns.{fund_long, own_long, lines-length, lines_own, lines_fund}
+
+-- its units, read and stored
+pub units_moved : (kind k : Kind) (n units : ℕ) (s u : List ℕ) (x y : Lots) → k ≡ opposite_kind kind → x ≡ lots_at s n → y ≡ stock_lots k x units → u ≡ put_lots s n y
+    → u ≡ on_line (λ z. unit_lots kind z units) n s
+unfolding on_line
+units_moved kind k n units s u x y ek ex ey eu = rw (eu, ey, ex, ek, units_opposite)
 
 -- the account's stretch u when its units have moved
 module _ (kind : Kind) (n units c : ℕ) (s u : List ℕ) (eu : u ≡ on_line (λ x. unit_lots kind x units) n s) where
@@ -37,15 +44,15 @@ module _ (kind : Kind) (n units c : ℕ) (s u : List ℕ) (eu : u ≡ on_line (�
 
 -- the book t when the fund's cash has moved, in a fund of n components
 module _ (kind : Kind) (n : ℕ) (b : List ℕ) (a units c w : ℕ) (t : List ℕ) (p : RestReady kind n b a units c) (ew : w ≡ width_of n)
-    (et : t ≡ on_stretch w 0 (λ f. put_head cash (fund_cash kind (head_at f cash) c) f) b) where
+    (et : t ≡ put_head cash (fund_cash kind (head_at (take w b) cash) c) (take w b) ++ drop w b) where
   abbrev paid : List ℕ → List ℕ
-  paid f = put_head cash (fund_cash kind (head_at f cash) c) f
+  paid s = put_head cash (fund_cash kind (head_at s cash) c) s
 
   paid_long : length (paid (stretch_of (width_of n) b 0)) ≡ width_of n
   paid_long = put-head-length cash _ (stretch_of (width_of n) b 0) ∙ stretch-length (width_of n) b 0 (omega (arith, p.account_in))
 
   is : t ≡ on_stretch (width_of n) 0 paid b
-  is = rw ew at et
+  is = et ∙ first_put w b _ ∙ rw (first_is w b, ew)
 
   account_same : stretch_of (width_of n) t a ≡ stretch_of (width_of n) b a
   account_same = rw is (account_kept (width_of n) a b p.account_low p.account_in (paid (stretch_of (width_of n) b 0)) paid_long)

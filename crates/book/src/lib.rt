@@ -14,6 +14,7 @@ use rules::Kind;
 pub const FUND: usize = 0;
 
 // A number of the head of account `a`, its cash or a counter, read off the whole book.
+#[tactic(auto, using(sequences::proofs::Stretch::stretch_at), unfolding(layout::specs::Book::head_at))]
 pub fn head_of(book: &[u64], w: usize, a: usize, place: usize) -> u64
     requires w_in_bounds { a * w + w ≤ length book.now }
     requires place_lt_w { place < w }
@@ -23,6 +24,7 @@ pub fn head_of(book: &[u64], w: usize, a: usize, place: usize) -> u64
 }
 
 // The lots of a line of account `a`, read off the whole book.
+#[tactic(auto, using(sequences::proofs::Stretch::part_is))]
 pub fn lots_of(book: &[u64], w: usize, a: usize, line: usize) -> Lots
     requires w_in_bounds { a * w + w ≤ length book.now }
     requires line_bound { behind_line line ≤ w }
@@ -34,6 +36,7 @@ pub fn lots_of(book: &[u64], w: usize, a: usize, line: usize) -> Lots
 }
 
 // Stores them in the whole book.
+#[tactic(auto, using(crate::proofs::Sides::middle_put, sequences::proofs::Stretch::part_is))]
 pub fn put_lots_of(book: &mut [u64], w: usize, a: usize, line: usize, x: Lots)
     requires w_in_bounds { a * w + w ≤ length book.old }
     requires line_bound { behind_line line ≤ w }

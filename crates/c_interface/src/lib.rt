@@ -20,6 +20,10 @@ ghost use Rattle.list_layout.specs.Run.{fields_at};
 ghost use Rattle.flat_calls.specs.Opening.{flat_given, FlatOutcome};
 ghost use Rattle.flat_calls.specs.Text.{taking, TextRead, part_kept, TextWritten};
 
+use answers::Numbers;
+use rules::Trade;
+use units::Money;
+
 // Opens a day: the book, the prices and the day are filled.
 #[unsafe(no_mangle)]
 pub extern "C" fn roffelaine_open(
@@ -56,7 +60,7 @@ pub extern "C" fn roffelaine_price(
     ensures prices { prices.new ≡ priced_prices (day_at day.now) book.now prices.old line price }
 {
     let answer = day::price(day, book, prices, line, price);
-    answers::tell(answers::of_answer(answer), place, value)
+    answers::tell(Numbers::from(answer), place, value)
 }
 
 // Trades a quantity of a line at a price.
@@ -76,8 +80,15 @@ pub extern "C" fn roffelaine_trade(
     ensures told { Told (trade_reply (day_at day.now) book.old prices.now line quantity price seller buyer) result place.new value.new }
     ensures book { book.new ≡ traded_book (day_at day.now) book.old prices.now line quantity price seller buyer }
 {
-    let answer = day::trade(day, book, prices, line, quantity, price, seller, buyer);
-    answers::tell(answers::of_answer(answer), place, value)
+    let trade = Trade {
+        line,
+        quantity,
+        price: Money(price),
+        seller,
+        buyer,
+    };
+    let answer = day::trade(day, book, prices, trade);
+    answers::tell(Numbers::from(answer), place, value)
 }
 
 // The reference value at this moment.
@@ -92,7 +103,7 @@ pub extern "C" fn roffelaine_reference_value(
     ensures { Told (value_reply (day_at day.now) book.now prices.now) result place.new value.new }
 {
     let answer = day::reference_value(day, book, prices);
-    answers::tell(answers::of_value(answer), place, value)
+    answers::tell(Numbers::from(answer), place, value)
 }
 
 // Creates units for an account; the records and the reports to both parties go to the lent lists.
@@ -115,7 +126,7 @@ pub extern "C" fn roffelaine_create(
     ensures lists { lent_of records.new investor.new fund.new ≡ created_lists (day_at day.now) book.old prices.now account units (lent_of records.old investor.old fund.old) }
 {
     let answer = day::create(day, book, prices, account, units, records, investor, fund);
-    answers::tell_order(answers::of_order(answer), place, value, reports)
+    answers::tell_order(Numbers::from(answer), place, value, reports)
 }
 
 // Redeems units of an account; the records and the reports to both parties go to the lent lists.
@@ -138,7 +149,7 @@ pub extern "C" fn roffelaine_redeem(
     ensures lists { lent_of records.new investor.new fund.new ≡ redeemed_lists (day_at day.now) book.old prices.now account units (lent_of records.old investor.old fund.old) }
 {
     let answer = day::redeem(day, book, prices, account, units, records, investor, fund);
-    answers::tell_order(answers::of_order(answer), place, value, reports)
+    answers::tell_order(Numbers::from(answer), place, value, reports)
 }
 
 // The tests of a creation alone, with the lengths of the lists.
@@ -159,7 +170,7 @@ pub extern "C" fn roffelaine_creation_test(
     ensures { ToldOrder (creation_reply (day_at day.now) book.now prices.now account units (rooms_of records investor fund)) result place.new value.new reports.new }
 {
     let answer = day::creation_test(day, book, prices, account, units, records, investor, fund);
-    answers::tell_order(answers::of_order(answer), place, value, reports)
+    answers::tell_order(Numbers::from(answer), place, value, reports)
 }
 
 // The tests of a redemption alone.
@@ -180,7 +191,7 @@ pub extern "C" fn roffelaine_redemption_test(
     ensures { ToldOrder (redemption_reply (day_at day.now) book.now prices.now account units (rooms_of records investor fund)) result place.new value.new reports.new }
 {
     let answer = day::redemption_test(day, book, prices, account, units, records, investor, fund);
-    answers::tell_order(answers::of_order(answer), place, value, reports)
+    answers::tell_order(Numbers::from(answer), place, value, reports)
 }
 
 // The driver: a list of calls as rows, with one test of the day where every call keeps it sound.
@@ -202,7 +213,7 @@ pub extern "C" fn roffelaine_run(
     ensures demand { Demand3 (state_of (day_at day.now) book.old prices.old) (events_of rows.now (batch_of (day_at day.now) book.old prices.old (lent_of records.old investor.old fund.old) answers.old)) (state_of (day_at day.now) book.new prices.new) }
 {
     let answer = driver::run(day, book, prices, rows, records, investor, fund, answers);
-    answers::tell(answers::of_answer(answer), place, value)
+    answers::tell(Numbers::from(answer), place, value)
 }
 
 // The same list of calls made one by one: each tests the day, as the calls above do.
@@ -224,7 +235,7 @@ pub extern "C" fn roffelaine_run_public(
     ensures demand { Demand3 (state_of (day_at day.now) book.old prices.old) (events_of rows.now (batch_of (day_at day.now) book.old prices.old (lent_of records.old investor.old fund.old) answers.old)) (state_of (day_at day.now) book.new prices.new) }
 {
     let answer = driver::run_public(day, book, prices, rows, records, investor, fund, answers);
-    answers::tell(answers::of_answer(answer), place, value)
+    answers::tell(Numbers::from(answer), place, value)
 }
 
 // Reads a list text: its fields, its components at the front of the lent run, and where its first component line starts.

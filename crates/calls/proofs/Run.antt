@@ -1,4 +1,4 @@
--- The day that a run says: only a run of a day's length says a sound one, and that is the day of its head and its basket.
+-- The day that a run says: only a run of a day's length says a sound one.
 use mathlib.Core.Path.{◌≡◌, refl, sym, ap, ◌∙◌}
 use mathlib.Core.Bool.{true, false, false≢true}
 use mathlib.Core.List.{List}
@@ -7,10 +7,9 @@ use native.Mathlib.Decide.{ℕ_discrete}
 use lib.ListN.{length}
 use Rattle.sequences.specs.Checks.{passes}
 use Rattle.sequences.specs.Every.{every, inside}
-use Rattle.layout.specs.declared.DayHead.{DayHead}
-use Rattle.layout.specs.Places.{basket_width, day_width}
-use Rattle.layout.specs.Day.{Day, day_of, day_head_at, basket_at, blank_day, day_at}
-use Rattle.layout.proofs.Day.{day_none, day_parts, basket-length}
+use Rattle.layout.specs.Places.{day_width}
+use Rattle.layout.specs.Day.{Day, day_head_at, blank_day, day_at}
+use Rattle.layout.proofs.Day.{day_none, day_parts}
 use Rattle.rules.specs.Opening.{day_sizes_fit, size_checks, day_checks}
 use Rattle.rules.specs.Sound.{opens, is_sound, is_kept}
 
@@ -34,13 +33,6 @@ module _ (run b ps : List ℕ) where
       go (no other) = absurd (false≢true (none_sound other ∙ e))
 
 module _ (run : List ℕ) where
-  -- its head and its basket, as the code reads them
-  pub run_parts : (h : DayHead) (basket : List ℕ) → h ≡ day_head_at run → basket ≡ basket_at run → length run ≡ day_width → day_of h basket ≡ day_at run
-  run_parts h basket p q full = rw (p, q) (day_parts run full)
-
-  pub basket_wide : (basket : List ℕ) → basket ≡ basket_at run → length run ≡ day_width → length basket ≡ basket_width
-  basket_wide basket q full = ap length q ∙ basket-length run full
-
   -- the accounts and the count of components
   pub head_accounts : length run ≡ day_width → (day_head_at run).accounts ≡ (day_at run).accounts
   head_accounts full = ap (λ (d : Day). d.accounts) (day_parts run full)

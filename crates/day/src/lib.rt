@@ -14,7 +14,8 @@ ghost use Rattle.rules.specs.Redemption.{redemption_reply, redeemed_book, redeem
 ghost use Rattle.opening.specs.Given.{given, Outcome};
 
 use layout::Fund;
-use rules::{Answer, OrderAnswer, ValueAnswer};
+use rules::{Counts, Refusal, Trade};
+use units::ReferenceValue;
 
 // Opens a day: the book, the prices and the day are filled.
 pub fn open(
@@ -26,7 +27,7 @@ pub fn open(
     book: &mut [u64],
     prices: &mut [u64],
     day: &mut [u64],
-) -> Answer
+) -> Result<(), Refusal>
     ensures { Outcome (given accounts count fund components.now holdings.now book.old prices.old day.old) result book.new prices.new day.new }
 {
     opening::open(
@@ -35,7 +36,7 @@ pub fn open(
 }
 
 // Sets a component's price.
-pub fn price(day: &[u64], book: &[u64], prices: &mut [u64], line: usize, price: u64) -> Answer
+pub fn price(day: &[u64], book: &[u64], prices: &mut [u64], line: usize, price: u64) -> Result<(), Refusal>
     ensures result_value { answer_reply result ≡ price_reply (day_at day.now) book.now prices.old line price }
     ensures prices { prices.new ≡ priced_prices (day_at day.now) book.now prices.old line price }
 {
@@ -47,20 +48,16 @@ pub fn trade(
     day: &[u64],
     book: &mut [u64],
     prices: &[u64],
-    line: usize,
-    q: u64,
-    price: u64,
-    seller: usize,
-    buyer: usize,
-) -> Answer
-    ensures result_value { answer_reply result ≡ trade_reply (day_at day.now) book.old prices.now line q price seller buyer }
-    ensures book { book.new ≡ traded_book (day_at day.now) book.old prices.now line q price seller buyer }
+    trade: Trade,
+) -> Result<(), Refusal>
+    ensures result_value { answer_reply result ≡ trade_reply (day_at day.now) book.old prices.now trade.line trade.quantity trade.price.0 trade.seller trade.buyer }
+    ensures book { book.new ≡ traded_book (day_at day.now) book.old prices.now trade.line trade.quantity trade.price.0 trade.seller trade.buyer }
 {
-    calls::trade(false, day, book, prices, line, q, price, seller, buyer)
+    calls::trade(false, day, book, prices, trade)
 }
 
 // The reference value at this moment.
-pub fn reference_value(day: &[u64], book: &[u64], prices: &[u64]) -> ValueAnswer
+pub fn reference_value(day: &[u64], book: &[u64], prices: &[u64]) -> Result<ReferenceValue, Refusal>
     ensures { value_answer_reply result ≡ value_reply (day_at day.now) book.now prices.now }
 {
     calls::reference_value(false, day, book, prices)
@@ -76,7 +73,7 @@ pub fn create(
     records: &mut [u64],
     investor: &mut [u64],
     fund: &mut [u64],
-) -> OrderAnswer
+) -> Result<Counts, Refusal>
     ensures result_value { order_answer_reply result ≡ creation_reply (day_at day.now) book.old prices.now account units (rooms_in (lent_of records.old investor.old fund.old)) }
     ensures book { book.new ≡ created_book (day_at day.now) book.old prices.now account units (rooms_in (lent_of records.old investor.old fund.old)) }
     ensures lists { lent_of records.new investor.new fund.new ≡ created_lists (day_at day.now) book.old prices.now account units (lent_of records.old investor.old fund.old) }
@@ -95,7 +92,7 @@ pub fn redeem(
     records: &mut [u64],
     investor: &mut [u64],
     fund: &mut [u64],
-) -> OrderAnswer
+) -> Result<Counts, Refusal>
     ensures result_value { order_answer_reply result ≡ redemption_reply (day_at day.now) book.old prices.now account units (rooms_in (lent_of records.old investor.old fund.old)) }
     ensures book { book.new ≡ redeemed_book (day_at day.now) book.old prices.now account units (rooms_in (lent_of records.old investor.old fund.old)) }
     ensures lists { lent_of records.new investor.new fund.new ≡ redeemed_lists (day_at day.now) book.old prices.now account units (lent_of records.old investor.old fund.old) }
@@ -114,7 +111,7 @@ pub fn creation_test(
     records: usize,
     investor: usize,
     fund: usize,
-) -> OrderAnswer
+) -> Result<Counts, Refusal>
     ensures { order_answer_reply result ≡ creation_reply (day_at day.now) book.now prices.now account units (rooms_of records investor fund) }
 {
     let ask = rules::creation(account, units);
@@ -131,7 +128,7 @@ pub fn redemption_test(
     records: usize,
     investor: usize,
     fund: usize,
-) -> OrderAnswer
+) -> Result<Counts, Refusal>
     ensures { order_answer_reply result ≡ redemption_reply (day_at day.now) book.now prices.now account units (rooms_of records investor fund) }
 {
     let ask = rules::redemption(account, units);

@@ -2,4 +2,4 @@
 #![tactic(auto)]
 
 pub mod replies;
-pub mod state;
+pub mod session;

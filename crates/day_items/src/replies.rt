@@ -1,13 +1,14 @@
 // A reply, the paper's number, place, value and count of reports, as it is printed.
 use answers::Numbers;
-use program_io::output;
+use std::fmt;
+use std::fmt::Display;
 
-// A word and a reply, on a line.
-pub fn print(word: &[u8], r: Numbers) {
-    output::text(word);
-    output::number(r.number);
-    output::number(r.place);
-    output::number(r.value);
-    output::number(r.reports);
-    output::end_line();
+#[derive(Drop)]
+pub struct Reply(pub Numbers);
+
+impl Display for Reply {
+    fn fmt<W: fmt::Write>(&self, f: &mut fmt::Formatter<W>) -> fmt::Result {
+        let r = self.0;
+        write!(f, "{} {} {} {}", r.number, r.place, r.value, r.reports)
+    }
 }

@@ -4,7 +4,6 @@ use mathlib.Core.Bool.{true, false, false≢true}
 use mathlib.Core.List.{List, [], ◌∷◌}
 use Prim.Native.Nat.{ℕ, zero, suc, ◌+◌, ◌-◌, ◌*◌, ◌/◌, ◌%◌, ◌^◌, ◌≤◌, ◌<◌}
 use native.Mathlib.Omega.{arith}
-use native.Mathlib.Numerals.{add-one}
 use native.Mathlib.Nat.{pow-suc, pow-succ', one-le-pow, pow-le-pow_right, add-mul, mul_assoc, add_assoc, mod-lt}
 use native.Mathlib.Nat.{mod-eq_of_lt, zero-add, div-lt_iff_lt-mul, le-div_iff_mul-le, mul-le-mul_right, le_antisymm, div-div-eq-div-mul}
 use lib.ListN.{length, set, length-set}
@@ -18,15 +17,9 @@ use Rattle.digits.proofs.Put.{put-nil, put-before}
 pub power_positive : (k : ℕ) → 0 < 10 ^ k
 power_positive k = one-le-pow k 10 (omega arith)
 
--- a power of `power`, and one more
+-- a power of `power`
 pub power_fits : (i : ℕ) → i ≤ 9 → 10 ^ i ≤ 1_000_000_000
 power_fits i h = pow-le-pow_right {n = 10} (omega arith) h
-
-pub power_more : (p i : ℕ) → p ≡ 10 ^ i → p * 10 ≡ 10 ^ (i + 1)
-power_more p i e = rw (add-one, pow-suc, e)
-
-pub power_end : (k p i : ℕ) → p ≡ 10 ^ i → i ≡ k → p ≡ 10 ^ k
-power_end k p i e h = rw (← h) e
 
 -- ---- the last k digits of n
 
@@ -177,7 +170,17 @@ from_decimal (b ∷ r) a d h =
     in
     rw t (fixed_from (b ∷ r) 0 d)
 
--- ---- the loop of `more_digits`: w digits are passed, and m is left
+-- the power of ten that is at most n, and the next one that is not
+pub tens_of_power : (n k : ℕ) → n < 10 ^ 20 → 10 ^ k ≤ n → n < 10 * 10 ^ k → k ≡ tens n
+tens_of_power n k h low high =
+    wide_unique k (tens n) n
+    (record { upper = rw (pow-succ') high; lower = λ _. low; none = λ e. absurd (omega (arith, low, power_positive k)) })
+    (tens_wide n h)
+
+pub tens_none : (n : ℕ) → n ≡ 0 → 0 ≡ tens n
+tens_none n e = sym ((tens_wide n (omega arith)).none e)
+
+-- ---- a loop over the digits: w digits are passed, and m is left
 pub record Passed (n w m : ℕ) : Type 0 where
   pub most : w ≤ 19
   pub count : tens n ≡ w + tens_within (19 - w) m

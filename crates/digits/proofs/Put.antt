@@ -1,12 +1,13 @@
 -- Bytes written into a lent output, one write after another.
-use mathlib.Core.Path.{◌≡◌, refl, sym, ap, ap₂, ◌∙◌}
+use mathlib.Core.Path.{◌≡◌, sym, ap, ap₂, ◌∙◌}
 use mathlib.Core.List.{List, [], ◌∷◌, ◌++◌, append_assoc}
 use Prim.Native.Nat.{ℕ, suc, ◌+◌, ◌-◌, ◌≤◌, ◌<◌}
 use native.Mathlib.Omega.{arith}
 use native.Mathlib.Numerals.{add-one}
 use native.Mathlib.Nat.{add_assoc, add-zero}
-use lib.ListN.{length, get_or, take, drop, set, replicate, replicate-append-replicate, length-set, length-append, length-take, length-drop, take-append-drop}
+use lib.ListN.{length, get_or, take, drop, set, length-set, length-append, length-take, length-drop, take-append-drop}
 use lib.Seq.{take_all, set_split, take-suc, set_at, length-take-le, take_at, drop_at, drop-drop}
+use borrow.Rule.Slice.PartMut.{put_mid}
 use Rattle.digits.specs.Written.{put, Written}
 
 -- nothing written
@@ -76,14 +77,16 @@ written-length {d} {d₁} {at} {p} {xs} u h = rw u.bytes (put-length d at xs h)
 pub rest_all : (a : ℕ) (s : List ℕ) → take (length s - a) (drop a s) ≡ drop a s
 rest_all a s = take_all (length s - a) (drop a s) (omega (arith, length-drop a s))
 
+-- what is written into a part, as the borrow checker has it
+pub written_part : (d : List ℕ) (at k : ℕ) (xs ys : List ℕ) (next : ℕ) → ys ≡ xs → k ≡ length xs → next ≡ at + k → Written d at xs (put_mid at k d ys) next
+unfolding put
+written_part d at k xs ys next e l n = record { bytes = rw (e, ← l) (ap (λ (z : List ℕ). take at d ++ (xs ++ z)) (drop-drop k at d)); next = n ∙ rw l }
+
 -- ---- a loop that writes one byte a turn: after i turns xs is written
 pub record Growing (d : List ℕ) (at : ℕ) (xs : List ℕ) (d' : List ℕ) (i : ℕ) : Type 0 where
   pub bytes : d' ≡ put d at xs
   pub count : length xs ≡ i
   pub long : length d' ≡ length d
-
-pub growing_start : (d : List ℕ) (at : ℕ) → Growing d at [] d 0
-growing_start d at = record { bytes = sym (put-nil d at); count = refl; long = refl }
 
 put-snoc : (d : List ℕ) (at : ℕ) (xs : List ℕ) (b : ℕ) → at + length xs < length d → set (put d at xs) (at + length xs) b ≡ put d at (xs ++ b ∷ [])
 put-snoc d at xs b h =
@@ -98,21 +101,3 @@ growing_again d at xs ys d' i b g h e =
       count = rw e (length-append xs (b ∷ []) ∙ omega (arith, g.count));
       long = length-set d' (at + i) b ∙ g.long;
     }
-
-growing_end : (d : List ℕ) (at : ℕ) (xs d' : List ℕ) (i : ℕ) → Growing d at xs d' i → Written d at xs d' (at + i)
-growing_end d at xs d' i g = record { bytes = g.bytes; next = rw g.count }
-
--- the bytes of src
-pub take_more : (src : List ℕ) (i : ℕ) → i < length src → take (i + 1) src ≡ take i src ++ get_or src i 0 ∷ []
-take_more src i h = rw add-one (take-suc src i 0 h)
-
-pub growing_bytes : (d : List ℕ) (at : ℕ) (src d' : List ℕ) (i : ℕ) → Growing d at (take i src) d' i → length src ≤ i → Written d at src d' (at + i)
-growing_bytes d at src d' i g h = rw (take_all i src h) at (growing_end d at (take i src) d' i g)
-
--- one byte, again and again
-pub replicate_more : (i v : ℕ) → replicate (i + 1) v ≡ replicate i v ++ v ∷ []
-replicate_more i v = sym (replicate-append-replicate i 1 v)
-
-pub growing_blanks : (d : List ℕ) (at k v : ℕ) (d' : List ℕ) (i : ℕ) → Growing d at (replicate i v) d' i → i ≡ k
-    → Written d at (replicate k v) d' (at + i)
-growing_blanks d at k v d' i g e = rw (← e) (growing_end d at (replicate i v) d' i g)

@@ -2,11 +2,9 @@
 use mathlib.Core.Path.{◌≡◌, refl}
 use mathlib.Core.Bool.{Bool, true, false, cond, not, ◌&&◌, and-false}
 use mathlib.Core.List.{List, [], ◌∷◌}
-use Prim.Native.Nat.{ℕ, suc, ◌+◌, ◌-◌, ◌≤◌, ◌<◌}
+use Prim.Native.Nat.{ℕ, ◌-◌, ◌≤◌}
 use native.Mathlib.Omega.{arith}
-use native.Mathlib.Numerals.{add-one}
-use lib.ListN.{length, get_or, take, drop, drop_of_length-le, get_or-eq_default}
-use lib.Seq.{drop-cons}
+use lib.ListN.{length, get_or, take, drop, get_or-eq_default}
 use lib.Dec.{eqb}
 use borrow.Author.Tests.{eq-eqb, ne_eqb}
 use Rattle.sequences.specs.Every.{every}
@@ -25,33 +23,6 @@ minus-zero n e = rw (eq-eqb n 0 e)
 pub minus_some : (n : ℕ) → (n ≡ 0 → ⊥) → Some (record { negative = true; size = n }) ≡ minus_figure n
 unfolding minus_figure
 minus_some n h = rw (ne_eqb n 0 h)
-
--- ---- the loop of `leading_blanks`: the first i bytes are blanks
-pub record Blank (s : List ℕ) (i : ℕ) : Type 0 where
-  pub inside : i ≤ length s
-  pub rest : blanks s ≡ i + blanks (drop i s)
-
-pub blank_start : (s : List ℕ) → Blank s 0
-blank_start s = record { inside = omega arith; rest = omega arith }
-
-module _ (s : List ℕ) (i : ℕ) (t : Blank s i) where
-  pub blank_again : i < length s → get_or s i 0 ≡ 32 → Blank s (i + 1)
-  unfolding blanks
-  blank_again h e =
-      let step : blanks (drop i s) ≡ suc (blanks (drop (i + 1) s)) = rw (add-one, drop-cons s i 0, eq-eqb (get_or s i 0) 32 e) in
-      record { inside = omega arith; rest = omega (arith, t.rest, step) }
-
-  pub blank_other : i < length s → (get_or s i 0 ≡ 32 → ⊥) → (i ≡ blanks s) × (i ≤ length s)
-  unfolding blanks
-  blank_other h e =
-      let stop : blanks (drop i s) ≡ 0 = rw (drop-cons s i 0, ne_eqb (get_or s i 0) 32 e) in
-      (omega (arith, t.rest, stop), t.inside)
-
-  pub blank_end : length s ≤ i → (i ≡ blanks s) × (i ≤ length s)
-  unfolding blanks
-  blank_end h =
-      let none : blanks (drop i s) ≡ 0 = rw (drop_of_length-le s h) in
-      (omega (arith, t.rest, none), t.inside)
 
 -- ---- with its sign
 

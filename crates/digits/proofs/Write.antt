@@ -1,6 +1,6 @@
 -- Writing: how long each text is, and how it is written part by part.
 use mathlib.Core.Path.{◌≡◌, refl, sym, ap, ◌∙◌, subst}
-use mathlib.Core.Bool.{true, false}
+use mathlib.Core.Bool.{Bool, true, false, cond}
 use mathlib.Core.List.{List, [], ◌∷◌, ◌++◌, append_assoc}
 use Prim.Native.Nat.{ℕ, zero, suc, ◌+◌, ◌-◌, ◌/◌, ◌^◌, ◌≤◌}
 use native.Mathlib.Omega.{arith}
@@ -99,6 +99,14 @@ module _ (f : Form) (z : Figure) where
   pub signed_above : z.negative ≡ false → signed_text f z ≡ plain_text f z.size
   unfolding signed_text
   signed_above e = rw e
+
+  pub signed-length : length (signed_text f z) ≡ length (plain_text f z.size) + cond z.negative 1 0
+  unfolding signed_text
+  signed-length = by_sign z.negative (plain_text f z.size)
+    where
+      by_sign : (b : Bool) (l : List ℕ) → length (cond b (45 ∷ l) l) ≡ length l + cond b 1 0
+      by_sign true l = omega arith
+      by_sign false l = omega arith
 
   pub below_put : {d d₁ d₂ : List ℕ} {at p q : ℕ} → z.negative ≡ true → at + length (signed_text f z) ≤ length d
       → Written d at (45 ∷ []) d₁ p → Written d₁ p (plain_text f z.size) d₂ q → Written d at (signed_text f z) d₂ q

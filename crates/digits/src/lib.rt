@@ -2,7 +2,7 @@
 #![tactic(auto)]
 
 ghost use Rattle.std.specs.Prelude.{◌≡◌, ◌≤◌, nat_abs};
-ghost use Rattle.digits.specs.Digits.{cap};
+ghost use Rattle.digits.specs.Digits.{cap, plain};
 ghost use Rattle.digits.specs.Signed.{signed_of, figure_signed};
 
 // How a number stands in its field.
@@ -35,6 +35,18 @@ pub fn signed_of(z: Figure) -> i64
 {
     let size = z.size as i64;
     if z.negative { -size } else { size }
+}
+
+// A number that is not below zero as a figure.
+impl From<u64> for Figure {
+    ghost from_gives = { λ size z. z ≡ plain size };
+
+    fn from(size: u64) -> Figure {
+        Figure {
+            negative: false,
+            size,
+        }
+    }
 }
 
 // A signed number as a figure.

@@ -21,12 +21,9 @@ pub fn put_bytes(dst: &mut [u8], at: usize, src: &[u8]) -> usize
     requires { at + length src.now ≤ length dst.old }
     ensures { Written dst.old at src.now dst.new result }
 {
-    let mut i = 0;
-    while i < src.len() {
-        dst[at + i] = src[i];
-        i += 1;
-    }
-    at + i
+    let next = at + src.len();
+    dst[at..next].copy_from_slice(src);
+    next
 }
 
 // Writes k blanks.
@@ -34,12 +31,9 @@ pub fn put_blanks(dst: &mut [u8], at: usize, k: usize) -> usize
     requires { at + k ≤ length dst.old }
     ensures { Written dst.old at (replicate k 32) dst.new result }
 {
-    let mut i = 0;
-    while i < k {
-        dst[at + i] = 32;
-        i += 1;
-    }
-    at + i
+    let next = at + k;
+    dst[at..next].fill(b' ');
+    next
 }
 
 // Writes the last k digits of n.
@@ -48,11 +42,9 @@ pub fn put_fixed(dst: &mut [u8], at: usize, k: usize, n: u64) -> usize
     ensures { Written dst.old at (fixed k n) dst.new result }
 {
     let mut m = n;
-    let mut i = k;
-    while 0 < i {
-        i -= 1;
-        dst[at + i] = 48 + ((m % 10) as u8);
-        m = m / 10;
+    for i in (0..k).rev() {
+        dst[at + i] = b'0' + (m % 10) as u8;
+        m /= 10;
     }
     at + k
 }

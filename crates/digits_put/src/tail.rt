@@ -10,11 +10,9 @@ pub fn put_last(dst: &mut [u8], end: usize, k: usize, n: u32) -> u32
 {
     let at = end - k;
     let mut m = n;
-    let mut i = k;
-    while 0 < i {
-        i -= 1;
+    for i in (0..k).rev() {
         let q = m / 10;
-        dst[at + i] = 48 + ((m - q * 10) as u8);
+        dst[at + i] = b'0' + (m - q * 10) as u8;
         m = q;
     }
     m
@@ -29,9 +27,9 @@ pub fn put_whole(dst: &mut [u8], end: usize, n: u32)
     let mut m = n;
     while 10 <= m {
         let q = m / 10;
-        dst[i] = 48 + ((m - q * 10) as u8);
+        dst[i] = b'0' + (m - q * 10) as u8;
         m = q;
         i -= 1;
     }
-    dst[i] = 48 + (m as u8);
+    dst[i] = b'0' + m as u8;
 }

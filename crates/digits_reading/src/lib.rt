@@ -57,10 +57,7 @@ fn read_signed(form: Form, s: &[u8]) -> Option<Figure>
     if form.signed && s.len() > 0 && s[0] == b'-' {
         return read_plain(form, &s[1..]).and_then(minus_figure);
     }
-    read_plain(form, s).map(|size| Figure {
-        negative: false,
-        size,
-    })
+    read_plain(form, s).map(Figure::from)
 }
 
 // What the field says in the form.

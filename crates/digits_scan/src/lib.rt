@@ -1,29 +1,48 @@
 // Digits and blanks of a field, byte by byte.
 #![tactic(auto)]
 
-ghost use Rattle.std.specs.Prelude.{◌≡◌, ◌+◌, ◌-◌, ◌*◌, ◌^◌, ◌<◌, ◌≤◌, true, false, length};
+ghost use Rattle.std.specs.Prelude.{◌≡◌, ◌+◌, ◌-◌, ◌*◌, ◌^◌, ◌<◌, ◌≤◌, true, false, length, cond, Some, None};
 ghost use Rattle.digits.specs.Digits.{cap, capped, is_digit, is_shaped, blanks, all_blank, read_on};
 
 // Above every range: what a number that is more is read as.
 const CAP: u64 = 1_000_000_000_000_000_000;
 
-// The value of a digit; more than 9 where the byte is none.
-fn digit_of(b: u8) -> u64
-    ensures { (result ≤ 9 → (is_digit b ≡ true) × (result ≡ b - 48)) × (9 < result → is_digit b ≡ false) }
+// The value of a digit.
+#[tactic(auto, using(crate::proofs::Blank::digit_tests))]
+fn digit_of(b: u8) -> Option<u64>
+    ensures { result ≡ cond (is_digit b) (Some (b - 48)) None }
 {
-    std::num::wrapping_sub_u64(b as u64, 48)
+    match b {
+        b'0'..=b'9' => Some(u64::from(b - b'0')),
+        _ => None,
+    }
 }
 
 // a * 10 + digit, as far as the cap.
+#[tactic(auto, using(std::proofs::lemmas::Bool::Decides::nat_tests), unfolding(digits::specs::Digits::capped))]
 fn next_size(a: u64, digit: u64) -> u64
     requires { (a ≤ cap) × (digit ≤ 9) }
     ensures { result ≡ capped (a * 10 + digit) }
 {
-    let v = a * 10 + digit;
-    if CAP < v {
-        return CAP;
+    (a * 10 + digit).min(CAP)
+}
+
+// The digits of s, read on after the number before. Where they may be so many that the number meets the cap, each step looks at it.
+fn read_digits<const CAPPED: bool>(s: &[u8], before: u64) -> Option<u64>
+    requires low { before ≤ cap }
+    requires few { CAPPED ≡ false → (before + 1) * 10 ^ length s.now ≤ cap }
+    ensures { result ≡ read_on before s.now }
+{
+    let mut a = before;
+    for b in s {
+        let digit = digit_of(*b)?;
+        a = if CAPPED {
+            next_size(a, digit)
+        } else {
+            a * 10 + digit
+        };
     }
-    v
+    Some(a)
 }
 
 // The digits of s, read on after the number before; any count of them.
@@ -31,17 +50,7 @@ pub fn read_on(s: &[u8], before: u64) -> Option<u64>
     requires { before ≤ cap }
     ensures { result ≡ read_on before s.now }
 {
-    let mut a: u64 = before;
-    let mut i = 0;
-    while i < s.len() {
-        let digit = digit_of(s[i]);
-        if 9 < digit {
-            return None;
-        }
-        a = next_size(a, digit);
-        i += 1;
-    }
-    Some(a)
+    read_digits::<true>(s, before)
 }
 
 // The same of digits that are too few to meet the cap.
@@ -49,58 +58,30 @@ pub fn read_few(s: &[u8], before: u64) -> Option<u64>
     requires { (before + 1) * 10 ^ length s.now ≤ cap }
     ensures { result ≡ read_on before s.now }
 {
-    let mut a: u64 = before;
-    let mut i = 0;
-    while i < s.len() {
-        let digit = digit_of(s[i]);
-        if 9 < digit {
-            return None;
-        }
-        a = a * 10 + digit;
-        i += 1;
-    }
-    Some(a)
+    read_digits::<false>(s, before)
 }
 
 // Whether there are so many digits, or for 0 some and no spare zero.
+#[tactic(auto, using(crate::proofs::Blank::shapes), unfolding(digits::specs::Digits::is_shaped))]
 pub fn is_shaped(digits: usize, s: &[u8]) -> bool
     ensures { result ≡ is_shaped digits s.now }
 {
     if digits != 0 {
         return s.len() == digits;
     }
-    if s.len() == 0 {
-        return false;
-    }
-    if s.len() == 1 {
-        return true;
-    }
-    s[0] != 48
+    s.len() == 1 || 1 < s.len() && s[0] != b'0'
 }
 
 // How many blanks stand first.
 pub fn leading_blanks(s: &[u8]) -> usize
     ensures { (result ≡ blanks s.now) × (result ≤ length s.now) }
 {
-    let mut i = 0;
-    while i < s.len() {
-        if s[i] != 32 {
-            return i;
-        }
-        i += 1;
-    }
-    i
+    s.iter().position(|b| *b != b' ').unwrap_or(s.len())
 }
 
 // Whether the field is nothing but blanks. Every byte is looked at, so that there is one branch for a field.
 pub fn is_blank(s: &[u8]) -> bool
     ensures { result ≡ all_blank s.now }
 {
-    let mut good = true;
-    let mut i = 0;
-    while i < s.len() {
-        good = good & (s[i] == 32);
-        i += 1;
-    }
-    good
+    s.iter().fold(true, |good, b| good & (*b == b' '))
 }

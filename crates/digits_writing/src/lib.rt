@@ -11,13 +11,10 @@ use digits::{Figure, Form};
 fn more_digits(n: u64) -> usize
     ensures { (result ≡ tens n) × (result ≤ 19) }
 {
-    let mut w: usize = 0;
-    let mut m = n;
-    while 10 <= m {
-        m = m / 10;
-        w += 1;
+    if n == 0 {
+        return 0;
     }
-    w
+    n.ilog10() as usize
 }
 
 // 10 ^ k.
@@ -25,13 +22,7 @@ fn power(k: usize) -> u64
     requires { k ≤ 9 }
     ensures { result ≡ 10 ^ k }
 {
-    let mut p: u64 = 1;
-    let mut i = 0;
-    while i < k {
-        p = p * 10;
-        i += 1;
-    }
-    p
+    10u64.pow(k as u32)
 }
 
 // How many digits stand before the point.
@@ -61,11 +52,7 @@ fn signed_size(form: Form, z: Figure) -> usize
     requires { (form.decimals ≤ 9) × (form.digits ≤ 20) }
     ensures { (result ≡ length (signed_text form z)) × (result ≤ 41) }
 {
-    let n = plain_size(form, z.size);
-    if z.negative {
-        return n + 1;
-    }
-    n
+    plain_size(form, z.size) + usize::from(z.negative)
 }
 
 // How many bytes the field takes.
@@ -73,11 +60,7 @@ pub fn number_size(form: Form, z: Figure) -> usize
     requires { (form.decimals ≤ 9) × (form.digits ≤ 20) }
     ensures { result ≡ length (number_text form z) }
 {
-    let n = signed_size(form, z);
-    if n < form.width {
-        return form.width;
-    }
-    n
+    signed_size(form, z).max(form.width)
 }
 
 // Writes the digits before the point.
@@ -100,7 +83,7 @@ fn put_plain(dst: &mut [u8], at: usize, form: Form, n: u64) -> usize
         return put_whole(dst, at, form.digits, n);
     }
     let p = put_whole(dst, at, form.digits, n / power(k));
-    let q = digits_put::put_byte(dst, p, 46);
+    let q = digits_put::put_byte(dst, p, b'.');
     digits_put::put_fixed(dst, q, k, n)
 }
 
@@ -111,7 +94,7 @@ fn put_signed(dst: &mut [u8], at: usize, form: Form, z: Figure) -> usize
     ensures { Written dst.old at (signed_text form z) dst.new result }
 {
     if z.negative {
-        let p = digits_put::put_byte(dst, at, 45);
+        let p = digits_put::put_byte(dst, at, b'-');
         return put_plain(dst, p, form, z.size);
     }
     put_plain(dst, at, form, z.size)

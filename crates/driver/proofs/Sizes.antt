@@ -11,18 +11,6 @@ use Rattle.sequences.specs.Every.{every}
 use Rattle.sequences.proofs.Every.{every_at}
 use Rattle.driver.specs.Batch.{Batch, run_from, rows_in, rows_fit, fits, run_reply, ran}
 
-and_true : (b : Bool) → b ≡ b && true
-and_true true = refl
-and_true false = refl
-
-pub rows_broken : (rows answers : ℕ) → (rows ≡ row_width * (rows / row_width) → ⊥) → false ≡ rows_fit rows answers
-unfolding rows_fit every
-rows_broken rows answers n = rw (ne_eqb rows (row_width * (rows / row_width)) n) refl
-
-pub rows_whole : (rows answers : ℕ) → rows ≡ row_width * (rows / row_width) → eqb answers (answer_width * (rows / row_width)) ≡ rows_fit rows answers
-unfolding rows_fit every
-rows_whole rows answers e = rw (eq-eqb rows (row_width * (rows / row_width)) e) (and_true _)
-
 pub fit_facts : (rows answers : ℕ) → rows_fit rows answers ≡ true → (rows ≡ row_width * (rows / row_width)) × (answers ≡ answer_width * (rows / row_width))
 unfolding rows_fit
 fit_facts rows answers e = (eqb-true rows (row_width * (rows / row_width)) (every_at _ e 0), eqb-true answers (answer_width * (rows / row_width)) (every_at _ e 1))

@@ -11,7 +11,7 @@ ghost use Rattle.rules.specs.Lent.{lent_of};
 ghost use Rattle.driver_rows.specs.Rows.{row_at, state_of};
 ghost use Rattle.driver.specs.Batch.{batch_of, row_done, run_from, rows_fit, run_reply, ran, events_of, Demand3};
 
-use rules::{Answer, Refusal};
+use rules::Refusal;
 
 // One row: its call, and its answer.
 fn do_row(
@@ -71,24 +71,20 @@ fn do_rows(
     requires n_in_bounds_2 { answer_width * n ≤ length answers.old }
     ensures { batch_of (day_at day.now) book.new prices.new (lent_of records.new investor.new fund.new) answers.new ≡ run_from rows.now 0 n (batch_of (day_at day.now) book.old prices.old (lent_of records.old investor.old fund.old) answers.old) }
 {
-    let mut i = 0;
-    while i < n {
+    for i in 0..n {
         do_row(
             known, day, book, prices, rows, records, investor, fund, answers, i,
         );
-        i += 1;
     }
 }
 
 // Whether the rows are whole and have an answer each.
+#[tactic(auto, unfolding(crate::specs::Batch::rows_fit, sequences::specs::Every::every))]
 fn rows_fit(rows: usize, answers: usize) -> bool
     ensures { result ≡ rows_fit rows answers }
 {
     let n = rows / layout::ROW_WIDTH;
-    if rows != layout::ROW_WIDTH * n {
-        return false;
-    }
-    answers == layout::ANSWER_WIDTH * n
+    rows == layout::ROW_WIDTH * n && answers == layout::ANSWER_WIDTH * n
 }
 
 // The list of calls, where it may be known that every call leaves the day sound.
@@ -102,13 +98,13 @@ fn run_rows(
     investor: &mut [u64],
     fund: &mut [u64],
     answers: &mut [u64],
-) -> Answer
+) -> Result<(), Refusal>
     requires { known ≡ true → is_kept (day_at day.now) book.old prices.old ≡ true }
     ensures result_value { answer_reply result ≡ run_reply rows.now (batch_of (day_at day.now) book.old prices.old (lent_of records.old investor.old fund.old) answers.old) }
     ensures left { batch_of (day_at day.now) book.new prices.new (lent_of records.new investor.new fund.new) answers.new ≡ ran rows.now (batch_of (day_at day.now) book.old prices.old (lent_of records.old investor.old fund.old) answers.old) }
 {
     if !rows_fit(rows.len(), answers.len()) {
-        return Answer::Refused(Refusal::Sizes);
+        return Err(Refusal::Sizes);
     }
     do_rows(
         known,
@@ -122,7 +118,7 @@ fn run_rows(
         answers,
         rows.len() / layout::ROW_WIDTH,
     );
-    Answer::Done
+    Ok(())
 }
 
 // The list of calls made one by one: each tests the day, as the calls of `day` do.
@@ -135,7 +131,7 @@ pub fn run_public(
     investor: &mut [u64],
     fund: &mut [u64],
     answers: &mut [u64],
-) -> Answer
+) -> Result<(), Refusal>
     ensures result_value { answer_reply result ≡ run_reply rows.now (batch_of (day_at day.now) book.old prices.old (lent_of records.old investor.old fund.old) answers.old) }
     ensures left { batch_of (day_at day.now) book.new prices.new (lent_of records.new investor.new fund.new) answers.new ≡ ran rows.now (batch_of (day_at day.now) book.old prices.old (lent_of records.old investor.old fund.old) answers.old) }
     ensures demand { Demand3 (state_of (day_at day.now) book.old prices.old) (events_of rows.now (batch_of (day_at day.now) book.old prices.old (lent_of records.old investor.old fund.old) answers.old)) (state_of (day_at day.now) book.new prices.new) }
@@ -155,7 +151,7 @@ pub fn run(
     investor: &mut [u64],
     fund: &mut [u64],
     answers: &mut [u64],
-) -> Answer
+) -> Result<(), Refusal>
     ensures result_value { answer_reply result ≡ run_reply rows.now (batch_of (day_at day.now) book.old prices.old (lent_of records.old investor.old fund.old) answers.old) }
     ensures left { batch_of (day_at day.now) book.new prices.new (lent_of records.new investor.new fund.new) answers.new ≡ ran rows.now (batch_of (day_at day.now) book.old prices.old (lent_of records.old investor.old fund.old) answers.old) }
     ensures demand { Demand3 (state_of (day_at day.now) book.old prices.old) (events_of rows.now (batch_of (day_at day.now) book.old prices.old (lent_of records.old investor.old fund.old) answers.old)) (state_of (day_at day.now) book.new prices.new) }

@@ -20,32 +20,6 @@ use Rattle.balance.specs.Calls.{State, Call, price, trade, create, redeem, value
 use Rattle.driver_rows.specs.Rows.{Row, call, none, Span, Spans, no_spans, spans_in, span_within, cell, order_of, row_of, Work, work_of, lent_to, result_of, runs_after, row_reply, row_leaves}
 use Rattle.driver_rows.proofs.Parts.{none_within}
 
--- the row of each kind
-module _ (row : List ℕ) where
-  pub row_price : cell row 0 ≡ 1 → row_of row ≡ call (price (cell row 1) (cell row 2)) no_spans
-  unfolding row_of
-  row_price e = rw e refl
-
-  pub row_trade : cell row 0 ≡ 2 → row_of row ≡ call (trade (cell row 1) (cell row 2) (cell row 3) (cell row 4) (cell row 5)) no_spans
-  unfolding row_of
-  row_trade e = rw e refl
-
-  pub row_create : cell row 0 ≡ 3 → row_of row ≡ call (create (cell row 1) (cell row 2)) (spans_in row)
-  unfolding row_of
-  row_create e = rw e refl
-
-  pub row_redeem : cell row 0 ≡ 4 → row_of row ≡ call (redeem (cell row 1) (cell row 2)) (spans_in row)
-  unfolding row_of
-  row_redeem e = rw e refl
-
-  pub row_value : cell row 0 ≡ 5 → row_of row ≡ call value no_spans
-  unfolding row_of
-  row_value e = rw e refl
-
-  pub row_none : (cell row 0 ≡ 1 → ⊥) → (cell row 0 ≡ 2 → ⊥) → (cell row 0 ≡ 3 → ⊥) → (cell row 0 ≡ 4 → ⊥) → (cell row 0 ≡ 5 → ⊥) → row_of row ≡ none
-  unfolding row_of
-  row_none n1 n2 n3 n4 n5 = rw (ne_eqb (cell row 0) 1 n1, ne_eqb (cell row 0) 2 n2, ne_eqb (cell row 0) 3 n3, ne_eqb (cell row 0) 4 n4, ne_eqb (cell row 0) 5 n5) refl
-
 -- a part of a run from a start to before an end, and the run with another in its place
 abbrev cut_of : ℕ → ℕ → List ℕ → List ℕ
 cut_of start end run = take (end - start) (drop start run)
@@ -83,7 +57,7 @@ module _ (d : Day) (b ps : List ℕ) (runs : Lent) (row : Row) (r : Reply) where
   value_meets q e = rw (q, e, none_within (length runs.records), none_within (length runs.investor), none_within (length runs.fund)) (refl, refl)
 
 -- an order's step, by what its ask comes to
-pub order_step : (s : State) (lent : Lent) (ask : Ask) → ask.kind < 2
+pub order_step : (s : State) (lent : Lent) (ask : Ask)
     → step s (order_of ask) lent ≡ record {
       reply = asked_reply s.day s.book s.prices ask (rooms_in lent);
       after = record { day = s.day; book = asked_book s.day s.book s.prices ask (rooms_in lent); prices = s.prices };
@@ -100,7 +74,7 @@ order_step s lent =
     (λ a units. refl)
 
 -- an order on the parts of the runs that its row names, from what it answers and leaves
-module _ (d : Day) (b ps : List ℕ) (runs : Lent) (ask : Ask) (k : ask.kind < 2) (parts : Spans) where
+module _ (d : Day) (b ps : List ℕ) (runs : Lent) (ask : Ask) (parts : Spans) where
   abbrev w : Work
   w = work_of d b ps runs
 
@@ -108,7 +82,7 @@ module _ (d : Day) (b ps : List ℕ) (runs : Lent) (ask : Ask) (k : ask.kind < 2
       → lists ≡ asked_lists d b ps ask (lent_to w parts)
       → (r ≡ (result_of w (order_of ask) parts).reply) × (work_of d after ps (runs_after runs parts lists) ≡ row_leaves w (call (order_of ask) parts))
   unfolding row_leaves
-  order_meets r after lists e f g = rw (e, f, g, order_step _ _ ask k) (refl, refl)
+  order_meets r after lists e f g = rw (e, f, g, order_step _ _ ask) (refl, refl)
 
   -- each part by its start and the first place behind it
   pub parts_meet : (r-start r-end i_start i-end f-start f-end : ℕ)

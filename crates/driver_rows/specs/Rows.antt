@@ -1,10 +1,12 @@
 -- A list of calls as rows of numbers: what a row names, and what the definitions make of it.
-use Rattle.std.specs.Prelude.{ℕ, ◌+◌, cond, List, ◌++◌, eqb, leb, length, get_or, take, drop}
+use Rattle.std.specs.Prelude.{ℕ, ◌+◌, cond, List, ◌++◌, eqb, leb, length, get_or, take, drop, Option, Some, None}
 use Rattle.sequences.specs.Checks.{Reply, reply}
 use Rattle.sequences.specs.Stretch.{stretch_of}
 use Rattle.layout.specs.Places.{row_width}
 use Rattle.layout.specs.Day.{Day}
 use Rattle.rules.specs.declared.Ask.{Ask}
+use Rattle.driver_rows.specs.declared.Call.{Call as Named}
+use Rattle.driver_rows.specs.declared.Call.TheVariants.{Price, Trade, Order, Value}
 use Rattle.rules.specs.Kinds.{by_kind}
 use Rattle.rules.specs.Lent.{Lent, lent_of}
 use Rattle.balance.specs.Calls.{State, Call, Result, price, trade, create, redeem, value, step}
@@ -57,6 +59,14 @@ row_of row =
     (cond (eqb (cell row 0) 3) (call (create (cell row 1) (cell row 2)) (spans_in row))
     (cond (eqb (cell row 0) 4) (call (redeem (cell row 1) (cell row 2)) (spans_in row))
     (cond (eqb (cell row 0) 5) (call value no_spans) none))))
+
+-- the row that a call of the code stands for
+abbrev pub call_named : List ℕ → Option Named → Row
+call_named row (Some (Price line p)) = call (price line p) no_spans
+call_named row (Some (Trade t)) = call (trade t.line t.quantity t.price.0 t.seller t.buyer) no_spans
+call_named row (Some (Order ask)) = call (order_of ask) (spans_in row)
+call_named row (Some Value) = call value no_spans
+call_named row None = none
 
 -- the i-th row
 abbrev pub row_at : List ℕ → ℕ → Row

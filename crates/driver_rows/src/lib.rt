@@ -7,10 +7,20 @@ ghost use Rattle.layout.specs.Day.{day_at};
 ghost use Rattle.rules.specs.Sound.{is_sound};
 ghost use Rattle.rules.specs.Lent.{lent_of};
 ghost use Rattle.answers.specs.Numbers.{reply_of};
-ghost use Rattle.driver_rows.specs.Rows.{call, span, spans_in, span_within, row_of, result_of, row_reply, row_leaves, order_of, work_of};
+ghost use Rattle.driver_rows.specs.Rows.{call, call_named, span, spans_in, span_within, row_of, result_of, row_reply, row_leaves, order_of, work_of};
 
 use answers::Numbers;
-use rules::{Ask, Refusal};
+use rules::{Ask, Refusal, Trade};
+use units::Money;
+
+// The call that a row names.
+#[derive(Clone, Copy)]
+enum Call {
+    Price { line: usize, price: u64 },
+    Trade(Trade),
+    Order(Ask),
+    Value,
+}
 
 // A part of a run, from `start` to before `end`.
 #[derive(Clone, Copy)]
@@ -20,22 +30,20 @@ struct Part {
 }
 
 // The part that is lent: the empty one at the front, where the part named lies outside the run.
+#[tactic(auto, unfolding(crate::specs::Rows::span_within))]
 fn part_in(run: usize, start: u64, size: u64) -> Part
     ensures start_value { result.start ≡ (span_within run (span start size)).start }
     ensures end { result.end ≡ result.start + (span_within run (span start size)).size }
     ensures within { result.end ≤ run }
 {
-    let from = start as usize;
-    let length = size as usize;
-    if from > run {
-        return Part { start: 0, end: 0 };
-    }
-    if length > run - from {
+    let start = start as usize;
+    let size = size as usize;
+    if start > run || size > run - start {
         return Part { start: 0, end: 0 };
     }
     Part {
-        start: from,
-        end: from + length,
+        start,
+        end: start + size,
     }
 }
 
@@ -52,7 +60,7 @@ fn order_row(
     row: &[u64],
 ) -> Numbers
     requires prices_value { known ≡ true → is_sound (day_at day.now) book.old prices.now ≡ true }
-    requires kind_bound { (ask.kind < 2) × (length row.now ≡ row_width) }
+    requires row_len { length row.now ≡ row_width }
     ensures result_value { reply_of result ≡ (result_of (work_of (day_at day.now) book.old prices.now (lent_of records.old investor.old fund.old)) (order_of ask) (spans_in row.now)).reply }
     ensures left { work_of (day_at day.now) book.new prices.now (lent_of records.new investor.new fund.new) ≡ row_leaves (work_of (day_at day.now) book.old prices.now (lent_of records.old investor.old fund.old)) (call (order_of ask) (spans_in row.now)) }
 {
@@ -75,17 +83,31 @@ fn order_row(
         &mut investor[i_start..i_end],
         &mut fund[f_start..f_end],
     );
-    answers::of_order(answer)
+    Numbers::from(answer)
 }
 
-// What an order's row asks.
-fn asked(kind: usize, account: u64, units: u64) -> Ask
-    ensures { result ≡ record { kind = kind; account = account; units = units } }
+// The call that a row names by its kind, or none.
+#[tactic(auto, unfolding(crate::specs::Rows::row_of))]
+fn call_of(row: &[u64]) -> Option<Call>
+    requires { length row.now ≡ row_width }
+    ensures { call_named row.now result ≡ row_of row.now }
 {
-    Ask {
-        kind,
-        account: account as usize,
-        units,
+    match row[0] {
+        1 => Some(Call::Price {
+            line: row[1] as usize,
+            price: row[2],
+        }),
+        2 => Some(Call::Trade(Trade {
+            line: row[1] as usize,
+            quantity: row[2],
+            price: Money(row[3]),
+            seller: row[4] as usize,
+            buyer: row[5] as usize,
+        })),
+        3 => Some(Call::Order(rules::creation(row[1] as usize, row[2]))),
+        4 => Some(Call::Order(rules::redemption(row[1] as usize, row[2]))),
+        5 => Some(Call::Value),
+        _ => None,
     }
 }
 
@@ -105,33 +127,15 @@ pub fn row_call(
     ensures result_value { reply_of result ≡ row_reply (work_of (day_at day.now) book.old prices.old (lent_of records.old investor.old fund.old)) (row_of row.now) }
     ensures left { work_of (day_at day.now) book.new prices.new (lent_of records.new investor.new fund.new) ≡ row_leaves (work_of (day_at day.now) book.old prices.old (lent_of records.old investor.old fund.old)) (row_of row.now) }
 {
-    let kind = row[0];
-    if kind == 1 {
-        return answers::of_answer(calls::price(known, day, book, prices, row[1] as usize, row[2]));
+    let Some(call) = call_of(row) else {
+        return Numbers::from(Refusal::Sizes);
+    };
+    match call {
+        Call::Price { line, price } => {
+            Numbers::from(calls::price(known, day, book, prices, line, price))
+        }
+        Call::Trade(trade) => Numbers::from(calls::trade(known, day, book, prices, trade)),
+        Call::Order(ask) => order_row(known, day, book, prices, records, investor, fund, ask, row),
+        Call::Value => Numbers::from(calls::reference_value(known, day, book, prices)),
     }
-    if kind == 2 {
-        return answers::of_answer(calls::trade(
-            known,
-            day,
-            book,
-            prices,
-            row[1] as usize,
-            row[2],
-            row[3],
-            row[4] as usize,
-            row[5] as usize,
-        ));
-    }
-    if kind == 3 {
-        let ask = asked(rules::CREATION, row[1], row[2]);
-        return order_row(known, day, book, prices, records, investor, fund, ask, row);
-    }
-    if kind == 4 {
-        let ask = asked(rules::REDEMPTION, row[1], row[2]);
-        return order_row(known, day, book, prices, records, investor, fund, ask, row);
-    }
-    if kind == 5 {
-        return answers::of_value(calls::reference_value(known, day, book, prices));
-    }
-    answers::of_refusal(Refusal::Sizes)
 }

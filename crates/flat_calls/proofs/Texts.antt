@@ -17,10 +17,12 @@ use Rattle.answers.specs.declared.Numbers.{Numbers}
 use Rattle.answers.specs.Numbers.{reply_of, Told}
 use Rattle.list_rules.specs.declared.ListFields.{ListFields}
 use Rattle.list_rules.specs.declared.ListRead.{ListRead}
-use Rattle.list_rules.specs.declared.ListAnswer.{ListAnswer}
+use Rattle.rules.specs.declared.Refusal.{Refusal}
+use Rattle.rules.proofs.Replies.{is_refused}
+use Rattle.std.proofs.Common.{Result, Ok, Err}
 use Rattle.list_rules.specs.Fields.{fields_from}
-use Rattle.list_rules.specs.Replies.{list_reply}
-use Rattle.list_rules.specs.Reading.{fields_read, read_reply, fields_handed, run_after}
+use Rattle.list_rules.specs.Replies.{list_reply, read_answer_reply}
+use Rattle.list_rules.specs.Reading.{fields_read, read_reply, run_after}
 use Rattle.list_rules.specs.Writing.{Listing, write_reply, output_after}
 use Rattle.list_rules.proofs.Ranges.{fields_sound}
 use Rattle.list_trip.proofs.ReadTests.{reads}
@@ -61,34 +63,50 @@ module _ (text : List ℕ) (t : Taking) where
       }
 
 -- answered by reading
-module _ (text run : List ℕ) (n : Numbers) (r : ListRead) (run' : List ℕ) (e : reply_of n ≡ list_reply r.answer) (out : ReadOutcome text run r run') where
-  number_is : n.number ≡ (read_reply text (length run)).number
-  number_is = ap (λ (a : Reply). a.number) (e ∙ out.answer_is)
+module _ (text run : List ℕ) (run' : List ℕ) (n : Numbers) where
+  module _ (read : ListRead) (e : reply_of n ≡ read_answer_reply (Ok read)) (out : ReadOutcome text run (Ok read) run') where
+    accepted : is_accepted (read_reply text (length run)) ≡ true
+    unfolding is_accepted
+    accepted = rw (← out.answer_is)
 
-  -- the cash of the fields that are read is in its range
-  pub read_cash : n.number ≡ 0 → (nat_abs r.fields.fund.estimated_cash ≤ cap) × (nat_abs r.fields.cash_component ≤ cap)
-  unfolding is_accepted fields_handed
-  read_cash zero =
-      let accepted : is_accepted (read_reply text (length run)) ≡ true = eq-eqb _ 0 (sym number_is ∙ zero) in
-      let fields : r.fields ≡ fields_read text = out.fields_is ∙ rw accepted in
-      let ranges = fields_sound (fields_read text) (reads text (length run) accepted).ranges in (
-        cash_size _ (ap (λ (l : ListFields). cash_in_range l.fund.estimated_cash) fields ∙ (fund_sound _ ranges.fund).cash),
-        cash_size _ (ap (λ (l : ListFields). cash_in_range l.cash_component) fields ∙ ranges.cash),
-      )
+    -- the cash of the fields that are read is in its range
+    pub read_cash : (nat_abs read.fields.fund.estimated_cash ≤ cap) × (nat_abs read.fields.cash_component ≤ cap)
+    read_cash =
+        let ranges = fields_sound (fields_read text) (reads text (length run) accepted).ranges in
+        let fields = out.handed.fields_is in (
+          cash_size _ (ap (λ (l : ListFields). cash_in_range l.fund.estimated_cash) fields ∙ (fund_sound _ ranges.fund).cash),
+          cash_size _ (ap (λ (l : ListFields). cash_in_range l.cash_component) fields ∙ ranges.cash),
+        )
 
-  pub read_done : (fields : List ℕ) (first : ℕ) → length fields ≡ fields_width → (number place value : ℕ) (fields' : List ℕ) (first' : ℕ)
-      → Told (reply_of n) number place value
-      → fields' ≡ cond (eqb n.number 0) (fields_numbers r.fields) fields → first' ≡ cond (eqb n.number 0) r.first_row first
-      → TextRead text (taking run fields first) number place value (taking run' fields' first')
-  unfolding taking_reply run_after is_accepted
-  read_done fields first wide number place value fields' first' told p q =
-      let same = width_fits (length fields) (read_reply text (length run)) wide in
-      record {
-        told = told_as (e ∙ out.answer_is ∙ sym same) told;
-        run_is = rw same (out.run_is ∙ kept (is_accepted (read_reply text (length run))) _ _);
-        fields_is = rw same (p ∙ rw (number_is, out.fields_is));
-        first_is = rw same (q ∙ rw (number_is, out.first_is));
-      }
+    pub read_done : (fields : List ℕ) (first : ℕ) → length fields ≡ fields_width → (number place value : ℕ) (fields' : List ℕ)
+        → Told (reply_of n) number place value → fields' ≡ fields_numbers read.fields
+        → TextRead text (taking run fields first) number place value (taking run' fields' read.first_row)
+    unfolding taking_reply run_after
+    read_done fields first wide number place value fields' told p =
+        let same = width_fits (length fields) (read_reply text (length run)) wide in
+        record {
+          told = told_as (e ∙ out.answer_is ∙ sym same) told;
+          run_is = rw same (out.run_is ∙ kept (is_accepted (read_reply text (length run))) _ _);
+          fields_is = rw (same, accepted) (p ∙ ap fields_numbers out.handed.fields_is);
+          first_is = rw (same, accepted) out.handed.first_is;
+        }
+
+  module _ (why : Refusal) (e : reply_of n ≡ read_answer_reply (Err why)) (out : ReadOutcome text run (Err why) run') where
+    refused : is_accepted (read_reply text (length run)) ≡ false
+    refused = is_refused why _ out.answer_is
+
+    pub read_stopped : (fields : List ℕ) (first : ℕ) → length fields ≡ fields_width → (number place value : ℕ)
+        → Told (reply_of n) number place value
+        → TextRead text (taking run fields first) number place value (taking run' fields first)
+    unfolding taking_reply run_after
+    read_stopped fields first wide number place value told =
+        let same = width_fits (length fields) (read_reply text (length run)) wide in
+        record {
+          told = told_as (e ∙ out.answer_is ∙ sym same) told;
+          run_is = rw same (out.run_is ∙ kept (is_accepted (read_reply text (length run))) _ _);
+          fields_is = rw (same, refused);
+          first_is = rw (same, refused);
+        }
 
 -- The chain: the fields that an accepted reading leaves are those that it read.
 
@@ -99,12 +117,12 @@ module _ (text : List ℕ) (t : Taking) (accepted : is_accepted (taking_reply te
   accepted_by false p = absurd (sizes_refuse (rw (width_differs _ (read_reply text (length t.run)) (eqb-false _ fields_width p)) at accepted))
 
   pub fields_through : (number place value : ℕ) (after : Taking) → TextRead text t number place value after → fields_at after.fields ≡ fields_read text
-  unfolding fields_handed fields_read fields_from
+  unfolding fields_read fields_from
   fields_through number place value after out =
       let same = accepted_by _ refl in
       let reading : is_accepted (read_reply text (length t.run)) ≡ true = rw same at accepted in
       let ranges = fields_sound (fields_read text) (reads text (length t.run) reading).ranges in
-      rw (out.fields_is, accepted, reading)
+      rw (out.fields_is, accepted)
       (fields_flat (fields_read text) (table_length _ limit_count) (cash_size _ (fund_sound _ ranges.fund).cash) (cash_size _ ranges.cash))
 
 -- Writing.
@@ -117,7 +135,7 @@ module _ (fields : List ℕ) (l : Listing) (output : List ℕ) where
       let refused = width_differs (length fields) (write_reply l (length output)) other in
       record { told = told_as (sym refused) told; output_is = rw refused }
 
-  pub write_done : length fields ≡ fields_width → (n : Numbers) (r : ListAnswer) (output' : List ℕ) → reply_of n ≡ list_reply r → WriteOutcome l output r output'
+  pub write_done : length fields ≡ fields_width → (n : Numbers) (r : Result ℕ Refusal) (output' : List ℕ) → reply_of n ≡ list_reply r → WriteOutcome l output r output'
       → (number place value : ℕ) → Told (reply_of n) number place value → TextWritten fields l output number place value output'
   unfolding output_after
   write_done wide n r output' e out number place value told =

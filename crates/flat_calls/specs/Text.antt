@@ -4,7 +4,9 @@ use Rattle.std.specs.Prelude.{ℕ, ◌≡◌, cond, List, ◌∷◌, leb, eqb, l
 use Rattle.sequences.specs.Checks.{Reply, reply}
 use Rattle.rules.specs.Replies.{if_accepted}
 use Rattle.list_rules.specs.declared.TextPart.{TextPart}
-use Rattle.list_rules.specs.Reading.{read_reply, fields_handed, first_handed, run_after}
+use Rattle.text_rules.specs.Reading.{body_start}
+use Rattle.list_rules.specs.Shanghai.{shanghai}
+use Rattle.list_rules.specs.Reading.{fields_read, read_reply, run_after}
 use Rattle.list_rules.specs.Writing.{Listing, write_reply, output_after}
 use Rattle.list_layout.specs.Run.{fields_width, fields_numbers}
 use Rattle.answers.specs.Numbers.{Told}
@@ -30,8 +32,8 @@ taking_reply text t = of_width (length t.fields) (read_reply text (length t.run)
 pub record TextRead (text : List ℕ) (t : Taking) (number place value : ℕ) (after : Taking) : Type 0 where
   pub told : Told (taking_reply text t) number place value
   pub run_is : after.run ≡ if_accepted (taking_reply text t) (run_after text t.run) t.run
-  pub fields_is : after.fields ≡ if_accepted (taking_reply text t) (fields_numbers (fields_handed text (length t.run))) t.fields
-  pub first_is : after.first ≡ if_accepted (taking_reply text t) (first_handed text (length t.run)) t.first
+  pub fields_is : after.fields ≡ if_accepted (taking_reply text t) (fields_numbers (fields_read text)) t.fields
+  pub first_is : after.first ≡ if_accepted (taking_reply text t) (body_start shanghai text) t.first
 
 -- a part of a text as two numbers, its place and its length: they are stored at the front of a run that has room for both, and a
 -- shorter run is left as it was lent

@@ -13,7 +13,7 @@ ghost use Rattle.flat_calls.specs.Opening.{flat_given, FlatOutcome};
 ghost use Rattle.flat_calls.specs.Text.{taking, TextRead, part_kept, TextWritten};
 
 use answers::Numbers;
-use list_rules::{ListAnswer, ListFields, TextPart};
+use list_rules::TextPart;
 use rules::Refusal;
 
 // How many numbers a part of a text takes: its place and its length.
@@ -35,45 +35,25 @@ pub fn open(
     ensures { FlatOutcome fund.now (flat_given accounts count fund.now components.now holdings.now book.old prices.old day.old) result place.new value.new book.new prices.new day.new }
 {
     if fund.len() != layout::FUND_WIDTH {
-        return answers::tell(answers::of_refusal(Refusal::Sizes), place, value);
+        return answers::tell(Numbers::from(Refusal::Sizes), place, value);
     }
     let f = layout::fund_of(fund, 0);
     let answer = day::open(accounts, count, f, components, holdings, book, prices, day);
-    answers::tell(answers::of_answer(answer), place, value)
+    answers::tell(Numbers::from(answer), place, value)
 }
 
-// The answer of reading and writing as the paper's three numbers.
-fn of_list(answer: ListAnswer) -> Numbers
+// The answer of reading and writing as the paper's three numbers, with the count that an accepted call tells.
+fn of_list(answer: Result<usize, Refusal>) -> Numbers
     ensures { reply_of result ≡ list_reply answer }
 {
     match answer {
-        ListAnswer::Done(count) => Numbers {
+        Ok(count) => Numbers {
             number: 0,
             place: 0,
             value: count as u64,
             reports: 0,
         },
-        ListAnswer::Refused(why) => answers::of_refusal(why),
-    }
-}
-
-// Stores the fields where the number of reading's answer is 0.
-fn keep_fields(run: &mut [u64], number: u64, l: ListFields)
-    requires run_len { length run.old ≡ fields_width }
-    requires estimated_cash_bound { number ≡ 0 → (nat_abs l.fund.estimated_cash ≤ cap) × (nat_abs l.cash_component ≤ cap) }
-    ensures { run.new ≡ cond (eqb number 0) (fields_numbers l) run.old }
-{
-    if number == 0 {
-        list_layout::put_fields(run, l);
-    }
-}
-
-// Stores the place of the first component line where the number of reading's answer is 0.
-fn keep_first(first: &mut u64, number: u64, found: usize)
-    ensures { first.new ≡ cond (eqb number 0) found first.old }
-{
-    if number == 0 {
-        *first = found as u64;
+        Err(why) => Numbers::from(why),
     }
 }
 
@@ -89,15 +69,16 @@ pub fn read(
     ensures { TextRead text.now (taking run.old fields.old first_row.old) result place.new value.new (taking run.new fields.new first_row.new) }
 {
     if fields.len() != list_layout::FIELDS_WIDTH {
-        return answers::tell(answers::of_refusal(Refusal::Sizes), place, value);
+        return answers::tell(Numbers::from(Refusal::Sizes), place, value);
     }
-    let read = list_reading::read(text, run);
-    let answer = read.answer;
-    let told = of_list(answer);
-    let l = read.fields;
-    keep_fields(fields, told.number, l);
-    keep_first(first_row, told.number, read.first_row);
-    answers::tell(told, place, value)
+    match list_reading::read(text, run) {
+        Ok(read) => {
+            list_layout::put_fields(fields, read.fields);
+            *first_row = read.first_row as u64;
+            answers::tell(of_list(Ok(read.fields.count)), place, value)
+        }
+        Err(why) => answers::tell(of_list(Err(why)), place, value),
+    }
 }
 
 // Stores a part's place and length at the front of a run that has room for both, and hands back the length.
@@ -143,7 +124,7 @@ pub fn write(
     ensures { TextWritten fields.now (listing (fields_at fields.now) run.now names.now letters.now) output.old result place.new value.new output.new }
 {
     if fields.len() != list_layout::FIELDS_WIDTH {
-        return answers::tell(answers::of_refusal(Refusal::Sizes), place, value);
+        return answers::tell(Numbers::from(Refusal::Sizes), place, value);
     }
     let l = list_layout::fields_at(fields);
     let answer = list_writing::write(l, run, names, letters, output);

@@ -10,12 +10,12 @@ use native.Mathlib.Decide.{dec_lt}
 use native.Mathlib.Omega.{arith}
 use lib.Dec.{ltb, eqb}
 use lib.IntN.{ℤ, pos, negsuc, nat_abs}
-use lib.Signed.{le_z, mag}
+use lib.Signed.{mag}
 use lib.ListN.{length, get_or, get_or-eq_default}
-use borrow.Author.Tests.{lt-ltb, le-ltb, le-leb, leb-true, leb-false, ltb-true, eqb-true, ne_eqb, not-false}
+use borrow.Author.Tests.{le-ltb, leb-true, ltb-true, eqb-true, ne_eqb, not-false}
 use Rattle.sequences.specs.Every.{every}
 use Rattle.sequences.proofs.Below.{all_at, first_all}
-use Rattle.sequences.proofs.Every.{every_none, every_more, every_at, false_of, inside-true, inside_facts}
+use Rattle.sequences.proofs.Every.{every_at, false_of, inside_facts}
 use Rattle.flags.specs.Table.{entry, rate_used, amount_used}
 use Rattle.digits.specs.Digits.{cap}
 use Rattle.layout.specs.Places.{limit_count}
@@ -26,17 +26,6 @@ use Rattle.layout.specs.Components.{blank}
 use Rattle.fund.specs.Components.{outside_group, zero_unless, used_within, most_rate, most_amount, component_in_range, fits, fault_at, component_fault}
 
 -- Estimated cash.
-
--- what the code tests, where the lower bound holds and where it does not
-pub cash_high : (e : ℤ) → le_z (negsuc 999_999_998) e ≡ true → le_z e (pos 9_999_999_999) ≡ cash_in_range e
-unfolding cash_in_range
-cash_high (pos n) t = refl
-cash_high (negsuc n) t = sym (lt-ltb n 999_999_999 (omega (arith, leb-true n 999_999_998 t)))
-
-pub cash_low : (e : ℤ) → le_z (negsuc 999_999_998) e ≡ false → le_z (negsuc 999_999_998) e ≡ cash_in_range e
-unfolding cash_in_range
-cash_low (pos n) t = absurd (true≢false t)
-cash_low (negsuc n) t = t ∙ sym (le-ltb n 999_999_999 (omega (arith, leb-false n 999_999_998 t)))
 
 -- estimated cash in its range has at most ten digits
 pub cash_small : (e : ℤ) → cash_in_range e ≡ true → mag e ≤ 9_999_999_999
@@ -61,14 +50,6 @@ pub record FundRanges (f : Fund) : Type 0 where
   pub limits : limits_in_range f.basket_size f.limits ≡ true
 
 module _ (f : Fund) where
-  pub fund-true : FundRanges f → fund_in_range f ≡ true
-  unfolding fund_in_range
-  fund-true r =
-      every_more _ _ (le-leb _ _ r.first_code)
-      (every_more _ _ (inside-true 1 99_999_999 _ r.size_low r.size_high)
-      (every_more _ _ (le-leb _ _ r.ratio)
-      (every_more _ _ (le-leb _ _ r.switch) (every_more _ _ r.cash (every_more _ _ r.limits every_none)))))
-
   pub fund_sound : fund_in_range f ≡ true → FundRanges f
   unfolding fund_in_range
   fund_sound e =
@@ -83,9 +64,6 @@ module _ (f : Fund) where
         cash = at 4;
         limits = at 5;
       }
-
-  pub fund-false : (FundRanges f → ⊥) → fund_in_range f ≡ false
-  fund-false h = false_of (fund_in_range f) (λ e. h (fund_sound e))
 
 -- a limit is at most the ceiling and a multiple of the basket size
 pub limit_facts : (size limit : ℕ) → limit_in_range size limit ≡ true → (limit ≤ ceiling) × (limit % size ≡ 0)
@@ -119,10 +97,6 @@ unused_zero true x e u = absurd (true≢false u)
 unused_zero false x e u = eqb-true x 0 e
 
 -- a rate or an amount: at most so much, and its use
-pub within-true : (most : ℕ) (used : Bool) (x : ℕ) → x ≤ most → zero_unless used x ≡ true → used_within most used x ≡ true
-unfolding used_within
-within-true most used x h u = every_more _ _ (le-leb _ _ h) (every_more _ _ u every_none)
-
 pub within_facts : (most : ℕ) (used : Bool) (x : ℕ) → used_within most used x ≡ true → (x ≤ most) × (zero_unless used x ≡ true)
 unfolding used_within
 within_facts most used x e =
@@ -142,17 +116,6 @@ pub record ComponentRanges (g : ℕ) (c : Component) : Type 0 where
   pub amount_use : zero_unless (entry c.flag amount_used) c.amount.0 ≡ true
 
 module _ (g : ℕ) (c : Component) where
-  pub component_true : ComponentRanges g c → component_in_range g c ≡ true
-  unfolding component_in_range
-  component_true r =
-      every_more _ _ (le-leb _ _ r.code)
-      (every_more _ _ r.outside
-      (every_more _ _ (le-leb _ _ r.quantity)
-      (every_more _ _ (lt-ltb _ _ r.flag)
-      (every_more _ _ (within-true _ _ _ r.premium r.premium_use)
-      (every_more _ _ (within-true _ _ _ r.discount r.discount_use)
-      (every_more _ _ (within-true _ _ _ r.amount r.amount_use) every_none))))))
-
   pub component_sound : component_in_range g c ≡ true → ComponentRanges g c
   unfolding component_in_range
   component_sound e =
@@ -172,9 +135,6 @@ module _ (g : ℕ) (c : Component) where
         discount_use = discount.1;
         amount_use = amount.1;
       }
-
-  pub component_false : (ComponentRanges g c → ⊥) → component_in_range g c ≡ false
-  component_false h = false_of (component_in_range g c) (λ e. h (component_sound e))
 
 -- The components.
 

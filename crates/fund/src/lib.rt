@@ -2,6 +2,7 @@
 #![tactic(auto)]
 
 ghost use Rattle.std.specs.Prelude.{◌≡◌, ◌*◌, ◌≤◌, ◌<◌, length};
+ghost use Rattle.sequences.specs.Below.{below};
 ghost use Rattle.fund.specs.Fund.{cash_in_range, limit_in_range, limits_in_range, fund_in_range};
 ghost use Rattle.layout.specs.Places.{most_components, component_width};
 ghost use Rattle.layout.specs.Components.{component_at, places_of};
@@ -21,61 +22,41 @@ pub const NET: usize = 2;
 
 pub const NET_EACH: usize = 3;
 
+#[tactic(auto, using(std::proofs::lemmas::Bool::Decides::nat_tests), unfolding(crate::specs::Fund::cash_in_range))]
 pub fn cash_in_range(e: i64) -> bool
     ensures { result ≡ cash_in_range e }
 {
     -999_999_999 <= e && e <= 9_999_999_999
 }
 
+#[tactic(auto, using(std::proofs::lemmas::Bool::Decides::nat_tests), unfolding(crate::specs::Fund::limit_in_range, sequences::specs::Every::every))]
 fn limit_in_range(size: u64, limit: u64) -> bool
     requires { 0 < size }
     ensures { result ≡ limit_in_range size limit }
 {
-    if CEILING < limit {
-        return false;
-    }
-    limit % size == 0
+    limit <= CEILING && limit % size == 0
 }
 
 fn limits_in_range(size: u64, limits: [u64; layout::LIMITS]) -> bool
     requires { 0 < size }
     ensures { result ≡ limits_in_range size limits }
 {
-    let mut i = 0;
-    while i < layout::LIMITS {
-        if !limit_in_range(size, limits[i]) {
-            return false;
-        }
-        i += 1;
-    }
-    true
+    limits.iter().all(|limit| limit_in_range(size, *limit))
 }
 
 // Refusal 2's test. The basket size comes before the limits, which are divided by it.
+#[tactic(auto, using(std::proofs::lemmas::Bool::Decides::nat_tests), unfolding(crate::specs::Fund::fund_in_range, sequences::specs::Every::every, sequences::specs::Every::inside))]
 pub fn fund_in_range(f: Fund) -> bool
     ensures { result ≡ fund_in_range f }
 {
     let size = f.basket_size;
-    if 999_994 < f.first_code {
-        return false;
-    }
-    if size < 1 {
-        return false;
-    }
-    if 99_999_999 < size {
-        return false;
-    }
-    if 100_000 < f.max_cash_ratio.0 {
-        return false;
-    }
-    if 3 < f.switch {
-        return false;
-    }
-    if !cash_in_range(f.estimated_cash) {
-        return false;
-    }
-    let limits = f.limits;
-    limits_in_range(size, limits)
+    f.first_code <= 999_994
+        && 1 <= size
+        && size <= 99_999_999
+        && f.max_cash_ratio.0 <= 100_000
+        && f.switch <= 3
+        && cash_in_range(f.estimated_cash)
+        && limits_in_range(size, f.limits)
 }
 
 // The most that either rate may be, and an amount.
@@ -84,92 +65,65 @@ const MOST_RATE: u64 = 100_000;
 const MOST_AMOUNT: u64 = 99_999_999_999;
 
 // An unused rate or amount is 0.
+#[tactic(auto, using(std::proofs::lemmas::Bool::Decides::nat_tests), unfolding(crate::specs::Components::zero_unless))]
 fn zero_unless(used: bool, x: u64) -> bool
     ensures { result ≡ zero_unless used x }
 {
-    if used {
-        return true;
-    }
-    x == 0
+    used || x == 0
 }
 
 // A rate or an amount: at most so much, and 0 where the flag does not use it.
+#[tactic(auto, using(std::proofs::lemmas::Bool::Decides::nat_tests), unfolding(crate::specs::Components::used_within, sequences::specs::Every::every))]
 fn used_within(most: u64, used: bool, x: u64) -> bool
     ensures { result ≡ used_within most used x }
 {
-    if most < x {
-        return false;
-    }
-    zero_unless(used, x)
+    x <= most && zero_unless(used, x)
 }
 
 // Whether a code is outside the fund's group of codes, which starts at `first_code`.
+#[tactic(auto, using(std::proofs::lemmas::Bool::Decides::nat_tests), unfolding(crate::specs::Components::outside_group))]
 pub fn outside_group(first_code: u64, code: u64) -> bool
     ensures { result ≡ outside_group first_code code }
 {
-    if code < first_code {
-        return true;
-    }
-    5 < code - first_code
+    code < first_code || 5 < code - first_code
 }
 
 // A component's own ranges and flag use.
+#[tactic(auto, using(std::proofs::lemmas::Bool::Decides::nat_tests), unfolding(crate::specs::Components::component_in_range, sequences::specs::Every::every))]
 pub fn component_in_range(first_code: u64, c: Component) -> bool
     ensures { result ≡ component_in_range first_code c }
 {
-    if 999_999 < c.code {
-        return false;
-    }
-    if !outside_group(first_code, c.code) {
-        return false;
-    }
-    if 99_999_999 < c.quantity {
-        return false;
-    }
-    if 5 <= c.flag {
-        return false;
-    }
     let rate_used = flags::entry_of(c.flag, flags::RATE_USED);
-    if !used_within(MOST_RATE, rate_used, c.premium.0) {
-        return false;
-    }
-    if !used_within(MOST_RATE, rate_used, c.discount.0) {
-        return false;
-    }
-    used_within(
-        MOST_AMOUNT,
-        flags::entry_of(c.flag, flags::AMOUNT_USED),
-        c.amount.0,
-    )
+    let amount_used = flags::entry_of(c.flag, flags::AMOUNT_USED);
+    c.code <= 999_999
+        && outside_group(first_code, c.code)
+        && c.quantity <= 99_999_999
+        && c.flag < 5
+        && used_within(MOST_RATE, rate_used, c.premium.0)
+        && used_within(MOST_RATE, rate_used, c.discount.0)
+        && used_within(MOST_AMOUNT, amount_used, c.amount.0)
 }
 
 // Whether the i-th component is in its ranges and above the previous code.
+#[tactic(auto, using(std::proofs::lemmas::Bool::Decides::nat_tests), unfolding(crate::specs::Components::fits, sequences::specs::Every::every))]
 fn component_fits(first_code: u64, i: usize, previous: u64, c: Component) -> bool
     ensures { result ≡ fits first_code i previous c }
 {
-    if !component_in_range(first_code, c) {
-        return false;
-    }
-    if i == 0 {
-        return true;
-    }
-    previous < c.code
+    component_in_range(first_code, c) && (i == 0 || previous < c.code)
 }
 
-// Refusal 3's test: the first component at fault of a run's first `count`, and `count` where none is.
-pub fn run_fault(first_code: u64, run: &[u64], count: usize) -> usize
+// Refusal 3's test: the first component at fault of a run's first `count`.
+pub fn run_fault(first_code: u64, run: &[u64], count: usize) -> Option<usize>
     requires { (count ≤ most_components) × (component_width * count ≤ length run.now) }
-    ensures { result ≡ component_fault first_code (places_of (component_at run.now) count) count }
+    ensures { result ≡ below count (component_fault first_code (places_of (component_at run.now) count) count) }
 {
     let mut previous: u64 = 0;
-    let mut i = 0;
-    while i < count {
+    for i in 0..count {
         let c = layout::component_at(run, i);
         if !component_fits(first_code, i, previous, c) {
-            return i;
+            return Some(i);
         }
         previous = c.code;
-        i += 1;
     }
-    i
+    None
 }

@@ -1,11 +1,9 @@
 -- Records in a flat run: their numbers, stored and read back.
 use mathlib.Core.Path.{◌≡◌, refl}
 use mathlib.Core.List.{List, ◌++◌}
-use Prim.Native.Nat.{ℕ, suc, ◌+◌, ◌*◌, ◌<◌}
-use native.Mathlib.Numerals.{add-one}
+use Prim.Native.Nat.{ℕ, ◌*◌, ◌<◌}
 use native.Mathlib.Omega.{arith}
-use lib.ListN.{length, get_or, set}
-use lib.Seq.{sets}
+use lib.ListN.{length, get_or}
 use Rattle.layout.specs.declared.Record.{Record}
 use Rattle.layout.specs.Places.{record_width}
 use Rattle.layout.specs.Records.{record_at, record_numbers, flatten, with_records}
@@ -20,16 +18,6 @@ flatten-append rs qs = laid-append record_numbers rs qs
 pub flatten-length : (rs : List Record) → length (flatten rs) ≡ record_width * length rs
 unfolding flatten
 flatten-length rs = laid-length record_numbers record_width (λ r. refl) rs
-
--- a record's numbers stored one by one
-pub record_stored : (list : List ℕ) (p : ℕ) (r : Record)
-    → set (set (set (set (set list p r.code) (p + 1) r.side) (p + 2) r.quantity) (p + 3) r.price.0) (p + 4) r.amount.0
-    ≡ sets list p (record_numbers r)
-record_stored list p r =
-    let two : p + 2 ≡ suc (suc p) = omega arith in
-    let three : p + 3 ≡ suc (suc (suc p)) = omega arith in
-    let four : p + 4 ≡ suc (suc (suc (suc p))) = omega arith in
-    rw (add-one p, two, three, four)
 
 -- what was written is read
 pub record_read : (rs : List Record) (list : List ℕ) (k : ℕ) (r : Record) → k < length rs → record_at (with_records rs list) k ≡ get_or rs k r

@@ -148,6 +148,7 @@ pub fn blank_component() -> Component
 }
 
 // The i-th component of a run.
+#[tactic(auto, unfolding(crate::specs::Components::component_at))]
 pub fn component_at(run: &[u64], i: usize) -> Component
     requires { component_width * i + component_width ≤ length run.now }
     ensures { result ≡ component_at run.now i }
@@ -174,13 +175,11 @@ pub fn component_of(basket: &[u64], i: usize) -> Component
 // The most that is read of a signed number's size.
 const MOST_SIZE: u64 = 1_000_000_000_000_000_000;
 
+#[tactic(auto, using(std::proofs::lemmas::Bool::Decides::nat_tests), unfolding(digits::specs::Digits::capped))]
 fn capped_size(size: u64) -> u64
     ensures { result ≡ capped size }
 {
-    if MOST_SIZE < size {
-        return MOST_SIZE;
-    }
-    size
+    size.min(MOST_SIZE)
 }
 
 // A signed number, of a sign and a size.
@@ -209,30 +208,20 @@ fn limits_at(run: &[u64], at: usize) -> [u64; LIMITS]
     requires { at + limit_count ≤ length run.now }
     ensures { result ≡ tabulate (λ k. get_or run.now (at + k) 0) limit_count }
 {
-    [
-        run[at],
-        run[at + 1],
-        run[at + 2],
-        run[at + 3],
-        run[at + 4],
-        run[at + 5],
-        run[at + 6],
-        run[at + 7],
-    ]
+    let mut limits = [0; LIMITS];
+    limits.copy_from_slice(&run[at..at + LIMITS]);
+    limits
 }
 
 fn put_limits(run: &mut [u64], at: usize, limits: [u64; LIMITS])
     requires { at + limit_count ≤ length run.old }
     ensures { run.new ≡ sets run.old at (tabulate (λ k. get_or limits k 0) limit_count) }
 {
-    let mut k = 0;
-    while k < LIMITS {
-        run[at + k] = limits[k];
-        k += 1;
-    }
+    run[at..at + LIMITS].copy_from_slice(&limits);
 }
 
 // The fund whose numbers start at a place of a run.
+#[tactic(auto, unfolding(crate::specs::Fund::fund_at))]
 pub fn fund_of(run: &[u64], at: usize) -> Fund
     requires { at + fund_width ≤ length run.now }
     ensures { result ≡ fund_at run.now at }
@@ -258,11 +247,11 @@ pub fn put_fund(run: &mut [u64], at: usize, f: Fund)
     run[at + 2] = f.max_cash_ratio.0;
     run[at + 3] = f.switch;
     put_signed(run, at + CASH_AT, f.estimated_cash);
-    let limits = f.limits;
-    put_limits(run, at + LIMITS_FROM, limits);
+    put_limits(run, at + LIMITS_FROM, f.limits);
 }
 
 // The accounts of a day's run.
+#[tactic(auto, unfolding(crate::specs::Day::day_head_at))]
 pub fn accounts_of(day: &[u64]) -> usize
     requires { length day.now ≡ day_width }
     ensures { result ≡ (day_head_at day.now).accounts }
@@ -271,6 +260,7 @@ pub fn accounts_of(day: &[u64]) -> usize
 }
 
 // Its count of components.
+#[tactic(auto, unfolding(crate::specs::Day::day_head_at))]
 pub fn count_of(day: &[u64]) -> usize
     requires { length day.now ≡ day_width }
     ensures { result ≡ (day_head_at day.now).count }
@@ -279,6 +269,7 @@ pub fn count_of(day: &[u64]) -> usize
 }
 
 // Its head.
+#[tactic(auto, unfolding(crate::specs::Day::day_head_at))]
 pub fn head_of(day: &[u64]) -> DayHead
     requires { length day.now ≡ day_width }
     ensures { result ≡ day_head_at day.now }
@@ -374,37 +365,14 @@ pub fn view_of(run: &[u64]) -> DayView<'_>
     DayView::new(head_of(run), basket_of(run))
 }
 
-// Stores numbers at the front of a run.
-fn put_front(run: &mut [u64], numbers: &[u64])
-    requires { length numbers.now ≤ length run.old }
-    ensures { run.new ≡ numbers.now ++ drop (length numbers.now) run.old }
-{
-    let mut k = 0;
-    while k < numbers.len() {
-        run[k] = numbers[k];
-        k += 1;
-    }
-}
-
-// Makes the numbers of a run from a place on 0.
-fn clear_from(run: &mut [u64], from: usize)
-    requires { from ≤ length run.old }
-    ensures { run.new ≡ take from run.old ++ replicate (length run.old - from) 0 }
-{
-    let mut k = from;
-    while k < run.len() {
-        run[k] = 0;
-        k += 1;
-    }
-}
-
 // Stores components as a basket: zeros stand behind them.
 fn put_basket(basket: &mut [u64], components: &[u64])
     requires { length components.now ≤ length basket.old }
     ensures { basket.new ≡ components.now ++ replicate (length basket.old - length components.now) 0 }
 {
-    put_front(basket, components);
-    clear_from(basket, components.len());
+    let (front, rest) = basket.split_at_mut(components.len());
+    front.copy_from_slice(components);
+    rest.fill(0);
 }
 
 // Stores a day.
@@ -428,6 +396,7 @@ pub fn width_of(count: usize) -> usize
 }
 
 // The lots of a line, read off a stretch.
+#[tactic(auto, unfolding(crate::specs::Book::lots_at))]
 pub fn lots_at(stretch: &[u64], line: usize) -> Lots
     requires { behind_line line ≤ length stretch.now }
     ensures { result ≡ lots_at stretch.now line }
@@ -440,6 +409,7 @@ pub fn lots_at(stretch: &[u64], line: usize) -> Lots
     }
 }
 
+#[tactic(auto, unfolding(crate::specs::Book::put_lots))]
 pub fn put_lots(stretch: &mut [u64], line: usize, x: Lots)
     requires { behind_line line ≤ length stretch.old }
     ensures { stretch.new ≡ put_lots stretch.old line x }
@@ -451,6 +421,7 @@ pub fn put_lots(stretch: &mut [u64], line: usize, x: Lots)
 }
 
 // The k-th record of a run.
+#[tactic(auto, unfolding(crate::specs::Records::record_at))]
 pub fn record_at(list: &[u64], k: usize) -> Record
     requires { record_width * k + record_width ≤ length list.now }
     ensures { result ≡ record_at list.now k }
@@ -496,6 +467,7 @@ pub fn put_report(list: &mut [u64], k: usize, r: Report)
 }
 
 // Stores the i-th answer: a refusal's number, its place, the value of an accepted call and the count of an order's reports.
+#[tactic(auto, unfolding(crate::specs::Answers::put_reply))]
 pub fn put_answer(answers: &mut [u64], i: usize, number: u64, place: u64, value: u64, reports: u64)
     requires { answer_width * i + answer_width ≤ length answers.old }
     ensures { answers.new ≡ put_reply answers.old i (record { number = number; place = place; value = value; reports = reports }) }

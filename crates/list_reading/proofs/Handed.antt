@@ -8,10 +8,12 @@ use native.Mathlib.Omega.{arith}
 use lib.Dec.{leb, ltb, eqb}
 use lib.ListN.{length, get_or, take, drop}
 use lib.Seq.{length-take-le}
-use borrow.Author.Tests.{lt-ltb, le-ltb, lt-leb, le-leb, eqb-true, not-true}
+use borrow.Author.Tests.{le-ltb, lt-ltb, lt-leb, le-leb, ltb-false, eqb-true}
+use Rattle.std.proofs.Common.{Option, Some, None, Result, Ok, Err}
 use Rattle.sequences.specs.Every.{inside}
+use Rattle.sequences.specs.Below.{below}
 use Rattle.sequences.specs.Checks.{reply, passes}
-use Rattle.sequences.proofs.Below.{table_at, first-le, first_same, first_stops}
+use Rattle.sequences.proofs.Below.{table_at, below_some_facts, below_none_fact, first-le, first_same, first_stops}
 use Rattle.sequences.proofs.Stretch.{within}
 use Rattle.sequences.proofs.Every.{every_at, inside_facts}
 use Rattle.layout.specs.Components.{component_at, places_of}
@@ -23,8 +25,6 @@ use Rattle.digits.specs.declared.Figure.{Figure}
 use Rattle.digits.specs.Digits.{plain, cap}
 use Rattle.digits.proofs.Trip.{figure_capped}
 use Rattle.list_rules.specs.declared.ListFields.{ListFields}
-use Rattle.list_rules.specs.declared.ListRead.{ListRead}
-use Rattle.list_rules.specs.declared.ListAnswer.TheVariants.{Done}
 use Rattle.list_rules.specs.Fields.{fields_from, fields_in_range}
 use Rattle.list_rules.proofs.Fields.{fields_same}
 use Rattle.text_rules.specs.Columns.{line_pitch, column_fault, line_numbers, numbers_read}
@@ -35,125 +35,124 @@ use Rattle.text_rules.specs.Reading.{start_of, line_of, line_stands, letters_rea
 use Rattle.text_rules.specs.Reading.{field_checks, wrong_field, field_start, figure_read, wrong_row, column_place, run_read}
 use Rattle.text_rules.specs.Well.{most_fields}
 use Rattle.text_trip.proofs.Below.{join-same}
-use Rattle.text_head.specs.declared.HeadFields.{HeadFields}
 use Rattle.text_head.specs.Head.{figures_found, fields_found}
 use Rattle.text_rows.specs.Rows.{row_in, fault_row}
 use Rattle.text_rows.proofs.Kept.{kept_all, numbers_long}
-use Rattle.list_rules.specs.Shanghai.{shanghai, shanghai_fields, shanghai_columns, field_count, count_field, creation_code_field}
+use Rattle.list_rules.specs.Shanghai.{shanghai, shanghai_fields, shanghai_columns, shanghai_lines, field_count, count_field, creation_code_field}
 use Rattle.list_rules.specs.Reading.{fields_read, is_counted, read_fault, read_reply, components_run, name_read, name_from, letters_place}
-use Rattle.list_rows.specs.declared.RowFault.{RowFault}
-use Rattle.list_rows.specs.Rows.{shanghai_lines, rows_of, rows_found, run_kept}
+use Rattle.list_rows.specs.Rows.{rows_of, rows_found, run_kept}
 use Rattle.list_rows.proofs.Rows.{row_ours, fault_ours, numbers_ours}
 use Rattle.list_rules.proofs.Lent.{fields_count}
 use Rattle.list_trip.proofs.Form.{line_numbers_lem}
 use Rattle.list_trip.proofs.Names.{name_read_lem}
 use Rattle.list_trip.proofs.NamePlaces.{name_part_lem, name_at_lem}
-use Rattle.list_shape.specs.declared.Shape.{Shape}
-use Rattle.list_shape.specs.Shape.{Rows, Shaped}
+use Rattle.list_shape.specs.declared.Rows.{Rows}
+use Rattle.list_shape.specs.Shape.{RowsStand, LineWrong}
 use Rattle.list_reading.specs.Outcome.{ReadOutcome}
-use Rattle.list_reading.specs.Stages.{Found, Spelled, Ranged, refused_read}
-use Rattle.list_reading.proofs.Replies.{field_wrong, count_wrong, field_facts, fields_pass, reply_18, reply_19_field, reply_19_row, reply_20, reply_2, reply_3, reply_16, reply_0}
+use Rattle.list_reading.specs.Stages.{Found, Spelled, Ranged}
+use Rattle.list_reading.proofs.Replies.{field_wrong, row_wrong, count_wrong, field_facts, fields_pass, reply_18, reply_19_field, reply_19_row, reply_20, reply_2, reply_3, reply_16, reply_0}
 use Rattle.list_reading.proofs.Stages.{outcome_refused, outcome_read}
-
--- a refusal that the code hands back
-pub refused_with : (text run : List ℕ) (r : ListRead) (why : Refusal) → r ≡ refused_read why → refusal_reply why ≡ read_reply text (length run)
-    → ReadOutcome text run r run
-refused_with text run r why e q = rw e (outcome_refused text run why q)
-
--- 18
-pub shape_reply : (text : List ℕ) (room : ℕ) (s : Shape) → Shaped text s → s.wrong ≡ true → reply 18 s.place 0 ≡ read_reply text room
-shape_reply text room s p e = reply_18 text room s.place (not-true _ (sym p.wrong_is ∙ e)) (p.place_is e)
 
 -- the code's search of a line is that of its definition
 fault_in_lem : (text : List ℕ) (j : ℕ) → j < row_count shanghai text → column_fault shanghai_lines (row_in shanghai_columns (rows_of text) j) ≡ column_fault shanghai (row_of shanghai text j)
 fault_in_lem text j l = ap (column_fault shanghai_lines) (row_ours text j l) ∙ fault_ours _
 
--- names
-pub name_wrong : (text : List ℕ) (j : ℕ) (s : Shape) → Shaped text s → s.wrong ≡ true → [] ≡ name_read text j
-unfolding name_read
-name_wrong text j s p e = rw (not-true (passes (shape_checks shanghai text)) (sym p.wrong_is ∙ e))
+-- 18
+pub shape_reply : (text : List ℕ) (room place : ℕ) → LineWrong text place → reply 18 place 0 ≡ read_reply text room
+shape_reply text room place w = reply_18 text room place w.line_stops w.place_is
 
-module _ (text : List ℕ) (start count : ℕ) (r : Rows text start count) where
-  pub name_past : (j : ℕ) → count ≤ j → [] ≡ name_read text j
+-- names
+pub name_wrong : (text : List ℕ) (j place : ℕ) → LineWrong text place → [] ≡ name_read text j
+unfolding name_read
+name_wrong text j place w = rw w.line_stops
+
+-- a choice by a test, and the choice that was made
+made_err : (b : Bool) (x : ℕ) (y : List Figure) (place : ℕ) → Err place ≡ cond {A = Result (List Figure) ℕ} b (Err x) (Ok y) → (b ≡ true) × (place ≡ x)
+made_err true x y place e = (refl, cc)
+made_err false x y place e = absurd (cc)
+
+made_ok : (b : Bool) (x : ℕ) (y figures : List Figure) → Ok figures ≡ cond {A = Result (List Figure) ℕ} b (Err x) (Ok y) → (b ≡ false) × (figures ≡ y)
+made_ok true x y figures e = absurd (cc)
+made_ok false x y figures e = (refl, cc)
+
+made_some : (b : Bool) (x place : ℕ) → Some place ≡ cond b (Some x) None → (b ≡ true) × (place ≡ x)
+made_some true x place e = (refl, cc)
+made_some false x place e = absurd (cc)
+
+made_none : (b : Bool) (x : ℕ) → None ≡ cond b (Some x) None → b ≡ false
+made_none true x e = absurd (cc)
+made_none false x e = refl
+
+module _ (text : List ℕ) (r : Rows) (s : RowsStand text r) where
+  pub name_past : (j : ℕ) → r.count ≤ j → [] ≡ name_read text j
   unfolding name_read
-  name_past j h = rw (r.lines_stand, ← r.count_is, le-ltb j count h)
+  name_past j h = rw (s.lines_stand, ← s.count_is, le-ltb j r.count h)
 
   -- the name's part of the text is that of the line
-  pub name_is : (j : ℕ) → j < count → name_from text start j ≡ name_read text j
+  pub name_is : (j : ℕ) → j < r.count → name_from text r.start j ≡ name_read text j
   name_is j h =
-      rw r.start_is
-      (name_part_lem text _ j (omega (arith, r.start_is, r.room, within (line_pitch shanghai_columns) j count h))
+      rw s.start_is
+      (name_part_lem text _ j (omega (arith, s.start_is, s.room, within (line_pitch shanghai_columns) j r.count h))
       ∙ sym (name_at_lem text j)
-      ∙ sym (name_read_lem text r.lines_stand j (omega (arith, r.count_is))))
+      ∙ sym (name_read_lem text s.lines_stand j (omega (arith, s.count_is))))
 
   -- 19 in the head
-  module _ (h : HeadFields) (e : h ≡ fields_found shanghai_fields text) where
-    wrong_is : h.wrong ≡ wrong_field shanghai_fields text
+  pub field_reply : (place room : ℕ) → Err place ≡ fields_found shanghai_fields text → reply 19 place 0 ≡ read_reply text room
+  unfolding fields_found
+  field_reply place room e =
+      let m = made_err _ _ _ place e in
+      ap (λ (p : ℕ). reply 19 p 0) m.1 ∙ reply_19_field text room s.lines_stand m.0
+
+  module _ (figures : List Figure) (e : Ok figures ≡ fields_found shanghai_fields text) where
+    fields_right : field_wrong text ≡ false
     unfolding fields_found
-    wrong_is = ap (λ (x : HeadFields). x.wrong) e
+    fields_right = (made_ok _ _ _ figures e).0
 
-    pub field_reply : (room : ℕ) → h.wrong < length shanghai_fields → reply 19 h.place 0 ≡ read_reply text room
-    unfolding fields_found
-    field_reply room low =
-        let below : ltb (wrong_field shanghai_fields text) (length shanghai_fields) ≡ true = rw wrong_is at (lt-ltb h.wrong (length shanghai_fields) low) in
-        ap (λ (p : ℕ). reply 19 p 0)
-        (ap (λ (x : HeadFields). x.place) e
-        ∙ ap (λ (b : Bool). cond b (field_start shanghai_fields text (wrong_field shanghai_fields text)) (start_of text (suc (length shanghai_fields)))) below)
-        ∙ reply_19_field text room r.lines_stand below
+    -- 19 in a component line
+    pub row_reply_lem : (place room : ℕ) → Some place ≡ rows_found text → reply 19 place 0 ≡ read_reply text room
+    unfolding rows_found
+    row_reply_lem place room f =
+        let m = made_some _ _ place f in
+        ap (λ (p : ℕ). reply 19 p 0) m.1 ∙ reply_19_row text room s.lines_stand fields_right m.0
 
-    module _ (high : length shanghai_fields ≤ h.wrong) where
-      fields_right : field_wrong text ≡ false
-      fields_right = rw wrong_is at (le-ltb h.wrong (length shanghai_fields) high)
+    module _ (f : None ≡ rows_found text) where
+      row_right : row_wrong text ≡ false
+      unfolding rows_found
+      row_right = made_none _ _ f
 
-      -- 19 in a component line
-      module _ (x : RowFault) (f : x ≡ rows_found text) where
-        row_is : x.row ≡ wrong_row shanghai text
-        unfolding rows_found
-        row_is = ap (λ (y : RowFault). y.row) f
+      pub spelled : Spelled text r figures
+      unfolding fields_found
+      spelled =
+          record {
+            stand = s;
+            fields_well_lem = fields_pass text fields_right row_right;
+            figures_are = (made_ok _ _ _ figures e).1;
+          }
 
-        pub row_reply_lem : (room : ℕ) → x.row < count → reply 19 x.place 0 ≡ read_reply text room
-        unfolding rows_found
-        row_reply_lem room low =
-            let below : ltb (wrong_row shanghai text) (row_count shanghai text) ≡ true = rw (row_is, r.count_is) at (lt-ltb x.row count low) in
-            ap (λ (p : ℕ). reply 19 p 0)
-            (ap (λ (y : RowFault). y.place) f ∙ ap (λ (b : Bool). cond b (column_place shanghai text (wrong_row shanghai text)) 0) below)
-            ∙ reply_19_row text room r.lines_stand fields_right below
+      -- the numbers that wait in the array
+      rows_right : fault_row shanghai_lines (rows_of text) (row_count shanghai text) ≡ row_count shanghai text
+      unfolding fault_row wrong_row shanghai
+      rows_right =
+          first_same _ _ (row_count shanghai text) (λ j l. ap (λ (n : ℕ). ltb n (length shanghai_columns)) (fault_in_lem text j l))
+          ∙ le_antisymm (first-le _ _) (ltb-false _ _ row_right)
 
-        module _ (past : count ≤ x.row) where
-          pub spelled : (figures : List Figure) → figures ≡ h.figures → Spelled text start count figures
-          unfolding fields_found
-          spelled figures g =
-              record {
-                rows = r;
-                fields_well_lem = fields_pass text fields_right (rw (row_is, r.count_is) at (le-ltb x.row count past));
-                figures_are = g ∙ ap (λ (y : HeadFields). y.figures) e;
-              }
+      numbers_found : (run : List ℕ) → r.count * component_width ≤ length run → take (r.count * component_width) (run_kept text run) ≡ components_run text
+      unfolding run_kept components_run run_read shanghai
+      numbers_found run room =
+          let many : line_numbers shanghai_columns ≡ component_width = line_numbers_lem in
+          ap (λ (n : ℕ). take n (run_kept text run)) (ap₂ (λ (a b : ℕ). a * b) s.count_is (sym many))
+          ∙ kept_all shanghai_lines (rows_of text) (row_count shanghai text) run rows_right
+          (omega (arith, room, ap₂ (λ (a b : ℕ). a * b) s.count_is (sym many)))
+          ∙ join-same _ _ (row_count shanghai text) (λ j l. ap (numbers_read shanghai_lines) (row_ours text j l) ∙ numbers_ours _)
 
-          -- the numbers that wait in the array
-          rows_right : fault_row shanghai_lines (rows_of text) (row_count shanghai text) ≡ row_count shanghai text
-          unfolding fault_row wrong_row shanghai
-          rows_right =
-              first_same _ _ (row_count shanghai text) (λ j l. ap (λ (n : ℕ). ltb n (length shanghai_columns)) (fault_in_lem text j l))
-              ∙ sym row_is
-              ∙ le_antisymm (rw row_is (first-le _ _)) (rw r.count_is at past)
-
-          numbers_found : (run : List ℕ) → count * component_width ≤ length run → take (count * component_width) (run_kept text run) ≡ components_run text
-          unfolding run_kept components_run run_read shanghai
-          numbers_found run room =
-              let many : line_numbers shanghai_columns ≡ component_width = line_numbers_lem in
-              ap (λ (n : ℕ). take n (run_kept text run)) (ap₂ (λ (a b : ℕ). a * b) r.count_is (sym many))
-              ∙ kept_all shanghai_lines (rows_of text) (row_count shanghai text) run rows_right
-              (omega (arith, room, ap₂ (λ (a b : ℕ). a * b) r.count_is (sym many)))
-              ∙ join-same _ _ (row_count shanghai text) (λ j l. ap (numbers_read shanghai_lines) (row_ours text j l) ∙ numbers_ours _)
-
-          pub found : (run run' : List ℕ) → run' ≡ run_kept text run → length run ≡ basket_width → Found text count run'
-          unfolding run_kept
-          found run run' g l =
-              record {
-                long = ap length g ∙ numbers_long shanghai_lines (rows_of text) (row_count shanghai text) (length shanghai_columns) run ∙ l;
-                numbers_are = λ few.
-                    ap₂ (λ (n : ℕ) (m : List ℕ). take n m) (mul_comm component_width count) g ∙ numbers_found run (omega (arith, l, few));
-              }
+      pub found : (run run' : List ℕ) → run' ≡ run_kept text run → length run ≡ basket_width → Found text r.count run'
+      unfolding run_kept
+      found run run' g l =
+          record {
+            long = ap length g ∙ numbers_long shanghai_lines (rows_of text) (row_count shanghai text) (length shanghai_columns) run ∙ l;
+            numbers_are = λ few.
+                ap₂ (λ (n : ℕ) (m : List ℕ). take n m) (mul_comm component_width r.count) g ∙ numbers_found run (omega (arith, l, few));
+          }
 
 -- no field is wrong
 wrong_none : (text : List ℕ) → passes (field_checks shanghai text) ≡ true → wrong_field shanghai_fields text ≡ field_count
@@ -161,7 +160,7 @@ unfolding wrong_field shanghai
 wrong_none text e = first_stops _ (length shanghai_fields) (field_facts text e).0 ∙ fields_count
 
 -- the figures and the fields
-module _ (text : List ℕ) (start count : ℕ) (figures : List Figure) (s : Spelled text start count figures) where
+module _ (text : List ℕ) (r : Rows) (figures : List Figure) (s : Spelled text r figures) where
   pub figure_at_lem : (k : ℕ) (d : Figure) → k < field_count → get_or figures k d ≡ figure_read shanghai_fields text k
   unfolding figures_found shanghai
   figure_at_lem k d h =
@@ -180,33 +179,33 @@ module _ (text : List ℕ) (start count : ℕ) (figures : List Figure) (s : Spel
 
   -- 20
   module _ (n : ℕ) (e : n ≡ (figure_read shanghai_fields text count_field).size) where
-    count_is : is_counted n count ≡ is_counted (fields_read text).count (row_count shanghai text)
+    count_is : is_counted n r.count ≡ is_counted (fields_read text).count (row_count shanghai text)
     unfolding fields_read fields_from
-    count_is = ap₂ is_counted e s.rows.count_is
+    count_is = ap₂ is_counted e s.stand.count_is
 
-    pub count_reply : (room : ℕ) → is_counted n count ≡ false → reply 20 0 0 ≡ read_reply text room
-    count_reply room h = reply_20 text room s.rows.lines_stand s.fields_well_lem (ap not (sym count_is ∙ h))
+    pub count_reply : (room : ℕ) → is_counted n r.count ≡ false → reply 20 0 0 ≡ read_reply text room
+    count_reply room h = reply_20 text room s.stand.lines_stand s.fields_well_lem (ap not (sym count_is ∙ h))
 
-    module _ (counted : is_counted n count ≡ true) where
+    module _ (counted : is_counted n r.count ≡ true) where
       count_right : count_wrong text ≡ false
       count_right = ap not (sym count_is ∙ counted)
 
       -- 2
       pub first_reply : (room first : ℕ) → first ≡ (figure_read shanghai_fields text creation_code_field).size → first < 1 → reply 2 0 0 ≡ read_reply text room
       first_reply room first f h =
-          reply_2 text room s.rows.lines_stand s.fields_well_lem count_right (rw (lt-leb 1 (figure_read shanghai_fields text creation_code_field).size (rw f at h)))
+          reply_2 text room s.stand.lines_stand s.fields_well_lem count_right (rw (lt-leb 1 (figure_read shanghai_fields text creation_code_field).size (rw f at h)))
 
       module _ (first : ℕ) (f : first ≡ (figure_read shanghai_fields text creation_code_field).size) (low : 1 ≤ first) (fields : ListFields) (g : fields ≡ fields_read text) where
         both_are : {b : Bool} → fields_in_range fields ≡ b → (leb 1 (figure_read shanghai_fields text creation_code_field).size && fields_in_range (fields_read text)) ≡ b
         both_are h = rw (le-leb 1 (figure_read shanghai_fields text creation_code_field).size (rw f at low)) (rw g at h)
 
         pub range_reply : (room : ℕ) → fields_in_range fields ≡ false → reply 2 0 0 ≡ read_reply text room
-        range_reply room h = reply_2 text room s.rows.lines_stand s.fields_well_lem count_right (ap not (both_are h))
+        range_reply room h = reply_2 text room s.stand.lines_stand s.fields_well_lem count_right (ap not (both_are h))
 
-        pub ranged : fields_in_range fields ≡ true → Ranged text start count fields
+        pub ranged : fields_in_range fields ≡ true → Ranged text r fields
         ranged h =
             record {
-              rows = s.rows;
+              stand = s.stand;
               fields_well_lem = s.fields_well_lem;
               fields_are = g;
               counted = sym count_is ∙ counted;
@@ -237,58 +236,54 @@ module _ (text letters : List ℕ) (e : letters ≡ letters_read text) where
   letters_some = (place_cases _ refl).1
 
 -- the components
-module _ (text : List ℕ) (start count : ℕ) (fields : ListFields) (s : Ranged text start count fields) where
-  pub few : count ≤ most_components
+module _ (text : List ℕ) (r : Rows) (fields : ListFields) (s : Ranged text r fields) where
+  -- as many as the fields say, and few enough
+  counted_facts : ((fields_read text).count ≤ most_components) × ((fields_read text).count ≡ row_count shanghai text)
   unfolding is_counted
-  few =
+  counted_facts =
       let both = (and-eq-true_iff (inside 1 most_components (fields_read text).count) (eqb (fields_read text).count (row_count shanghai text))).0 s.counted in
-      omega (
-        arith,
-        (inside_facts 1 most_components (fields_read text).count both.0).1,
-        eqb-true (fields_read text).count (row_count shanghai text) both.1,
-        s.rows.count_is,
-      )
+      ((inside_facts 1 most_components (fields_read text).count both.0).1, eqb-true (fields_read text).count (row_count shanghai text) both.1)
+
+  pub few : r.count ≤ most_components
+  few = omega (arith, counted_facts.0, counted_facts.1, s.stand.count_is)
 
   -- the numbers found are those of the text's components
-  module _ (numbers : List ℕ) (f : Found text count numbers) where
-    found_are : take (component_width * count) numbers ≡ components_run text
+  module _ (numbers : List ℕ) (f : Found text r.count numbers) where
+    found_are : take (component_width * r.count) numbers ≡ components_run text
     found_are = f.numbers_are few
 
-    pub found_long : length (take (component_width * count) numbers) ≡ component_width * count
-    found_long = length-take-le (component_width * count) numbers (omega (arith, f.long, few))
+    pub found_long : length (take (component_width * r.count) numbers) ≡ component_width * r.count
+    found_long = length-take-le (component_width * r.count) numbers (omega (arith, f.long, few))
 
-    pub fault_is : (fault : ℕ)
-        → fault ≡ component_fault fields.fund.first_code (places_of (component_at (take (component_width * count) numbers)) count) count
-        → fault ≡ read_fault text
-    unfolding read_fault
-    fault_is fault h = h ∙ rw (found_are, s.fields_are, s.rows.count_is)
+    module _ (fault : Option ℕ) (h : fault ≡ below r.count (component_fault fields.fund.first_code (places_of (component_at (take (component_width * r.count) numbers)) r.count) r.count)) where
+      fault_is : fault ≡ below (row_count shanghai text) (read_fault text)
+      unfolding read_fault
+      fault_is = h ∙ rw (found_are, s.fields_are, s.stand.count_is)
 
-    module _ (fault : ℕ) (h : fault ≡ read_fault text) where
-      below : {b : Bool} → ltb fault count ≡ b → ltb (read_fault text) (row_count shanghai text) ≡ b
-      below q = rw (h, s.rows.count_is) at q
+      pub fault_reply : (place room : ℕ) → fault ≡ Some place → reply 3 place 0 ≡ read_reply text room
+      fault_reply place room e =
+          let k = below_some_facts _ _ place (sym e ∙ fault_is) in
+          ap (λ (p : ℕ). reply 3 p 0) (sym k.0)
+          ∙ reply_3 text room s.stand.lines_stand s.fields_well_lem (ap not s.counted) (ap not s.ranged) (lt-ltb _ _ k.1)
 
-      pub fault_reply : (room : ℕ) → fault < count → reply 3 fault 0 ≡ read_reply text room
-      fault_reply room l =
-          ap (λ (p : ℕ). reply 3 p 0) h
-          ∙ reply_3 text room s.rows.lines_stand s.fields_well_lem (ap not s.counted) (ap not s.ranged) (below (lt-ltb fault count l))
+      module _ (room : ℕ) (e : fault ≡ None) where
+        high : ltb (read_fault text) (row_count shanghai text) ≡ false
+        high = le-ltb _ _ (below_none_fact _ _ (sym e ∙ fault_is))
 
-      module _ (room : ℕ) (high : count ≤ fault) where
-        rest : {b : Bool} → ltb room (component_width * count) ≡ b → ltb room (component_width * row_count shanghai text) ≡ b
-        rest q = rw s.rows.count_is at q
+        rest : {b : Bool} → ltb room (component_width * r.count) ≡ b → ltb room (component_width * row_count shanghai text) ≡ b
+        rest q = rw s.stand.count_is at q
 
-        pub room_reply : room < component_width * count → reply 16 0 0 ≡ read_reply text room
+        pub room_reply : room < component_width * r.count → reply 16 0 0 ≡ read_reply text room
         room_reply l =
-            reply_16 text room s.rows.lines_stand s.fields_well_lem (ap not s.counted) (ap not s.ranged)
-            (below (le-ltb fault count high)) (rest (lt-ltb room (component_width * count) l))
+            reply_16 text room s.stand.lines_stand s.fields_well_lem (ap not s.counted) (ap not s.ranged) high (rest (lt-ltb room (component_width * r.count) l))
 
-        pub read_reply_lem : component_width * count ≤ room → reply 0 0 (row_count shanghai text) ≡ read_reply text room
+        pub read_reply_lem : component_width * r.count ≤ room → reply 0 0 (row_count shanghai text) ≡ read_reply text room
         read_reply_lem l =
-            reply_0 text room s.rows.lines_stand s.fields_well_lem (ap not s.counted) (ap not s.ranged)
-            (below (le-ltb fault count high)) (rest (le-ltb room (component_width * count) l))
+            reply_0 text room s.stand.lines_stand s.fields_well_lem (ap not s.counted) (ap not s.ranged) high (rest (le-ltb room (component_width * r.count) l))
 
     pub read_outcome : (run run' : List ℕ) → reply 0 0 (row_count shanghai text) ≡ read_reply text (length run)
-        → run' ≡ take (component_width * count) numbers ++ drop (length (take (component_width * count) numbers)) run
-        → ReadOutcome text run (record { answer = Done count; fields = fields; first_row = start }) run'
+        → run' ≡ take (component_width * r.count) numbers ++ drop (component_width * r.count) run
+        → ReadOutcome text run (Ok (record { fields = fields; first_row = r.start })) run'
     read_outcome run run' q w =
-        outcome_read text run run' _ q (ap Done s.rows.count_is) s.fields_are s.rows.start_is
-        (w ∙ ap₂ (λ (a : List ℕ) (n : ℕ). a ++ drop n run) found_are (found_long ∙ ap (λ (n : ℕ). component_width * n) s.rows.count_is))
+        outcome_read text run run' _ q (ap (λ (l : ListFields). l.count) s.fields_are ∙ counted_facts.1) s.fields_are s.stand.start_is
+        (w ∙ ap₂ (λ (a : List ℕ) (n : ℕ). a ++ drop n run) found_are (ap (λ (n : ℕ). component_width * n) s.stand.count_is))

@@ -1,12 +1,19 @@
 -- What the contract of reading says.
-use Rattle.std.specs.Prelude.{◌≡◌, List, ℕ, length}
+use Rattle.std.specs.Prelude.{◌≡◌, List, ℕ, length, Result, IfOk}
+use Rattle.rules.specs.declared.Refusal.{Refusal}
+use Rattle.text_rules.specs.Reading.{body_start}
 use Rattle.list_rules.specs.declared.ListRead.{ListRead}
-use Rattle.list_rules.specs.Replies.{list_reply}
-use Rattle.list_rules.specs.Reading.{read_reply, fields_handed, first_handed, run_after}
+use Rattle.list_rules.specs.Shanghai.{shanghai}
+use Rattle.list_rules.specs.Replies.{read_answer_reply}
+use Rattle.list_rules.specs.Reading.{fields_read, read_reply, run_after}
 
--- what reading a text into a lent run hands back, and what it leaves of the run
-pub record ReadOutcome (text run : List ℕ) (r : ListRead) (run' : List ℕ) : Type 0 where
-  pub answer_is : list_reply r.answer ≡ read_reply text (length run)
-  pub fields_is : r.fields ≡ fields_handed text (length run)
-  pub first_is : r.first_row ≡ first_handed text (length run)
+-- what an accepted reading hands back: the text's fields, and where its component lines start
+pub record Handed (text : List ℕ) (read : ListRead) : Type 0 where
+  pub fields_is : read.fields ≡ fields_read text
+  pub first_is : read.first_row ≡ body_start shanghai text
+
+-- what reading a text into a lent run answers, and what it leaves of the run
+pub record ReadOutcome (text run : List ℕ) (r : Result ListRead Refusal) (run' : List ℕ) : Type 0 where
+  pub answer_is : read_answer_reply r ≡ read_reply text (length run)
+  pub handed : IfOk r (Handed text)
   pub run_is : run' ≡ run_after text run

@@ -2,17 +2,15 @@
 use Rattle.std.specs.Prelude.{ℕ, ◌*◌, ◌≤◌, ◌≡◌, true, ◌&&◌, List, leb, length, take}
 use Rattle.sequences.specs.Checks.{passes}
 use Rattle.layout.specs.Places.{most_components, component_width, basket_width}
-use Rattle.rules.specs.declared.Refusal.{Refusal}
 use Rattle.digits.specs.declared.Figure.{Figure}
 use Rattle.text_rules.specs.Reading.{row_count, field_checks, figure_read}
 use Rattle.text_head.specs.Head.{figures_found}
-use Rattle.list_rules.specs.declared.ListRead.{ListRead}
-use Rattle.list_rules.specs.declared.ListAnswer.TheVariants.{Refused}
 use Rattle.list_rules.specs.declared.ListFields.{ListFields}
 use Rattle.list_rules.specs.Shanghai.{shanghai, shanghai_fields, creation_code_field}
-use Rattle.list_rules.specs.Fields.{fields_in_range, blank_fields}
+use Rattle.list_rules.specs.Fields.{fields_in_range}
 use Rattle.list_rules.specs.Reading.{fields_read, is_counted, components_run}
-use Rattle.list_shape.specs.Shape.{Rows}
+use Rattle.list_shape.specs.declared.Rows.{Rows}
+use Rattle.list_shape.specs.Shape.{RowsStand}
 
 -- the numbers of the text's components stand at the front of an array, where they are not too many
 pub record Found (text : List ℕ) (count : ℕ) (numbers : List ℕ) : Type 0 where
@@ -20,19 +18,15 @@ pub record Found (text : List ℕ) (count : ℕ) (numbers : List ℕ) : Type 0 w
   pub numbers_are : count ≤ most_components → take (component_width * count) numbers ≡ components_run text
 
 -- the text's fields are all well written, and these are the head's figures
-pub record Spelled (text : List ℕ) (start count : ℕ) (figures : List Figure) : Type 0 where
-  pub rows : Rows text start count
+pub record Spelled (text : List ℕ) (rows : Rows) (figures : List Figure) : Type 0 where
+  pub stand : RowsStand text rows
   pub fields_well_lem : passes (field_checks shanghai text) ≡ true
   pub figures_are : figures ≡ figures_found shanghai_fields text
 
 -- the fields are in their ranges, and as many component lines stand as they say
-pub record Ranged (text : List ℕ) (start count : ℕ) (fields : ListFields) : Type 0 where
-  pub rows : Rows text start count
+pub record Ranged (text : List ℕ) (rows : Rows) (fields : ListFields) : Type 0 where
+  pub stand : RowsStand text rows
   pub fields_well_lem : passes (field_checks shanghai text) ≡ true
   pub fields_are : fields ≡ fields_read text
   pub counted : is_counted (fields_read text).count (row_count shanghai text) ≡ true
   pub ranged : (leb 1 (figure_read shanghai_fields text creation_code_field).size && fields_in_range (fields_read text)) ≡ true
-
--- a refused reading
-abbrev pub refused_read : Refusal → ListRead
-refused_read why = record { answer = Refused why; fields = blank_fields; first_row = 0 }

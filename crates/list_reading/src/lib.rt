@@ -4,132 +4,92 @@
 ghost use Rattle.std.specs.Prelude.{◌≡◌};
 ghost use Rattle.text_rules.specs.Reading.{letters_read};
 ghost use Rattle.list_rules.specs.Reading.{name_read, name_from, name_place, letters_place};
-ghost use Rattle.list_rules.specs.Lent.{ColumnsLent, FieldsLent};
-ghost use Rattle.list_shape.specs.Shape.{Rows};
+ghost use Rattle.list_shape.specs.Shape.{RowsStand};
 ghost use Rattle.list_reading.specs.Outcome.{ReadOutcome};
-ghost use Rattle.list_reading.specs.Stages.{Found, Spelled, Ranged, refused_read};
+ghost use Rattle.list_reading.specs.Stages.{Found, Spelled, Ranged};
 
 use digits::Figure;
-use list_rules::{ListAnswer, ListFields, ListRead, TextPart};
+use list_rules::{ListFields, ListRead, TextPart};
+use list_shape::Rows;
 use rules::Refusal;
-use text_rules::{COLUMN_PARTS, FIELD_PARTS, MOST_FIELDS};
-
-// A refused reading.
-fn refused(why: Refusal) -> ListRead
-    ensures { result ≡ refused_read why }
-{
-    let answer = ListAnswer::Refused(why);
-    let fields = list_fields::blank_fields();
-    ListRead {
-        answer,
-        fields,
-        first_row: 0,
-    }
-}
+use text_rules::MOST_FIELDS;
 
 // Refusals 3 and 16, and the components stored.
 fn read_components(
     text: &[u8],
-    start: usize,
-    count: usize,
+    rows: Rows,
     fields: ListFields,
     numbers: &[u64],
     run: &mut [u64],
-) -> ListRead
-    requires ranged { Ranged text.now start count fields }
-    requires found { Found text.now count numbers.now }
+) -> Result<ListRead, Refusal>
+    requires ranged { Ranged text.now rows fields }
+    requires found { Found text.now rows.count numbers.now }
     ensures { ReadOutcome text.now run.old result run.new }
 {
-    let n = layout::COMPONENT_WIDTH * count;
+    let n = layout::COMPONENT_WIDTH * rows.count;
     let found = &numbers[..n];
-    let fault = fund::run_fault(fields.fund.first_code, found, count);
-    if fault < count {
-        return refused(Refusal::Component(fault));
+    if let Some(fault) = fund::run_fault(fields.fund.first_code, found, rows.count) {
+        return Err(Refusal::Component(fault));
     }
     if run.len() < n {
-        return refused(Refusal::ListTooShort);
+        return Err(Refusal::ListTooShort);
     }
-    list_rows::store_numbers(run, found);
-    ListRead {
-        answer: ListAnswer::Done(count),
+    run[..n].copy_from_slice(found);
+    Ok(ListRead {
         fields,
-        first_row: start,
-    }
+        first_row: rows.start,
+    })
 }
 
 // Refusals 20 and 2, and what follows.
 fn read_values(
     text: &[u8],
-    start: usize,
-    count: usize,
+    rows: Rows,
     figures: [Figure; MOST_FIELDS],
     numbers: &[u64],
     run: &mut [u64],
-) -> ListRead
-    requires spelled { Spelled text.now start count figures }
-    requires found { Found text.now count numbers.now }
+) -> Result<ListRead, Refusal>
+    requires spelled { Spelled text.now rows figures }
+    requires found { Found text.now rows.count numbers.now }
     ensures { ReadOutcome text.now run.old result run.new }
 {
-    if !list_shape::is_counted(figures[list_rules::COUNT].size, count) {
-        return refused(Refusal::RecordCount);
+    if !list_shape::is_counted(figures[list_rules::COUNT].size, rows.count) {
+        return Err(Refusal::RecordCount);
     }
     if figures[list_rules::CREATION_CODE].size < 1 {
-        return refused(Refusal::FundField);
+        return Err(Refusal::FundField);
     }
     let fields = list_fields::fields_of(figures);
     if !list_fields::fields_in_range(fields) {
-        return refused(Refusal::FundField);
+        return Err(Refusal::FundField);
     }
-    read_components(text, start, count, fields, numbers, run)
+    read_components(text, rows, fields, numbers, run)
 }
 
 // Refusal 19, and what follows. The numbers of the components wait in an array until all is tested.
-fn read_fields(
-    fields: &[[usize; FIELD_PARTS]],
-    names: &[u8],
-    columns: &[[usize; COLUMN_PARTS]],
-    text: &[u8],
-    start: usize,
-    count: usize,
-    run: &mut [u64],
-) -> ListRead
-    requires { FieldsLent fields.now names.now × ColumnsLent columns.now × Rows text.now start count }
+fn read_fields(text: &[u8], rows: Rows, run: &mut [u64]) -> Result<ListRead, Refusal>
+    requires { RowsStand text.now rows }
     ensures { ReadOutcome text.now run.old result run.new }
 {
-    let head = list_shape::head_fields(fields, names, text);
-    if head.wrong < list_rules::FIELD_COUNT {
-        return refused(Refusal::TextField(head.place));
-    }
-    let flags = flags::TABLE;
+    let figures = match list_shape::head_fields(text) {
+        Ok(figures) => figures,
+        Err(place) => return Err(Refusal::TextField(place)),
+    };
     let mut numbers = [0u64; layout::BASKET_WIDTH];
-    let rows = list_rows::read_rows(&flags, columns, text, start, count, &mut numbers);
-    if rows.row < count {
-        return refused(Refusal::TextField(rows.place));
+    match list_rows::read_rows(text, rows.start, rows.count, &mut numbers) {
+        Some(column) => Err(Refusal::TextField(column)),
+        None => read_values(text, rows, figures, &numbers, run),
     }
-    let figures = head.figures;
-    read_values(text, start, count, figures, &numbers, run)
 }
 
-// Reads a list: its fields, and its components at the front of the lent run. A refusal changes nothing, and its fields are blank.
-pub fn read(text: &[u8], run: &mut [u64]) -> ListRead
+// Reads a list: its fields, and its components at the front of the lent run. A refusal changes nothing.
+pub fn read(text: &[u8], run: &mut [u64]) -> Result<ListRead, Refusal>
     ensures { ReadOutcome text.now run.old result run.new }
 {
-    let fields = list_rules::field_rows();
-    let names = list_rules::names();
-    let columns = list_rules::columns();
-    let shape = list_shape::shape_of(&fields, &names, &columns, text);
-    if shape.wrong {
-        return refused(Refusal::TextLine(shape.place));
+    match list_shape::shape_of(text) {
+        Ok(rows) => read_fields(text, rows, run),
+        Err(place) => Err(Refusal::TextLine(place)),
     }
-    read_fields(
-        &fields,
-        &names,
-        &columns,
-        text,
-        shape.start,
-        shape.count,
-        run,
-    )
 }
 
 // The letters of a text's first line, as that part of it; an empty part where the line is another.
@@ -160,17 +120,11 @@ pub fn letters_place(text: &[u8]) -> TextPart
 pub fn name(text: &[u8], j: usize) -> &[u8]
     ensures { result.now ≡ name_read text.now j }
 {
-    let fields = list_rules::field_rows();
-    let names = list_rules::names();
-    let columns = list_rules::columns();
-    let shape = list_shape::shape_of(&fields, &names, &columns, text);
-    if shape.wrong {
-        return &text[..0];
+    match list_shape::shape_of(text) {
+        Ok(rows) if j < rows.count => list_names::name_from(text, rows.start, j),
+        Ok(_) => &text[..0],
+        Err(_) => &text[..0],
     }
-    if shape.count <= j {
-        return &text[..0];
-    }
-    list_names::name_from(text, shape.start, j)
 }
 
 // The same without looking at the text's lines again: `first` is where reading found the first component line. With another place

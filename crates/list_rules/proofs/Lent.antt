@@ -1,18 +1,15 @@
--- The Shanghai form is well made and has so many fields, and the tables that are lent are well made too.
-use mathlib.Core.Path.{◌≡◌, refl, ap, ◌∙◌}
+-- The Shanghai form is well made and has so many fields, and so are its two tables.
+use mathlib.Core.Path.{◌≡◌, refl}
 use mathlib.Core.Bool.{true}
-use mathlib.Core.List.{List}
 use lib.ListN.{length}
 use Rattle.sequences.specs.Below.{sum_below, all_below}
 use Rattle.sequences.specs.Every.{every}
 use Rattle.lines.specs.Lines.{other_byte, all_bytes}
-use Rattle.text_rules.specs.declared.Field.{Field as LentField}
-use Rattle.text_rules.specs.Tables.{fields_of, column_at, field_at}
+use Rattle.text_rules.specs.Tables.{column_at, field_at}
 use Rattle.text_rules.specs.Columns.{column_width, column_start, line_width}
 use Rattle.text_rules.specs.Well.{column_well, columns_well, is_always, flag_well, field_well, fields_well, form_well}
 use Rattle.text_rules.proofs.Well.{form_facts}
 use Rattle.list_rules.specs.Shanghai.{shanghai, shanghai_columns, shanghai_fields, field_count, flag_column}
-use Rattle.list_rules.specs.Lent.{FieldsLent}
 
 pub shanghai_well : form_well shanghai ≡ true
 unfolding form_well every fields_well field_well columns_well column_well flag_well is_always shanghai shanghai_columns shanghai_fields
@@ -31,6 +28,6 @@ pub shanghai_flag_well : flag_well shanghai_columns flag_column ≡ true
 unfolding shanghai
 shanghai_flag_well = (form_facts shanghai shanghai_well).flag
 
-pub fields_well_lem : (fields : List LentField) → FieldsLent fields → fields_well (fields_of fields) ≡ true
+pub shanghai_fields_well : fields_well shanghai_fields ≡ true
 unfolding shanghai
-fields_well_lem fields lent = ap fields_well lent ∙ (form_facts shanghai shanghai_well).fields
+shanghai_fields_well = (form_facts shanghai shanghai_well).fields

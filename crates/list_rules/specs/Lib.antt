@@ -1,5 +1,4 @@
 pub mod Shanghai
-pub mod Lent
 pub mod Fields
 pub mod Replies
 pub mod Reading

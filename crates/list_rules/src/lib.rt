@@ -2,13 +2,12 @@
 #![tactic(auto)]
 
 ghost use Rattle.std.specs.Prelude.{◌≡◌};
-ghost use Rattle.list_rules.specs.Shanghai.{shanghai_lines};
-ghost use Rattle.list_rules.specs.Lent.{FieldsLent};
+ghost use Rattle.list_rules.specs.Shanghai.{shanghai_fields, shanghai_lines};
 
 use digits::Form;
 use layout::Fund;
 use rules::Refusal;
-use text_rules::{Column, Field, LineForm, Use, ValueKind};
+use text_rules::{Column, Field, Fields, LineForm, Use, ValueKind};
 
 // The fields of a list but its components, its names and the letters of its first line.
 #[derive(Clone, Copy)]
@@ -26,17 +25,9 @@ pub struct ListFields {
     pub count: usize,
 }
 
-// The answer of reading, with the count of components, and of writing, with the count of bytes.
-#[derive(Clone, Copy)]
-pub enum ListAnswer {
-    Done(usize),
-    Refused(Refusal),
-}
-
-// What reading hands back: the fields, and where the component lines start; blank fields and 0 where it is refused.
+// What reading hands back: the fields, and where the component lines start.
 #[derive(Clone, Copy)]
 pub struct ListRead {
-    pub answer: ListAnswer,
     pub fields: ListFields,
     pub first_row: usize,
 }
@@ -282,8 +273,8 @@ pub fn line_form() -> LineForm<'static>
 }
 
 // The fields of the head.
-pub fn field_table() -> &'static [Field<'static>]
-    ensures { FieldsLent result.now }
+pub fn field_table() -> Fields<'static>
+    ensures { result ≡ shanghai_fields }
 {
-    &FIELDS
+    Fields::new(&FIELDS)
 }

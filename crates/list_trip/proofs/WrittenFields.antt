@@ -15,7 +15,9 @@ use Rattle.digits.specs.declared.Figure.{Figure}
 use Rattle.digits.specs.Digits.{plain, cap}
 use Rattle.digits.specs.Signed.{figure_signed}
 use Rattle.digits.specs.Fits.{Fits}
-use Rattle.text_rules.specs.Tables.{Kind, any_value, date_value, zero_or_one_value, Field, field_at, no_field}
+use Rattle.text_rules.specs.declared.ValueKind.{ValueKind}
+use Rattle.text_rules.specs.declared.ValueKind.TheVariants.{Any, Date, ZeroOrOne}
+use Rattle.text_rules.specs.Tables.{Field, field_at, no_field}
 use Rattle.text_rules.specs.Dates.{date_digits, is_date}
 use Rattle.text_rules.specs.Head.{is_kind}
 use Rattle.text_rules.proofs.Dates.{date_sound}
@@ -33,7 +35,7 @@ record Says (f : Field) (z : Figure) : Type 0 where
   small : z.size < cap
 
 -- a field of no width, with no sign
-abbrev unsigned : List ℕ → ℕ → ℕ → Kind → Field
+abbrev unsigned : List ℕ → ℕ → ℕ → ValueKind → Field
 unsigned name digits decimals kind =
     record {
       name = name;
@@ -42,23 +44,23 @@ unsigned name digits decimals kind =
     }
 
 -- a number that is not below zero, with as many digits as it has, and with so many
-free_says : {name : List ℕ} (decimals : ℕ) (kind : Kind) (n : ℕ) → n < cap → is_kind kind n ≡ true → Says (unsigned name 0 decimals kind) (plain n)
+free_says : {name : List ℕ} (decimals : ℕ) (kind : ValueKind) (n : ℕ) → n < cap → is_kind kind n ≡ true → Says (unsigned name 0 decimals kind) (plain n)
 free_says decimals kind n h e =
     record { fits = plain_fits _ n (le_of_lt h) (λ z. absurd (z refl)) (λ z. absurd (z refl)); kind = e; small = h }
 
-fixed_says : {name : List ℕ} (digits : ℕ) (kind : Kind) (n : ℕ) → n < cap → n < 10 ^ digits → is_kind kind n ≡ true
+fixed_says : {name : List ℕ} (digits : ℕ) (kind : ValueKind) (n : ℕ) → n < cap → n < 10 ^ digits → is_kind kind n ≡ true
     → Says (unsigned name digits 0 kind) (plain n)
 fixed_says digits kind n h l e =
     record { fits = plain_fits _ n (le_of_lt h) (λ z. rw (div-one n) l) (λ z. absurd (z refl)); kind = e; small = h }
 
 -- a number that may be anything
-any_says : {name : List ℕ} (decimals n : ℕ) → n < cap → Says (unsigned name 0 decimals any_value) (plain n)
+any_says : {name : List ℕ} (decimals n : ℕ) → n < cap → Says (unsigned name 0 decimals Any) (plain n)
 unfolding is_kind
-any_says decimals n h = free_says decimals any_value n h refl
+any_says decimals n h = free_says decimals Any n h refl
 
 -- a signed amount in its range
 cash_says : {name : List ℕ} (e : ℤ) → cash_in_range e ≡ true
-    → Says (record { name = name; form = record { digits = 0; decimals = 2; signed = true; width = 0 }; kind = any_value }) (figure_signed e)
+    → Says (record { name = name; form = record { digits = 0; decimals = 2; signed = true; width = 0 }; kind = Any }) (figure_signed e)
 unfolding cash_in_range figure_signed is_kind
 cash_says (pos n) t =
     let low = leb-true n 9_999_999_999 t in
@@ -86,15 +88,15 @@ date_low : (d : ℕ) → is_date d ≡ true → d < 10 ^ date_digits
 date_low d e =
     (div-lt_iff_lt-mul {k = 10_000} {x = d} {y = 10_000} (omega arith)).0 (omega (arith, (date_sound d e).year_high))
 
-date_says : {name : List ℕ} (d : ℕ) → is_date d ≡ true → Says (unsigned name date_digits 0 date_value) (plain d)
+date_says : {name : List ℕ} (d : ℕ) → is_date d ≡ true → Says (unsigned name date_digits 0 Date) (plain d)
 unfolding is_kind
-date_says d e = fixed_says date_digits date_value d (omega (arith, date_low d e)) (date_low d e) e
+date_says d e = fixed_says date_digits Date d (omega (arith, date_low d e)) (date_low d e) e
 
 -- The fields of a list in their ranges.
 
 module _ (l : ListFields) (fit : fields_in_range l ≡ true) (few : l.count ≤ most_components) where
   -- a limit, for the fields from the first of them on
-  limit_says : {name : List ℕ} (k : ℕ) → k < field_count → Says (unsigned name 0 0 any_value) (plain (get_or l.fund.limits (k - limits_field) 0))
+  limit_says : {name : List ℕ} (k : ℕ) → k < field_count → Says (unsigned name 0 0 Any) (plain (get_or l.fund.limits (k - limits_field) 0))
   limit_says k h =
       any_says 0 (get_or l.fund.limits (k - limits_field) 0)
       (omega (arith, (fund_limits l.fund (fund_sound l.fund (fields_sound l fit).fund) (k - limits_field) (omega arith)).0))
@@ -106,10 +108,10 @@ module _ (l : ListFields) (fit : fields_in_range l ≡ true) (few : l.count ≤ 
       let s = fields_sound l fit in
       let r = fund_sound l.fund s.fund in
       paired_at Says (plain (get_or l.fund.limits (k - limits_field) 0)) {rs = shanghai_fields}
-      (both (fixed_says _ any_value (l.fund.first_code + 1) (omega (arith, r.first_code)) (omega (arith, r.first_code)) refl)
+      (both (fixed_says _ Any (l.fund.first_code + 1) (omega (arith, r.first_code)) (omega (arith, r.first_code)) refl)
       (both (any_says _ l.fund.basket_size (omega (arith, r.size_high)))
       (both (any_says _ l.fund.max_cash_ratio.0 (omega (arith, r.ratio)))
-      (both (free_says _ zero_or_one_value l.publish (omega (arith, s.publish)) (le-leb _ _ s.publish))
+      (both (free_says _ ZeroOrOne l.publish (omega (arith, s.publish)) (le-leb _ _ s.publish))
       (both (any_says _ l.fund.switch (omega (arith, r.switch)))
       (both (any_says _ l.count (omega arith))
       (both (cash_says l.fund.estimated_cash r.cash)

@@ -24,7 +24,8 @@ use Rattle.digits.specs.Fits.{Fits}
 use Rattle.digits.proofs.Count.{fixed-length}
 use Rattle.digits.proofs.Trip.{decimal_short}
 use Rattle.lines.specs.Lines.{name_byte, all_bytes}
-use Rattle.text_rules.specs.Tables.{Column, column_at}
+use Rattle.text_rules.specs.declared.Column.{Column}
+use Rattle.text_rules.specs.Tables.{column_at}
 use Rattle.text_rules.specs.Columns.{is_text, holds_text, numbers_before, number_cell, blank_cell, content_by, number_form, cell_at, part_at, content_at}
 use Rattle.text_trip.specs.Trips.{CellFits, RowFits}
 use Rattle.list_rules.specs.Shanghai.{shanghai, shanghai_columns, name_column, premium_column}

@@ -1,4 +1,4 @@
--- The head that is written by the lent tables is the list's.
+-- The head that is written by the code's table is the list's.
 use mathlib.Core.Path.{◌≡◌, ap₂, ◌∙◌}
 use mathlib.Core.List.{List}
 use Prim.Native.Nat.{ℕ, ◌<◌}
@@ -8,15 +8,14 @@ use borrow.Author.Tests.{lt-ltb}
 use Rattle.sequences.proofs.Below.{table_at}
 use Rattle.digits.specs.declared.Figure.{Figure}
 use Rattle.digits.specs.Digits.{plain}
-use Rattle.text_rules.specs.Tables.{Field, fields_of}
+use Rattle.text_rules.specs.Tables.{Field}
 use Rattle.text_rules.specs.Head.{head_lines}
 use Rattle.text_rules.specs.Writing.{head_text}
 use Rattle.text_rules.specs.Well.{most_fields}
-use Rattle.text_head_writing.specs.Lines.{array_figure}
+use Rattle.text_head_writing.specs.Lines.{array_figure, whole_head}
 use Rattle.list_rules.specs.declared.ListFields.{ListFields}
 use Rattle.list_rules.specs.Shanghai.{shanghai_fields, field_count}
 use Rattle.list_rules.specs.Fields.{figure_at, figures_of}
-use Rattle.list_rules.specs.Lent.{FieldsLent}
 use Rattle.list_rules.specs.Writing.{Listing}
 use Rattle.list_rules.proofs.Lent.{fields_count}
 use Rattle.list_trip.proofs.ReadFigures.{head_same}
@@ -32,9 +31,9 @@ figure_same fields k h =
     let low : k < field_count = omega (arith, fields_count) in
     table_at _ most_fields k (plain 0) (omega arith) ∙ rw (lt-ltb k field_count low)
 
-module _ (rows : List (List ℕ)) (names : List ℕ) (lent : FieldsLent rows names) where
-  pub head_lent : (l : Listing) (figures : List Figure) → figures ≡ figures_of l.fields
-      → head_text (fields_of rows names) l.letters (array_figure figures) (head_lines (fields_of rows names)) ≡ head_of l
-  head_lent l figures e =
-      ap₂ (λ (fs : List Field) (z : List Figure). head_text fs l.letters (array_figure z) (head_lines fs)) lent.fields_are e
-      ∙ head_same shanghai_fields l.letters _ (figure_at l.fields) (figure_same l.fields) (head_lines shanghai_fields)
+-- the head by the code's table and its array
+pub head_lent : (fs : List Field) → fs ≡ shanghai_fields → (l : Listing) (figures : List Figure) → figures ≡ figures_of l.fields
+    → whole_head fs l.letters figures ≡ head_of l
+head_lent fs ours l figures e =
+    ap₂ (λ (t : List Field) (z : List Figure). whole_head t l.letters z) ours e
+    ∙ head_same shanghai_fields l.letters _ (figure_at l.fields) (figure_same l.fields) (head_lines shanghai_fields)

@@ -1,4 +1,3 @@
 pub mod Replies
 pub mod Heads
 pub mod Sizes
-pub mod Tests

@@ -4,7 +4,10 @@ use mathlib.Core.Bool.{Bool, true, false, not, ◌&&◌}
 use Prim.Native.Nat.{ℕ, ◌*◌, ◌≤◌, min}
 use lib.Dec.{ltb}
 use lib.ListN.{length}
-use borrow.Author.Tests.{eqb-true}
+use borrow.Author.Tests.{eqb-true, lt-ltb, le-ltb}
+use Rattle.std.proofs.Common.{Option, Some, None}
+use Rattle.sequences.specs.Below.{below}
+use Rattle.sequences.proofs.Below.{below_some_facts, below_none_fact}
 use Rattle.sequences.specs.Checks.{reply, answering, passes}
 use Rattle.sequences.proofs.Every.{every_at, inside_facts}
 use Rattle.sequences.proofs.Checks.{passes_all, answered_next}
@@ -34,12 +37,19 @@ module _ (l : Listing) where
       let t = every_at _ e in
       record { few = (inside_facts 1 most_components _ (t 0)).1; run_length = eqb-true _ _ (t 1); names-length = eqb-true _ _ (t 2) }
 
-  pub fault_is : min
+  -- refusal 3's test, by the first place at fault
+  module _ (fault : Option ℕ) (e : fault ≡ below l.fields.count (min
       (component_fault l.fields.fund.first_code (places_of (component_at l.run) l.fields.count) l.fields.count)
-      (name_fault l.names l.fields.count)
-      ≡ write_fault l
-  unfolding write_fault
-  fault_is = refl
+      (name_fault l.names l.fields.count))) where
+    pub fault_at : (place : ℕ) → fault ≡ Some place → (write_fault l ≡ place) × (ltb (write_fault l) l.fields.count ≡ true)
+    unfolding write_fault
+    fault_at place f =
+        let k = below_some_facts _ _ place (sym f ∙ e) in
+        (k.0, lt-ltb _ _ k.1)
+
+    pub no_fault : fault ≡ None → ltb (write_fault l) l.fields.count ≡ false
+    unfolding write_fault
+    no_fault f = le-ltb _ _ (below_none_fact _ _ (sym f ∙ e))
 
   -- refusal 2's test fails
   abbrev pub range_wrong : Bool

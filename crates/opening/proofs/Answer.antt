@@ -2,13 +2,14 @@
 use mathlib.Core.Path.{◌≡◌, sym, ap, ◌∙◌}
 use mathlib.Core.Bool.{true, false, not, false≢true}
 use mathlib.Core.List.{List, [], ◌∷◌}
-use Prim.Native.Nat.{ℕ, ◌+◌, ◌≤◌, ◌<◌}
-use native.Mathlib.Omega.{arith}
+use Prim.Native.Nat.{ℕ, ◌+◌, ◌≤◌}
 use lib.Dec.{ltb}
 use lib.IntN.{nat_abs}
 use lib.ListN.{length, replicate}
 use borrow.Author.Tests.{lt-ltb, le-ltb}
-use Rattle.sequences.specs.Below.{join_below}
+use Rattle.std.specs.Prelude.{⊤, Option, Some, None, Result, Ok, Err}
+use Rattle.sequences.specs.Below.{join_below, below}
+use Rattle.sequences.proofs.Below.{below_some_facts, below_none_fact}
 use Rattle.sequences.specs.Checks.{Check, check, reply, answering, answered, is_accepted}
 use Rattle.digits.specs.Digits.{cap}
 use Rattle.fund.specs.Fund.{fund_in_range}
@@ -18,8 +19,6 @@ use Rattle.layout.specs.Components.{component_at, places_of}
 use Rattle.layout.specs.Places.{limit_count}
 use Rattle.layout.specs.Day.{day_at, day_numbers}
 use Rattle.rules.specs.declared.Refusal.{Refusal}
-use Rattle.rules.specs.declared.Answer.{Answer}
-use Rattle.rules.specs.declared.Answer.TheVariants.{Done, Refused}
 use Rattle.rules.specs.Replies.{answer_reply}
 use Rattle.rules.specs.Opening.{Opening, holdings_of, opened_total, opened_cash, size_checks, fund_checks, total_fault, total_checks}
 use Rattle.rules.specs.Opening.{day_checks, components_opened, opening_sizes_fit, opening_reply, opened_run, opened_stretch, opened_book, opened_prices}
@@ -59,29 +58,31 @@ module _ (o : Opening) where
   unfolding answering
   answer_fund e f = rw (← later e, f)
 
-  pub answer_component : (fault : ℕ) → opening_sizes_fit o ≡ true → fund_in_range o.fund ≡ true → fault ≡ component_place → fault < o.count → reply 3 fault 0 ≡ opening_reply o
+  pub answer_component : (place : ℕ) → opening_sizes_fit o ≡ true → fund_in_range o.fund ≡ true → Some place ≡ below o.count component_place
+      → reply 3 place 0 ≡ opening_reply o
   unfolding answering
-  answer_component fault e f p c =
-      let low : component_place < o.count = omega arith in
-      rw (← later e, f, lt-ltb component_place o.count low, p)
+  answer_component place e f p =
+      let at = below_some_facts o.count component_place place p in
+      rw (← later e, f, lt-ltb component_place o.count at.1, at.0)
 
-  pub answer_total : (fault line : ℕ) → opening_sizes_fit o ≡ true → fund_in_range o.fund ≡ true → fault ≡ component_place → o.count ≤ fault
-      → line ≡ line_place → line < o.count + 2 → reply 4 line 0 ≡ opening_reply o
+  pub answer_total : (place : ℕ) → opening_sizes_fit o ≡ true → fund_in_range o.fund ≡ true → None ≡ below o.count component_place
+      → Some place ≡ below (o.count + 2) line_place → reply 4 place 0 ≡ opening_reply o
   unfolding answering
-  answer_total fault line e f p c q t =
-      let past : o.count ≤ component_place = omega arith in
-      let low : line_place < o.count + 2 = omega arith in
-      rw (← later e, f, le-ltb component_place o.count past, lt-ltb line_place (o.count + 2) low, q)
+  answer_total place e f p q =
+      let past = below_none_fact o.count component_place p in
+      let at = below_some_facts (o.count + 2) line_place place q in
+      rw (← later e, f, le-ltb component_place o.count past, lt-ltb line_place (o.count + 2) at.1, at.0)
 
-  pub answer_done : (fault line : ℕ) → opening_sizes_fit o ≡ true → fund_in_range o.fund ≡ true → fault ≡ component_place → o.count ≤ fault
-      → line ≡ line_place → o.count + 2 ≤ line → reply 0 0 0 ≡ opening_reply o
+  pub answer_done : opening_sizes_fit o ≡ true → fund_in_range o.fund ≡ true → None ≡ below o.count component_place → None ≡ below (o.count + 2) line_place
+      → reply 0 0 0 ≡ opening_reply o
   unfolding answering
-  answer_done fault line e f p c q t =
-      let past : o.count ≤ component_place = omega arith in
-      let end : o.count + 2 ≤ line_place = omega arith in
+  answer_done e f p q =
+      let past = below_none_fact o.count component_place p in
+      let end = below_none_fact (o.count + 2) line_place q in
       rw (← later e, f, le-ltb component_place o.count past, le-ltb line_place (o.count + 2) end)
 
-  pub places_fault : (fault : ℕ) → fault ≡ component_fault o.fund.first_code (places_of (component_at o.components) o.count) o.count → fault ≡ component_place
+  pub places_fault : (fault : Option ℕ) → fault ≡ below o.count (component_fault o.fund.first_code (places_of (component_at o.components) o.count) o.count)
+      → fault ≡ below o.count component_place
   unfolding components_opened
   places_fault fault p = p
 
@@ -89,20 +90,20 @@ module _ (o : Opening) where
   accepted_sizes : is_accepted (opening_reply o) ≡ true → Sizes
   accepted_sizes e = lent_facts _ _ _ _ _ _ _ (opened_opens o e).sizes
 
-  module _ (answer : Answer) (said : answer_reply answer ≡ opening_reply o) where
-    done : answer ≡ Done → is_accepted (opening_reply o) ≡ true
+  module _ (answer : Result ⊤ Refusal) (said : answer_reply answer ≡ opening_reply o) where
+    done : answer ≡ Ok tt → is_accepted (opening_reply o) ≡ true
     unfolding is_accepted
     done e = rw (← said, e)
 
-    pub done_sizes : answer ≡ Done → Sizes
+    pub done_sizes : answer ≡ Ok tt → Sizes
     done_sizes e = accepted_sizes (done e)
 
     -- the estimated cash is stored as it is
-    pub done_fund : answer ≡ Done → nat_abs o.fund.estimated_cash ≤ cap
+    pub done_fund : answer ≡ Ok tt → nat_abs o.fund.estimated_cash ≤ cap
     done_fund e = cash_size o.fund.estimated_cash (fund_sound o.fund (opened_opens o (done e)).fund_fields).cash
 
     -- an accepted opening
-    pub outcome_done : (book prices day : List ℕ) → answer ≡ Done → length o.fund.limits ≡ limit_count
+    pub outcome_done : (book prices day : List ℕ) → answer ≡ Ok tt → length o.fund.limits ≡ limit_count
         → book ≡ join_below (λ a. opened_stretch o.count (holdings_of o a)) o.accounts → prices ≡ replicate (length o.prices) 0
         → day ≡ day_numbers o.accounts o.count o.fund o.components → Outcome o answer book prices day
     unfolding opened_run
@@ -118,7 +119,7 @@ module _ (o : Opening) where
         }
 
     -- a refused one
-    pub outcome_refused : (why : Refusal) → answer ≡ Refused why → Outcome o answer o.book o.prices o.day
+    pub outcome_refused : (why : Refusal) → answer ≡ Err why → Outcome o answer o.book o.prices o.day
     unfolding opened_run opened_book opened_prices
     outcome_refused why e =
         let no : is_accepted (opening_reply o) ≡ false = rw (← said, e) (refused why) in

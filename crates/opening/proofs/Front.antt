@@ -3,14 +3,17 @@ use mathlib.Core.Path.{◌≡◌, sym, ◌∙◌}
 use mathlib.Core.List.{List, [], ◌∷◌, ◌++◌}
 use Prim.Native.Nat.{ℕ, suc, ◌+◌, ◌≤◌, ◌<◌}
 use native.Mathlib.Omega.{arith}
-use lib.ListN.{length, get_or, take, drop, length-set, length-append}
+use lib.ListN.{length, get_or, take, drop, set, length-set, length-append}
 use lib.Seq.{sets-eq, take_at, take_all, length-take-le}
 use Rattle.sequences.specs.Below.{join_below}
 use Rattle.sequences.proofs.Below.{join-none, join_more}
 use Rattle.layout.specs.Places.{line_width}
-use Rattle.layout.specs.Book.{width_of, line_from}
+use Rattle.layout.specs.Book.{width_of, line_from, put_lots}
 use Rattle.rules.specs.Opening.{cash_opened, held_opened, opened_stretch}
-use Rattle.opening.specs.Given.{put_three}
+
+-- three numbers from a place on
+unfoldable pub put_three : ℕ → ℕ → ℕ → ℕ → List ℕ → List ℕ
+put_three at a b c s = set (set (set s at a) (at + 1) b) (at + 2) c
 
 pub three-length : (at a b c : ℕ) (s : List ℕ) → length (put_three at a b c s) ≡ length s
 unfolding put_three
@@ -33,16 +36,16 @@ pub record Fronted (n : ℕ) (h : List ℕ) (l : ℕ) (s : List ℕ) : Type 0 wh
   pub front : take (line_from l) s ≡ cash_opened h ∷ 0 ∷ 0 ∷ join_below (λ l. held_opened l h ∷ 0 ∷ 0 ∷ []) l
 
 module _ (n : ℕ) (h s t : List ℕ) where
-  pub fronted_none : length s ≡ width_of n → t ≡ put_three 0 (get_or h 0 0) 0 0 s → Fronted n h 0 t
-  unfolding cash_opened
+  pub fronted_none : length s ≡ width_of n → t ≡ set (set (set s 0 (get_or h 0 0)) 1 0) 2 0 → Fronted n h 0 t
+  unfolding cash_opened put_three
   fronted_none k e =
       record {
         size = rw e (three-length 0 (get_or h 0 0) 0 0 s ∙ k);
         front = rw e (three_front 0 (get_or h 0 0) 0 0 s (omega arith) ∙ rw join-none);
       }
 
-  pub fronted_more : (l : ℕ) → l < n + 1 → t ≡ put_three (line_from l) (get_or h (1 + l) 0) 0 0 s → Fronted n h l s → Fronted n h (l + 1) t
-  unfolding held_opened
+  pub fronted_more : (l : ℕ) → l < n + 1 → t ≡ put_lots s l (record { old = get_or h (1 + l) 0; bought = 0; got = 0 }) → Fronted n h l s → Fronted n h (l + 1) t
+  unfolding held_opened put_three put_lots
   fronted_more l k e f =
       let next : line_from (l + 1) ≡ line_from l + line_width = omega arith in
       record {

@@ -1,12 +1,12 @@
 -- What refusal 1's test says.
 use mathlib.Core.Path.{◌≡◌}
-use mathlib.Core.Bool.{true, false}
+use mathlib.Core.Bool.{true}
 use Prim.Native.Nat.{ℕ, ◌+◌, ◌*◌}
-use borrow.Author.Tests.{eq-eqb, eqb-true}
-use Rattle.sequences.proofs.Every.{every_none, every_more, every_at, false_of}
+use borrow.Author.Tests.{eqb-true}
+use Rattle.sequences.proofs.Every.{every_at}
 use Rattle.layout.specs.Places.{component_width, day_width}
 use Rattle.rules.specs.Opening.{lent_sizes_fit}
-use Rattle.rules.proofs.SoundDay.{DaySizes, sizes_true, sizes_facts}
+use Rattle.rules.proofs.SoundDay.{DaySizes, sizes_facts}
 
 pub record LentSizes (accounts count components holdings book prices day : ℕ) : Type 0 where
   pub own : DaySizes accounts count book prices
@@ -15,12 +15,6 @@ pub record LentSizes (accounts count components holdings book prices day : ℕ) 
   pub day_size : day ≡ day_width
 
 module _ (accounts count components holdings book prices day : ℕ) where
-  pub lent-true : LentSizes accounts count components holdings book prices day → lent_sizes_fit accounts count components holdings book prices day ≡ true
-  unfolding lent_sizes_fit
-  lent-true s =
-      every_more _ _ (sizes_true _ _ _ _ s.own)
-      (every_more _ _ (eq-eqb _ _ s.components_size) (every_more _ _ (eq-eqb _ _ s.holdings_size) (every_more _ _ (eq-eqb _ _ s.day_size) every_none)))
-
   pub lent_facts : lent_sizes_fit accounts count components holdings book prices day ≡ true → LentSizes accounts count components holdings book prices day
   unfolding lent_sizes_fit
   lent_facts e =
@@ -31,6 +25,3 @@ module _ (accounts count components holdings book prices day : ℕ) where
         holdings_size = eqb-true _ _ (at 2);
         day_size = eqb-true _ _ (at 3);
       }
-
-  pub lent-false : (LentSizes accounts count components holdings book prices day → ⊥) → lent_sizes_fit accounts count components holdings book prices day ≡ false
-  lent-false h = false_of (lent_sizes_fit accounts count components holdings book prices day) (λ e. h (lent_facts e))

@@ -1,10 +1,10 @@
 -- What the code of opening is given, and the parts of its work.
-use Rattle.std.specs.Prelude.{ℕ, ◌+◌, ◌≡◌, true, List, get_or, set}
+use Rattle.std.specs.Prelude.{ℕ, ◌+◌, ◌≡◌, ⊤, true, List, Result, get_or}
 use Rattle.sequences.specs.Checks.{is_accepted}
 use Rattle.sequences.specs.Stretch.{stretch_of, over}
 use Rattle.layout.specs.declared.Fund.{Fund}
 use Rattle.layout.specs.Day.{day_at}
-use Rattle.rules.specs.declared.Answer.{Answer}
+use Rattle.rules.specs.declared.Refusal.{Refusal}
 use Rattle.rules.specs.Replies.{answer_reply}
 use Rattle.rules.specs.Opening.{Opening, cash_opened, held_opened, most_of_line, DayTotals, opening_reply, opened_day, opened_run, opened_book, opened_prices}
 
@@ -14,7 +14,7 @@ given accounts count fund components holdings book prices day =
     record { accounts = accounts; count = count; fund = fund; components = components; holdings = holdings; book = book; prices = prices; day = day }
 
 -- opening's answer, and what it leaves of the book, the prices and the day
-pub record Outcome (o : Opening) (answer : Answer) (book prices day : List ℕ) : Type 0 where
+pub record Outcome (o : Opening) (answer : Result ⊤ Refusal) (book prices day : List ℕ) : Type 0 where
   pub answer_is : answer_reply answer ≡ opening_reply o
   pub book_is : book ≡ opened_book o
   pub prices_is : prices ≡ opened_prices o
@@ -35,7 +35,3 @@ totals_of accounts n holdings =
       fund_units = held_opened n (stretch_of (n + 2) holdings 0);
       cash_total = over (n + 2) accounts cash_opened holdings;
     }
-
--- three numbers from a place on
-unfoldable pub put_three : ℕ → ℕ → ℕ → ℕ → List ℕ → List ℕ
-put_three at a b c s = set (set (set s at a) (at + 1) b) (at + 2) c

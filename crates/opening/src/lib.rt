@@ -1,55 +1,44 @@
 // Opening: its tests, refusals 1 to 4, and the book, prices and day that an accepted opening leaves.
 #![tactic(auto)]
 
-ghost use Rattle.std.specs.Prelude.{◌≡◌, ◌+◌, ◌*◌, ◌≤◌, ◌<◌, length, replicate};
-ghost use Rattle.sequences.specs.Below.{join_below};
+ghost use Rattle.std.specs.Prelude.{◌≡◌, ◌+◌, ◌*◌, ◌≤◌, ◌<◌, length};
+ghost use Rattle.sequences.specs.Below.{below, join_below};
 ghost use Rattle.sequences.specs.Stretch.{stretch_of, put_stretch};
 ghost use Rattle.layout.specs.Places.{most_components};
 ghost use Rattle.layout.specs.Book.{width_of};
 ghost use Rattle.rules.specs.Replies.{answer_reply};
-ghost use Rattle.totals.specs.Totals.{widest, most_rows};
+ghost use Rattle.totals.specs.Totals.{most_rows};
 ghost use Rattle.rules.specs.Opening.{over_at, total_fault, lent_sizes_fit, opening_reply, opened_stretch};
-ghost use Rattle.opening.specs.Given.{given, Outcome, totals_in, totals_of, put_three};
+ghost use Rattle.opening.specs.Given.{given, Outcome, totals_in, totals_of};
 
 use layout::Fund;
-use rules::{Answer, Refusal};
+use lots::Lots;
+use rules::Refusal;
 
 // Refusal 4 at a place, by the totals of the holdings' rows and the fund's units: a line, of which `count` is the unit, or one past it for cash.
+#[tactic(auto, using(std::proofs::lemmas::Bool::Decides::nat_tests), unfolding(rules::specs::Opening::over_at))]
 fn over_at(totals: &[u64; totals::WIDEST], units: u64, count: usize, place: usize) -> bool
-    requires { (count ≤ most_components) × (place < count + 2) × (length totals.now ≡ widest) }
+    requires { (count ≤ most_components) × (place < count + 2) }
     ensures { result ≡ over_at count (totals_in totals.now units) place }
 {
     if count < place {
         return rules::MOST_CASH < totals[0];
     }
-    if place == count {
-        if 0 < units {
-            return true;
-        }
-    }
-    rules::MOST_OF_LINE < totals[1 + place]
+    (place == count && 0 < units) || rules::MOST_OF_LINE < totals[1 + place]
 }
 
-// The lowest place at which it holds, and `count` + 2 where there is none.
-fn first_over(totals: &[u64; totals::WIDEST], units: u64, count: usize) -> usize
-    requires { (count ≤ most_components) × (length totals.now ≡ widest) }
-    ensures { result ≡ total_fault count (totals_in totals.now units) }
+// The lowest place at which it holds.
+fn first_over(totals: &[u64; totals::WIDEST], units: u64, count: usize) -> Option<usize>
+    requires { count ≤ most_components }
+    ensures { result ≡ below (count + 2) (total_fault count (totals_in totals.now units)) }
 {
-    let places = count + 2;
-    let mut place = 0;
-    while place < places {
-        if over_at(totals, units, count, place) {
-            return place;
-        }
-        place += 1;
-    }
-    place
+    (0..count + 2).find(|place| over_at(totals, units, count, *place))
 }
 
 // The same of the holdings. Their totals, as far as 2^62, will do: every limit is below that.
-fn total_fault(holdings: &[u64], accounts: usize, count: usize) -> usize
+fn total_fault(holdings: &[u64], accounts: usize, count: usize) -> Option<usize>
     requires { (1 ≤ accounts) × (accounts ≤ most_rows) × (count ≤ most_components) × (length holdings.now ≡ accounts * (count + 2)) }
-    ensures { result ≡ total_fault count (totals_of accounts count holdings.now) }
+    ensures { result ≡ below (count + 2) (total_fault count (totals_of accounts count holdings.now)) }
 {
     let mut totals = [0u64; totals::WIDEST];
     totals::fill(&mut totals, holdings, accounts, count + 2);
@@ -57,6 +46,7 @@ fn total_fault(holdings: &[u64], accounts: usize, count: usize) -> usize
 }
 
 // Refusal 1's test. The ranges come first, so that no product is too large.
+#[tactic(auto, using(std::proofs::lemmas::Bool::Decides::nat_tests), unfolding(rules::specs::Opening::lent_sizes_fit, rules::specs::Opening::day_sizes_fit, sequences::specs::Every::every, sequences::specs::Every::inside))]
 fn sizes_fit(
     accounts: usize,
     count: usize,
@@ -68,16 +58,10 @@ fn sizes_fit(
 ) -> bool
     ensures { result ≡ lent_sizes_fit accounts count components holdings book prices day }
 {
-    if !sound::sizes_fit(accounts, count, book, prices) {
-        return false;
-    }
-    if components != layout::COMPONENT_WIDTH * count {
-        return false;
-    }
-    if holdings != accounts * (count + 2) {
-        return false;
-    }
-    day == layout::DAY_WIDTH
+    sound::sizes_fit(accounts, count, book, prices)
+        && components == layout::COMPONENT_WIDTH * count
+        && holdings == accounts * (count + 2)
+        && day == layout::DAY_WIDTH
 }
 
 // The answer, which changes nothing.
@@ -90,7 +74,7 @@ fn opening_answer(
     book: &[u64],
     prices: &[u64],
     day: &[u64],
-) -> Answer
+) -> Result<(), Refusal>
     ensures { answer_reply result ≡ opening_reply (given accounts count fund components.now holdings.now book.now prices.now day.now) }
 {
     if !sizes_fit(
@@ -102,30 +86,18 @@ fn opening_answer(
         prices.len(),
         day.len(),
     ) {
-        return Answer::Refused(Refusal::Sizes);
+        return Err(Refusal::Sizes);
     }
     if !fund::fund_in_range(fund) {
-        return Answer::Refused(Refusal::FundField);
+        return Err(Refusal::FundField);
     }
-    let fault = fund::run_fault(fund.first_code, components, count);
-    if fault < count {
-        return Answer::Refused(Refusal::Component(fault));
+    if let Some(place) = fund::run_fault(fund.first_code, components, count) {
+        return Err(Refusal::Component(place));
     }
-    let over = total_fault(holdings, accounts, count);
-    if over < count + 2 {
-        return Answer::Refused(Refusal::Total(over));
+    if let Some(place) = total_fault(holdings, accounts, count) {
+        return Err(Refusal::Total(place));
     }
-    Answer::Done
-}
-
-// Three numbers from a place on.
-fn put_three(stretch: &mut [u64], at: usize, a: u64, b: u64, c: u64)
-    requires { at + 2 < length stretch.old }
-    ensures { stretch.new ≡ put_three at a b c stretch.old }
-{
-    stretch[at] = a;
-    stretch[at + 1] = b;
-    stretch[at + 2] = c;
+    Ok(())
 }
 
 // An account's stretch: its cash and no counters, then each line's holding in old.
@@ -134,12 +106,16 @@ fn open_account(stretch: &mut [u64], held: &[u64], count: usize)
     requires held_len { length held.now ≡ count + 2 }
     ensures { stretch.new ≡ opened_stretch count held.now }
 {
-    put_three(stretch, layout::CASH, held[0], 0, 0);
-    let mut l = 0;
-    while l < count + 1 {
-        let at = layout::LINES_FROM + layout::LINE_WIDTH * l;
-        put_three(stretch, at, held[1 + l], 0, 0);
-        l += 1;
+    stretch[layout::CASH] = held[0];
+    stretch[layout::CREATED] = 0;
+    stretch[layout::REDEEMED] = 0;
+    for l in 0..count + 1 {
+        let opened = Lots {
+            old: held[1 + l],
+            bought: 0,
+            got: 0,
+        };
+        layout::put_lots(stretch, l, opened);
     }
 }
 
@@ -164,21 +140,8 @@ fn open_book(book: &mut [u64], holdings: &[u64], accounts: usize, count: usize)
     requires holdings_len { length holdings.now ≡ accounts * (count + 2) }
     ensures { book.new ≡ join_below (λ a. opened_stretch count (stretch_of (count + 2) holdings.now a)) accounts }
 {
-    let mut a = 0;
-    while a < accounts {
+    for a in 0..accounts {
         open_part(book, holdings, count, a);
-        a += 1;
-    }
-}
-
-// No prices yet.
-fn clear(prices: &mut [u64])
-    ensures { prices.new ≡ replicate (length prices.old) 0 }
-{
-    let mut i = 0;
-    while i < prices.len() {
-        prices[i] = 0;
-        i += 1;
     }
 }
 
@@ -192,19 +155,14 @@ pub fn open(
     book: &mut [u64],
     prices: &mut [u64],
     day: &mut [u64],
-) -> Answer
+) -> Result<(), Refusal>
     ensures { Outcome (given accounts count fund components.now holdings.now book.old prices.old day.old) result book.new prices.new day.new }
 {
-    let answer = opening_answer(
+    opening_answer(
         accounts, count, fund, components, holdings, book, prices, day,
-    );
-    match answer {
-        Answer::Done => {
-            open_book(book, holdings, accounts, count);
-            clear(prices);
-            layout::put_day(day, accounts, count, fund, components);
-            answer
-        }
-        Answer::Refused(_) => answer,
-    }
+    )?;
+    open_book(book, holdings, accounts, count);
+    prices.fill(0);
+    layout::put_day(day, accounts, count, fund, components);
+    Ok(())
 }

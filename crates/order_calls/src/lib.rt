@@ -1,14 +1,14 @@
 // Orders on a day that is known to be sound or is tested: 5, or what the core answers.
 #![tactic(auto)]
 
-ghost use Rattle.std.specs.Prelude.{◌≡◌, ◌<◌, true};
+ghost use Rattle.std.specs.Prelude.{◌≡◌, true};
 ghost use Rattle.layout.specs.Day.{day_at};
 ghost use Rattle.rules.specs.Replies.{order_answer_reply};
 ghost use Rattle.rules.specs.Lent.{lent_of, rooms_in};
 ghost use Rattle.rules.specs.Kinds.{asked_reply, asked_book, asked_lists};
 ghost use Rattle.rules.specs.Sound.{is_sound};
 
-use rules::{Ask, OrderAnswer, Refusal};
+use rules::{Ask, Counts, Refusal};
 
 // Creates or redeems units of an account; the records and the reports to both parties go to the lent lists.
 pub fn order(
@@ -20,20 +20,15 @@ pub fn order(
     records: &mut [u64],
     investor: &mut [u64],
     fund: &mut [u64],
-) -> OrderAnswer
-    requires prices_value { known ≡ true → is_sound (day_at day.now) book.old prices.now ≡ true }
-    requires kind_bound { ask.kind < 2 }
+) -> Result<Counts, Refusal>
+    requires { known ≡ true → is_sound (day_at day.now) book.old prices.now ≡ true }
     ensures result_value { order_answer_reply result ≡ asked_reply (day_at day.now) book.old prices.now ask (rooms_in (lent_of records.old investor.old fund.old)) }
     ensures book { book.new ≡ asked_book (day_at day.now) book.old prices.now ask (rooms_in (lent_of records.old investor.old fund.old)) }
     ensures lists { lent_of records.new investor.new fund.new ≡ asked_lists (day_at day.now) book.old prices.now ask (lent_of records.old investor.old fund.old) }
 {
-    if !calls::sound_day(known, day, book, prices) {
-        return OrderAnswer::Refused(Refusal::UnsoundDay);
-    }
-    let head = layout::head_of(day);
+    calls::sound_day(known, day, book, prices)?;
     orders::order(
-        head,
-        layout::basket_of(day),
+        &layout::view_of(day),
         book,
         prices,
         ask,

@@ -7,8 +7,8 @@ use Rattle.sequences.specs.Checks.{Reply}
 use Rattle.rules.specs.declared.Refusal.{Refusal}
 use Rattle.rules.specs.declared.Refusal.TheVariants.{Sizes, FundField, Component, Total, UnsoundDay, NoSuchLine, QuantityOrPrice, Account, ShortOfStock, ShortOfCash}
 use Rattle.rules.specs.declared.Refusal.TheVariants.{NotWholeBaskets, Switch, Limit, NoReferenceValue, CashRatio, ListTooShort, FundShort, TextLine, TextField, RecordCount}
-use Rattle.rules.specs.declared.OrderAnswer.{OrderAnswer}
-use Rattle.rules.specs.declared.OrderAnswer.TheVariants.{Made, Refused}
+use Rattle.rules.specs.declared.Counts.{Counts}
+use Rattle.std.specs.Prelude.{Result, Ok, Err}
 use Rattle.rules.specs.Replies.{refusal_reply, order_answer_reply}
 
 -- the refusal of a number and a place
@@ -35,10 +35,10 @@ refusal_of number place =
     (cond (eqb number 19) (TextField place)
     RecordCount))))))))))))))))))
 
-abbrev answer_of : Reply → OrderAnswer
-answer_of r = cond (eqb r.number 0) (Made (record { records = r.value; reports = r.reports })) (Refused (refusal_of r.number r.place))
+abbrev answer_of : Reply → Result Counts Refusal
+answer_of r = cond (eqb r.number 0) (Ok (record { records = r.value; reports = r.reports })) (Err (refusal_of r.number r.place))
 
-refusal_back : (why : Refusal) → answer_of (refusal_reply why) ≡ Refused why
+refusal_back : (why : Refusal) → answer_of (refusal_reply why) ≡ Err why
 refusal_back Sizes = refl
 refusal_back FundField = refl
 refusal_back (Component place) = refl
@@ -60,9 +60,9 @@ refusal_back (TextLine place) = refl
 refusal_back (TextField place) = refl
 refusal_back RecordCount = refl
 
-answer_back : (x : OrderAnswer) → answer_of (order_answer_reply x) ≡ x
-answer_back (Made counts) = refl
-answer_back (Refused why) = refusal_back why
+answer_back : (x : Result Counts Refusal) → answer_of (order_answer_reply x) ≡ x
+answer_back (Ok counts) = refl
+answer_back (Err why) = refusal_back why
 
-pub same_answer : (x y : OrderAnswer) → order_answer_reply x ≡ order_answer_reply y → x ≡ y
+pub same_answer : (x y : Result Counts Refusal) → order_answer_reply x ≡ order_answer_reply y → x ≡ y
 same_answer x y e = sym (answer_back x) ∙ ap answer_of e ∙ answer_back y

@@ -1,16 +1,14 @@
 // The first two stages of an order: account and baskets, then the switch and the limits. They only read.
 #![tactic(auto)]
 
-ghost use Rattle.std.specs.Prelude.{◌≡◌, ◌+◌, ◌-◌, ◌*◌, ◌/◌, ◌≤◌, ◌<◌, ◌^◌, length};
+ghost use Rattle.std.specs.Prelude.{◌≡◌, ◌+◌, ◌/◌, ◌≤◌, ◌<◌, ◌^◌};
 ghost use Rattle.sequences.specs.Checks.{answered};
-ghost use Rattle.fund.specs.Fund.{ceiling, limit_of};
-ghost use Rattle.layout.specs.Places.{most_components};
-ghost use Rattle.layout.specs.Book.{width_of, counter};
+ghost use Rattle.rules.specs.Orders.{limit_for, within_limits};
 ghost use Rattle.rules.specs.Replies.{answer_reply};
-ghost use Rattle.order_form.specs.Form.{head_sum, all_counts, own_counts, within_both, limits_held, order_form, Countable};
+ghost use Rattle.order_form.specs.Form.{all_counts, own_counts, within_both, all_held, own_held, order_form, Countable};
 
-use layout::Fund;
-use rules::{Answer, Ask, Refusal};
+use layout::DayView;
+use rules::{Ask, Kind, Refusal};
 
 // Units of an order's kind, and of the other kind, on this day.
 #[derive(Clone, Copy)]
@@ -20,104 +18,110 @@ struct Counts {
 }
 
 // The counts of all accounts together.
-fn counts_of_all(accounts: usize, count: usize, book: &[u64], kind: usize) -> Counts
-    requires accounts_bound { (accounts ≤ 64) × (count ≤ most_components) × (kind < 2) × (length book.now ≡ accounts * width_of count) }
-    requires kind_bound { (head_sum accounts count book.now (counter kind) ≤ ceiling) × (head_sum accounts count book.now (counter (1 - kind)) ≤ ceiling) }
-    ensures { result ≡ all_counts accounts count book.now kind }
+fn counts_of_all(day: &DayView, book: &[u64], kind: Kind) -> Counts
+    requires { Countable day.now book.now }
+    ensures { result ≡ all_counts day.now book.now kind }
 {
-    let w = layout::width_of(count);
-    let at = layout::COUNTERS + kind;
-    let back = layout::COUNTERS + (1 - kind);
+    let w = layout::width_of(day.count());
+    let at = layout::COUNTERS + kind.number();
+    let back = layout::COUNTERS + kind.opposite().number();
     let mut made: u64 = 0;
     let mut reverse: u64 = 0;
-    let mut a = 0;
-    while a < accounts {
-        made += book[a * w + at];
-        reverse += book[a * w + back];
-        a += 1;
+    for a in 0..day.accounts() {
+        made += book::head_of(book, w, a, at);
+        reverse += book::head_of(book, w, a, back);
     }
     Counts { made, reverse }
 }
 
 // The counts of one account.
-fn counts_of(count: usize, book: &[u64], a: usize, kind: usize) -> Counts
-    requires { (count ≤ most_components) × (kind < 2) × (a * width_of count + width_of count ≤ length book.now) }
-    ensures { result ≡ own_counts count book.now a kind }
+fn counts_of(day: &DayView, book: &[u64], a: usize, kind: Kind) -> Counts
+    requires { Countable day.now book.now × (a < day.now.accounts) }
+    ensures { result ≡ own_counts day.now book.now a kind }
 {
-    let start = a * layout::width_of(count);
+    let w = layout::width_of(day.count());
+    let at = layout::COUNTERS + kind.number();
+    let back = layout::COUNTERS + kind.opposite().number();
     Counts {
-        made: book[start + (layout::COUNTERS + kind)],
-        reverse: book[start + (layout::COUNTERS + (1 - kind))],
+        made: book::head_of(book, w, a, at),
+        reverse: book::head_of(book, w, a, back),
     }
 }
 
-// A limit of the fund: kind of limit and kind of order.
-fn limit_of(fund: Fund, limit: usize, kind: usize) -> u64
-    requires { (limit < 4) × (kind < 2) }
-    ensures { result ≡ limit_of fund limit kind }
+// One of the fund's limits on orders of a kind.
+#[tactic(auto, unfolding(fund::specs::Fund::limit_of))]
+fn limit_of(day: &DayView, limit: usize, kind: Kind) -> u64
+    requires { limit < 4 }
+    ensures { result ≡ limit_for day.now limit kind }
 {
-    let limits = fund.limits;
-    limits[2 * limit + kind]
+    let limits = day.fund().limits;
+    limits[2 * limit + kind.number()]
 }
 
 // Whether the counts after so many units more pass neither the limit on them nor that on their net.
+#[tactic(auto, unfolding(crate::specs::Form::within_both))]
 fn within_both(c: Counts, units: u64, limit: u64, net_limit: u64) -> bool
     requires { c.made + units < 2 ^ 64 }
     ensures { result ≡ within_both c units limit net_limit }
 {
     let after = c.made + units;
-    if !ranges::within_limit(limit, after) {
-        return false;
-    }
-    ranges::within_limit(net_limit, ranges::excess(after, c.reverse))
+    ranges::within_limit(limit, after)
+        && ranges::within_limit(net_limit, after.saturating_sub(c.reverse))
 }
 
-// Refusal 13: cumulative and net, for the fund and for the account, after this order; and the ceiling.
-fn limits_held(accounts: usize, count: usize, fund: Fund, book: &[u64], ask: Ask) -> bool
-    requires countable { Countable accounts count fund book.now }
-    requires kind_bound { (ask.kind < 2) × (ask.account < accounts) × (ask.units ≤ 1_999_999_980) }
-    ensures { result ≡ limits_held accounts count fund book.now ask }
+// Whether all accounts together keep the fund's limits, cumulative and net, after an order, and the ceiling.
+#[tactic(auto, unfolding(crate::specs::Form::all_held))]
+fn all_held(day: &DayView, book: &[u64], ask: Ask) -> bool
+    requires countable { Countable day.now book.now }
+    requires units_bound { ask.units ≤ 1_999_999_980 }
+    ensures { result ≡ all_held day.now book.now ask }
 {
-    let kind = ask.kind;
-    let all = counts_of_all(accounts, count, book, kind);
-    let limit = limit_of(fund, fund::CUMULATIVE, kind);
-    let net_limit = limit_of(fund, fund::NET, kind);
-    if !within_both(all, ask.units, limit, net_limit) {
-        return false;
-    }
-    let own = counts_of(count, book, ask.account, kind);
-    let limit_each = limit_of(fund, fund::CUMULATIVE_EACH, kind);
-    let net_limit_each = limit_of(fund, fund::NET_EACH, kind);
-    if !within_both(own, ask.units, limit_each, net_limit_each) {
-        return false;
-    }
-    all.made + ask.units <= fund::CEILING
+    let all = counts_of_all(day, book, ask.kind);
+    let limit = limit_of(day, fund::CUMULATIVE, ask.kind);
+    let net_limit = limit_of(day, fund::NET, ask.kind);
+    within_both(all, ask.units, limit, net_limit) && all.made + ask.units <= fund::CEILING
+}
+
+// Whether its account keeps its own.
+fn own_held(day: &DayView, book: &[u64], ask: Ask) -> bool
+    requires countable { Countable day.now book.now }
+    requires units_bound { (ask.account < day.now.accounts) × (ask.units ≤ 1_999_999_980) }
+    ensures { result ≡ own_held day.now book.now ask }
+{
+    let own = counts_of(day, book, ask.account, ask.kind);
+    let limit = limit_of(day, fund::CUMULATIVE_EACH, ask.kind);
+    let net_limit = limit_of(day, fund::NET_EACH, ask.kind);
+    within_both(own, ask.units, limit, net_limit)
+}
+
+// Refusal 13's test.
+#[tactic(auto, using(crate::proofs::Laws::limits_are))]
+fn limits_held(day: &DayView, book: &[u64], ask: Ask) -> bool
+    requires countable { Countable day.now book.now }
+    requires units_bound { (ask.account < day.now.accounts) × (ask.units ≤ 1_999_999_980) }
+    ensures { result ≡ within_limits day.now book.now ask.kind ask.account ask.units }
+{
+    all_held(day, book, ask) && own_held(day, book, ask)
 }
 
 // The tests 8, 11, 12 and 13 of an order; `m` is how many baskets its units are, with what is left over dropped.
-pub fn order_form(
-    accounts: usize,
-    count: usize,
-    fund: Fund,
-    book: &[u64],
-    ask: Ask,
-    m: u64,
-) -> Answer
-    requires countable { Countable accounts count fund book.now }
-    requires kind_bound { (ask.kind < 2) × (m ≡ ask.units / fund.basket_size) }
-    ensures { answer_reply result ≡ answered (order_form accounts count fund book.now ask) 0 }
+pub fn order_form(day: &DayView, book: &[u64], ask: Ask, m: u64) -> Result<(), Refusal>
+    requires countable { Countable day.now book.now }
+    requires m_value { m ≡ ask.units / day.now.fund.basket_size }
+    ensures { answer_reply result ≡ answered (order_form day.now book.now ask) 0 }
 {
-    if !ranges::is_investor(accounts, ask.account) {
-        return Answer::Refused(Refusal::Account);
+    let fund = day.fund();
+    if !ranges::is_investor(day.accounts(), ask.account) {
+        return Err(Refusal::Account);
     }
     if !ranges::whole_baskets(fund.basket_size, ask.units, m) {
-        return Answer::Refused(Refusal::NotWholeBaskets);
+        return Err(Refusal::NotWholeBaskets);
     }
     if !ranges::switch_allows(fund.switch, ask.kind) {
-        return Answer::Refused(Refusal::Switch);
+        return Err(Refusal::Switch);
     }
-    if !limits_held(accounts, count, fund, book, ask) {
-        return Answer::Refused(Refusal::Limit);
+    if !limits_held(day, book, ask) {
+        return Err(Refusal::Limit);
     }
-    Answer::Done
+    Ok(())
 }

@@ -1,5 +1,6 @@
 -- One component in an order.
-use Rattle.std.specs.Prelude.{true, false, cond, not, [], ◌∷◌, ℕ, ◌-◌, ◌*◌, min, ltb}
+use Rattle.std.specs.Prelude.{true, false, cond, not, [], ◌∷◌, ℕ, ◌-◌, ◌*◌, min, ltb, Option, Some, None}
+use Rattle.std.specs.Bool.{then_some}
 use Rattle.sequences.specs.Every.{every}
 use Rattle.units.specs.declared.Money.{Money}
 use Rattle.units.specs.Units.{premium, discount}
@@ -11,6 +12,11 @@ use Rattle.order_lines.specs.declared.Line.{Line}
 
 abbrev pub money : ℕ → Money
 money x = record { 0 = x }
+
+-- a worth as a number, 0 where there is none
+abbrev pub worth_in : Option Money → ℕ
+worth_in None = 0
+worth_in (Some worth) = worth.0
 
 -- what an order of m baskets needs of a component
 abbrev pub need_of : Component → ℕ → ℕ
@@ -28,8 +34,7 @@ unfoldable pub creation_line : Component → ℕ → ℕ → ℕ → Line
 creation_line c have price m =
     record {
       short = every (entry c.flag stock_moves ∷ not (entry c.flag shortage_in_cash) ∷ ltb have (need_of c m) ∷ []);
-      missing = missing_of c have m;
-      worth = money (worth_of c have price m);
+      missing = then_some (ltb 0 (missing_of c have m)) (money (worth_of c have price m));
       cash = money (premium (cond (entry c.flag stock_moves) (worth_of c have price m) (m * c.amount.0)) c.premium.0);
       shanghai = entry c.flag shanghai;
       moved = cond (entry c.flag stock_moves) (min (need_of c m) have) 0;
@@ -40,8 +45,7 @@ unfoldable pub redemption_line : Component → ℕ → ℕ → Line
 redemption_line c have m =
     record {
       short = ltb have (cond (entry c.flag stock_moves) (need_of c m) 0);
-      missing = 0;
-      worth = money 0;
+      missing = None;
       cash = money (cond (entry c.flag stock_moves) 0 (discount (m * c.amount.0) c.discount.0));
       shanghai = entry c.flag shanghai;
       moved = cond (entry c.flag stock_moves) (need_of c m) 0;
@@ -53,7 +57,7 @@ order_line kind c have price m = by_kind kind (creation_line c have price m) (re
 
 -- a component whose stock is there in full
 unfoldable pub stock_line : ℕ → Line
-stock_line need = record { short = false; missing = 0; worth = money 0; cash = money 0; shanghai = true; moved = need }
+stock_line need = record { short = false; missing = None; cash = money 0; shanghai = true; moved = need }
 
 -- an amount that stands for a component: with the premium on creation, less the discount on redemption
 unfoldable pub amount_due : Kind → Component → ℕ → ℕ
@@ -64,8 +68,7 @@ unfoldable pub amount_line : Kind → Component → ℕ → Line
 amount_line kind c m =
     record {
       short = false;
-      missing = 0;
-      worth = money 0;
+      missing = None;
       cash = money (amount_due kind c (m * c.amount.0));
       shanghai = entry c.flag shanghai;
       moved = 0;

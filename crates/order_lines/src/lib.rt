@@ -17,8 +17,8 @@ use units::Money;
 #[derive(Clone, Copy)]
 pub struct Line {
     pub short: bool,
-    pub missing: u64,
-    pub worth: Money,
+    // What missing stock is worth for which cash stands, without the premium.
+    pub missing: Option<Money>,
     pub cash: Money,
     pub shanghai: bool,
     pub moved: u64,
@@ -72,8 +72,7 @@ fn creation_line(c: Component, have: u64, price: u64, m: u64) -> Line
     let cash = chosen(moves, worth, amount).with_premium(c.premium);
     Line {
         short: is_short(moves, in_cash, need, have),
-        missing,
-        worth,
+        missing: (0 < missing).then_some(worth),
         cash,
         shanghai,
         moved: moved_of(moves, need, have),
@@ -92,8 +91,7 @@ fn redemption_line(c: Component, have: u64, m: u64) -> Line
     let paid = Money(m * c.amount.0).with_discount(c.discount);
     Line {
         short: have < moved,
-        missing: 0,
-        worth: Money(0),
+        missing: None,
         cash: chosen(moves, Money(0), paid),
         shanghai,
         moved,
@@ -119,8 +117,7 @@ pub fn amount_line(kind: Kind, c: Component, m: u64) -> Line
 {
     Line {
         short: false,
-        missing: 0,
-        worth: Money(0),
+        missing: None,
         cash: amount_due(kind, c, Money(m * c.amount.0)),
         shanghai: flags::entry_of(c.flag, flags::SHANGHAI),
         moved: 0,

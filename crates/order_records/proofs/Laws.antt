@@ -12,6 +12,7 @@ use Rattle.sequences.proofs.Runs.{sets_append, join_grows}
 use Rattle.units.specs.Units.{split_size}
 use Rattle.layout.specs.Day.{Day}
 use Rattle.rules.specs.declared.Ask.{Ask}
+use Rattle.rules.specs.declared.Kind.{Kind}
 use Rattle.rules.specs.declared.CashByMarket.{CashByMarket}
 use Rattle.layout.specs.declared.Record.{Record}
 use Rattle.rules.specs.Lines.{component_of, code_of}
@@ -106,7 +107,7 @@ pub line_one : (code side q : ℕ) → (q ≡ 0 → ⊥) → line_record code si
 unfolding line_record
 line_one code side q n = rw (lt-ltb 0 q (omega arith))
 
-module _ (kind : ℕ) (d : Day) (s : List ℕ) (m : ℕ) where
+module _ (kind : Kind) (d : Day) (s : List ℕ) (m : ℕ) where
   -- the records of the components below i
   unfoldable pub stock_below : ℕ → List Record
   stock_below i = join_below (stock_record d (stock_side kind) (moved_by kind d s m)) i
@@ -139,19 +140,19 @@ module _ (kind : ℕ) (d : Day) (s : List ℕ) (m : ℕ) where
       let more = simp length-append at (ap length (stock_more i)) in
       record { room = omega (arith, f.room, w.place, wrote_length w) }
 
--- An order's records: the unit, stock, and what is behind it.
+-- An order's records: the unit, stock, and what is behind it, in a fund with the first code g; `number` is the side's of what is not stock.
 
-module _ {d : Day} {s : List ℕ} {ask : Ask} {m side : ℕ} {c : CashByMarket} {unit : Record} {list : List ℕ}
-    (rest : side ≡ rest_side ask.kind) (made : unit ≡ record_of d.fund.first_code side ask.units 0) (w : Writable d s ask m c list) where
+module _ {d : Day} {s : List ℕ} {ask : Ask} {m g side number : ℕ} {c : CashByMarket} {unit : Record} {list : List ℕ}
+    (first : g ≡ d.fund.first_code) (of : number ≡ side) (rest : side ≡ rest_side ask.kind) (made : unit ≡ record_of g number ask.units 0) (w : Writable d s ask m c list) where
   abbrev all : List Record
   all = records_by ask.kind d s ask.units m c
 
   abbrev parts : List Record
-  parts = (unit ∷ []) ++ (stock_records ask.kind d s m ++ records_after_stock d.fund.first_code side ask.units c)
+  parts = (unit ∷ []) ++ (stock_records ask.kind d s m ++ records_after_stock g number ask.units c)
 
   parts_are : parts ≡ all
   unfolding records_by order_records stock_records records_after_stock
-  parts_are = rw (made, rest)
+  parts_are = rw (made, of, rest, first)
 
   pub order_fits : Fits parts 0 list
   order_fits = fits_as (sym parts_are) (record { room = omega (arith, w.room) })

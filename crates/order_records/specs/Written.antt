@@ -3,6 +3,7 @@ use Rattle.std.specs.Prelude.{ℕ, ◌+◌, ◌*◌, ◌≤◌, ◌≡◌, cond,
 use Rattle.std.proofs.lemmas.List.Edits.{sets}
 use Rattle.sequences.specs.Below.{join_below}
 use Rattle.layout.specs.Day.{Day}
+use Rattle.rules.specs.declared.Kind.{Kind}
 use Rattle.rules.specs.declared.CashByMarket.{CashByMarket}
 use Rattle.layout.specs.declared.Record.{Record}
 use Rattle.rules.specs.Kinds.{moved_by, stock_side}
@@ -32,7 +33,7 @@ unfoldable pub line_record : ℕ → ℕ → ℕ → List Record
 line_record code side q = cond (ltb 0 q) (record_of code side q 0 ∷ []) []
 
 -- an order's records of stock
-unfoldable pub stock_records : ℕ → Day → List ℕ → ℕ → List Record
+unfoldable pub stock_records : Kind → Day → List ℕ → ℕ → List Record
 stock_records kind d s m = join_below (stock_record d (stock_side kind) (moved_by kind d s m)) d.count
 
 -- its records behind those of stock: other cash, Shanghai cash and the second unit, in a fund with the first code g

@@ -2,12 +2,12 @@
 #![tactic(auto)]
 
 ghost use Rattle.std.specs.Prelude.{◌≡◌, [], ◌∷◌, ◌*◌, ◌≤◌, ◌<◌, ◌^◌};
-ghost use Rattle.rules.specs.Records.{record_of, cash_records};
+ghost use Rattle.rules.specs.Records.{side_number, record_of, cash_records};
 ghost use Rattle.rules.specs.Kinds.{stock_side, rest_side};
 ghost use Rattle.order_records.specs.Written.{Fits, Wrote, line_record, records_after_stock};
 
 use layout::Record;
-use rules::CashByMarket;
+use rules::{CashByMarket, Kind, Side};
 use units::Money;
 
 // A record whose amount is its quantity times its price.
@@ -16,34 +16,34 @@ pub fn record_of(code: u64, side: u64, quantity: u64, price: Money) -> Record
     ensures { result ≡ record_of code side quantity price.0 }
 {
     Record {
-        code: code,
-        side: side,
-        quantity: quantity,
-        price: price,
+        code,
+        side,
+        quantity,
+        price,
         amount: Money(quantity * price.0),
     }
 }
 
-// The side of an order's stock, and of the rest.
-pub fn stock_side(kind: usize) -> u64
-    ensures { result ≡ stock_side kind }
+// The side of an order's stock.
+pub fn stock_side(kind: Kind) -> Side
+    ensures { side_number result ≡ stock_side kind }
 {
-    if kind == rules::CREATION {
-        return rules::SIDE_S;
+    match kind {
+        Kind::Creation => Side::S,
+        Kind::Redemption => Side::B,
     }
-    rules::SIDE_B
 }
 
-pub fn rest_side(kind: usize) -> u64
-    ensures { result ≡ rest_side kind }
+// The side of the rest.
+#[tactic(auto, using(rules::proofs::Reports::turned_stock))]
+pub fn rest_side(kind: Kind) -> Side
+    ensures { side_number result ≡ rest_side kind }
 {
-    if kind == rules::CREATION {
-        return rules::SIDE_B;
-    }
-    rules::SIDE_S
+    stock_side(kind).opposite()
 }
 
 // Writes a record, and gives the next free place, as each of these does.
+#[tactic(auto, using(crate::proofs::Laws::one_written))]
 pub fn put_record(out: &mut [u64], at: usize, r: Record) -> usize
     requires { Fits (r ∷ []) at out.old }
     ensures { Wrote (r ∷ []) at out.old out.new result }
@@ -57,17 +57,17 @@ fn put_cash(out: &mut [u64], at: usize, code: u64, side: u64, c: Money) -> usize
     requires { Fits (cash_records code side c.0) at out.old }
     ensures { Wrote (cash_records code side c.0) at out.old out.new result }
 {
-    let split = Money::SPLIT;
-    if c.0 == 0 {
+    if c == Money(0) {
         return at;
     }
-    if c.0 < split.0 {
+    if c < Money::SPLIT {
         let only = record_of(code, side, 1, c);
         return put_record(out, at, only);
     }
-    let whole = record_of(code, side, split.0, Money(c.0 / split.0));
+    let split = Money::SPLIT.0;
+    let whole = record_of(code, side, split, Money(c.0 / split));
     let next = put_record(out, at, whole);
-    let remainder = record_of(code, side, 1, Money(c.0 % split.0));
+    let remainder = record_of(code, side, 1, Money(c.0 % split));
     put_record(out, next, remainder)
 }
 

@@ -11,6 +11,7 @@ use Rattle.layout.specs.declared.Record.{Record}
 use Rattle.layout.specs.declared.Report.{Report}
 use Rattle.layout.specs.Records.{record_at, with_records}
 use Rattle.layout.proofs.Records.{record_read}
+use Rattle.rules.specs.declared.Kind.{Kind}
 use Rattle.rules.specs.declared.CashByMarket.{CashByMarket}
 use Rattle.rules.specs.Records.{stock_record, order_records}
 use Rattle.rules.specs.Reports.{unit_type, stock_report, order_reports, opposite}
@@ -52,7 +53,7 @@ module _ (d : Day) (stock rest units : ℕ) (moved : ℕ → ℕ) (c : CashByMar
     reports_told = rw (unit_told, stock_told_lem)
 
 -- of an order in m baskets with the cash c, by an account with the stretch s: the investor's and the fund's
-module _ (kind : ℕ) (d : Day) (s : List ℕ) (units m : ℕ) (c : CashByMarket) (list : List ℕ) where
+module _ (kind : Kind) (d : Day) (s : List ℕ) (units m : ℕ) (c : CashByMarket) (list : List ℕ) where
   abbrev made : List ℕ
   made = with_records (records_by kind d s units m c) list
 

@@ -8,167 +8,105 @@ ghost use Rattle.sequences.specs.Below.{tabulate};
 ghost use Rattle.layout.specs.Places.{record_width, report_width};
 ghost use Rattle.layout.specs.Laid.{laid};
 ghost use Rattle.layout.specs.Reports.{report_numbers, with_reports};
+ghost use Rattle.rules.specs.Records.{side_number};
+ghost use Rattle.rules.specs.Reports.{cash_groups, cash_number, cash_report, turned, type_number};
 ghost use Rattle.rules.specs.Kinds.{all_cash, cash_report_count, stock_side, rest_side};
-ghost use Rattle.order_reports.specs.Told.{no_groups, with_group, groups_by, report_of, told, told_stock, told_cash, told_reports};
+ghost use Rattle.order_reports.specs.Told.{group_there, told, told_stock, told_cash, told_reports};
 
 use layout::{Group, Record, Report};
-use rules::CashByMarket;
+use rules::{CashByMarket, CashKind, Kind, ReportType, Side};
 use units::Money;
 
-// The groups of a cash report, of which the first `count` are there.
-#[derive(Clone, Copy)]
-pub struct Groups {
-    pub count: usize,
-    pub first: Group,
-    pub second: Group,
-    pub third: Group,
-}
+// The group that stands where a report has none.
+const NO_GROUP: Group = Group {
+    kind: 0,
+    amount: Money(0),
+};
 
-fn no_groups() -> Groups
-    ensures { result ≡ no_groups }
+// The group of an amount of cash, none where the amount is 0.
+#[tactic(auto, unfolding(crate::specs::Told::group_there))]
+fn group(kind: CashKind, amount: Money) -> Option<Group>
+    ensures { result ≡ group_there (cash_number kind) amount.0 }
 {
-    Groups {
-        count: 0,
-        first: Group {
-            kind: 0,
-            amount: Money(0),
-        },
-        second: Group {
-            kind: 0,
-            amount: Money(0),
-        },
-        third: Group {
-            kind: 0,
-            amount: Money(0),
-        },
+    if amount == Money(0) {
+        return None;
     }
-}
-
-// A group more behind those that are there, none where its amount is 0.
-fn with_group(g: Groups, kind: u64, amount: Money) -> Groups
-    ensures { result ≡ with_group g kind amount.0 }
-{
-    if amount.0 == 0 {
-        return g;
-    }
-    let added = Group { kind, amount };
-    let first = g.first;
-    let second = g.second;
-    let third = g.third;
-    if g.count == 0 {
-        return Groups {
-            count: 1,
-            first: added,
-            second,
-            third,
-        };
-    }
-    if g.count == 1 {
-        return Groups {
-            count: 2,
-            first,
-            second: added,
-            third,
-        };
-    }
-    Groups {
-        count: 3,
-        first,
-        second,
-        third: added,
-    }
-}
-
-// The groups of an order's cash: Shanghai, then other.
-fn groups_of(cash: CashByMarket) -> Groups
-    ensures { result ≡ groups_by cash }
-{
-    let shanghai = with_group(no_groups(), rules::SHANGHAI_KIND, cash.shanghai);
-    with_group(shanghai, rules::OTHER_KIND, cash.other)
+    Some(Group {
+        kind: kind as u64,
+        amount,
+    })
 }
 
 // A report of the unit or of stock: what a record tells.
-fn told(report_type: u64, side: u64, r: Record) -> Report
-    ensures { result ≡ told report_type side r }
+fn told(report_type: ReportType, side: Side, r: Record) -> Report
+    ensures { result ≡ told (type_number report_type) (side_number side) r }
 {
-    let none = no_groups();
-    let first = none.first;
-    let second = none.second;
-    let third = none.third;
     Report {
-        report_type,
-        side,
+        report_type: report_type as u64,
+        side: side.number(),
         code: r.code,
         quantity: r.quantity,
-        first,
-        second,
-        third,
+        first: NO_GROUP,
+        second: NO_GROUP,
+        third: NO_GROUP,
     }
 }
 
-// The report of all cash.
-fn cash_report(side: u64, g: Groups) -> Report
-    ensures { result ≡ report_of side g }
+// The report of all cash: Shanghai, then other, which moves up where there is none of Shanghai.
+fn cash_report(side: Side, cash: CashByMarket) -> Report
+    ensures { result ≡ cash_report (side_number side) (cash_groups cash.other.0 cash.shanghai.0) }
 {
-    let first = g.first;
-    let second = g.second;
-    let third = g.third;
+    let shanghai = group(CashKind::Shanghai, cash.shanghai);
+    let other = group(CashKind::Other, cash.other);
     Report {
-        report_type: rules::CASH_REPORT,
-        side,
+        report_type: ReportType::Cash as u64,
+        side: side.number(),
         code: 0,
         quantity: 0,
-        first,
-        second,
-        third,
+        first: shanghai.or(other).unwrap_or(NO_GROUP),
+        second: shanghai.and(other).unwrap_or(NO_GROUP),
+        third: NO_GROUP,
     }
 }
 
 // The reports of stock, behind the unit's, from the `n` records of stock.
-fn put_stock(list: &mut [u64], records: &[u64], n: usize, side: u64)
+fn put_stock(list: &mut [u64], records: &[u64], n: usize, side: Side)
     requires { (report_width * (1 + n) ≤ length list.old) × (record_width * (1 + n) ≤ length records.now) }
-    ensures { list.new ≡ sets list.old report_width (laid report_numbers (tabulate (told_stock side records.now) n)) }
+    ensures { list.new ≡ sets list.old report_width (laid report_numbers (tabulate (told_stock (side_number side) records.now) n)) }
 {
-    let mut k = 0;
-    while k < n {
+    for k in 0..n {
         let r = layout::record_at(records, 1 + k);
-        layout::put_report(list, 1 + k, told(rules::STOCK_REPORT, side, r));
-        k += 1;
+        layout::put_report(list, 1 + k, told(ReportType::Stock, side, r));
     }
 }
 
 // The report of cash, as the k-th: none where there is no cash.
-fn put_cash(list: &mut [u64], k: usize, side: u64, cash: CashByMarket)
+fn put_cash(list: &mut [u64], k: usize, side: Side, cash: CashByMarket)
     requires { (all_cash cash < 2 ^ 64) × (report_width * (k + cash_report_count cash) ≤ length list.old) }
-    ensures { list.new ≡ sets list.old (report_width * k) (laid report_numbers (told_cash side cash)) }
+    ensures { list.new ≡ sets list.old (report_width * k) (laid report_numbers (told_cash (side_number side) cash)) }
 {
     if cash.reports() == 0 {
         return;
     }
-    layout::put_report(list, k, cash_report(side, groups_of(cash)));
+    layout::put_report(list, k, cash_report(side, cash));
 }
 
 // All reports to one party, with `n` of stock: stock on one side and the rest on the other.
-fn put_reports(
-    list: &mut [u64],
-    records: &[u64],
-    n: usize,
-    stock_side: u64,
-    rest_side: u64,
-    cash: CashByMarket,
-)
+fn put_reports(list: &mut [u64], records: &[u64], n: usize, stock: Side, cash: CashByMarket)
     requires { (all_cash cash < 2 ^ 64) × (report_width * (1 + n + cash_report_count cash) ≤ length list.old) × (record_width * (1 + n) ≤ length records.now) }
-    ensures { list.new ≡ with_reports (told_reports stock_side rest_side records.now n cash) list.old }
+    ensures { list.new ≡ with_reports (told_reports (side_number stock) (turned (side_number stock)) records.now n cash) list.old }
 {
+    let rest = stock.opposite();
     let unit = layout::record_at(records, 0);
-    layout::put_report(list, 0, told(rules::UNIT_REPORT, rest_side, unit));
-    put_stock(list, records, n, stock_side);
-    put_cash(list, 1 + n, rest_side, cash);
+    layout::put_report(list, 0, told(ReportType::Unit, rest, unit));
+    put_stock(list, records, n, stock);
+    put_cash(list, 1 + n, rest, cash);
 }
 
 // The reports of an order, so many to each party. The fund's have all sides opposite to the investor's.
+#[tactic(auto, using(rules::proofs::Reports::turned_stock, rules::proofs::Reports::turned_rest))]
 pub fn report(
-    kind: usize,
+    kind: Kind,
     reports: usize,
     cash: CashByMarket,
     records: &[u64],
@@ -183,6 +121,6 @@ pub fn report(
     let stock = order_records::stock_side(kind);
     let rest = order_records::rest_side(kind);
     let n = reports - cash.reports() - 1;
-    put_reports(investor, records, n, stock, rest, cash);
-    put_reports(fund, records, n, rest, stock, cash);
+    put_reports(investor, records, n, stock, cash);
+    put_reports(fund, records, n, rest, cash);
 }

@@ -2,7 +2,7 @@
 use mathlib.Core.Path.{◌≡◌, refl, sym, ap, ◌∙◌}
 use mathlib.Core.Bool.{Bool, true, false, cond}
 use mathlib.Core.List.{List, [], ◌∷◌}
-use Prim.Native.Nat.{ℕ, zero, suc, ◌+◌, ◌≤◌, ◌<◌}
+use Prim.Native.Nat.{ℕ, zero, suc, ◌+◌, ◌≤◌}
 use native.Mathlib.Omega.{arith}
 use lib.Dec.{ltb, eqb, lit≤}
 use lib.ListN.{length, length-append, length-map}
@@ -11,6 +11,7 @@ use Rattle.sequences.proofs.Below.{sum_le, cond_le}
 use Rattle.units.specs.Units.{split_size}
 use Rattle.layout.specs.Places.{most_components}
 use Rattle.layout.specs.Day.{Day}
+use Rattle.rules.specs.declared.Kind.{Kind}
 use Rattle.rules.specs.declared.Ask.{Ask}
 use Rattle.rules.specs.declared.CashByMarket.{CashByMarket}
 use Rattle.rules.specs.Orders.{baskets}
@@ -58,7 +59,7 @@ order_count d ss rs units moved other shanghai =
     ))
 
 -- the reports of stock are as many as its records
-reports_count : (kind : ℕ) (d : Day) (s : List ℕ) (units m : ℕ) (c : CashByMarket)
+reports_count : (kind : Kind) (d : Day) (s : List ℕ) (units m : ℕ) (c : CashByMarket)
     → length (reports_by kind d s units m c) ≡ 1 + sum_below (λ i. stock_count (moved_by kind d s m i)) d.count + cash_report_count c
 reports_count kind d s units m c =
     let moved = moved_by kind d s m in
@@ -69,11 +70,11 @@ reports_count kind d s units m c =
     )
 
 -- so the scan counts them
-pub scan_counts_lem : (d : Day) (s f ps : List ℕ) (k : Ask) → k.kind < 2 → scan_counts (order_scan k.kind d s f ps (baskets d k.units)) ≡ counts_by d s ps k
+pub scan_counts_lem : (d : Day) (s f ps : List ℕ) (k : Ask) → scan_counts (order_scan k.kind d s f ps (baskets d k.units)) ≡ counts_by d s ps k
 unfolding scan_counts order_scan records_by asked_cash counts_by
-scan_counts_lem d s f ps k h =
-    let records = sym (order_count d _ _ k.units (moved_by k.kind d s (baskets d k.units)) _ _) ∙ ap length (asked_records_lem d s ps k h) in
-    let reports = sym (reports_count k.kind d s k.units (baskets d k.units) (asked_cash d s ps k)) ∙ ap length (asked_reports_lem d s ps k h) in
+scan_counts_lem d s f ps k =
+    let records = sym (order_count d _ _ k.units (moved_by k.kind d s (baskets d k.units)) _ _) ∙ ap length (asked_records_lem d s ps k) in
+    let reports = sym (reports_count k.kind d s k.units (baskets d k.units) (asked_cash d s ps k)) ∙ ap length (asked_reports_lem d s ps k) in
     λ i. record { records = records i; reports = reports i }
 
 -- at most two for an amount of cash, and one for a component
@@ -89,7 +90,7 @@ pub stock_count-le : (moved : ℕ) → stock_count moved ≤ 1
 stock_count-le moved = cond_le (ltb 0 moved) (lit≤ tt) (lit≤ tt)
 
 -- no more stock records than components
-pub scan_records-le : (kind : ℕ) (d : Day) (s f ps : List ℕ) (m : ℕ) → d.count ≤ most_components → (order_scan kind d s f ps m).stock_records ≤ most_components
+pub scan_records-le : (kind : Kind) (d : Day) (s f ps : List ℕ) (m : ℕ) → d.count ≤ most_components → (order_scan kind d s f ps m).stock_records ≤ most_components
 unfolding order_scan
 scan_records-le kind d s f ps m h =
     omega (arith, sum_le (λ i. stock_count (moved_by kind d s m i)) d.count 1 (λ k q. stock_count-le (moved_by kind d s m k)))

@@ -21,6 +21,7 @@ use Rattle.rules.specs.Redemption.{redemption_cash}
 use Rattle.rules.specs.Kinds.{all_cash, cash_by}
 use Rattle.rules.proofs.SoundDay.{SoundDay}
 use Rattle.rules.proofs.Asked.{either_kind}
+use Rattle.rules.specs.declared.Kind.{Kind}
 use Rattle.order_lines.specs.Lines.{creation_line, redemption_line, missing_of, worth_of}
 use Rattle.order_lines.specs.Ready.{Ranged}
 use Rattle.order_scan.specs.Ready.{Scannable}
@@ -39,10 +40,9 @@ module _ (d : Day) (b ps : List ℕ) (s : SoundDay d b ps) (m : ℕ) (few : m �
   lots_fit a h k l =
       omega (arith, sum_part (λ i. lots_total (lots_at (stretch_of (width d) b i) k)) d.accounts a h, s.book.lines k l)
 
-  pub scannable : (kind : ℕ) → kind < 2 → (a : ℕ) → a < d.accounts → Scannable kind d (account d b a) (account d b 0) ps m
-  scannable kind k a h =
+  pub scannable : (a : ℕ) → a < d.accounts → Scannable d (account d b a) (account d b 0) ps m
+  scannable a h =
       record {
-        kind_in = k;
         count = s.own.count_high;
         baskets = few;
         stretch = wide a h;
@@ -67,7 +67,7 @@ cash-le : (d : Day) (f : ℕ → ℕ) → d.count ≤ most_components → ((k : 
 unfolding other_cash shanghai_cash
 cash-le d f h all = omega (arith, both_markets (column d 4) f d.count, sum_le f d.count 40_000_000_000_000_000 all)
 
-module _ (kind : ℕ) (d : Day) (s f ps : List ℕ) (m : ℕ) (r : Scannable kind d s f ps m) where
+module _ (kind : Kind) (d : Day) (s f ps : List ℕ) (m : ℕ) (r : Scannable d s f ps m) where
   creation_cash-le : (k : ℕ) → k < d.count → creation_cash d s ps m k ≤ 40_000_000_000_000_000
   unfolding creation_cash missing_worth missing need column quantity creation_rate creation_amount creation_line worth_of missing_of
   creation_cash-le k l = (creation_small (component_of d k) m (r.ranges k l) r.baskets (available s k) (price_of ps k) (r.prices k l)).cash

@@ -1,6 +1,10 @@
 -- The scan of all components below an index.
-use Rattle.std.specs.Prelude.{Bool, false, cond, ◌||◌, List, ℕ, ◌+◌, ltb, eqb}
+use Rattle.std.specs.Prelude.{cond, List, Option, Some, None, ℕ, ◌+◌, ltb, eqb}
+use Rattle.std.specs.Bool.{then_some}
+use Rattle.std.specs.Option.{option_or}
+use Rattle.units.specs.declared.Money.{Money}
 use Rattle.units.specs.Units.{split_size}
+use Rattle.rules.specs.declared.Kind.{Kind}
 use Rattle.rules.specs.declared.CashByMarket.{CashByMarket}
 use Rattle.rules.specs.declared.Counts.{Counts}
 use Rattle.layout.specs.Book.{lots_at}
@@ -11,16 +15,18 @@ use Rattle.order_lines.specs.Lines.{money, other_of, shanghai_of}
 use Rattle.order_scan.specs.declared.Scan.{Scan}
 
 -- what there is of component i: of the account, with the stretch s, to hand in; or the old lot of the fund, with the stretch f
-unfoldable pub held_of : ℕ → List ℕ → List ℕ → ℕ → ℕ
+unfoldable pub held_of : Kind → List ℕ → List ℕ → ℕ → ℕ
 held_of kind s f i = by_kind kind (available s i) (lots_at f i).old
 
 -- one record for stock that moved
 abbrev pub stock_count : ℕ → ℕ
 stock_count moved = cond (ltb 0 moved) 1 0
 
--- the first short one of i + 1, from the first of i
-unfoldable pub next_short : ℕ → ℕ → Bool → ℕ
-next_short first i short = cond (ltb first i) first (cond short i (i + 1))
+-- what is missing is worth with that of one line more
+abbrev pub with_missing : Option Money → Option Money → Option Money
+with_missing None y = y
+with_missing (Some x) None = Some x
+with_missing (Some x) (Some y) = Some (money (x.0 + y.0))
 
 -- cash with that of one line more
 unfoldable pub with_cash : CashByMarket → Line → CashByMarket
@@ -30,15 +36,14 @@ with_cash c x = record { shanghai = money (c.shanghai.0 + shanghai_of x); other 
 unfoldable pub with_line : Scan → ℕ → Line → Scan
 with_line t i x =
     record {
-      short = next_short t.short i x.short;
-      missing = t.missing || ltb 0 x.missing;
-      missing_worth = money (t.missing_worth.0 + x.worth.0);
+      short = option_or t.short (then_some x.short i);
+      missing = with_missing t.missing x.missing;
       cash = with_cash t.cash x;
       stock_records = t.stock_records + stock_count x.moved;
     }
 
 abbrev pub no_lines : Scan
-no_lines = record { short = 0; missing = false; missing_worth = money 0; cash = no_cash; stock_records = 0 }
+no_lines = record { short = None; missing = None; cash = no_cash; stock_records = 0 }
 
 -- records that an amount of cash takes: none at 0, one below the split size, else two
 unfoldable pub cash_count : ℕ → ℕ

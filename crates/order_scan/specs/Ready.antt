@@ -8,20 +8,20 @@ use Rattle.rules.specs.Sound.{most_price}
 use Rattle.rules.specs.Orders.{most_baskets}
 use Rattle.rules.specs.Creation.{available}
 use Rattle.order_lines.specs.declared.Line.{Line}
+use Rattle.order_lines.specs.Lines.{worth_in}
 use Rattle.order_lines.specs.Ready.{Ranged}
 use Rattle.order_scan.specs.declared.Scan.{Scan}
 
 -- a scan of i lines, and one line more
 pub record Room (t : Scan) (i : ℕ) (x : Line) : Type 0 where
   pub index : i < most_components
-  pub worth : t.missing_worth.0 + x.worth.0 ≤ 12_000_000_000_000_000_000
+  pub worth : worth_in t.missing + worth_in x.missing ≤ 12_000_000_000_000_000_000
   pub other : t.cash.other.0 + x.cash.0 ≤ 12_000_000_000_000_000_000
   pub shanghai : t.cash.shanghai.0 + x.cash.0 ≤ 12_000_000_000_000_000_000
   pub records : t.stock_records ≤ i
 
 -- an order of m baskets by an account with the stretch s, from or to the fund with the stretch f
-pub record Scannable (kind : ℕ) (d : Day) (s f ps : List ℕ) (m : ℕ) : Type 0 where
-  pub kind_in : kind < 2
+pub record Scannable (d : Day) (s f ps : List ℕ) (m : ℕ) : Type 0 where
   pub count : d.count ≤ most_components
   pub baskets : m ≤ most_baskets
   pub stretch : length s ≡ width d

@@ -9,68 +9,73 @@ ghost use Rattle.rules.specs.Lent.{too_short};
 ghost use Rattle.rules.specs.Creation.{available};
 ghost use Rattle.order_shortage.specs.Tests.{cash_number, cash_place, last_tests, stock_tests};
 
-use rules::{Answer, Ask, Counts, OrderAnswer, Refusal, Rooms};
+use rules::{Ask, Counts, Kind, Refusal, Rooms};
 
 // What an account or a fund is told that lacks cash.
-fn cash_refusal(kind: usize, n: usize) -> Refusal
+#[tactic(auto, unfolding(crate::specs::Tests::cash_number, crate::specs::Tests::cash_place))]
+fn cash_refusal(kind: Kind, n: usize) -> Refusal
     ensures { refusal_reply result ≡ reply (cash_number kind) (cash_place kind n) 0 }
 {
-    if kind == rules::CREATION {
-        return Refusal::ShortOfCash;
+    match kind {
+        Kind::Creation => Refusal::ShortOfCash,
+        Kind::Redemption => Refusal::FundShort(n),
     }
-    Refusal::FundShort(n)
 }
 
 // Whether any of the three lists is too short for the order.
+#[tactic(auto, unfolding(rules::specs::Lent::too_short, sequences::specs::Every::every))]
 fn is_too_short(rooms: Rooms, counts: Counts) -> bool
     ensures { result ≡ too_short rooms counts }
 {
-    if rooms.records < counts.records {
-        return true;
-    }
-    if rooms.investor < counts.reports {
-        return true;
-    }
-    rooms.fund < counts.reports
+    rooms.records < counts.records || rooms.investor < counts.reports || rooms.fund < counts.reports
 }
 
 // The tests 10 or 17 at cash, and 16.
+#[tactic(auto, unfolding(crate::specs::Tests::last_tests, sequences::specs::Checks::answering))]
 pub fn last_answer(
-    kind: usize,
+    kind: Kind,
     n: usize,
     held: u64,
     due: u64,
     rooms: Rooms,
     counts: Counts,
-) -> OrderAnswer
+) -> Result<Counts, Refusal>
     ensures { order_answer_reply result ≡ answering (last_tests (cash_number kind) (cash_place kind n) held due rooms counts) (made_reply counts) }
 {
     if held < due {
-        return OrderAnswer::Refused(cash_refusal(kind, n));
+        return Err(cash_refusal(kind, n));
     }
     if is_too_short(rooms, counts) {
-        return OrderAnswer::Refused(Refusal::ListTooShort);
+        return Err(Refusal::ListTooShort);
     }
-    OrderAnswer::Made(counts)
+    Ok(counts)
 }
 
 // The tests of stock: 9 of a creation, at the first component that is short; 9 of a redemption, at the units, and 17.
-pub fn stock_answer(ask: Ask, n: usize, stretch: &[u64], short: usize) -> Answer
+#[tactic(auto, unfolding(crate::specs::Tests::stock_tests, sequences::specs::Checks::answering))]
+pub fn stock_answer(
+    ask: Ask,
+    n: usize,
+    stretch: &[u64],
+    short: Option<usize>,
+) -> Result<(), Refusal>
     requires { (behind_line n ≤ length stretch.now) × (available stretch.now n < 2 ^ 64) }
-    ensures { answer_reply result ≡ answered (stock_tests ask.kind n (available stretch.now n) ask.units short) 0 }
+    ensures { answer_reply result ≡ answered (stock_tests ask.kind (available stretch.now n) ask.units short) 0 }
 {
-    if ask.kind == rules::CREATION {
-        if short < n {
-            return Answer::Refused(Refusal::ShortOfStock(short));
+    match ask.kind {
+        Kind::Creation => match short {
+            Some(first) => Err(Refusal::ShortOfStock(first)),
+            None => Ok(()),
+        },
+        Kind::Redemption => {
+            let held = order_scan::handable_at(stretch, n);
+            if held < ask.units {
+                return Err(Refusal::ShortOfStock(0));
+            }
+            match short {
+                Some(first) => Err(Refusal::FundShort(first)),
+                None => Ok(()),
+            }
         }
-        return Answer::Done;
     }
-    let held = order_scan::handable_at(stretch, n);
-    if held < ask.units {
-        return Answer::Refused(Refusal::ShortOfStock(0));
-    }
-    if n > short {
-        return Answer::Refused(Refusal::FundShort(short));
-    }
-    Answer::Done
 }

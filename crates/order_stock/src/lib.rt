@@ -5,16 +5,18 @@ ghost use Rattle.std.specs.Prelude.{◌≡◌, ◌+◌, ◌*◌, ◌≤◌, ◌<
 ghost use Rattle.sequences.specs.Stretch.{stretch_of};
 ghost use Rattle.lots.specs.Lots.{handable};
 ghost use Rattle.layout.specs.Book.{lots_at};
-ghost use Rattle.rules.specs.Orders.{creation};
-ghost use Rattle.rules.specs.Kinds.{stock_lots, fund_lots};
+ghost use Rattle.rules.specs.declared.Kind.TheVariants.{Redemption};
+ghost use Rattle.rules.specs.Kinds.{fund_lots};
 ghost use Rattle.book.specs.Moved.{moved_of, line_moves};
 ghost use Rattle.book.specs.Ready.{LineReady};
 
 use layout::Component;
 use lots::Lots;
+use rules::Kind;
 
 // The stock of component `c` that an order of `m` baskets moves, for an account with the lots `x` of it.
-fn stock_moved(kind: usize, c: Component, m: u64, x: Lots) -> u64
+#[tactic(auto, unfolding(book::specs::Moved::moved_of))]
+fn stock_moved(kind: Kind, c: Component, m: u64, x: Lots) -> u64
     requires quantity_bound { m * c.quantity < 2 ^ 62 }
     requires x_bound { handable x < 2 ^ 62 }
     ensures { result ≡ moved_of kind c m x }
@@ -23,40 +25,28 @@ fn stock_moved(kind: usize, c: Component, m: u64, x: Lots) -> u64
         return 0;
     }
     let needed = m * c.quantity;
-    if kind != rules::CREATION {
-        return needed;
+    match kind {
+        Kind::Creation => needed.min(x.handable()),
+        Kind::Redemption => needed,
     }
-    let there = x.bought + x.old;
-    if needed < there { needed } else { there }
 }
 
-// What stock makes of the account's lots.
-fn stock_lots(kind: usize, x: Lots, q: u64) -> Lots
-    requires q_bound { kind ≡ creation → q ≤ handable x }
-    requires q_bound_2 { x.got + q < 2 ^ 64 }
-    ensures { result ≡ stock_lots kind x q }
-{
-    if kind == rules::CREATION {
-        return x.hand_in(q);
-    }
-    x.get(q)
-}
-
-// What it makes of the fund's lots.
-fn fund_lots(kind: usize, x: Lots, q: u64) -> Lots
-    requires q_le_x { (kind ≡ creation → ⊥) → q ≤ x.old }
+// What an order of which `q` moves makes of the fund's lots.
+#[tactic(auto, unfolding(rules::specs::Kinds::fund_lots))]
+fn fund_lots(kind: Kind, x: Lots, q: u64) -> Lots
+    requires q_le_x { kind ≡ Redemption → q ≤ x.old }
     requires q_bound { x.old + q < 2 ^ 64 }
     ensures { result ≡ fund_lots kind x q }
 {
-    if kind == rules::CREATION {
-        return x.take_in(q);
+    match kind {
+        Kind::Creation => x.take_in(q),
+        Kind::Redemption => x.pay_out(q),
     }
-    x.pay_out(q)
 }
 
 // Moves the stock of one component and gives how much, read off the account's lots. Where nothing moves, nothing is stored.
 pub fn move_line(
-    kind: usize,
+    kind: Kind,
     c: Component,
     book: &mut [u64],
     w: usize,
@@ -73,7 +63,7 @@ pub fn move_line(
     if q == 0 {
         return 0;
     }
-    let own = stock_lots(kind, x, q);
+    let own = book::account_lots(kind, x, q);
     book::put_lots_of(book, w, a, line, own);
     let f = book::lots_of(book, w, book::FUND, line);
     let fund = fund_lots(kind, f, q);

@@ -20,13 +20,12 @@ use Rattle.rules.specs.declared.Ask.{Ask}
 use Rattle.rules.specs.declared.Rooms.{Rooms}
 use Rattle.rules.specs.Reports.{opposite}
 use Rattle.rules.specs.Lent.{Lent, lent_of, rooms_in, with_order}
-use Rattle.rules.specs.Orders.{creation, redemption}
 use Rattle.rules.specs.Creation.{creation_reply, created_book, created_lists}
 use Rattle.rules.specs.Redemption.{redemption_reply, redeemed_book, redeemed_lists}
 use Rattle.rules.specs.Kinds.{by_kind, asked_records, asked_reports, counts_by, asked_checks, asked_reply, asked_moves, asked_book, with_asked, asked_lists}
 use Rattle.balance.specs.Calls.{State, Call, Result, step, create, redeem}
-use Rattle.order_structs.specs.Made.{known_kind, records_of, at_front, rooms_beside, made_records, reports_of, made_reports}
-use Rattle.order_structs.proofs.Laws.{known_reply, known_book, known_lists}
+use Rattle.order_structs.specs.Made.{records_of, at_front, rooms_beside, made_records, reports_of, made_reports}
+use Rattle.rules.proofs.Asked.{by_ask}
 
 -- flattened, a list of records has room for as many as it holds
 pub rooms_agree : (list : List Record) (investor fund : List ℕ) → rooms_in (lent_of (flatten list) investor fund) ≡ rooms_beside (length list) investor fund
@@ -84,19 +83,16 @@ result_of s ask rooms left =
       lent = left;
     }
 
--- the step of a call with flat lists lent, by the kind
+-- the step of a call with flat lists lent
 flat_step : (s : State) (ask : Ask) (lent : Lent)
-    → step s (call_of ask) lent ≡ result_of s (known_kind ask) (rooms_in lent) (asked_lists s.day s.book s.prices (known_kind ask) lent)
-unfolding step known_kind asked_lists asked_book asked_moves asked_reply asked_checks counts_by asked_records asked_reports creation_reply created_book created_lists redemption_reply
+    → step s (call_of ask) lent ≡ result_of s ask (rooms_in lent) (asked_lists s.day s.book s.prices ask lent)
+unfolding step asked_lists asked_book asked_moves asked_reply asked_checks counts_by asked_records asked_reports creation_reply created_book created_lists redemption_reply
     redeemed_book redeemed_lists
-flat_step s ask lent = go (eqb ask.kind creation)
-  where
-    go : (x : Bool)
-        → let known : Ask = record { kind = cond x creation redemption; account = ask.account; units = ask.units } in
-        step s (cond x (create ask.account ask.units) (redeem ask.account ask.units)) lent
-        ≡ result_of s known (rooms_in lent) (asked_lists s.day s.book s.prices known lent)
-    go true = refl
-    go false = refl
+flat_step s ask lent =
+    by_ask (λ k. step s (call_of k) lent ≡ result_of s k (rooms_in lent) (asked_lists s.day s.book s.prices k lent))
+    (λ a units. refl)
+    (λ a units. refl)
+    ask
 
 -- what an order in the struct form answers and leaves is the step of its call, with the list flattened: an event with that result is one of `Happened`
 pub order_step : (s : State) (ask : Ask) (list : List Record) (investor fund : List ℕ)
@@ -108,5 +104,4 @@ order_step s ask list investor fund =
     let ps = s.prices in
     let lent = lent_of (flatten list) investor fund in
     flat_step s ask lent
-    ∙ rw (known_reply d b ps ask (rooms_in lent), known_book d b ps ask (rooms_in lent), known_lists d b ps ask lent)
-    (λ i. result_of s ask (rooms_agree list investor fund i) (sym (made_flat d b ps ask list investor fund) i))
+    ∙ (λ i. result_of s ask (rooms_agree list investor fund i) (sym (made_flat d b ps ask list investor fund) i))

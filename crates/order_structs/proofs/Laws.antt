@@ -19,51 +19,23 @@ use Rattle.layout.specs.Records.{record_at, flatten, with_records}
 use Rattle.layout.proofs.Records.{flatten-length, record_read}
 use Rattle.rules.specs.declared.Ask.{Ask}
 use Rattle.rules.specs.declared.Rooms.{Rooms}
-use Rattle.rules.specs.declared.OrderAnswer.{OrderAnswer}
-use Rattle.rules.specs.declared.OrderAnswer.TheVariants.{Made, Refused}
+use Rattle.rules.specs.declared.Counts.{Counts}
+use Rattle.rules.specs.declared.Refusal.{Refusal}
+use Rattle.std.specs.Prelude.{Result, Ok, Err}
 use Rattle.rules.specs.Records.{record_of}
 use Rattle.rules.specs.Replies.{made_reply, order_answer_reply, if_accepted}
 use Rattle.rules.specs.Lent.{Lent, lent_of, rooms_in, counts_of, with_order}
-use Rattle.rules.specs.Orders.{creation, redemption}
 use Rattle.rules.specs.Sound.{on_sound_day}
 use Rattle.rules.specs.Creation.{creation_records, creation_reports, creation_checks, creation_reply}
 use Rattle.rules.specs.Redemption.{redemption_records, redemption_reports, redemption_checks, redemption_reply}
 use Rattle.rules.specs.Kinds.{by_kind, asked_records, asked_reports, counts_by, asked_checks, asked_reply, asked_moves, asked_book, with_asked, asked_lists}
 use Rattle.rules.proofs.Accepted.{creation_facts, creation_made, redemption_facts, redemption_made}
-use Rattle.rules.proofs.Asked.{either_kind}
+use Rattle.rules.proofs.Asked.{by_ask}
 use Rattle.rules.proofs.Replies.{is_accepted_lem, is_refused}
-use Rattle.order_structs.specs.declared.Settled.{Settled}
-use Rattle.order_structs.specs.Made.{known_kind, records_of, at_front, rooms_beside, made_records, made_reports}
+use Rattle.order_structs.specs.Made.{records_of, at_front, rooms_beside, made_records, made_reports}
 use Rattle.order_structs.specs.Settling.{most_records, lent_records, made_count, Settling}
 use Rattle.record_writer.specs.Stored.{with_first}
 use Rattle.order_structs.proofs.Room.{lent_most, lent_bound, lent_fits, lent_rooms, reply_room, book_room}
-
--- The kind of an ask.
-
-same_kind : {A : Type 0} (kind : ℕ) (x y : A) → by_kind (by_kind kind creation redemption) x y ≡ by_kind kind x y
-same_kind kind x y = go (eqb kind creation)
-  where
-    go : (b : Bool) → cond (eqb (cond b creation redemption) creation) x y ≡ cond b x y
-    go true = refl
-    go false = refl
-
--- an ask comes to what it does with the kind that it is taken for
-module _ (d : Day) (b ps : List ℕ) (ask : Ask) where
-  pub known_reply : (rooms : Rooms) → asked_reply d b ps (known_kind ask) rooms ≡ asked_reply d b ps ask rooms
-  unfolding known_kind asked_reply asked_checks counts_by asked_records asked_reports
-  known_reply rooms = simp same_kind
-
-  pub known_book : (rooms : Rooms) → asked_book d b ps (known_kind ask) rooms ≡ asked_book d b ps ask rooms
-  unfolding known_kind asked_book asked_moves asked_reply asked_checks counts_by asked_records asked_reports
-  known_book rooms = simp same_kind
-
-  pub known_lists : (lent : Lent) → asked_lists d b ps (known_kind ask) lent ≡ asked_lists d b ps ask lent
-  unfolding known_kind asked_lists asked_reply asked_checks counts_by asked_records asked_reports
-  known_lists lent = simp same_kind
-
-pub known : (ask : Ask) → (known_kind ask).kind < 2
-unfolding known_kind
-known ask = either_kind (λ kind. kind < 2) creation redemption (lit< tt) (lit< tt) ask.kind
 
 -- Records read off a flat run.
 
@@ -88,36 +60,30 @@ unfolding tabulate
 none_read flat = refl
 
 -- a refused answer has no records, and an accepted one the count in the reply
-count_none : (x : OrderAnswer) (r : Reply) → order_answer_reply x ≡ r → is_accepted r ≡ false → made_count x ≡ 0
-count_none (Made n) r e f = absurd (false≢true (sym f ∙ is_accepted_lem _ r refl e))
-count_none (Refused why) r e f = refl
+count_none : (x : Result Counts Refusal) (r : Reply) → order_answer_reply x ≡ r → is_accepted r ≡ false → made_count x ≡ 0
+count_none (Ok n) r e f = absurd (false≢true (sym f ∙ is_accepted_lem _ r refl e))
+count_none (Err why) r e f = refl
 
-count_made : (x : OrderAnswer) (r : Reply) → order_answer_reply x ≡ r → is_accepted r ≡ true → made_count x ≡ r.value
-count_made (Made n) r e f = ap (λ (z : Reply). z.value) e
-count_made (Refused why) r e f = absurd (false≢true (sym (is_refused why r e) ∙ f))
+count_made : (x : Result Counts Refusal) (r : Reply) → order_answer_reply x ≡ r → is_accepted r ≡ true → made_count x ≡ r.value
+count_made (Ok n) r e f = ap (λ (z : Reply). z.value) e
+count_made (Err why) r e f = absurd (false≢true (sym (is_refused why r e) ∙ f))
 
 module _ (d : Day) (b ps : List ℕ) (ask : Ask) where
   -- an accepted reply has the count of its records, and they have room
   accepted_count : (rooms : Rooms) → is_accepted (asked_reply d b ps ask rooms) ≡ true
       → ((asked_reply d b ps ask rooms).value ≡ length (records_of d b ps ask)) × (length (records_of d b ps ask) ≤ rooms.records)
   unfolding asked_reply asked_checks counts_by asked_records asked_reports records_of creation_reply redemption_reply
-  accepted_count rooms = go (eqb ask.kind creation)
-    where
-      a : ℕ
-      a = ask.account
-
-      go : (x : Bool)
-          → let cs = cond x (creation_checks d b ps a ask.units rooms) (redemption_checks d b a ask.units rooms) in
-          let rs = cond x (creation_records d (account d b a) ps ask.units) (redemption_records d ask.units) in
-          let made = made_reply (counts_of rs (cond x (creation_reports d (account d b a) ps ask.units) (redemption_reports d ask.units))) in
-          is_accepted (answering (on_sound_day d b ps cs) made) ≡ true
-          → ((answering (on_sound_day d b ps cs) made).value ≡ length rs) × (length rs ≤ rooms.records)
-      go true e = (ap (λ (r : Reply). r.value) (creation_made d b ps a ask.units rooms e), (creation_facts d b ps a ask.units rooms e).listed.records)
-      go false e = (ap (λ (r : Reply). r.value) (redemption_made d b ps a ask.units rooms e), (redemption_facts d b ps a ask.units rooms e).listed.records)
+  accepted_count rooms =
+      by_ask
+      (λ k. is_accepted (asked_reply d b ps k rooms) ≡ true
+      → ((asked_reply d b ps k rooms).value ≡ length (records_of d b ps k)) × (length (records_of d b ps k) ≤ rooms.records))
+      (λ a units e. (ap (λ (r : Reply). r.value) (creation_made d b ps a units rooms e), (creation_facts d b ps a units rooms e).listed.records))
+      (λ a units e. (ap (λ (r : Reply). r.value) (redemption_made d b ps a units rooms e), (redemption_facts d b ps a units rooms e).listed.records))
+      ask
 
   -- the flat order on the front of a flat run settles the order
-  module _ (room n : ℕ) (answer : OrderAnswer) (count : ℕ) (after left toInvestor toFund flat investor fund : List ℕ)
-      (Lent-is : n ≡ lent_records room) (full : length flat ≡ record_width * most_records) (counted : count ≡ made_count answer) where
+  module _ (room n : ℕ) (answer : Result Counts Refusal) (after left toInvestor toFund flat investor fund : List ℕ)
+      (Lent-is : n ≡ lent_records room) (full : length flat ≡ record_width * most_records) where
     abbrev front : List ℕ
     front = take (record_width * n) flat
 
@@ -171,17 +137,17 @@ module _ (d : Day) (b ps : List ℕ) (ask : Ask) where
 
     pub settling : order_answer_reply answer ≡ asked_reply d b ps ask (rooms_in lent) → after ≡ asked_book d b ps ask (rooms_in lent)
         → lent_of left toInvestor toFund ≡ asked_lists d b ps ask lent
-        → Settling d b ps ask rooms (record { answer = answer; count = count }) after whole × ((toInvestor, toFund) ≡ made_reports d b ps ask rooms investor fund)
+        → Settling d b ps ask rooms answer after whole × ((toInvestor, toFund) ≡ made_reports d b ps ask rooms investor fund)
     settling replies book lists = (go (is_accepted (asked_reply d b ps ask rooms)) refl, reporting lists)
       where
         kept : after ≡ asked_book d b ps ask rooms
         kept = book ∙ ap (asked_book d b ps ask) rooms_are ∙ book_room d b ps rooms ask
 
-        go : (x : Bool) → is_accepted (asked_reply d b ps ask rooms) ≡ x → Settling d b ps ask rooms (record { answer = answer; count = count }) after whole
+        go : (x : Bool) → is_accepted (asked_reply d b ps ask rooms) ≡ x → Settling d b ps ask rooms answer after whole
         go true e =
             let facts = accepted_count (lent_rooms rooms) (ap is_accepted (reply_room d b ps rooms ask) ∙ e) in
             let value : (asked_reply d b ps ask rooms).value ≡ length rs = ap (λ (r : Reply). r.value) (sym (reply_room d b ps rooms ask)) ∙ facts.0 in
-            let many : count ≡ length rs = counted ∙ count_made answer (asked_reply d b ps ask rooms) (replies ∙ same) e ∙ value in
+            let many : made_count answer ≡ length rs = count_made answer (asked_reply d b ps ask rooms) (replies ∙ same) e ∙ value in
             let wrote : whole ≡ flatten rs ++ (drop (record_width * length rs) front ++ drop (record_width * n) flat) = written lists e in
             record {
               replies = replies ∙ same;
@@ -191,7 +157,7 @@ module _ (d : Day) (b ps : List ℕ) (ask : Ask) where
               records = rw (e, many, wrote) (records_back rs (drop (record_width * length rs) front ++ drop (record_width * n) flat));
             }
         go false e =
-            let none : count ≡ 0 = counted ∙ count_none answer (asked_reply d b ps ask rooms) (replies ∙ same) e in
+            let none : made_count answer ≡ 0 = count_none answer (asked_reply d b ps ask rooms) (replies ∙ same) e in
             record {
               replies = replies ∙ same;
               book = kept;
@@ -200,24 +166,29 @@ module _ (d : Day) (b ps : List ℕ) (ask : Ask) where
               records = rw (e, none) (none_read whole);
             }
 
-  module _ (rooms : Rooms) (s : Settled) (after flat : List ℕ) (t : Settling d b ps ask rooms s after flat) where
+  module _ (rooms : Rooms) (answer : Result Counts Refusal) (after flat : List ℕ) (t : Settling d b ps ask rooms answer after flat) where
     -- the writer can take its records
-    pub fillable : length flat ≡ record_width * most_records → (s.count ≤ rooms.records) × (record_width * s.count ≤ length flat)
+    pub fillable : length flat ≡ record_width * most_records → ((made_count answer) ≤ rooms.records) × (record_width * (made_count answer) ≤ length flat)
     fillable e = (t.listed, omega (arith, t.held, e))
 
     -- the records of the flat run are the order's
-    pub first_is : (list : List Record) → with_first s.count flat list ≡ made_records d b ps ask rooms list
+    pub first_is : (list : List Record) → with_first (made_count answer) flat list ≡ made_records d b ps ask rooms list
     unfolding with_first made_records
     first_is list = go (is_accepted (asked_reply d b ps ask rooms)) refl
       where
-        counted : s.count ≡ length (tabulate (record_at flat) s.count)
-        counted = sym (table_length (record_at flat) s.count)
+        counted : (made_count answer) ≡ length (tabulate (record_at flat) (made_count answer))
+        counted = sym (table_length (record_at flat) (made_count answer))
 
         go : (x : Bool) → is_accepted (asked_reply d b ps ask rooms) ≡ x
-            → tabulate (record_at flat) s.count ++ drop s.count list ≡ if_accepted (asked_reply d b ps ask rooms) (at_front (records_of d b ps ask) list) list
+            → tabulate (record_at flat) (made_count answer) ++ drop (made_count answer) list ≡ if_accepted (asked_reply d b ps ask rooms) (at_front (records_of d b ps ask) list) list
         go true h =
-            let rs : tabulate (record_at flat) s.count ≡ records_of d b ps ask = rw h at t.records in
+            let rs : tabulate (record_at flat) (made_count answer) ≡ records_of d b ps ask = rw h at t.records in
             rw (h, rs, counted ∙ ap length rs)
         go false h =
-            let none : tabulate (record_at flat) s.count ≡ [] = rw h at t.records in
+            let none : tabulate (record_at flat) (made_count answer) ≡ [] = rw h at t.records in
             rw (h, none, counted ∙ ap length none)
+
+    -- a refused order leaves the list of records as it was
+    pub none_made : made_count answer ≡ 0 → (list : List Record) → list ≡ made_records d b ps ask rooms list
+    unfolding with_first tabulate
+    none_made none list = rw none at first_is list

@@ -11,12 +11,7 @@ use Rattle.rules.specs.declared.Ask.{Ask}
 use Rattle.rules.specs.declared.Rooms.{Rooms}
 use Rattle.rules.specs.Replies.{if_accepted}
 use Rattle.rules.specs.Reports.{opposite}
-use Rattle.rules.specs.Orders.{creation, redemption}
-use Rattle.rules.specs.Kinds.{by_kind, asked_records, asked_reports, asked_reply}
-
--- the ask of one of the two kinds: every kind other than creation is redemption
-unfoldable pub known_kind : Ask → Ask
-known_kind ask = record { kind = by_kind ask.kind creation redemption; account = ask.account; units = ask.units }
+use Rattle.rules.specs.Kinds.{asked_records, asked_reports, asked_reply}
 
 -- the records of an order of the account's
 unfoldable pub records_of : Day → List ℕ → List ℕ → Ask → List Record

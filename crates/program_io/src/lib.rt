@@ -1,6 +1,9 @@
-// Numbers for programs: items of them from standard input, lines of words and numbers on standard output, and runs of them.
+// What programs share: items of numbers on standard input, a player that obeys them, marks in lent runs, and rows as they are printed.
 #![tactic(auto)]
 
-pub mod input;
-pub mod output;
-pub mod runs;
+pub mod fault;
+pub mod funds;
+pub mod items;
+pub mod marks;
+pub mod player;
+pub mod rows;

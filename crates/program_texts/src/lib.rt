@@ -2,96 +2,91 @@
 // answer and leave. `scripts/text_vectors.py` writes the items, and what is to be printed.
 #![tactic(auto)]
 
-mod list_items;
-mod text_items;
+mod lists;
+mod texts;
 
-use program_io::input::{Item, Stage};
-use program_io::{input, runs};
-use text_parts::session;
-use text_parts::session::Session;
+use program_io::fault::Fault;
+use program_io::items::Item;
+use program_io::player;
+use program_io::player::Player;
+use std::alloc::Global;
+use std::io;
+use std::io::{Input, Print, Write};
+use text_parts::{bytes, made};
 
-// Tags of items.
-const TEXT: u64 = 1;
-
-const CHANGED: u64 = 2;
-
-const GROWN: u64 = 3;
-
-const PARTS: u64 = 4;
-
-const LIST: u64 = 5;
-
-// For how many numbers of components there is room, more than a list has, and for how many bytes of a text that is given whole or
-// written.
+// More numbers of components than a list has, and the longest text that is given whole or written.
 const MOST_RUN: usize = layout::BASKET_WIDTH + 600;
 
 const MOST_BYTES: usize = 20_000;
 
-// For how many bytes there is room of a text that is made.
-const MOST_MADE: usize = 4_000_000;
+// A text starts with its row and the length of the lent component run. Behind them stand the bytes of one that is given whole.
+const HEAD: usize = 2;
 
-// For how many numbers of an item.
-const MOST_ITEM: usize = MOST_BYTES + 100;
+// The tags of items.
+#[derive(Clone, Copy)]
+enum Tag {
+    Text,
+    Changed,
+    Grown,
+    Parts,
+    List,
+}
 
-fn obey(s: Session, tag: u64, item: &[u64], base: &mut [u8], text: &mut [u8]) -> Session {
-    match tag {
-        TEXT => text_items::text_item(s, item, base),
-        CHANGED => text_items::changed_item(s, item, base, text),
-        GROWN => text_items::grown_item(s, item, text),
-        PARTS => text_items::parts_item(s, item, base, text),
-        LIST => list_items::list_item(s, item),
-        _ => session::bad(s),
+impl TryFrom<u64> for Tag {
+    type Error = Fault;
+
+    fn try_from(number: u64) -> Result<Tag, Fault> {
+        match number {
+            1 => Ok(Tag::Text),
+            2 => Ok(Tag::Changed),
+            3 => Ok(Tag::Grown),
+            4 => Ok(Tag::Parts),
+            5 => Ok(Tag::List),
+            _ => Err(Fault::BadInput),
+        }
     }
 }
 
-// Does what an item says. Its numbers stand at the start of a run.
-fn follow(s: Session, got: Item, item: &[u64], base: &mut [u8], text: &mut [u8]) -> Session {
-    let n = runs::cut(got.length, item);
-    let stage = got.stage;
-    match stage {
-        Stage::Whole => obey(s, got.tag, &item[..n], base, text),
-        Stage::End => session::stopped(s),
-        _ => session::bad(s),
+#[derive(Drop)]
+struct Replay {
+    alloc: Global,
+    // The last text that was given whole.
+    base: Vec<u8>,
+}
+
+impl Replay {
+    // Takes a text that is given whole.
+    fn take(&mut self, item: &Item) -> Result<(), Fault> {
+        let (_, numbers) = item.numbers.split_at_checked(HEAD).ok_or(Fault::BadInput)?;
+        if MOST_BYTES < numbers.len() {
+            return Err(Fault::BadInput);
+        }
+        let mut base = Vec::with_capacity(self.alloc, numbers.len())?;
+        bytes::push_all(&mut base, numbers)?;
+        self.base = base;
+        Ok(())
     }
 }
 
-// Reads one item and does what it says.
-fn turn(
-    s: Session,
-    buffer: &mut [u8],
-    item: &mut [u64],
-    base: &mut [u8],
-    text: &mut [u8],
-) -> Session {
-    let before = s.cursor;
-    let got = input::read_item(buffer, before, item);
-    let cursor = got.cursor;
-    let mut here = s;
-    here.cursor = cursor;
-    follow(here, got, item, base, text)
-}
-
-// Items to the end of the input, or to the first that is malformed. Nothing says that the input ends, so turns are counted
-// down from a number that no run uses up.
-fn play(buffer: &mut [u8], item: &mut [u64], base: &mut [u8], text: &mut [u8]) {
-    let mut s = session::start();
-    let mut turns = u64::MAX;
-    while turns > 0 {
-        s = turn(s, buffer, item, base, text);
-        turns = session::turns_after(turns, s);
+impl Player for Replay {
+    fn obey<W: Write>(&mut self, item: &Item, out: &mut W) -> Result<(), Fault> {
+        let alloc = self.alloc;
+        match Tag::try_from(item.tag)? {
+            Tag::Text => {
+                self.take(item)?;
+                texts::read(alloc, item, &self.base, out)
+            }
+            Tag::Changed => texts::read(alloc, item, &made::change(alloc, &self.base, item)?, out),
+            Tag::Grown => texts::read(alloc, item, &made::grow(alloc, item)?, out),
+            Tag::Parts => texts::parts(item, &made::change(alloc, &self.base, item)?, out),
+            Tag::List => lists::write(alloc, item, out),
+        }
     }
-}
-
-// Plays standard input, with room for a text that is made.
-fn play_in(text: &mut [u8; MOST_MADE]) {
-    let mut buffer = [0u8; 65536];
-    let mut item = [0u64; MOST_ITEM];
-    let mut base = [0u8; MOST_BYTES];
-    play(&mut buffer, &mut item, &mut base, text);
 }
 
 // Plays standard input.
-pub fn run() {
-    let mut text = [0u8; MOST_MADE];
-    play_in(&mut text);
+pub fn run<R: Input + Print + AllocGlobal>(rt: &R) -> io::Result<()> {
+    let alloc = rt.alloc();
+    let base = Vec::new(alloc);
+    player::play(rt, &mut Replay { alloc, base })
 }

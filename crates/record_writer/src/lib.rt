@@ -14,31 +14,29 @@ pub struct Writer<'a> {
     pub at: usize,
 }
 
-// The borrow goes into the writer, and the place is the start.
-fn new<'a>(list: &'a mut [Record]) -> Writer<'a>
-    ensures { (result.list ≡ list.entry) × (result.at ≡ 0) }
-{
-    Writer { list: list, at: 0 }
-}
-
-// One record more: the writer is handed back with the borrow and the next place.
-fn push<'a>(w: Writer<'a>, r: Record) -> Writer<'a>
-    requires { w.at < length w.list.now }
-    ensures { result ≡ pushed w.entry r }
-{
-    let at = w.at;
-    w.list[at] = r;
-    Writer {
-        list: w.list,
-        at: at + 1,
+impl<'a> Writer<'a> {
+    // The borrow goes into the writer, and the place is the start.
+    fn new(list: &'a mut [Record]) -> Self
+        ensures { (result.list ≡ list.entry) × (result.at ≡ 0) }
+    {
+        Writer { list, at: 0 }
     }
-}
 
-// How many records were written. The list is as it was.
-fn finish<'a>(w: Writer<'a>) -> usize
-    ensures { (result ≡ w.entry.at) × (w.exit.0.now ≡ w.entry.list.now) }
-{
-    w.at
+    // One record more, and the next place.
+    fn push(&mut self, next: Record)
+        requires { self.old.at < length self.old.list.now }
+        ensures { self.new ≡ pushed self.old next }
+    {
+        self.list[self.at] = next;
+        self.at += 1;
+    }
+
+    // How many records were written. The list is as it was.
+    fn finish(self) -> usize
+        ensures { (result ≡ self.entry.at) × (self.exit.0.now ≡ self.entry.list.now) }
+    {
+        self.at
+    }
 }
 
 // The first `count` records of a flat run go to the list, and it gives how many.
@@ -46,12 +44,9 @@ pub fn fill(list: &mut [Record], flat: &[u64], count: usize) -> usize
     requires { (count ≤ length list.old) × (record_width * count ≤ length flat.now) }
     ensures { (result ≡ count) × (list.new ≡ with_first count flat.now list.old) }
 {
-    let mut w = new(list);
-    let mut i: usize = 0;
-    while i < count {
-        let r = layout::record_at(flat, i);
-        w = push(w, r);
-        i += 1;
+    let mut writer = Writer::new(list);
+    for i in 0..count {
+        writer.push(layout::record_at(flat, i));
     }
-    finish(w)
+    writer.finish()
 }

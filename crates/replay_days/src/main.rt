@@ -1,6 +1,8 @@
 #![tactic(auto)]
 
+use std::io;
+
 // Plays the test vectors of its standard input: openings, whole days, and calls on days that are broken.
-fn main() {
-    program_replay::run();
+fn main(rt: HostRuntime) -> io::Result<()> {
+    program_replay::run(&rt)
 }

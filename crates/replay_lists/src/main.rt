@@ -1,6 +1,8 @@
 #![tactic(auto)]
 
+use std::io;
+
 // Writes the lists of its standard input: those of the test vectors, and lists at the edges of the paper.
-fn main() {
-    program_texts::run();
+fn main(rt: HostRuntime) -> io::Result<()> {
+    program_texts::run(&rt)
 }

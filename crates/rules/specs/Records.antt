@@ -4,6 +4,8 @@ use Rattle.sequences.specs.Below.{join_below}
 use Rattle.units.specs.Units.{split_size}
 use Rattle.layout.specs.Day.{Day}
 use Rattle.layout.specs.declared.Record.{Record}
+use Rattle.rules.specs.declared.Side.{Side}
+use Rattle.rules.specs.declared.Side.TheVariants.{B, S}
 use Rattle.rules.specs.Lines.{code_of}
 
 -- sides B and S
@@ -12,6 +14,10 @@ side_b = 1
 
 abbrev pub side_s : ℕ
 side_s = 2
+
+abbrev pub side_number : Side → ℕ
+side_number B = side_b
+side_number S = side_s
 
 -- code, side, quantity and price; the amount is quantity times price
 abbrev pub record_of : ℕ → ℕ → ℕ → ℕ → Record

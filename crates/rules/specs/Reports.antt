@@ -5,6 +5,10 @@ use Rattle.layout.specs.Day.{Day}
 use Rattle.layout.specs.declared.Group.{Group}
 use Rattle.layout.specs.declared.Report.{Report}
 use Rattle.layout.specs.Reports.{group_of}
+use Rattle.rules.specs.declared.ReportType.{ReportType}
+use Rattle.rules.specs.declared.ReportType.TheVariants.{Unit, Stock, Cash}
+use Rattle.rules.specs.declared.CashKind.{CashKind}
+use Rattle.rules.specs.declared.CashKind.TheVariants.{Shanghai, Other}
 use Rattle.rules.specs.Lines.{code_of}
 use Rattle.rules.specs.Records.{side_b, side_s}
 
@@ -18,12 +22,21 @@ stock_type = 2
 abbrev pub cash_type : ℕ
 cash_type = 3
 
+abbrev pub type_number : ReportType → ℕ
+type_number Unit = unit_type
+type_number Stock = stock_type
+type_number Cash = cash_type
+
 -- the kinds of cash: Shanghai, and other
 abbrev pub shanghai_kind : ℕ
 shanghai_kind = 1
 
 abbrev pub other_kind : ℕ
 other_kind = 2
+
+abbrev pub cash_number : CashKind → ℕ
+cash_number Shanghai = shanghai_kind
+cash_number Other = other_kind
 
 abbrev pub no_group : Group
 no_group = group_of 0 0

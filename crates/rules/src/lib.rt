@@ -5,6 +5,8 @@ ghost use Rattle.std.specs.Prelude.{◌≡◌, ◌<◌, ◌^◌};
 ghost use Rattle.rules.specs.Kinds.{all_cash, cash_report_count, creation_of, redemption_of};
 ghost use Rattle.rules.specs.Lent.{rooms_of};
 ghost use Rattle.rules.specs.Orders.{kind_at, number_of, opposite_kind};
+ghost use Rattle.rules.specs.Records.{side_number};
+ghost use Rattle.rules.specs.Reports.{turned};
 
 use units::Money;
 
@@ -34,14 +36,14 @@ pub enum Refusal {
 }
 
 // How many records an order makes, and how many reports for each of its two parties.
-#[derive(Clone, Copy)]
+#[derive(Clone, Copy, PartialEq, Eq, Debug)]
 pub struct Counts {
     pub records: usize,
     pub reports: usize,
 }
 
 // How many records the list lent takes, and how many reports the investor's and the fund's.
-#[derive(Clone, Copy)]
+#[derive(Clone, Copy, PartialEq, Eq, Debug)]
 pub struct Rooms {
     pub records: usize,
     pub investor: usize,
@@ -71,10 +73,7 @@ impl Kind {
     pub fn number(self) -> usize
         ensures { result ≡ number_of self }
     {
-        match self {
-            Kind::Creation => 0,
-            Kind::Redemption => 1,
-        }
+        self as usize
     }
 
     // The other kind.
@@ -141,7 +140,7 @@ pub struct Trade {
 }
 
 // The cash of an order, by market.
-#[derive(Clone, Copy)]
+#[derive(Clone, Copy, PartialEq, Eq, Debug)]
 pub struct CashByMarket {
     pub shanghai: Money,
     pub other: Money,
@@ -157,14 +156,12 @@ impl CashByMarket {
     }
 
     // How many reports tell it.
+    #[tactic(auto, unfolding(crate::specs::Kinds::cash_report_count))]
     pub fn reports(self) -> usize
         requires { all_cash self < 2 ^ 64 }
         ensures { result ≡ cash_report_count self }
     {
-        if self.other.0 + self.shanghai.0 == 0 {
-            return 0;
-        }
-        1
+        if self.total() == Money(0) { 0 } else { 1 }
     }
 }
 
@@ -194,19 +191,44 @@ pub const MOST_CASH: u64 = 4_000_000_000_000_000_000;
 // The most that a price may be.
 pub const MOST_PRICE: u64 = 9_999_999;
 
-// The sides of a record and of a report.
-pub const SIDE_B: u64 = 1;
+// The sides of a record and of a report, by the paper's numbers.
+#[derive(Clone, Copy, PartialEq, Eq, Debug)]
+pub enum Side {
+    B = 1,
+    S = 2,
+}
 
-pub const SIDE_S: u64 = 2;
+impl Side {
+    // Its number.
+    pub fn number(self) -> u64
+        ensures { result ≡ side_number self }
+    {
+        self as u64
+    }
 
-// The types of a report: of the unit, of a component moved, and of all cash.
-pub const UNIT_REPORT: u64 = 1;
+    // The other side.
+    #[tactic(auto, unfolding(crate::specs::Reports::turned))]
+    pub fn opposite(self) -> Side
+        ensures { side_number result ≡ turned (side_number self) }
+    {
+        match self {
+            Side::B => Side::S,
+            Side::S => Side::B,
+        }
+    }
+}
 
-pub const STOCK_REPORT: u64 = 2;
+// The types of a report, by the paper's numbers: of the unit, of a component moved, and of all cash.
+#[derive(Clone, Copy, PartialEq, Eq, Debug)]
+pub enum ReportType {
+    Unit = 1,
+    Stock = 2,
+    Cash = 3,
+}
 
-pub const CASH_REPORT: u64 = 3;
-
-// The kinds of cash in a report.
-pub const SHANGHAI_KIND: u64 = 1;
-
-pub const OTHER_KIND: u64 = 2;
+// The kinds of cash in a report, by the paper's numbers.
+#[derive(Clone, Copy, PartialEq, Eq, Debug)]
+pub enum CashKind {
+    Shanghai = 1,
+    Other = 2,
+}

@@ -5,3 +5,4 @@ pub mod Stretch
 pub mod Same
 pub mod Runs
 pub mod Sums
+pub mod Lists

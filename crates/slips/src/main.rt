@@ -2,161 +2,147 @@
 // its records: code, side, quantity, price and amount. What turns it back is printed as `refused NUMBER PLACE`.
 #![tactic(auto)]
 
+mod fault;
 mod given;
 mod printed;
 
 use answers::Numbers;
-use list_rules::{ListAnswer, ListFields};
-use program_io::{output, runs};
-use rules::{Answer, OrderAnswer};
+use fault::{Fault, done, listed, made};
+use list_rules::ListFields;
+use printed::{Refused, Slip};
+use rules::OrderAnswer;
+use std::alloc::{AllocError, Global};
+use std::io;
+use std::io::{BufWriter, Read, Write};
 
 // The fund, and the account that creates.
 const ACCOUNTS: usize = 2;
 
 const ACCOUNT: usize = 1;
 
-// Room for the holdings and the book of both.
-const MOST_HELD: usize = ACCOUNTS * (layout::MOST_COMPONENTS + 2);
+// The longest text that is read.
+const MOST_TEXT: usize = 1_048_576;
 
-const MOST_BOOK: usize = ACCOUNTS * layout::MOST_WIDTH;
+// The lengths of the lists that an order is lent: its records, and its reports to one party, which are not printed.
+const RECORDS_LENGTH: usize = layout::RECORD_WIDTH * rules::MOST_RECORDS;
 
-// Room for the reports of an order to one party, which are not printed.
-const MOST_REPORTS: usize = layout::REPORT_WIDTH * rules::MOST_REPORTS;
+const REPORTS_LENGTH: usize = layout::REPORT_WIDTH * rules::MOST_REPORTS;
+
+// A day that is open, with its book and its prices.
+#[derive(Drop)]
+struct Market {
+    day: Vec<u64>,
+    book: Vec<u64>,
+    prices: Vec<u64>,
+}
 
 // What the tests of the creation alone answer, with room for all that an order can make.
-fn test(day: &[u64], units: u64, book: &[u64], prices: &[u64]) -> Numbers {
-    let answer = day::creation_test(
-        day,
-        book,
-        prices,
+fn test(market: &Market, units: u64) -> OrderAnswer {
+    day::creation_test(
+        &market.day,
+        &market.book,
+        &market.prices,
         ACCOUNT,
         units,
-        printed::MOST_LIST,
-        MOST_REPORTS,
-        MOST_REPORTS,
-    );
-    answers::of_order(answer)
+        RECORDS_LENGTH,
+        REPORTS_LENGTH,
+        REPORTS_LENGTH,
+    )
 }
 
-// A line where the tests alone answered otherwise than the creation, which they never do.
-fn compare(tested: Numbers, made: Numbers) {
-    let is_same = tested.number == made.number && tested.place == made.place;
-    if !is_same || tested.value != made.value || tested.reports != made.reports {
-        output::text(b"the tests alone answered otherwise\n");
-    }
+fn is_same(a: Numbers, b: Numbers) -> bool {
+    a.number == b.number && a.place == b.place && a.value == b.value && a.reports == b.reports
 }
 
-// Tests the creation of one basket, and makes it.
-fn create(day: &[u64], units: u64, book: &mut [u64], prices: &[u64]) {
-    let mut list = [0u64; printed::MOST_LIST];
-    let mut investor = [0u64; MOST_REPORTS];
-    let mut fund = [0u64; MOST_REPORTS];
-    let tested = test(day, units, book, prices);
+// Creates one basket, and prints its records. The tests alone never answer otherwise than the creation; a line says so if they do.
+fn create<W: Write>(
+    alloc: Global,
+    market: &mut Market,
+    units: u64,
+    out: &mut W,
+) -> Result<(), Fault> {
+    let mut records = vec![in alloc; 0u64; RECORDS_LENGTH]?;
+    let mut investor = vec![in alloc; 0u64; REPORTS_LENGTH]?;
+    let mut fund = vec![in alloc; 0u64; REPORTS_LENGTH]?;
+    let tested = test(market, units);
     let answer = day::create(
-        day,
-        book,
-        prices,
+        &market.day,
+        &mut market.book,
+        &market.prices,
         ACCOUNT,
         units,
-        &mut list,
+        &mut records,
         &mut investor,
         &mut fund,
     );
-    compare(tested, answers::of_order(answer));
-    match answer {
-        OrderAnswer::Made(counts) => printed::records(&list, counts.records),
-        OrderAnswer::Refused(why) => printed::refusal(why),
+    if !is_same(answers::of_order(tested), answers::of_order(answer)) {
+        writeln!(out, "the tests alone answered otherwise")?;
     }
-}
-
-// Sets the prices, and creates.
-fn trade(day: &[u64], units: u64, components: &[u64], book: &mut [u64], prices: &mut [u64]) {
-    let answer = given::set_prices(day, components, book, prices);
-    match answer {
-        Answer::Done => create(day, units, book, prices),
-        Answer::Refused(why) => printed::refusal(why),
+    let counts = made(answer)?;
+    for record in records
+        .chunks_exact(layout::RECORD_WIDTH)
+        .take(counts.records)
+    {
+        writeln!(out, "{}", Slip(layout::record_at(record, 0)))?;
     }
+    Ok(())
 }
 
-// Opens the day, and goes on.
-fn open(l: ListFields, components: &[u64], held: &[u64], book: &mut [u64], prices: &mut [u64]) {
-    let mut day = [0u64; layout::DAY_WIDTH];
-    let f = l.fund;
-    let answer = day::open(
-        ACCOUNTS, l.count, f, components, held, book, prices, &mut day,
-    );
-    match answer {
-        Answer::Done => trade(&day, f.basket_size, components, book, prices),
-        Answer::Refused(why) => printed::refusal(why),
+// Opens the day of a list for the fund and one account.
+fn open(alloc: Global, fields: ListFields, components: &[u64]) -> Result<Market, Fault> {
+    let count = fields.count.min(layout::MOST_COMPONENTS);
+    let held = given::holdings(alloc, components)?;
+    let mut day = vec![in alloc; 0u64; layout::DAY_WIDTH]?;
+    let mut book = vec![in alloc; 0u64; ACCOUNTS * layout::width_of(count)]?;
+    let mut prices = vec![in alloc; 0u64; count]?;
+    done(day::open(
+        ACCOUNTS,
+        count,
+        fields.fund,
+        components,
+        &held,
+        &mut book,
+        &mut prices,
+        &mut day,
+    ))?;
+    Ok(Market { day, book, prices })
+}
+
+// The fields and the components of a list text.
+fn read(alloc: Global, text: &[u8]) -> Result<(ListFields, Vec<u64>), Fault> {
+    let mut components = vec![in alloc; 0u64; layout::BASKET_WIDTH]?;
+    let list = list_reading::read(text, &mut components);
+    let count = listed(list.answer)?;
+    components.truncate(layout::COMPONENT_WIDTH.saturating_mul(count));
+    Ok((list.fields, components))
+}
+
+// The slips of a list text.
+fn play<W: Write>(alloc: Global, text: &[u8], out: &mut W) -> Result<(), Fault> {
+    let (fields, components) = read(alloc, text)?;
+    let mut market = open(alloc, fields, &components)?;
+    given::set_prices(&market.day, &components, &market.book, &mut market.prices)?;
+    create(alloc, &mut market, fields.fund.basket_size, out)
+}
+
+// What is read of the input is one byte more than the longest text, so that a longer one is known.
+fn play_input<R: Read + Drop, W: Write>(alloc: Global, input: R, out: &mut W) -> Result<(), Fault> {
+    let mut text = Vec::new(alloc);
+    input.take(MOST_TEXT as u64 + 1).read_to_end(&mut text)?;
+    if MOST_TEXT < text.len() {
+        return Err(Fault::TooLong);
     }
+    play(alloc, &text, out)
 }
 
-// Gives the holdings, and goes on.
-fn hold(l: ListFields, components: &[u64], held: &mut [u64], book: &mut [u64], prices: &mut [u64]) {
-    given::hold(components, held);
-    open(l, components, held, book, prices);
-}
-
-// How long the book is.
-fn book_length(count: usize) -> usize {
-    if layout::MOST_COMPONENTS < count {
-        return 0;
+fn main(rt: HostRuntime) -> io::Result<()> {
+    let alloc = rt.alloc();
+    let mut out = BufWriter::new(alloc, io::writer(&rt))?;
+    match play_input(alloc, rt.reader(), &mut out) {
+        Ok(()) => {}
+        Err(Fault::TooLong) => writeln!(out, "input too long")?,
+        Err(Fault::Refused(why)) => writeln!(out, "{}", Refused(why))?,
+        Err(Fault::Io(e)) => return Err(e),
     }
-    let w = layout::width_of(count);
-    if layout::MOST_WIDTH < w {
-        return 0;
-    }
-    ACCOUNTS * w
-}
-
-// The day of a list: the runs that opening is lent are as long as two accounts and its components need.
-fn play(l: ListFields, count: usize, run: &[u64]) {
-    let mut held = [0u64; MOST_HELD];
-    let mut book = [0u64; MOST_BOOK];
-    let mut prices = [0u64; layout::MOST_COMPONENTS];
-    if layout::MOST_COMPONENTS < count {
-        return;
-    }
-    let c = runs::cut(layout::COMPONENT_WIDTH * count, run);
-    let h = runs::cut(ACCOUNTS * (count + 2), &held);
-    let b = runs::cut(book_length(count), &book);
-    let p = runs::cut(count, &prices);
-    hold(
-        l,
-        &run[..c],
-        &mut held[..h],
-        &mut book[..b],
-        &mut prices[..p],
-    );
-}
-
-fn read(text: &[u8]) {
-    let mut run = [0u64; layout::BASKET_WIDTH];
-    let r = list_reading::read(text, &mut run);
-    let answer = r.answer;
-    let l = r.fields;
-    match answer {
-        ListAnswer::Done(count) => play(l, count, &run),
-        ListAnswer::Refused(why) => printed::refusal(why),
-    }
-}
-
-// Reads the input; where it fills the room, it is too long.
-fn read_input(room: &mut [u8]) {
-    let n = io::read_full(0, room);
-    if n == room.len() {
-        output::text(b"input too long\n");
-        return;
-    }
-    read(&room[..n]);
-}
-
-fn read_in(room: &mut [u8; 1048577]) {
-    read_input(room);
-}
-
-// There is room for a text of 1 MiB, and for the byte that says that it is longer.
-fn main() {
-    let mut room = [0u8; 1048577];
-    read_in(&mut room);
+    out.flush()
 }

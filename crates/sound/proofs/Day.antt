@@ -1,32 +1,35 @@
 -- A sound day by the tests that the code makes: the totals over accounts are those of the book's places, and the fund's stretch is the book's first.
 use mathlib.Core.Path.{◌≡◌, refl, sym, ap, ◌∙◌}
-use mathlib.Core.Bool.{true, false}
-use mathlib.Core.List.{List}
+use mathlib.Core.Bool.{true, false, true≢false}
+use mathlib.Core.List.{List, [], ◌∷◌}
 use Prim.Native.Nat.{ℕ, zero, suc, ◌+◌, ◌-◌, ◌≤◌, ◌<◌}
-use native.Mathlib.Nat.{zero-mul, zero-add}
+use native.Mathlib.Nat.{zero-mul, zero-add, le_antisymm, le_of_eq}
 use native.Mathlib.Decide.{dec_lt}
 use native.Mathlib.Omega.{arith}
 use lib.Dec.{leb}
 use lib.ListN.{length, get_or}
 use borrow.Author.Tests.{le-leb, leb-true}
-use Rattle.sequences.specs.Below.{sum_below, all_below}
+use Rattle.std.specs.Prelude.{Option, Some, None, is_none}
+use Rattle.sequences.specs.Every.{every}
+use Rattle.sequences.specs.Below.{sum_below, all_below, below}
 use Rattle.sequences.specs.Stretch.{over}
-use Rattle.sequences.proofs.Below.{first_same, sum_same, all_at, all_true}
-use Rattle.sequences.proofs.Every.{false_of}
+use Rattle.sequences.proofs.Below.{first_same, first-le, sum_same, all_at, all_true, below-none, below_none_fact}
+use Rattle.sequences.proofs.Every.{every_none, every_more, every_at, false_of, same_test}
 use Rattle.sequences.proofs.Stretch.{stretch_at}
 use Rattle.fund.specs.Fund.{ceiling, fund_in_range}
 use Rattle.layout.specs.Places.{most_components}
 use Rattle.layout.specs.declared.Component.{Component}
-use Rattle.layout.specs.Components.{blank, places_of}
+use Rattle.layout.specs.Components.{blank, places_of, component_at}
+use Rattle.layout.specs.declared.Fund.{Fund}
 use Rattle.fund.specs.Components.{fault_at, component_fault}
 use Rattle.layout.proofs.Components.{places_at}
 use Rattle.layout.specs.Day.{Day}
-use Rattle.layout.specs.Book.{cash, created, redeemed, head_at, lots_at, width, account, head_total, line_total, line_from}
+use Rattle.layout.specs.Book.{cash, created, redeemed, head_at, lots_at, width, width_of, account, head_total, line_total, line_from}
 use Rattle.rules.specs.Sound.{is_sound, is_kept, most_units}
-use Rattle.rules.proofs.SoundDay.{DaySizes, SoundDay, sound_facts, Kept, kept_facts}
+use Rattle.rules.proofs.SoundDay.{DaySizes, SoundDay, sound_facts, sound-true, Kept, kept_facts, kept_true}
 use Rattle.totals.specs.Totals.{place_at, total}
-use Rattle.sound.specs.Parts.{most_of, line_of, price_fits, room_left}
-use Rattle.sound.proofs.Limits.{Fits, Still, most_line_lem, most_unit, line-true, line_facts, line_still_lem, still_line}
+use Rattle.sound.specs.Parts.{most_of, line_of, price_fits, room_left, stretch_still, totals_fit}
+use Rattle.sound.proofs.Limits.{Fits, Still, still_true, still_facts, fits-true, fits_facts, most_line_lem, most_unit, line-true, line_facts, line_still_lem, still_line}
 
 -- the search for a fault in a day's places looks at the first n only
 pub fault_places : (g : ℕ) (f : ℕ → Component) (n : ℕ) → n ≤ most_components → component_fault g (places_of f n) n ≡ component_fault g (places_of f most_components) n
@@ -35,6 +38,15 @@ fault_places g f n most = first_same _ _ n (λ k h. rw (same k h, same (k - 1) (
   where
     same : (k : ℕ) → k < n → get_or (places_of f n) k blank ≡ get_or (places_of f most_components) k blank
     same k h = places_at f n k h most ∙ sym (places_at f most_components k (omega arith) (omega arith))
+
+-- a search that found none has passed all
+none_is : (r : Option ℕ) → is_none r ≡ true → None ≡ r
+none_is (Some k) e = absurd (true≢false (sym e))
+none_is None e = refl
+
+no_fault : (g : ℕ) (cs : List Component) (n : ℕ) → None ≡ below n (component_fault g cs n) → component_fault g cs n ≡ n
+unfolding component_fault
+no_fault g cs n e = le_antisymm (first-le (fault_at g cs) n) (below_none_fact n _ e)
 
 -- a sum of three
 sum_three : (f g h : ℕ → ℕ) (n : ℕ) → sum_below (λ k. f k + g k + h k) n ≡ sum_below f n + sum_below g n + sum_below h n
@@ -144,3 +156,55 @@ module _ (d : Day) (b ps : List ℕ) where
   pub room_same : room_left d.count (totals d b) ≡ leb (line_total d b d.count + (ceiling - head_total d b created)) most_units
   unfolding room_left
   room_same = rw (line_total_lem d b d.count (omega arith), head_total_lem d b created (omega arith))
+
+-- of sizes that fit, the tests that are left decide
+module _ (d : Day) (b ps basket : List ℕ) {f : Fund} {accounts n : ℕ} (sizes : DaySizes accounts n (length b) (length ps))
+    (a : accounts ≡ d.accounts) (e : n ≡ d.count) (g : f ≡ d.fund) (c : places_of (component_at basket) most_components ≡ d.components) where
+  abbrev fault : ℕ
+  fault = component_fault f.first_code (places_of (component_at basket) n) n
+
+  -- the search in the basket is the search in the day's components
+  fault_same : fault ≡ component_fault d.fund.first_code d.components d.count
+  fault_same = fault_places f.first_code (component_at basket) n sizes.count_high ∙ rw (c, e, g)
+
+  none_true : component_fault d.fund.first_code d.components d.count ≡ d.count → is_none (below n fault) ≡ true
+  none_true q = ap is_none (below-none n fault (le_of_eq (e ∙ sym (fault_same ∙ q))))
+
+  none_fact : is_none (below n fault) ≡ true → component_fault d.fund.first_code d.components d.count ≡ d.count
+  none_fact q = sym fault_same ∙ no_fault f.first_code (places_of (component_at basket) n) n (none_is _ q) ∙ e
+
+  pub sound_tests :
+      is_sound d b ps ≡
+      every
+      (fund_in_range f
+      ∷ is_none (below n fault)
+      ∷ all_below (price_fits ps) (length ps)
+      ∷ stretch_still n b
+      ∷ totals_fit n (total b (width_of n) accounts)
+      ∷ [])
+  sound_tests =
+      let own : DaySizes d.accounts d.count (length b) (length ps) = rw (a, e) at sizes in
+      same_test _ _
+      (λ t.
+      let s = sound_facts d b ps t in
+      every_more _ _ (rw g s.own.fund_fields)
+      (every_more _ _ (none_true s.own.components)
+      (every_more _ _ (rw own.prices_size (day_prices s))
+      (every_more _ _ (rw e (still_true _ _ (day_still s)))
+      (every_more _ _ (rw (a, e) (fits-true _ _ (day_fits s))) every_none)))))
+      (λ t.
+      let at = every_at _ t in
+      sound-true d b ps
+      (day_sound own (rw g at (at 0)) (none_fact (at 1)) (rw own.prices_size at (at 2)) (still_facts d.count b (rw e at (at 3)))
+      (fits_facts d.count (totals d b) (rw (a, e) at (at 4)))))
+
+-- a sound day is kept where there is room, and no other is
+pub kept_room : {d : Day} {b ps : List ℕ} → SoundDay d b ps → room_left d.count (totals d b) ≡ is_kept d b ps
+kept_room {d} {b} {ps} s =
+    let e = room_same d b ps in
+    same_test _ _
+    (λ t. kept_true d b ps (record { sound = s; room = leb-true _ _ (sym e ∙ t) }))
+    (λ t. e ∙ le-leb _ _ (kept_facts d b ps t).room)
+
+pub unkept_unsound : (d : Day) (b ps : List ℕ) → is_sound d b ps ≡ false → false ≡ is_kept d b ps
+unkept_unsound d b ps e = sym (unkept d b ps (λ k. true≢false (sym (sound-true d b ps k.sound) ∙ e)))

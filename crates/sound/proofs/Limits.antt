@@ -1,6 +1,6 @@
 -- What the tests on totals, on the fund's stretch and on sizes say, fact by fact.
-use mathlib.Core.Path.{◌≡◌, sym, ◌∙◌}
-use mathlib.Core.Bool.{true, false, true≢false}
+use mathlib.Core.Path.{◌≡◌}
+use mathlib.Core.Bool.{true}
 use mathlib.Core.List.{List}
 use Prim.Native.Nat.{ℕ, ◌+◌, ◌≤◌, ◌<◌, min}
 use native.Mathlib.Omega.{arith}
@@ -9,24 +9,16 @@ use lib.ListN.{get_or}
 use borrow.Author.Tests.{le-leb, leb-true, lt-ltb, le-ltb, eq-eqb, eqb-true}
 use Rattle.totals.specs.Totals.{top}
 use Rattle.sequences.proofs.Below.{all_at, all_true, cond_le}
-use Rattle.sequences.proofs.Every.{every_at, every_more, every_none, false_of}
+use Rattle.sequences.proofs.Every.{every_at, every_more, every_none}
 use Rattle.sequences.proofs.Stretch.{within}
 use Rattle.fund.specs.Fund.{ceiling}
 use Rattle.layout.specs.Book.{cash, created, redeemed, width_of, line_from}
-use Rattle.rules.specs.Opening.{most_of_line, most_cash, day_sizes_fit}
+use Rattle.rules.specs.Opening.{most_of_line, most_cash}
 use Rattle.rules.specs.Sound.{most_units}
-use Rattle.rules.proofs.SoundDay.{DaySizes, sizes_facts}
+use Rattle.rules.proofs.SoundDay.{DaySizes}
 use Rattle.sound.specs.Parts.{most_of, line_of, line_fits, totals_fit, line_still, stretch_still}
 
 -- Sizes.
-
-module _ (accounts n book prices : ℕ) where
-  pub sizes_false : (DaySizes accounts n book prices → ⊥) → day_sizes_fit accounts n book prices ≡ false
-  sizes_false h = false_of (day_sizes_fit accounts n book prices) (λ e. h (sizes_facts accounts n book prices e))
-
-  -- more accounts than a day may have
-  pub too_many : 64 < accounts → day_sizes_fit accounts n book prices ≡ false
-  too_many h = sizes_false (λ s. omega (arith, h, s.accounts_high))
 
 -- the first stretch lies in the book
 pub sizes_first : {accounts n book prices : ℕ} → DaySizes accounts n book prices → width_of n ≤ book
@@ -78,12 +70,6 @@ module _ (n : ℕ) (t : ℕ → ℕ) where
         redeemed_most = leb-true _ _ (at 2);
         lines = all_at (line_fits n t) (n + 1) (at 3);
       }
-
-  pub fits-false : (Fits n t → ⊥) → totals_fit n t ≡ false
-  fits-false h = false_of (totals_fit n t) (λ e. h (fits_facts e))
-
-  pub line-false : (l : ℕ) → l < n + 1 → line_fits n t l ≡ false → totals_fit n t ≡ false
-  line-false l h e = fits-false (λ f. true≢false (sym (f.lines l h) ∙ e))
 
 -- Two families of totals: u is t as far as 2^62. As each limit is below that, both fit or neither does.
 module _ (n : ℕ) (t u : ℕ → ℕ) (capped : (k : ℕ) → k < width_of n → u k ≡ min (t k) top) where
@@ -163,9 +149,3 @@ module _ (n : ℕ) (b : List ℕ) where
         no_units = eqb-true _ _ (at 2);
         lines = all_at (line_still b) (n + 1) (at 3);
       }
-
-  pub still_false : (Still n b → ⊥) → stretch_still n b ≡ false
-  still_false h = false_of (stretch_still n b) (λ e. h (still_facts e))
-
-  pub moving_line : (l : ℕ) → l < n + 1 → line_still b l ≡ false → stretch_still n b ≡ false
-  moving_line l h e = still_false (λ s. true≢false (sym (s.lines l h) ∙ e))

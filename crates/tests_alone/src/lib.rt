@@ -2,13 +2,13 @@
 // that the order would give on lists of those lengths, 5 and 16 among it; `order_foretold` has that as theorems.
 #![tactic(auto)]
 
-ghost use Rattle.std.specs.Prelude.{◌≡◌, ◌<◌};
+ghost use Rattle.std.specs.Prelude.{◌≡◌};
 ghost use Rattle.layout.specs.Day.{day_at};
 ghost use Rattle.rules.specs.Replies.{order_answer_reply};
 ghost use Rattle.rules.specs.Lent.{rooms_of};
 ghost use Rattle.rules.specs.Kinds.{asked_reply};
 
-use rules::{Ask, OrderAnswer, Refusal};
+use rules::{Ask, Counts, Refusal};
 
 // The tests of an order of either kind.
 pub fn order_test(
@@ -19,15 +19,11 @@ pub fn order_test(
     records: usize,
     investor: usize,
     fund: usize,
-) -> OrderAnswer
-    requires { ask.kind < 2 }
+) -> Result<Counts, Refusal>
     ensures { order_answer_reply result ≡ asked_reply (day_at day.now) book.now prices.now ask (rooms_of records investor fund) }
 {
-    if !calls::sound_day(false, day, book, prices) {
-        return OrderAnswer::Refused(Refusal::UnsoundDay);
-    }
+    calls::sound_day(false, day, book, prices)?;
     let rooms = rules::rooms_of(records, investor, fund);
-    let head = layout::head_of(day);
-    let t = orders::order_tested(head, layout::basket_of(day), book, prices, ask, rooms);
-    t.answer
+    let accepted = orders::order_tested(&layout::view_of(day), book, prices, ask, rooms)?;
+    Ok(accepted.counts)
 }

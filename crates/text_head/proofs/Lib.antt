@@ -1,3 +1,3 @@
-pub mod Names
+pub mod Lines
 pub mod Shape
 pub mod Fields

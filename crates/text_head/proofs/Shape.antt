@@ -1,125 +1,130 @@
 -- The first line of the head at fault, as the code goes from line to line.
 use mathlib.Core.Bool.{Bool, true, false, cond, not}
-use mathlib.Core.List.{List}
-use mathlib.Core.Path.{◌≡◌, refl, sym, ap, ap₂, ◌∙◌}
+use mathlib.Core.List.{List, []}
+use mathlib.Core.Path.{◌≡◌, refl, sym, ap, subst, subst⁻¹, ◌∙◌}
 use Prim.Native.Nat.{ℕ, ◌+◌, ◌-◌, ◌≤◌, ◌<◌, zero-le}
 use native.Mathlib.Numerals.{add-one}
 use native.Mathlib.Omega.{arith}
-use lib.Dec.{leb, eqb}
-use lib.ListN.{length, take, drop}
-use borrow.Author.Tests.{eq-eqb, ne_eqb, eqb-false, le-leb, lt-leb, leb-true}
-use Rattle.sequences.specs.Below.{sum_below, first_below}
+use lib.ListN.{length, get_or, drop, length-drop}
+use borrow.Author.Tests.{ne_eqb, le-leb, lt-leb, lt-ltb, le-ltb, ltb-true}
+use Rattle.std.proofs.Common.{Result, Ok, Err}
+use Rattle.std.specs.Prelude.{MatchResult, ⊤}
+use Rattle.sequences.specs.Below.{first_below}
 use Rattle.sequences.proofs.Below.{first_none, first_more, first_here}
-use Rattle.lines.proofs.Laws.{part_ended, part_open, part_first, part_next, part_room}
-use Rattle.lines.specs.Lines.{same, is_named, line_len}
-use Rattle.text_rules.specs.Tables.{Field, fields_of, name_before}
+use Rattle.lines.proofs.Laws.{line_room}
+use Rattle.lines.specs.Lines.{same, is_named, ended, next_at}
+use Rattle.text_rules.specs.declared.ValueKind.TheVariants.{Any}
+use Rattle.text_rules.specs.declared.Field.{Field as LentField}
+use Rattle.text_rules.specs.Tables.{Field, field_of, fields_of, field_at}
 use Rattle.text_rules.specs.Head.{head_lines, field_name, tag_word, is_opening, is_head_line}
-use Rattle.text_rules.specs.Reading.{start_of, line_of, line_stands, wrong_line}
-use Rattle.text_rules.proofs.Tables.{fields-length}
-use Rattle.text_lines.proofs.Standing.{stands_not, stands_as}
-use Rattle.text_head.specs.declared.HeadShape.{HeadShape}
-use Rattle.text_head.specs.Head.{name_length, line_is, shape_found}
-use Rattle.text_head.proofs.Names.{to_is, name_of}
+use Rattle.text_rules.specs.Reading.{start_of, line_stands, wrong_line}
+use Rattle.text_rules.proofs.Tables.{fields-length, field_lent}
+use Rattle.text_lines.proofs.Standing.{stands_facts}
+use Rattle.text_head.specs.Head.{line_passed, shape_found}
 
--- ---- line k of the head, as the code tells the lines apart
-module _ (count k : ℕ) (name l : List ℕ) where
-  pub head_first : k ≡ 0 → is_opening l ≡ line_is count k name l
-  unfolding line_is
-  head_first e = rw (eq-eqb k 0 e)
+-- ---- what line k of the head has to be: the first, the line of a field, and the last
+pub head_first : (fs : List Field) (l : List ℕ) → is_opening l ≡ is_head_line fs 0 l
+unfolding is_head_line
+head_first fs l = refl
 
-  pub head_named : (k ≡ 0 → ⊥) → k ≤ count → is_named name l ≡ line_is count k name l
-  unfolding line_is
-  head_named h m = rw (ne_eqb k 0 h, le-leb k count m)
+-- what a list of fields has past its end
+abbrev pub past : LentField
+past = record { name = record { ref_ptr = (0, 0); now = [] }; form = record { digits = 0; decimals = 0; signed = false; width = 0 }; kind = Any }
 
-  pub head_tag : (k ≡ 0 → ⊥) → count < k → same l tag_word ≡ line_is count k name l
-  unfolding line_is
-  head_tag h m = rw (ne_eqb k 0 h, lt-leb k count m)
+module _ (table : List LentField) (fs : List Field) (e : fields_of table ≡ fs) where
+  pub lent_is : (i : ℕ) (d : LentField) → i < length table → field_of (get_or table i d) ≡ field_at fs i
+  lent_is i d h = sym (field_lent table i d h) ∙ ap (λ (l : List Field). field_at l i) e
 
--- line k is at fault
-unfoldable pub wrong_at : List Field → List ℕ → ℕ → Bool
-wrong_at fs text k = not (line_stands (is_head_line fs k) text (start_of text k))
+  pub fields_many : length fs ≡ length table
+  fields_many = sym (ap length e) ∙ fields-length table
 
--- ---- the loop of `head_shape`: no line before k is at fault, line k starts at `at`, and its name at `from`
-pub record Shape (rows : List (List ℕ)) (names text : List ℕ) (at from k : ℕ) : Type 0 where
-  pub turns : k ≤ length rows + 2
-  pub place : at ≡ start_of text k
-  pub within : at ≤ length text
-  pub named : from ≡ name_before rows (k - 1)
-  pub none : first_below (wrong_at (fields_of rows names) text) k ≡ k
-
-module _ (rows : List (List ℕ)) (names text : List ℕ) (all : length names ≡ name_before rows (length rows)) where
-  abbrev fs : List Field
-  fs = fields_of rows names
-
-  -- all lines of the head
-  lines_are : head_lines fs ≡ length rows + 2
+  -- the head has two lines more than the table has fields
+  pub lines_are : head_lines fs ≡ length table + 2
   unfolding head_lines
-  lines_are = ap (λ (n : ℕ). n + 2) (fields-length rows names)
+  lines_are = ap (λ (n : ℕ). n + 2) fields_many
 
-  pub shape_start : Shape rows names text 0 0 0
-  unfolding start_of name_before sum_below
-  shape_start = record { turns = zero-le; place = refl; within = zero-le; named = refl; none = first_none (wrong_at fs text) }
+  pub head_named : (i : ℕ) (d : LentField) (l : List ℕ) → i < length table → is_named (get_or table i d).name.now l ≡ is_head_line fs (i + 1) l
+  unfolding is_head_line field_name field_of
+  head_named i d l h =
+      let back : i + 1 - 1 ≡ i = omega arith in
+      rw (ne_eqb (i + 1) 0 (λ z. omega arith), le-leb (i + 1) (length fs) (omega (arith, fields_many)), back)
+      (ap (λ (f : Field). is_named f.name l) (lent_is i d h))
 
-  module _ (at from k : ℕ) (v : Shape rows names text at from k) where
-    -- what the code answers, and the place lies within the text
-    abbrev Answered : ℕ → ℕ → Type 0
-    Answered wrong place = (◌≡◌ {A = HeadShape} (record { wrong = wrong; place = place }) (shape_found fs text)) × (place ≤ length text)
+pub head_tag : (fs : List Field) (l : List ℕ) → same l tag_word ≡ is_head_line fs (length fs + 1) l
+unfolding is_head_line
+head_tag fs l = rw (ne_eqb (length fs + 1) 0 (λ z. omega arith), lt-leb (length fs + 1) (length fs) (omega arith))
 
-    answered : k ≡ wrong_line fs text → Answered k at
-    unfolding shape_found
-    answered e = (ap₂ {C = HeadShape} (λ (w p : ℕ). record { wrong = w; place = p }) e (v.place ∙ ap (start_of text) e), v.within)
+module _ (fs : List Field) (text : List ℕ) where
+  -- line k is at fault
+  unfoldable pub wrong_at : ℕ → Bool
+  wrong_at k = not (line_stands (is_head_line fs k) text (start_of text k))
 
-    -- line k is the first at fault
-    shape_wrong : k < length rows + 2 → line_stands (is_head_line fs k) text at ≡ false → Answered k at
-    unfolding wrong_line wrong_at
-    shape_wrong low e =
-        let w : wrong_at fs text k ≡ true = rw (← v.place, e) in
-        answered (sym (first_here (wrong_at fs text) (head_lines fs) k (omega (arith, lines_are)) v.none w))
+  -- no line before k is at fault, and line k starts at `at`
+  pub record Shape (at k : ℕ) : Type 0 where
+    pub place : at ≡ start_of text k
+    pub within : at ≤ length text
+    pub none : first_below wrong_at k ≡ k
 
-    pub shape_end : length rows + 2 ≤ k → Answered k at
-    unfolding wrong_line wrong_at
-    shape_end h =
-        let e : k ≡ head_lines fs = omega (arith, v.turns, lines_are) in
-        answered (sym (ap (first_below (wrong_at fs text)) (sym e) ∙ v.none))
+  pub shape_start : Shape 0 0
+  unfolding start_of
+  shape_start = record { place = refl; within = zero-le; none = first_none wrong_at }
 
-    module _ (low : k < length rows + 2) (to : ℕ) (next : to ≡ from + name_length rows k) where
-      -- the line is to have the name that the code takes
-      line_is_lem : (l : List ℕ) → line_is (length rows) k (take (to - from) (drop from names)) l ≡ is_head_line fs k l
-      unfolding line_is is_head_line
-      line_is_lem l = rw (fields-length rows names) (case (eqb k 0) (leb k (length rows)) refl refl)
+  -- what the code answers of line k, by the test of that line
+  abbrev Answered : Result ℕ ℕ → Type 0
+  Answered r = (r ≡ shape_found fs text) × MatchResult r (λ place. place ≤ length text) (λ place. place ≤ length text)
+
+  -- all lines stand
+  shape_all : (at : ℕ) → Shape at (head_lines fs) → Answered (Ok at)
+  unfolding shape_found wrong_line wrong_at
+  shape_all at v = (rw (v.none, le-ltb (head_lines fs) (head_lines fs) (omega arith), v.place), v.within)
+
+  next_room : (test : List ℕ → Bool) (at : ℕ) → at ≤ length text → line_stands test text at ≡ true → next_at text at ≤ length text
+  unfolding next_at ended
+  next_room test at h e = omega (arith, line_room (drop at text) (ltb-true _ _ (stands_facts test text at e).0), length-drop at text)
+
+  module _ (at k : ℕ) (v : Shape at k) (low : k < head_lines fs) where
+    wrong_is : (b : Bool) → line_stands (is_head_line fs k) text at ≡ b → wrong_at k ≡ not b
+    unfolding wrong_at
+    wrong_is b e = rw (← v.place, e)
+
+    shape_wrong : line_stands (is_head_line fs k) text at ≡ false → Answered (Err at)
+    unfolding shape_found wrong_line wrong_at
+    shape_wrong e =
+        let w : wrong_line fs text ≡ k = first_here (wrong_at) (head_lines fs) k low v.none (wrong_is false e) in
+        (rw (w, lt-ltb k (head_lines fs) low, v.place), v.within)
+
+    shape_more : line_stands (is_head_line fs k) text at ≡ true → Shape (next_at text at) (k + 1)
+    unfolding start_of
+    shape_more e =
+        record {
+          place = rw add-one (ap (next_at text) v.place);
+          within = next_room (is_head_line fs k) at v.within e;
+          none = first_more wrong_at k v.none (wrong_is true e);
+        }
+
+    -- by what passing the line gives
+    module _ (r : Result ℕ ℕ) (e : r ≡ line_passed (is_head_line fs k) text at) where
+      pub shape_on : (p : ℕ) → r ≡ Ok p → Shape p (k + 1)
+      unfolding line_passed
+      shape_on p f = case (line_stands (is_head_line fs k) text at) refl (sym e ∙ f)
         where
-          case : (a b : Bool) → eqb k 0 ≡ a → leb k (length rows) ≡ b
-              → cond a (is_opening l) (cond b (is_named (take (to - from) (drop from names)) l) (same l tag_word))
-              ≡ cond a (is_opening l) (cond b (is_named (field_name fs (k - 1)) l) (same l tag_word))
-          case true b p q = refl
-          case false false p q = refl
-          case false true p q =
-              ap (λ (n : List ℕ). is_named n l) (name_of rows names all from k to v.named next (eqb-false k 0 p) (leb-true k (length rows) q))
+          case : (b : Bool) → line_stands (is_head_line fs k) text at ≡ b → cond b (Ok (next_at text at)) (Err at) ≡ Ok p → Shape p (k + 1)
+          case true h g = let q : next_at text at ≡ p = cc in subst (λ (i : ℕ). Shape i (k + 1)) q (shape_more h)
+          case false h g = absurd (subst (λ (x : Result ℕ ℕ). MatchResult x (λ _. ⊥) (λ _. ⊤)) g tt)
 
-      module _ (n : ℕ) (len : n ≡ line_len (take (length text - at) (drop at text))) where
-        pub shape_open : length text - at ≤ n → Answered k at
-        shape_open h = shape_wrong low (stands_not (is_head_line fs k) text at (part_open text at n len h))
+      pub shape_off : (p : ℕ) → r ≡ Err p → Answered (Err p)
+      unfolding line_passed
+      shape_off p f = case (line_stands (is_head_line fs k) text at) refl (sym e ∙ f)
+        where
+          case : (b : Bool) → line_stands (is_head_line fs k) text at ≡ b → cond b (Ok (next_at text at)) (Err at) ≡ Err p → Answered (Err p)
+          case false h g = let q : at ≡ p = cc in subst (λ (i : ℕ). Answered (Err i)) q (shape_wrong h)
+          case true h g = absurd (subst (λ (x : Result ℕ ℕ). MatchResult x (λ _. ⊤) (λ _. ⊥)) g tt)
 
-        module _ (h : n < length text - at) where
-          stands_part : line_stands (is_head_line fs k) text at ≡ is_head_line fs k (take (at + n - at) (drop at text))
-          unfolding line_of
-          stands_part =
-              stands_as (is_head_line fs k) text at (part_ended text at n len h)
-              ∙ ap (is_head_line fs k) (sym (part_first text at n len))
-
-          pub shape_other : line_is (length rows) k (take (to - from) (drop from names)) (take (at + n - at) (drop at text)) ≡ false → Answered k at
-          shape_other e = shape_wrong low (stands_part ∙ sym (line_is_lem _) ∙ e)
-
-          pub shape_again : line_is (length rows) k (take (to - from) (drop from names)) (take (at + n - at) (drop at text)) ≡ true
-              → Shape rows names text (at + (n + 2)) to (k + 1)
-          unfolding start_of wrong_at
-          shape_again e =
-              let w : wrong_at fs text k ≡ false = rw (← v.place, stands_part, ← line_is_lem (take (at + n - at) (drop at text)), e) in
-              let back : k + 1 - 1 ≡ k = omega arith in
-              record {
-                turns = omega arith;
-                place = part_next text at n len ∙ rw (add-one, v.place);
-                within = part_room text at n v.within len h;
-                named = to_is rows names all from k to v.named next ∙ ap (name_before rows) (sym back);
-                none = first_more (wrong_at fs text) k v.none w;
-              }
+      -- the last line
+      pub shape_end : k + 1 ≡ head_lines fs → Answered r
+      unfolding line_passed
+      shape_end last = subst⁻¹ Answered e (case (line_stands (is_head_line fs k) text at) refl)
+        where
+          case : (b : Bool) → line_stands (is_head_line fs k) text at ≡ b → Answered (cond b (Ok (next_at text at)) (Err at))
+          case false h = shape_wrong h
+          case true h = shape_all (next_at text at) (subst (λ (i : ℕ). Shape (next_at text at) i) last (shape_more h))

@@ -1,42 +1,32 @@
--- The head as the code goes through it: the length of each line's name, the test of a line, what a field says, and what is found.
-use Rattle.std.specs.Prelude.{ℕ, suc, ◌-◌, Bool, cond, List, [], leb, ltb, eqb, length, get_or}
+-- The head as the code goes through it: a line that is passed, what a field says, and what is found.
+use Rattle.std.specs.Prelude.{ℕ, Bool, cond, List, ltb, length, Option, Result, Ok, Err}
 use Rattle.sequences.specs.Below.{tabulate}
-use Rattle.sequences.specs.Every.{inside}
 use Rattle.digits.specs.declared.Figure.{Figure}
-use Rattle.digits.specs.declared.Reading.{Reading}
 use Rattle.digits.specs.Digits.{plain, figure_of, reading}
-use Rattle.lines.specs.Lines.{same, is_named}
-use Rattle.text_rules.specs.Tables.{name_part, Field, field_of}
-use Rattle.text_rules.specs.Head.{is_field, is_opening, tag_word}
-use Rattle.text_rules.specs.Reading.{start_of, wrong_line, field_start, figure_read, wrong_field}
+use Rattle.lines.specs.Lines.{next_at}
+use Rattle.text_rules.specs.Tables.{Field}
+use Rattle.text_rules.specs.Head.{head_lines, is_field}
+use Rattle.text_rules.specs.Reading.{start_of, line_stands, wrong_line, field_start, figure_read, wrong_field}
 use Rattle.text_rules.specs.Well.{most_fields}
-use Rattle.text_head.specs.declared.HeadShape.{HeadShape}
-use Rattle.text_head.specs.declared.HeadFields.{HeadFields}
 
--- how long the name in line k of the head is: the first line and TAGTAG have none
-unfoldable pub name_length : List (List ℕ) → ℕ → ℕ
-name_length rows k = cond (inside 1 (length rows) k) (get_or (get_or rows (k - 1) []) name_part 0) 0
+-- what a field says
+unfoldable pub field_reading : Field → List ℕ → Option Figure
+field_reading f s = reading (is_field f s) (figure_of f.form s)
 
--- line k of a head of so many fields is the one that is to stand there, where it has that name
-unfoldable pub line_is : ℕ → ℕ → List ℕ → List ℕ → Bool
-line_is count k name l = cond (eqb k 0) (is_opening l) (cond (leb k count) (is_named name l) (same l tag_word))
+-- the place behind the line at a place, where it stands; the place itself where it does not
+unfoldable pub line_passed : (List ℕ → Bool) → List ℕ → ℕ → Result ℕ ℕ
+line_passed test text at = cond (line_stands test text at) (Ok (next_at text at)) (Err at)
 
--- what a field says, by its row
-unfoldable pub row_reading : List ℕ → List ℕ → Reading
-row_reading r s = reading (is_field (field_of r []) s) (figure_of (field_of r []).form s)
+-- the place behind the head, or that of its first wrong line
+unfoldable pub shape_found : List Field → List ℕ → Result ℕ ℕ
+shape_found fs text =
+    cond (ltb (wrong_line fs text) (head_lines fs)) (Err (start_of text (wrong_line fs text))) (Ok (start_of text (head_lines fs)))
 
--- the first wrong line and its place, or all lines and the place behind them
-unfoldable pub shape_found : List Field → List ℕ → HeadShape
-shape_found fs text = record { wrong = wrong_line fs text; place = start_of text (wrong_line fs text) }
-
--- the first wrong field and its place, or all fields and the place of TAGTAG; the figures before it, and 0 from there on
+-- the figures before the first wrong field, and 0 from there on
 unfoldable pub figures_found : List Field → List ℕ → List Figure
 figures_found fs text = tabulate (λ k. cond (ltb k (wrong_field fs text)) (figure_read fs text k) (plain 0)) most_fields
 
-unfoldable pub fields_found : List Field → List ℕ → HeadFields
+-- the figures of all fields, or the place of the first wrong one
+unfoldable pub fields_found : List Field → List ℕ → Result (List Figure) ℕ
 fields_found fs text =
-    record {
-      wrong = wrong_field fs text;
-      place = cond (ltb (wrong_field fs text) (length fs)) (field_start fs text (wrong_field fs text)) (start_of text (suc (length fs)));
-      figures = figures_found fs text;
-    }
+    cond (ltb (wrong_field fs text) (length fs)) (Err (field_start fs text (wrong_field fs text))) (Ok (figures_found fs text))

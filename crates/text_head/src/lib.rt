@@ -1,191 +1,86 @@
 // The head of a text: its first line, the lines name=value, by a table of fields that is lent, and TAGTAG.
 #![tactic(auto)]
 
-ghost use Rattle.std.specs.Prelude.{◌≡◌, true, [], ◌≤◌, ◌<◌, length, get_or};
-ghost use Rattle.digits.specs.Digits.{reading, plain};
-ghost use Rattle.text_rules.specs.Tables.{fields_of, form_of, kind_of, name_before};
+ghost use Rattle.std.specs.Prelude.{ℕ, ◌≡◌, Bool, List, ◌≤◌, MatchResult, length};
+ghost use Rattle.std.specs.Fn.{FnOnceReturnsAt};
+ghost use Rattle.text_rules.specs.Tables.{field_of};
 ghost use Rattle.text_rules.specs.Head.{head_lines, is_kind};
 ghost use Rattle.text_rules.specs.Reading.{wrong_line};
-ghost use Rattle.text_rules.specs.Well.{most_decimals, fields_well};
-ghost use Rattle.text_head.specs.Head.{name_length, line_is, row_reading, shape_found, fields_found};
+ghost use Rattle.text_rules.specs.Well.{most_decimals};
+ghost use Rattle.text_head.specs.Head.{field_reading, line_passed, shape_found, fields_found};
 
-use digits::{Figure, Form, Reading};
-use text_rules::{
-    DATE, FIELD_DECIMALS, FIELD_DIGITS, FIELD_PARTS, KIND, MOST_FIELDS, NAME_LENGTH, SIGNED,
-    ZERO_OR_ONE,
-};
-
-// Where the head stops being as it should be: the first wrong line and its place, or all lines and the place behind them.
-#[derive(Clone, Copy)]
-pub struct HeadShape {
-    pub wrong: usize,
-    pub place: usize,
-}
-
-// The first wrong field and its place, or all fields and the place of TAGTAG; and the figures of the fields before it.
-#[derive(Clone, Copy)]
-pub struct HeadFields {
-    pub wrong: usize,
-    pub place: usize,
-    pub figures: [Figure; MOST_FIELDS],
-}
-
-// How long the name in line k of the head is; the first line and TAGTAG have none.
-pub fn name_length(fields: &[[usize; FIELD_PARTS]], k: usize) -> usize
-    ensures { result ≡ name_length fields.now k }
-{
-    if k == 0 {
-        return 0;
-    }
-    if fields.len() < k {
-        return 0;
-    }
-    fields[k - 1][NAME_LENGTH]
-}
-
-// The form of field k's number.
-pub fn field_form(fields: &[[usize; FIELD_PARTS]], k: usize) -> Form
-    requires { k < length fields.now }
-    ensures { result ≡ form_of (get_or fields.now k []) }
-{
-    Form {
-        digits: fields[k][FIELD_DIGITS],
-        decimals: fields[k][FIELD_DECIMALS],
-        signed: fields[k][SIGNED] == 1,
-        width: 0,
-    }
-}
+use digits::Figure;
+use text_rules::{Field, Fields, MOST_FIELDS, ValueKind};
 
 // What more than its form a field's value has to be.
-fn is_kind(kind: usize, v: u64) -> bool
-    ensures { result ≡ is_kind (kind_of kind) v }
+#[tactic(auto, unfolding(text_rules::specs::Head::is_kind))]
+fn is_kind(kind: ValueKind, v: u64) -> bool
+    ensures { result ≡ is_kind kind v }
 {
-    if kind == DATE {
-        return text_dates::is_date(v);
-    }
-    if kind == ZERO_OR_ONE {
-        return v <= 1;
-    }
-    true
-}
-
-fn of_kind(kind: usize, z: Figure) -> Reading
-    ensures { result ≡ reading (is_kind (kind_of kind) z.size) z }
-{
-    if is_kind(kind, z.size) {
-        return Reading::Good(z);
-    }
-    Reading::Ill
-}
-
-// What field k says.
-fn read_field(fields: &[[usize; FIELD_PARTS]], k: usize, s: &[u8]) -> Reading
-    requires k_in_bounds { k < length fields.now }
-    requires k_bound { (form_of (get_or fields.now k [])).decimals ≤ most_decimals }
-    ensures { result ≡ row_reading (get_or fields.now k []) s.now }
-{
-    let r = digits_reading::read_number(field_form(fields, k), s);
-    match r {
-        Reading::Ill => Reading::Ill,
-        Reading::Good(z) => of_kind(fields[k][KIND], z),
+    match kind {
+        ValueKind::Any => true,
+        ValueKind::Date => text_dates::is_date(v),
+        ValueKind::ZeroOrOne => v <= 1,
     }
 }
 
-// Whether the line is line k of a head of so many fields, where it has that name.
-fn is_head_line(count: usize, k: usize, name: &[u8], line: &[u8]) -> bool
-    ensures { result ≡ line_is count k name.now line.now }
+// What a field says.
+#[tactic(auto, unfolding(crate::specs::Head::field_reading, text_rules::specs::Tables::field_of, text_rules::specs::Head::is_field))]
+fn read_field(field: &Field, s: &[u8]) -> Option<Figure>
+    requires { field.now.form.decimals ≤ most_decimals }
+    ensures { result ≡ field_reading (field_of field.now) s.now }
 {
-    if k == 0 {
-        return text_lines::is_opening(line);
-    }
-    if k <= count {
-        return lines::is_named(name, line);
-    }
-    lines::same_bytes(line, b"TAGTAG")
+    let z = digits_reading::read_number(field.form, s)?;
+    is_kind(field.kind, z.size).then_some(z)
 }
 
-// Refusal 18 in the head.
-pub fn head_shape(fields: &[[usize; FIELD_PARTS]], names: &[u8], text: &[u8]) -> HeadShape
-    requires names_value { fields_well (fields_of fields.now names.now) ≡ true }
-    requires names_len { length names.now ≡ name_before fields.now (length fields.now) }
-    ensures value { result ≡ shape_found (fields_of fields.now names.now) text.now }
-    ensures place_in_bounds { result.place ≤ length text.now }
+// The place behind the line at a place, where it has its end and passes the test; the place itself where it does not.
+fn pass_line<F: FnOnce(&[u8]) -> bool>(text: &[u8], at: usize, test: F) -> Result<usize, usize>
+    requires callable { F.IsAlwaysCallable test }
+    requires at_in_bounds { at ≤ length text.now }
+    ensures { (said : List ℕ → Bool)
+        → ((l : List ℕ) → (b : Bool) → FnOnceReturnsAt F.FnOnce test l b → b ≡ said l)
+        → result ≡ line_passed said text.now at }
 {
-    let lines = fields.len() + 2;
-    let mut at = 0;
-    let mut from = 0;
-    let mut k = 0;
-    while k < lines {
-        let n = lines::line_len(&text[at..]);
-        if text.len() - at <= n {
-            return HeadShape {
-                wrong: k,
-                place: at,
-            };
-        }
-        let to = from + name_length(fields, k);
-        if !is_head_line(fields.len(), k, &names[from..to], &text[at..at + n]) {
-            return HeadShape {
-                wrong: k,
-                place: at,
-            };
-        }
-        at = at + (n + 2);
-        from = to;
-        k += 1;
+    let n = lines::line_len(&text[at..]);
+    if text.len() - at <= n {
+        return Err(at);
     }
-    HeadShape {
-        wrong: k,
-        place: at,
+    if !test(&text[at..at + n]) {
+        return Err(at);
     }
+    Ok(at + (n + 2))
 }
 
-pub fn blank_figure() -> Figure
-    ensures { result ≡ plain 0 }
+// Refusal 18 in the head: the place behind it, or that of its first wrong line.
+pub fn head_shape(fields: &Fields, text: &[u8]) -> Result<usize, usize>
+    ensures { (result ≡ shape_found fields.now text.now)
+        × MatchResult result (λ place. place ≤ length text.now) (λ place. place ≤ length text.now) }
 {
-    Figure {
+    let table = fields.table();
+    let mut at = pass_line(text, 0, text_lines::is_opening)?;
+    for field in table {
+        at = pass_line(text, at, |line| lines::is_named(field.name, line))?;
+    }
+    pass_line(text, at, |line| lines::same_bytes(line, b"TAGTAG"))
+}
+
+// Refusal 19 in the head, where its lines stand: the figures, or the place of the first wrong field.
+pub fn head_fields(fields: &Fields, text: &[u8]) -> Result<[Figure; MOST_FIELDS], usize>
+    requires { wrong_line fields.now text.now ≡ head_lines fields.now }
+    ensures { result ≡ fields_found fields.now text.now }
+{
+    let table = fields.table();
+    let mut figures = [Figure {
         negative: false,
         size: 0,
-    }
-}
-
-// Refusal 19 in the head, and the figures.
-pub fn head_fields(fields: &[[usize; FIELD_PARTS]], names: &[u8], text: &[u8]) -> HeadFields
-    requires names_value { fields_well (fields_of fields.now names.now) ≡ true }
-    requires names_len { length names.now ≡ name_before fields.now (length fields.now) }
-    requires text_value { wrong_line (fields_of fields.now names.now) text.now ≡ head_lines (fields_of fields.now names.now) }
-    ensures { result ≡ fields_found (fields_of fields.now names.now) text.now }
-{
-    let blank = blank_figure();
-    let mut figures = [blank; MOST_FIELDS];
+    }; MOST_FIELDS];
     let mut at = lines::line_len(text) + 2;
-    let mut from = 0;
-    let mut k = 0;
-    while k < fields.len() {
-        let to = from + fields[k][NAME_LENGTH];
-        let name = &names[from..to];
+    for (k, field) in table.iter().enumerate() {
         let end = at + lines::line_len(&text[at..]);
-        let value = at + (name.len() + 1);
-        let r = read_field(fields, k, &text[value..end]);
-        match r {
-            Reading::Ill => {
-                return HeadFields {
-                    wrong: k,
-                    place: value,
-                    figures,
-                };
-            }
-            Reading::Good(z) => {
-                figures[k] = z;
-            }
-        }
+        let value = at + (field.name.len() + 1);
+        figures[k] = read_field(field, &text[value..end]).ok_or(value)?;
         at = end + 2;
-        from = to;
-        k += 1;
     }
-    HeadFields {
-        wrong: k,
-        place: at,
-        figures,
-    }
+    Ok(figures)
 }

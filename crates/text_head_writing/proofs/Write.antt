@@ -1,27 +1,22 @@
 -- The lines of the head written one behind the other.
-use mathlib.Core.Bool.{true}
 use mathlib.Core.List.{List, [], ◌∷◌, ◌++◌, append_assoc}
-use mathlib.Core.Path.{◌≡◌, refl, sym, ap, subst, ◌∙◌}
-use Prim.Native.Nat.{ℕ, ◌+◌, ◌-◌, ◌≤◌, ◌<◌, zero-le}
-use native.Mathlib.Nat.{add-zero}
+use mathlib.Core.Bool.{true}
+use mathlib.Core.Path.{◌≡◌, ap, ◌∙◌}
+use Prim.Native.Nat.{ℕ, ◌+◌, ◌≤◌, ◌<◌}
 use native.Mathlib.Omega.{arith}
-use lib.ListN.{length, get_or, take, drop, length-append}
-use Rattle.sequences.specs.Below.{sum_below}
-use Rattle.digits.proofs.Put.{put-nil, written_then, written-length}
-use Rattle.digits.specs.Digits.{number_text}
+use lib.ListN.{length, get_or, length-append}
+use Rattle.digits.proofs.Put.{written_then, written-length}
+use Rattle.digits.specs.Digits.{plain, number_text}
 use Rattle.digits.specs.Written.{Written}
 use Rattle.digits.specs.declared.Figure.{Figure}
-use Rattle.digits.specs.declared.Form.{Form}
 use Rattle.lines.specs.Words.{bytes}
 use Rattle.lines.specs.Lines.{line_text}
-use Rattle.text_rules.specs.Tables.{form_of, fields_of, name_before}
-use Rattle.text_rules.specs.Head.{head_lines, opening_word, closing_word, head_line, opening_rest}
-use Rattle.text_rules.specs.Writing.{head_text}
-use Rattle.text_rules.specs.Well.{fields_well}
-use Rattle.text_head.specs.Head.{name_length}
-use Rattle.text_head.proofs.Names.{to_is}
-use Rattle.text_head_writing.specs.Lines.{figure_for, line_from, array_figure}
-use Rattle.text_head_writing.proofs.Sizes.{line_first, line_named, line_tag, field_size, line_is_lem, lines_are, head_none, head_more, head_grows}
+use Rattle.lines.proofs.Laws.{length-line_text}
+use Rattle.text_rules.specs.Tables.{Field, field_at}
+use Rattle.text_rules.specs.Head.{opening_word, closing_word, tag_word, field_line, opening_rest, tag_size}
+use Rattle.text_rules.specs.Well.{field_well}
+use Rattle.text_head_writing.specs.Lines.{whole_head}
+use Rattle.text_head_writing.proofs.Sizes.{field_size, lines, line, head_more, head_grows, first_is, field_is, whole_is}
 
 module _ {d d₁ d₂ d₃ : List ℕ} {at p q r : ℕ} where
   -- the first line
@@ -34,92 +29,77 @@ module _ {d d₁ d₂ d₃ : List ℕ} {at p q r : ℕ} where
       (written_then (written_then a b (omega arith)) c (omega arith))
 
   -- the line of a field
-  pub field_put : {d₄ : List ℕ} {s : ℕ} (row : List ℕ) (form : Form) (z : Figure) (name : List ℕ) → form ≡ form_of row
-      → at + length (line_text (name ++ 61 ∷ number_text (form_of row) z)) ≤ length d
-      → Written d at name d₁ p → Written d₁ p (61 ∷ []) d₂ q → Written d₂ q (number_text form z) d₃ r
-      → Written d₃ r (13 ∷ 10 ∷ []) d₄ s
-      → Written d at (line_text (name ++ 61 ∷ number_text (form_of row) z)) d₄ s
-  unfolding line_text
-  field_put {d₄} {s} row form z name g room a b c f =
-      let l = field_size name (number_text (form_of row) z) in
-      let number : Written d₂ q (number_text (form_of row) z) d₃ r = rw g at c in
-      let front : length (name ++ 61 ∷ []) ≡ length name + 1 = length-append name (61 ∷ []) in
-      let parts = written_then (written_then a b (omega arith)) number (omega arith) in
-      let valued = rw (append_assoc name (61 ∷ []) (number_text (form_of row) z)) at parts in
-      written_then valued f (omega (arith, length-append name (61 ∷ number_text (form_of row) z)))
+  pub field_put : {d₄ : List ℕ} {s : ℕ} (f : Field) (z : Figure) → field_well f ≡ true → at + length (line_text (field_line f z)) ≤ length d
+      → Written d at f.name d₁ p → Written d₁ p (61 ∷ []) d₂ q → Written d₂ q (number_text f.form z) d₃ r → Written d₃ r (13 ∷ 10 ∷ []) d₄ s
+      → Written d at (line_text (field_line f z)) d₄ s
+  unfolding line_text field_line
+  field_put {d₄} {s} f z well room a b c e =
+      let l = field_size f z well in
+      let front : length (f.name ++ 61 ∷ []) ≡ length f.name + 1 = length-append f.name (61 ∷ []) in
+      let parts = written_then (written_then a b (omega arith)) c (omega arith) in
+      let valued = rw (append_assoc f.name (61 ∷ []) (number_text f.form z)) at parts in
+      written_then valued e (omega (arith, length-append f.name (61 ∷ number_text f.form z)))
 
--- line k, by its kind
-module _ {d d' : List ℕ} {at r : ℕ} (rows : List (List ℕ)) (k : ℕ) (name letters : List ℕ) (z : Figure) where
-  pub first-put : k ≡ 0 → Written d at (line_text (opening_word ++ (letters ++ closing_word))) d' r
-      → Written d at (line_text (line_from rows k name letters z)) d' r
-  first-put e w = rw (line_first rows k name letters z e) w
+-- ---- the first k lines are written
+module _ (fs : List Field) (letters : List ℕ) (figures : List Figure) (d : List ℕ) (at : ℕ) where
+  pub record Lined (d' : List ℕ) (p k : ℕ) : Type 0 where
+    pub written : Written d at (lines fs letters figures k) d' p
+    pub long : length d' ≡ length d
 
-  pub named_put : (k ≡ 0 → ⊥) → k ≤ length rows
-      → Written d at (line_text (name ++ 61 ∷ number_text (form_of (get_or rows (k - 1) [])) z)) d' r
-      → Written d at (line_text (line_from rows k name letters z)) d' r
-  named_put h m w = rw (line_named rows k name letters z h m) w
+  module _ (room : at + length (whole_head fs letters figures) ≤ length d) where
+    all_room : length (whole_head fs letters figures) ≡ length (lines fs letters figures (length fs + 1)) + tag_size
+    all_room = ap length (whole_is fs letters figures) ∙ length-append (lines fs letters figures (length fs + 1)) (line_text tag_word) ∙ omega (arith, length-line_text tag_word)
 
-  pub tag_put : (k ≡ 0 → ⊥) → length rows < k → Written d at (bytes "TAGTAG\r\n") d' r
-      → Written d at (line_text (line_from rows k name letters z)) d' r
-  unfolding line_text
-  tag_put h m w = rw (line_tag rows k name letters z h m) w
-
--- ---- the loop of `put_head`: the first k lines are written
-pub record Lined (rows : List (List ℕ)) (names letters : List ℕ) (figures : List Figure) (d : List ℕ) (at : ℕ) (d' : List ℕ) (p from k : ℕ) : Type 0 where
-  pub turns : k ≤ length rows + 2
-  pub written : Written d at (head_text (fields_of rows names) letters (array_figure figures) k) d' p
-  pub long : length d' ≡ length d
-  pub named : from ≡ name_before rows (k - 1)
-
-module _ (rows : List (List ℕ)) (names : List ℕ) (made : fields_well (fields_of rows names) ≡ true)
-    (all : length names ≡ name_before rows (length rows)) (letters : List ℕ) (figures : List Figure) (d : List ℕ) (at : ℕ) where
-  pub lined_start : Lined rows names letters figures d at d at 0 0
-  unfolding name_before sum_below
-  lined_start =
-      record {
-        turns = zero-le;
-        written = rw (head_none rows names made all letters figures) (record { bytes = sym (put-nil d at); next = sym (add-zero at) });
-        long = refl;
-        named = refl;
-      }
-
-  module _ (room : at + length (head_text (fields_of rows names) letters (array_figure figures) (head_lines (fields_of rows names))) ≤ length d)
-      (d' : List ℕ) (p from k to : ℕ) (z : Figure) (v : Lined rows names letters figures d at d' p from k) (low : k < length rows + 2)
-      (next : to ≡ from + name_length rows k) (e : z ≡ figure_for (length rows) figures k) where
-    abbrev line : List ℕ
-    line = line_text (head_line (fields_of rows names) letters (array_figure figures) k)
-
-    same : line_text (line_from rows k (take (to - from) (drop from names)) letters z) ≡ line
-    same = ap line_text (line_is_lem rows names made all letters figures from k to v.named next z e)
-
-    -- the next line has room
-    line_room : at + length (head_text (fields_of rows names) letters (array_figure figures) k) + length line ≤ length d
-    line_room =
+    pub first_room : at + (length letters + opening_rest) ≤ length d
+    first_room =
         omega (
           arith,
-          head_grows rows names made all letters figures (head_lines (fields_of rows names)) (k + 1) (omega (arith, lines_are rows names made all)),
-          ap length (head_more rows names made all letters figures k),
-          length-append (head_text (fields_of rows names) letters (array_figure figures) k) line,
+          all_room,
+          head_grows fs letters figures (length fs + 1) 1 (omega arith),
+          ap length (first_is fs letters figures),
+          length-line_text (opening_word ++ (letters ++ closing_word)),
+          length-append letters closing_word,
         )
 
-    pub lined_room : p + length (line_text (line_from rows k (take (to - from) (drop from names)) letters z)) ≤ length d'
-    lined_room = omega (arith, line_room, v.written.next, v.long, ap length same)
-
-    pub lined_again : (d'' : List ℕ) (q : ℕ) → Written d' p (line_text (line_from rows k (take (to - from) (drop from names)) letters z)) d'' q
-        → Lined rows names letters figures d at d'' q to (k + 1)
-    lined_again d'' q w =
-        let x : Written d' p line d'' q = rw same at w in
-        let y = written_then v.written x line_room in
-        let back : k + 1 - 1 ≡ k = omega arith in
+    pub lined_start : (d' : List ℕ) (p : ℕ) → Written d at (line_text (opening_word ++ (letters ++ closing_word))) d' p → Lined d' p 1
+    lined_start d' p w =
         record {
-          turns = omega arith;
-          written = rw (head_more rows names made all letters figures k) y;
-          long = written-length y (rw length-append (omega (arith, line_room)));
-          named = to_is rows names all from k to v.named next ∙ ap (name_before rows) (sym back);
+          written = rw (first_is fs letters figures) w;
+          long = written-length w (omega (arith, length-line_text (opening_word ++ (letters ++ closing_word)), length-append letters closing_word, first_room));
         }
 
-  pub lined_end : (d' : List ℕ) (p from k : ℕ) → Lined rows names letters figures d at d' p from k → length rows + 2 ≤ k
-      → Written d at (head_text (fields_of rows names) letters (array_figure figures) (head_lines (fields_of rows names))) d' p
-  lined_end d' p from k v h =
-      let e : k ≡ head_lines (fields_of rows names) = omega (arith, v.turns, lines_are rows names made all) in
-      subst (λ (i : ℕ). Written d at (head_text (fields_of rows names) letters (array_figure figures) i) d' p) e v.written
+    module _ (d' : List ℕ) (p i : ℕ) (v : Lined d' p (i + 1)) (low : i < length fs) (f : Field) (z : Figure)
+        (is : f ≡ field_at fs i) (said : z ≡ get_or figures i (plain 0)) where
+      line_room : at + length (lines fs letters figures (i + 1)) + length (line_text (field_line f z)) ≤ length d
+      line_room =
+          omega (
+            arith,
+            all_room,
+            head_grows fs letters figures (length fs + 1) (i + 1 + 1) (omega arith),
+            ap length (head_more fs letters figures (i + 1)),
+            length-append (lines fs letters figures (i + 1)) (line fs letters figures (i + 1)),
+            ap length (field_is fs letters figures i f z low is said),
+          )
+
+      pub lined_room : p + length (line_text (field_line f z)) ≤ length d'
+      lined_room = omega (arith, line_room, v.written.next, v.long)
+
+      pub lined_again : (d'' : List ℕ) (q : ℕ) → Written d' p (line_text (field_line f z)) d'' q → (j : ℕ) → j ≡ i + 1 → Lined d'' q (j + 1)
+      lined_again d'' q w j next =
+          let y = written_then v.written w line_room in
+          rw next
+          (record {
+            written = rw (head_more fs letters figures (i + 1), field_is fs letters figures i f z low is said) y;
+            long = written-length y (rw length-append (omega (arith, line_room)));
+          })
+
+    module _ (d' : List ℕ) (p k : ℕ) (v : Lined d' p (k + 1)) (e : k ≡ length fs) where
+      last : Lined d' p (length fs + 1)
+      last = rw e at v
+
+      pub tag_room : p + tag_size ≤ length d'
+      tag_room = omega (arith, all_room, last.written.next, v.long)
+
+      pub lined_end : (d'' : List ℕ) (q : ℕ) → Written d' p (bytes "TAGTAG\r\n") d'' q → Written d at (whole_head fs letters figures) d'' q
+      unfolding line_text
+      lined_end d'' q w = rw (whole_is fs letters figures) (written_then last.written w (omega (arith, all_room)))

@@ -1,4 +1,4 @@
-// What programs that play list texts share: runs of bytes, texts that are made, fields as numbers, names, and what is printed.
+// What programs that play list texts share: texts that are made, fields as numbers, names, and what is printed.
 #![tactic(auto)]
 
 pub mod bytes;
@@ -6,4 +6,3 @@ pub mod fields;
 pub mod made;
 pub mod names;
 pub mod replies;
-pub mod session;

@@ -1,6 +1,9 @@
 // Texts that are made from few bytes: a change of the last text that was given whole, and a front, a part that stands in it many
 // times, and a tail.
-use crate::{bytes, fields};
+use crate::bytes;
+use program_io::fault::Fault;
+use program_io::items::Item;
+use std::alloc::Global;
 
 // A change starts with its row, a number for its kind of item, the place of the bytes that go, and how many they are. Behind them
 // stand the bytes that come in their place.
@@ -20,75 +23,44 @@ const FRONT: usize = 3;
 
 const PART: usize = 4;
 
-// Stands for a text that is not made: the item has not its form, or there is no room.
-pub const NONE: usize = usize::MAX;
+// The longest text that is made.
+const MOST_BYTES: usize = 4_000_000;
 
-// Whether a text has room: a part so many times, and the rest once.
-fn fits(times: usize, part: usize, rest: usize, room: usize) -> bool {
-    if room < rest {
-        return false;
-    }
-    if part == 0 {
-        return true;
-    }
-    times <= (room - rest) / part
+// The two parts of a run, as far as it goes.
+fn split<T>(run: &[T], at: usize) -> Result<(&[T], &[T]), Fault> {
+    run.split_at_checked(at).ok_or(Fault::BadInput)
 }
 
-// Makes a text by a change, and how long it is.
-pub fn change(base: &[u8], item: &[u64], text: &mut [u8]) -> usize {
-    let place = fields::size_at(item, PLACE);
-    let gone = fields::size_at(item, GONE);
-    if item.len() < CHANGE_HEAD {
-        return NONE;
-    }
-    if base.len() < place {
-        return NONE;
-    }
-    if base.len() - place < gone {
-        return NONE;
-    }
-    if !fits(1, item.len() - CHANGE_HEAD, base.len() - gone, text.len()) {
-        return NONE;
-    }
-    let from = 0;
-    let back = place + gone;
-    let a = bytes::copy_at(&base[from..place], text, 0);
-    let b = bytes::put_at(&item[CHANGE_HEAD..], text, a);
-    bytes::copy_at(&base[back..], text, b)
+// Makes a text by a change.
+pub fn change(alloc: Global, base: &[u8], item: &Item) -> Result<Vec<u8>, Fault> {
+    let (_, come) = split(&item.numbers, CHANGE_HEAD)?;
+    let (before, rest) = split(base, item.size(PLACE))?;
+    let (_, behind) = split(rest, item.size(GONE))?;
+    let mut text = before.to_vec(alloc)?;
+    bytes::push_all(&mut text, come)?;
+    text.extend_from_slice(behind)?;
+    Ok(text)
 }
 
-fn put_times(numbers: &[u64], times: usize, text: &mut [u8], at: usize) -> usize {
-    let mut end = at;
-    let mut i = 0;
-    while i < times {
-        end = bytes::put_at(numbers, text, end);
-        i += 1;
-    }
-    end
+// Whether a part so many times, and the rest once, are no more than the longest text.
+fn fits(times: usize, part: usize, rest: usize) -> bool {
+    times.saturating_mul(part).saturating_add(rest) <= MOST_BYTES
 }
 
-// Makes a grown text, and how long it is.
-pub fn grow(item: &[u64], text: &mut [u8]) -> usize {
-    let times = fields::size_at(item, TIMES);
-    let front = fields::size_at(item, FRONT);
-    let part = fields::size_at(item, PART);
-    if item.len() < GROWN_HEAD {
-        return NONE;
+// Makes a grown text.
+pub fn grow(alloc: Global, item: &Item) -> Result<Vec<u8>, Fault> {
+    let (_, body) = split(&item.numbers, GROWN_HEAD)?;
+    let (front, rest) = split(body, item.size(FRONT))?;
+    let (part, tail) = split(rest, item.size(PART))?;
+    let times = item.size(TIMES);
+    if !fits(times, part.len(), front.len().saturating_add(tail.len())) {
+        return Err(Fault::BadInput);
     }
-    let body = item.len() - GROWN_HEAD;
-    if body < front {
-        return NONE;
+    let mut text = Vec::new(alloc);
+    bytes::push_all(&mut text, front)?;
+    for _ in 0..times {
+        bytes::push_all(&mut text, part)?;
     }
-    if body - front < part {
-        return NONE;
-    }
-    if !fits(times, part, body - part, text.len()) {
-        return NONE;
-    }
-    let from = GROWN_HEAD;
-    let middle = GROWN_HEAD + front;
-    let tail = middle + part;
-    let a = bytes::put_at(&item[from..middle], text, 0);
-    let b = put_times(&item[middle..tail], times, text, a);
-    bytes::put_at(&item[tail..], text, b)
+    bytes::push_all(&mut text, tail)?;
+    Ok(text)
 }

@@ -1,33 +1,28 @@
-// An answer of reading or writing as the paper's number, place and value.
-use crate::fields;
-use answers::Numbers;
+// An answer of reading or writing as the paper's number, place and value, as it is printed.
 use list_rules::ListAnswer;
-use program_io::output;
+use rules::Refusal;
+use std::fmt;
+use std::fmt::Display;
 
-pub fn of_answer(answer: ListAnswer) -> Numbers {
+// The count of components or bytes, or why it was refused.
+pub fn of_answer(answer: ListAnswer) -> Result<usize, Refusal> {
     match answer {
-        ListAnswer::Done(count) => Numbers {
-            number: 0,
-            place: 0,
-            value: count as u64,
-            reports: 0,
-        },
-        ListAnswer::Refused(why) => answers::of_refusal(why),
+        ListAnswer::Done(count) => Ok(count),
+        ListAnswer::Refused(why) => Err(why),
     }
 }
 
-// The row of an item, its first number.
-pub fn print_row(item: &[u64]) {
-    output::text(b"row");
-    output::number(fields::at(item, 0));
-    output::end_line();
-}
+#[derive(Drop)]
+pub struct Reply(pub Result<usize, Refusal>);
 
-// A word and a reply, on a line.
-pub fn print(word: &[u8], r: Numbers) {
-    output::text(word);
-    output::number(r.number);
-    output::number(r.place);
-    output::number(r.value);
-    output::end_line();
+impl Display for Reply {
+    fn fmt<W: fmt::Write>(&self, f: &mut fmt::Formatter<W>) -> fmt::Result {
+        match self.0 {
+            Ok(count) => write!(f, "0 0 {count}"),
+            Err(why) => {
+                let r = answers::of_refusal(why);
+                write!(f, "{} {} {}", r.number, r.place, r.value)
+            }
+        }
+    }
 }

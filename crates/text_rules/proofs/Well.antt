@@ -97,9 +97,12 @@ field_facts f e =
     }
 
 module _ (fs : List Field) (well : fields_well fs ≡ true) where
-  pub field_well_lem : (k : ℕ) → k < length fs → WellField (field_at fs k)
+  pub field_made : (k : ℕ) → k < length fs → field_well (field_at fs k) ≡ true
   unfolding fields_well
-  field_well_lem k h = field_facts _ (all_at _ (length fs) ((and-eq-true_iff _ _).0 well).0 k h)
+  field_made k h = all_at _ (length fs) ((and-eq-true_iff _ _).0 well).0 k h
+
+  pub field_well_lem : (k : ℕ) → k < length fs → WellField (field_at fs k)
+  field_well_lem k h = field_facts _ (field_made k h)
 
   pub fields_few : length fs ≤ most_fields
   unfolding fields_well

@@ -4,8 +4,8 @@
 
 ghost use Rattle.std.specs.Prelude.{◌≡◌, ◌+◌, ◌≤◌, ◌<◌, true, length};
 ghost use Rattle.text_rules.specs.Columns.{column_start, line_width, line_pitch, is_text, used_by, taken_before};
-ghost use Rattle.text_rules.specs.Well.{columns_well, most_line};
-ghost use Rattle.text_rules.specs.Tables.{line_form, column_at};
+ghost use Rattle.text_rules.specs.Well.{columns_well, fields_well, most_line};
+ghost use Rattle.text_rules.specs.Tables.{fields_of, line_form, column_at};
 
 use digits::Form;
 use std::marker::Model;
@@ -243,6 +243,42 @@ pub struct Field<'a> {
     pub name: &'a [u8],
     pub form: Form,
     pub kind: ValueKind,
+}
+
+// The fields of the head, in their order, where they are well made.
+#[derive(Drop)]
+pub struct Fields<'a> {
+    table: &'a [Field<'a>],
+}
+
+impl<'a> Model for Fields<'a> {
+    ghost use Rattle.std.specs.Prelude.{◌≡◌, true, List};
+    ghost use Rattle.text_rules.specs.Tables.{Field, fields_of};
+
+    ghost Value = { List Field };
+
+    ghost use Rattle.text_rules.specs.Well.{fields_well};
+
+    ghost view = { λ f. fields_of f.table.now };
+
+    ghost invariant = { λ f. fields_well (fields_of f.table.now) ≡ true };
+}
+
+impl<'a> Fields<'a> {
+    pub fn new(table: &'a [Field<'a>]) -> Self
+        requires { fields_well (fields_of table.now) ≡ true }
+        ensures { result ≡ fields_of table.now }
+    {
+        Fields { table }
+    }
+
+    // Each of them.
+    pub fn table(&self) -> &[Field<'a>]
+        ensures value { fields_of result.now ≡ self.now }
+        ensures well { fields_well self.now ≡ true }
+    {
+        self.table
+    }
 }
 
 // How many fields there is room for.

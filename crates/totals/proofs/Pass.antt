@@ -1,5 +1,5 @@
 -- One pass over the totals, place by place: what stands when the places below j are done.
-use Rattle.std.proofs.Common.{◌≡◌, ℕ, ◌+◌, ◌*◌, ◌%◌, ◌^◌, ◌<◌, ◌≤◌, Bool, not, ◌||◌, ltb, leb, List, length, get_or, set, sym, refl, ap, ◌∙◌, zero-le, not-suc-le-zero, le_antisymm, arith}
+use Rattle.std.proofs.Common.{◌≡◌, ℕ, ◌+◌, ◌*◌, ◌%◌, ◌^◌, ◌<◌, ◌≤◌, Bool, not, ◌||◌, ltb, leb, List, length, get_or, set, sym, refl, ap, ◌∙◌, not-suc-le-zero, le_antisymm, arith}
 use Rattle.std.proofs.Common.{length-set, get_or-set_other, get_or-set_same, below_more}
 use lib.Bits.{bit_or}
 use Rattle.sequences.specs.Below.{any_below}
@@ -9,7 +9,6 @@ use Rattle.totals.proofs.Top.{below_top, or_zero_left, or_zero_right}
 
 -- the totals t₀ became t: those below j of the w are F, wrapped, and the others as they were
 pub record Pass (t₀ : List ℕ) (F : ℕ → ℕ) (w j : ℕ) (t : List ℕ) : Type 0 where
-  pub inside : j ≤ w
   pub done : (k : ℕ) → k < j → get_or t k 0 ≡ F k % 2 ^ 64
   pub rest : (k : ℕ) → j ≤ k → get_or t k 0 ≡ get_or t₀ k 0
   pub size : length t ≡ widest
@@ -17,7 +16,6 @@ pub record Pass (t₀ : List ℕ) (F : ℕ → ℕ) (w j : ℕ) (t : List ℕ) :
 pub pass_none : (t : List ℕ) (F : ℕ → ℕ) (w : ℕ) → length t ≡ widest → Pass t F w 0 t
 pass_none t F w e =
     record {
-      inside = zero-le;
       done = λ k l. absurd (not-suc-le-zero l);
       rest = λ k l. refl;
       size = e;
@@ -28,7 +26,6 @@ module _ {t₀ : List ℕ} {F : ℕ → ℕ} {w j : ℕ} {t : List ℕ} (p : Pas
   pub pass_more : (x : ℕ) → j < w → w ≤ widest → x ≡ F j % 2 ^ 64 → Pass t₀ F w (j + 1) (set t j x)
   pass_more x l m e =
       record {
-        inside = omega arith;
         done = below_more (λ (k : ℕ). get_or (set t j x) k 0 ≡ F k % 2 ^ 64) j
             (λ k i. get_or-set_other t j k x 0 (λ q. omega (arith, q, i)) ∙ p.done k i)
             (get_or-set_same t j x 0 (omega (arith, p.size)) ∙ e);

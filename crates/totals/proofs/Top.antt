@@ -27,18 +27,11 @@ carry_cases a x true false s e f = absurd (omega (arith, leb-true top x e, leb-f
 carry_cases a x false true s e f = le-leb top ((a + x) % 2 ^ 64) (omega (arith, s, leb-false top x e, leb-true top (a + x) f))
 carry_cases a x false false s e f = lt-leb top ((a + x) % 2 ^ 64) (omega (arith, leb-false top (a + x) f))
 
-or_assoc : (a b c : Bool) → ((a || b) || c) ≡ (a || (b || c))
-or_assoc true b c = refl
-or_assoc false b c = refl
-
 -- the or of h, of the number x that is added to the total a, and of the wrapped sum t
-pub or_one : (h a x t : ℕ) → a < top → t ≡ (a + x) % 2 ^ 64 → leb top (bit_or (bit_or h x) t) ≡ (leb top h || leb top (a + x))
+pub or_one : (h a x t : ℕ) → a < top → t ≡ (a + x) % 2 ^ 64 → leb top (bit_or h (bit_or x t)) ≡ (leb top h || leb top (a + x))
 or_one h a x t s q =
-    or_top (bit_or h x) t
-    ∙ ap (λ (c : Bool). c || leb top t) (or_top h x)
-    ∙ or_assoc (leb top h) (leb top x) (leb top t)
-    ∙ ap (λ (n : ℕ). leb top h || (leb top x || leb top n)) q
-    ∙ ap (λ (c : Bool). leb top h || c) (carry_cases a x _ _ s refl refl)
+    or_top h (bit_or x t)
+    ∙ ap (λ (c : Bool). leb top h || c) (or_top x t ∙ ap (λ (n : ℕ). leb top x || leb top n) q ∙ carry_cases a x _ _ s refl refl)
 
 -- a sum that wrapped before it was added
 pub add_wrapped : (a x s : ℕ) → s ≡ x % 2 ^ 64 → (a + s) % 2 ^ 64 ≡ (a + x) % 2 ^ 64

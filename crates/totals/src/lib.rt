@@ -13,19 +13,17 @@ pub const TOP: u64 = 4_611_686_018_427_387_904;
 
 // Adds the row at `from` to the totals. False where a total reaches 2^62, which is seen on the number added where the total wraps.
 fn add_one(totals: &mut [u64; WIDEST], run: &[u64], from: usize, width: usize) -> bool
-    requires { (width ≤ widest) × (from + width ≤ length run.now) × Low width totals.old × (length totals.old ≡ widest) }
+    requires { (width ≤ widest) × (from + width ≤ length run.now) × Low width totals.old }
     ensures value { result ≡ not (any_below (reaches (plus_one totals.old run.now from)) width) }
     ensures long { length totals.new ≡ widest }
     ensures sums { (k : ℕ) → k < width → slice_index totals.new k ≡ plus_one totals.old run.now from k % 2 ^ 64 }
 {
     let mut high: u64 = 0;
-    let mut j = 0;
-    while j < width {
+    for j in 0..width {
         let x = run[from + j];
-        let t = std::num::wrapping_add_u64(totals[j], x);
+        let t = totals[j].wrapping_add(x);
         totals[j] = t;
-        high = high | x | t;
-        j += 1;
+        high |= x | t;
     }
     high < TOP
 }
@@ -34,9 +32,9 @@ fn add_one(totals: &mut [u64; WIDEST], run: &[u64], from: usize, width: usize) -
 fn sum_four(a: u64, b: u64, c: u64, d: u64) -> u64
     ensures { result ≡ (a + b + c + d) % 2 ^ 64 }
 {
-    let left = std::num::wrapping_add_u64(a, b);
-    let right = std::num::wrapping_add_u64(c, d);
-    std::num::wrapping_add_u64(left, right)
+    let left = a.wrapping_add(b);
+    let right = c.wrapping_add(d);
+    left.wrapping_add(right)
 }
 
 // The same of eight.
@@ -45,7 +43,7 @@ fn sum_eight(a: u64, b: u64, c: u64, d: u64, e: u64, f: u64, g: u64, h: u64) -> 
 {
     let left = sum_four(a, b, c, d);
     let right = sum_four(e, f, g, h);
-    std::num::wrapping_add_u64(left, right)
+    left.wrapping_add(right)
 }
 
 // The bits from 2^56 on that one of the eight has, 0 only where all are below 2^56. Shifted down, so that the compiler does not chain
@@ -58,7 +56,7 @@ fn high_bits(a: u64, b: u64, c: u64, d: u64, e: u64, f: u64, g: u64, h: u64) -> 
 
 // Adds the eight rows from `from` on to the totals in one pass. 0 only where all their numbers are below 2^56.
 fn add_eight(totals: &mut [u64; WIDEST], run: &[u64], from: usize, width: usize) -> u64
-    requires { (width ≤ widest) × (from + 8 * width ≤ length run.now) × (length totals.old ≡ widest) }
+    requires { (width ≤ widest) × (from + 8 * width ≤ length run.now) }
     ensures k_bound { result ≡ 0 → (k : ℕ) → k < width → eight_at run.now from width k ≤ 8 * quick_most }
     ensures long { length totals.new ≡ widest }
     ensures sums { (k : ℕ) → k < width → slice_index totals.new k ≡ plus_eight totals.old run.now from width k % 2 ^ 64 }
@@ -71,8 +69,7 @@ fn add_eight(totals: &mut [u64; WIDEST], run: &[u64], from: usize, width: usize)
     let seventh = sixth + width;
     let eighth = seventh + width;
     let mut high: u64 = 0;
-    let mut j = 0;
-    while j < width {
+    for j in 0..width {
         let a = run[from + j];
         let b = run[second + j];
         let c = run[third + j];
@@ -82,63 +79,45 @@ fn add_eight(totals: &mut [u64; WIDEST], run: &[u64], from: usize, width: usize)
         let g = run[seventh + j];
         let h = run[eighth + j];
         let sum = sum_eight(a, b, c, d, e, f, g, h);
-        let t = std::num::wrapping_add_u64(totals[j], sum);
-        totals[j] = t;
-        high = high | high_bits(a, b, c, d, e, f, g, h);
-        j += 1;
+        totals[j] = totals[j].wrapping_add(sum);
+        high |= high_bits(a, b, c, d, e, f, g, h);
     }
     high
-}
-
-// Makes all totals 0.
-fn clear(totals: &mut [u64; WIDEST])
-    requires { length totals.old ≡ widest }
-    ensures long { length totals.new ≡ widest }
-    ensures zeros { (k : ℕ) → k < widest → slice_index totals.new k ≡ 0 }
-{
-    let mut j = 0;
-    while j < WIDEST {
-        totals[j] = 0;
-        j += 1;
-    }
 }
 
 // Fills the totals, zeros at first, with those of the first rows, eight at a time, and says of how many. Where all their numbers are
 // below 2^56 no total reaches 2^62, so that none has to be looked at. Else the totals are 0, those of no row.
 fn add_eights(totals: &mut [u64; WIDEST], run: &[u64], rows: usize, width: usize) -> usize
-    requires { (width ≤ widest) × (rows ≤ most_rows) × (length run.now ≡ rows * width) × ((k : ℕ) → k < width → slice_index totals.old k ≡ 0) × (length totals.old ≡ widest) }
+    requires { (width ≤ widest) × (rows ≤ most_rows) × (length run.now ≡ rows * width) × ((k : ℕ) → k < width → slice_index totals.old k ≡ 0) }
     ensures upper_bound { result ≤ rows }
     ensures long { length totals.new ≡ widest }
     ensures sums { (k : ℕ) → k < width → slice_index totals.new k ≡ total run.now width result k }
     ensures low { Low width totals.new }
 {
-    let end = rows - rows % 8;
+    let eights = rows / 8;
     let mut high: u64 = 0;
-    let mut a = 0;
-    while a < end {
-        high = high | add_eight(totals, run, a * width, width);
-        a += 8;
+    for i in 0..eights {
+        high |= add_eight(totals, run, 8 * i * width, width);
     }
     if high == 0 {
-        return end;
+        return 8 * eights;
     }
-    clear(totals);
+    totals.fill(0);
     0
 }
 
 // Fills the totals, zeros at first, with those of all rows. False where one reaches 2^62.
 fn add_all(totals: &mut [u64; WIDEST], run: &[u64], rows: usize, width: usize) -> bool
-    requires { (width ≤ widest) × (rows ≤ most_rows) × (length run.now ≡ rows * width) × ((k : ℕ) → k < width → slice_index totals.old k ≡ 0) × (length totals.old ≡ widest) }
+    requires { (width ≤ widest) × (rows ≤ most_rows) × (length run.now ≡ rows * width) × ((k : ℕ) → k < width → slice_index totals.old k ≡ 0) }
     ensures value { result ≡ not (any_below (reaches (total run.now width rows)) width) }
     ensures long { length totals.new ≡ widest }
     ensures sums { result ≡ true → (k : ℕ) → k < width → slice_index totals.new k ≡ total run.now width rows k }
 {
-    let mut a = add_eights(totals, run, rows, width);
-    while a < rows {
+    let first = add_eights(totals, run, rows, width);
+    for a in first..rows {
         if !add_one(totals, run, a * width, width) {
             return false;
         }
-        a += 1;
     }
     true
 }
@@ -148,10 +127,7 @@ fn add_capped(total: u64, x: u64) -> u64
     requires { total ≤ top }
     ensures { result ≡ min (total + x) top }
 {
-    if TOP - total < x {
-        return TOP;
-    }
-    total + x
+    total + x.min(TOP - total)
 }
 
 // The total of one place over all rows, as far as 2^62.
@@ -161,30 +137,26 @@ pub fn total_at(run: &[u64], rows: usize, width: usize, place: usize) -> u64
     ensures small { result ≤ top }
 {
     let mut sum: u64 = 0;
-    let mut a = 0;
-    while a < rows {
+    for a in 0..rows {
         sum = add_capped(sum, run[a * width + place]);
-        a += 1;
     }
     sum
 }
 
 // Fills the totals place by place.
 fn fill_by_place(totals: &mut [u64; WIDEST], run: &[u64], rows: usize, width: usize)
-    requires { (width ≤ widest) × (length run.now ≡ rows * width) × (length totals.old ≡ widest) }
+    requires { (width ≤ widest) × (length run.now ≡ rows * width) }
     ensures long { length totals.new ≡ widest }
     ensures sums { (k : ℕ) → k < width → slice_index totals.new k ≡ capped_total run.now width rows k }
 {
-    let mut j = 0;
-    while j < width {
+    for j in 0..width {
         totals[j] = total_at(run, rows, width, j);
-        j += 1;
     }
 }
 
 // Fills the totals, zeros at first, with those of all rows, each as far as 2^62. They are summed place by place only where one reaches it.
 pub fn fill(totals: &mut [u64; WIDEST], run: &[u64], rows: usize, width: usize)
-    requires { (width ≤ widest) × (rows ≤ most_rows) × (length run.now ≡ rows * width) × ((k : ℕ) → k < width → slice_index totals.old k ≡ 0) × (length totals.old ≡ widest) }
+    requires { (width ≤ widest) × (rows ≤ most_rows) × (length run.now ≡ rows * width) × ((k : ℕ) → k < width → slice_index totals.old k ≡ 0) }
     ensures long { length totals.new ≡ widest }
     ensures sums { (k : ℕ) → k < width → slice_index totals.new k ≡ capped_total run.now width rows k }
 {

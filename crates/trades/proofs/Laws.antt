@@ -1,23 +1,21 @@
--- The answers of price and trade, test by test, and what a sound day gives them.
-use mathlib.Core.Path.{◌≡◌, refl, sym, ap, ◌∙◌}
-use mathlib.Core.Bool.{true, false}
+-- What an accepted price and an accepted trade have passed, and what a sound day gives them.
+use mathlib.Core.Path.{◌≡◌, refl, sym, ap}
+use mathlib.Core.Bool.{true}
 use mathlib.Core.List.{List}
 use Prim.Native.Nat.{ℕ, ◌+◌, ◌-◌, ◌*◌, ◌≤◌, ◌<◌}
 use native.Mathlib.Nat.{mul-le-mul}
 use native.Mathlib.Decide.{dec_lt}
 use native.Mathlib.Omega.{arith}
-use lib.Dec.{ltb}
 use lib.ListN.{length}
-use borrow.Author.Tests.{le-leb, lt-leb, lt-ltb, le-ltb, leb-false, ltb-false, eqb-false, eq-eqb, ne_eqb, not-false}
+use borrow.Author.Tests.{leb-false, ltb-false, eqb-false, not-false}
 use Rattle.sequences.specs.Every.{inside}
-use Rattle.sequences.specs.Checks.{reply, answering, answered}
+use Rattle.sequences.specs.Checks.{reply, answered}
 use Rattle.sequences.specs.Stretch.{stretch_of, over}
 use Rattle.sequences.proofs.Below.{sum_part}
 use Rattle.sequences.proofs.Every.{inside_facts}
 use Rattle.sequences.proofs.Checks.{all_passed}
 use Rattle.sequences.proofs.Stretch.{within}
-use Rattle.lots.specs.declared.Lots.{Lots}
-use Rattle.lots.specs.Lots.{sellable, lots_total}
+use Rattle.lots.specs.Lots.{lots_total}
 use Rattle.layout.specs.Day.{Day}
 use Rattle.layout.specs.Book.{cash, width_of, head_at, lots_at, head_total, line_total}
 use Rattle.rules.specs.Sound.{most_price, most_units}
@@ -28,87 +26,10 @@ use Rattle.rules.proofs.Replies.{is_accepted_lem}
 use Rattle.book.specs.Ready.{Tradable}
 use Rattle.trades.specs.Fits.{BookFits}
 
--- Price.
-
-module _ (n line p : ℕ) where
-  pub price_no_line : n ≤ line → reply 6 0 0 ≡ answered (price_checks n line p) 0
-  unfolding answering price_checks
-  price_no_line h = simp (le-leb n line h)
-
-  pub price_out : line < n → inside 1 most_price p ≡ false → reply 7 0 0 ≡ answered (price_checks n line p) 0
-  unfolding answering price_checks
-  price_out h e = simp (lt-leb n line h, e)
-
-  pub price_done : line < n → inside 1 most_price p ≡ true → reply 0 0 0 ≡ answered (price_checks n line p) 0
-  unfolding answering price_checks
-  price_done h e = simp (lt-leb n line h, e)
-
-  pub priced_line : reply 0 0 0 ≡ answered (price_checks n line p) 0 → line < n
-  unfolding price_checks
-  priced_line e = leb-false _ _ (all_passed (price_checks n line p) _ tt (is_accepted_lem _ _ refl e)).0
-
--- Trade.
-
-module _ (k n : ℕ) (b : List ℕ) (line q p seller buyer : ℕ) where
-  pub trade_no_line : n < line → reply 6 0 0 ≡ answered (trade_checks k n b line q p seller buyer) 0
-  unfolding answering trade_checks
-  trade_no_line h = simp (lt-ltb n line h)
-
-  module _ (l : line ≤ n) where
-    pub trade_quantity_out : inside 1 999_999_999 q ≡ false → reply 7 0 0 ≡ answered (trade_checks k n b line q p seller buyer) 0
-    unfolding answering trade_checks
-    trade_quantity_out e = simp (le-ltb n line l, e)
-
-    module _ (r : inside 1 999_999_999 q ≡ true) where
-      pub trade_price_out : inside 1 most_price p ≡ false → reply 7 0 0 ≡ answered (trade_checks k n b line q p seller buyer) 0
-      unfolding answering trade_checks
-      trade_price_out e = simp (le-ltb n line l, r, e)
-
-      module _ (t : inside 1 most_price p ≡ true) where
-        pub trade_no_seller : is_investor k seller ≡ false → reply 8 0 0 ≡ answered (trade_checks k n b line q p seller buyer) 0
-        unfolding answering trade_checks
-        trade_no_seller e = simp (le-ltb n line l, r, t, e)
-
-        module _ (s : is_investor k seller ≡ true) where
-          pub trade_no_buyer : is_investor k buyer ≡ false → reply 8 0 0 ≡ answered (trade_checks k n b line q p seller buyer) 0
-          unfolding answering trade_checks
-          trade_no_buyer e = simp (le-ltb n line l, r, t, s, e)
-
-          module _ (u : is_investor k buyer ≡ true) where
-            pub trade_one : seller ≡ buyer → reply 8 0 0 ≡ answered (trade_checks k n b line q p seller buyer) 0
-            unfolding answering trade_checks
-            trade_one e = simp (le-ltb n line l, r, t, s, u, eq-eqb seller buyer e)
-
-            -- the rest is the means
-            pub trade_rest : (seller ≡ buyer → ⊥) → answered (trade_means n b line q (q * p) seller buyer) 0 ≡ answered (trade_checks k n b line q p seller buyer) 0
-            unfolding answering trade_checks
-            trade_rest e = simp (le-ltb n line l, r, t, s, u, ne_eqb seller buyer e)
-
--- the means as the code reads them: w is the width, x the seller's lots, and held what may be sold of them
-module _ (n : ℕ) (b : List ℕ) (line q m seller buyer w : ℕ) (x : Lots) (held : ℕ)
-    (ew : w ≡ width_of n) (ex : x ≡ lots_at (stretch_of w b seller) line) (eh : held ≡ sellable x) where
-  held_is : sellable (lots_at (stretch_of (width_of n) b seller) line) ≡ held
-  held_is = ap sellable (ap (λ (v : ℕ). lots_at (stretch_of v b seller) line) (sym ew) ∙ sym ex) ∙ sym eh
-
-  pub means_short : held < q → reply 9 0 0 ≡ answered (trade_means n b line q m seller buyer) 0
-  unfolding answering trade_means
-  means_short h = simp (lt-ltb (sellable (lots_at (stretch_of (width_of n) b seller) line)) q (omega (arith, held_is)))
-
-  -- and own the buyer's cash
-  module _ (own : ℕ) (eo : own ≡ head_at (stretch_of w b buyer) cash) (h : q ≤ held) where
-    cash_is : head_at (stretch_of (width_of n) b buyer) cash ≡ own
-    cash_is = ap (λ (v : ℕ). head_at (stretch_of v b buyer) cash) (sym ew) ∙ sym eo
-
-    stocked : ltb (sellable (lots_at (stretch_of (width_of n) b seller) line)) q ≡ false
-    stocked = le-ltb (sellable (lots_at (stretch_of (width_of n) b seller) line)) q (omega (arith, held_is))
-
-    pub means_cash : own < m → reply 10 0 0 ≡ answered (trade_means n b line q m seller buyer) 0
-    unfolding answering trade_means
-    means_cash g = simp (stocked, lt-ltb (head_at (stretch_of (width_of n) b buyer) cash) m (omega (arith, cash_is)))
-
-    pub means_done : m ≤ own → reply 0 0 0 ≡ answered (trade_means n b line q m seller buyer) 0
-    unfolding answering trade_means
-    means_done g = simp (stocked, le-ltb (head_at (stretch_of (width_of n) b buyer) cash) m (omega (arith, cash_is)))
+-- an accepted price has its component
+pub priced_line : (n line p : ℕ) → reply 0 0 0 ≡ answered (price_checks n line p) 0 → line < n
+unfolding price_checks
+priced_line n line p e = leb-false _ _ (all_passed (price_checks n line p) _ tt (is_accepted_lem _ _ refl e)).0
 
 -- an account of the fits
 pub in_book : {k n : ℕ} {b : List ℕ} → BookFits k n b → (a : ℕ) → a < k → a * width_of n + width_of n ≤ length b

@@ -1,17 +1,15 @@
 // The reference value of a day, from its components and prices.
 #![tactic(auto)]
 
-ghost use Rattle.std.specs.Prelude.{true, ◌≡◌, ◌+◌, ◌*◌, ◌≤◌, length};
+ghost use Rattle.std.specs.Prelude.{true, ◌≡◌, ◌+◌, ◌*◌, ◌≤◌};
 ghost use Rattle.sequences.specs.Checks.{answered};
 ghost use Rattle.units.specs.Units.{rounded};
 ghost use Rattle.fund.specs.Fund.{cash_in_range};
-ghost use Rattle.layout.specs.Places.{basket_width};
-ghost use Rattle.layout.specs.Day.{day_of};
 ghost use Rattle.rules.specs.Value.{cash_added, cash_taken, value_checks, reference_value};
 ghost use Rattle.rules.specs.Replies.{value_answer_reply};
 ghost use Rattle.value.specs.Worth.{worth, lacks, value_from, Countable, Priceable};
 
-use layout::{Component, DayHead};
+use layout::{Component, DayView};
 use rules::Refusal;
 use units::{Money, ReferenceValue};
 
@@ -89,26 +87,21 @@ fn value_with(sum: Money, added: Money, taken: Money, size: u64) -> Result<Refer
 }
 
 // Refusal 14, or the value. It looks at the day and the prices only.
-pub fn reference_value(
-    d: DayHead,
-    basket: &[u64],
-    prices: &[u64],
-) -> Result<ReferenceValue, Refusal>
-    requires priceable { Priceable (day_of d basket.now) prices.now }
-    requires basket_len { length basket.now ≡ basket_width }
-    ensures { value_answer_reply result ≡ answered (value_checks (day_of d basket.now) prices.now) (reference_value (day_of d basket.now) prices.now) }
+pub fn reference_value(day: &DayView, prices: &[u64]) -> Result<ReferenceValue, Refusal>
+    requires { Priceable day.now prices.now }
+    ensures { value_answer_reply result ≡ answered (value_checks day.now prices.now) (reference_value day.now prices.now) }
 {
     let mut sum = Money(0);
-    for i in 0..d.count {
-        let c = layout::component_of(basket, i);
+    for i in 0..day.count() {
+        let component = day.component(i);
         let price = prices[i];
-        if lacks_price(c, price) {
+        if lacks_price(component, price) {
             return Err(Refusal::NoReferenceValue);
         }
-        sum = sum.plus(worth_of(c, price));
+        sum = sum.plus(worth_of(component, price));
     }
-    let e = d.fund.estimated_cash;
-    let added = cash_added(e);
-    let taken = cash_taken(e);
-    value_with(sum, added, taken, d.fund.basket_size)
+    let fund = day.fund();
+    let added = cash_added(fund.estimated_cash);
+    let taken = cash_taken(fund.estimated_cash);
+    value_with(sum, added, taken, fund.basket_size)
 }

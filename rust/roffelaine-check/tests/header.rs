@@ -370,20 +370,26 @@ fn rows_have_the_same_kinds_everywhere() {
     assert_eq!(header, expected, "header");
 }
 
-/// The numbers of a block of the header, and those of the crate `rules` whose
-/// names have an end.
+/// The variants of an enum of the crate `rules`, each with its number.
+fn in_rules(name: &str) -> BTreeMap<String, u64> {
+    let rules = crate_source("rules");
+    let variants = block(&rules, &format!("pub enum {name} {{"), "}");
+    let numbers = named_numbers(&variants, "", " = ");
+    let named = numbers.into_iter();
+    named
+        .map(|(variant, number)| (constant_name(&variant), number))
+        .collect()
+}
+
+/// The numbers of a block of the header, and those of an enum of the crate
+/// `rules`.
 fn in_header_and_rules(
     (block_start, prefix): (&str, &str),
-    ending: &str,
+    name: &str,
 ) -> [BTreeMap<String, u64>; 2] {
-    let (header, rules) = (header(), crate_source("rules"));
+    let header = header();
     let block = block(&header, block_start, "};");
-    let lines: Vec<&str> = rules.lines().collect();
-    let ending = format!("{ending}: u64 = ");
-    [
-        named_numbers(&block, prefix, " = "),
-        named_numbers(&lines, "pub const ", &ending),
-    ]
+    [named_numbers(&block, prefix, " = "), in_rules(name)]
 }
 
 #[test]
@@ -394,7 +400,7 @@ fn types_of_reports_have_the_same_numbers_everywhere() {
     let block = ("enum roffelaine_report_type {", "ROFFELAINE_REPORT_");
     let expected = BTreeMap::from(named);
     assert_eq!(
-        in_header_and_rules(block, "_REPORT"),
+        in_header_and_rules(block, "ReportType"),
         [expected.clone(), expected]
     );
 }
@@ -407,7 +413,7 @@ fn kinds_of_cash_have_the_same_numbers_everywhere() {
     let block = ("enum roffelaine_cash_kind {", "ROFFELAINE_CASH_");
     let expected = BTreeMap::from(named);
     assert_eq!(
-        in_header_and_rules(block, "_KIND"),
+        in_header_and_rules(block, "CashKind"),
         [expected.clone(), expected]
     );
 }
@@ -426,8 +432,5 @@ fn sides_have_the_same_numbers_everywhere() {
     let header: Vec<&str> = header.split(',').collect();
     let header = named_numbers(&header, "ROFFELAINE_SIDE_", " = ");
     assert_eq!(header, expected, "header");
-    let rules = crate_source("rules");
-    let rules: Vec<&str> = rules.lines().collect();
-    let rules = named_numbers(&rules, "pub const SIDE_", ": u64 = ");
-    assert_eq!(rules, expected, "crate rules");
+    assert_eq!(in_rules("Side"), expected, "crate rules");
 }

@@ -5,5 +5,5 @@ use Rattle.c_interface.proofs.roffelaine_price.Goals as goal
 
 pub returns : goal.returns
 returns c =
-    let told = told_as (c.of_answer.ensures ∙ c.price-answer.ensures.result_value) c.tell.ensures in
+    let told = told_as (c.from.ensures ∙ c.price-answer.ensures.result_value) c.tell.ensures in
     record { told = told; prices = c.price-answer.ensures.prices }

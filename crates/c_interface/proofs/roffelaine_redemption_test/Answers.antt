@@ -6,5 +6,5 @@ use Rattle.c_interface.proofs.roffelaine_redemption_test.Goals as goal
 pub returns : goal.returns
 returns c =
     let made = c.redemption_test-answer.ensures in
-    let told = told_order_as (c.of_order.ensures ∙ made) c.tell_order.ensures in
+    let told = told_order_as (c.from.ensures ∙ made) c.tell_order.ensures in
     told

@@ -6,5 +6,5 @@ use Rattle.c_interface.proofs.roffelaine_reference_value.Goals as goal
 pub returns : goal.returns
 returns c =
     let made = c.reference_value-answer.ensures in
-    let told = told_as (c.of_value.ensures ∙ made) c.tell.ensures in
+    let told = told_as (c.from.ensures ∙ made) c.tell.ensures in
     told

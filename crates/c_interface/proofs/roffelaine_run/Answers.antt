@@ -4,4 +4,4 @@ use Rattle.flat_calls.proofs.Laws.{told_as}
 use Rattle.c_interface.proofs.roffelaine_run.Goals as goal
 
 pub returns-clause-told : goal.returns-clause-told
-returns-clause-told c = told_as (c.of_answer.ensures ∙ c.run-answer.ensures.result_value) c.tell.ensures
+returns-clause-told c = told_as (c.from.ensures ∙ c.run-answer.ensures.result_value) c.tell.ensures

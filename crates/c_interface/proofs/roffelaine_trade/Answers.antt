@@ -5,5 +5,5 @@ use Rattle.c_interface.proofs.roffelaine_trade.Goals as goal
 
 pub returns : goal.returns
 returns c =
-    let told = told_as (c.of_answer.ensures ∙ c.trade-answer.ensures.result_value) c.tell.ensures in
+    let told = told_as (c.from.ensures ∙ c.trade-answer.ensures.result_value) c.tell.ensures in
     record { told = told; book = c.trade-answer.ensures.book }

@@ -1,12 +1,11 @@
 -- `day::create` meets its contract: the order of a creation, with nothing known of the day.
 use mathlib.Core.Path.{◌∙◌}
 use mathlib.Core.Bool.{false≢true}
-use native.Mathlib.Omega.{arith}
 use Rattle.rules.proofs.Asked.{creation_asked, created_book_lem, created_lists_lem}
 use Rattle.day.proofs.create.Goals as goal
 
 pub order-requires : goal.order-requires
-order-requires c = record { prices_value = λ q. absurd (false≢true q); kind_bound = rw c.creation-ask.ensures (omega arith) }
+order-requires c q = absurd (false≢true q)
 
 pub returns : goal.returns
 returns c =

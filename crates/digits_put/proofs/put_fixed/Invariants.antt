@@ -4,6 +4,3 @@ use Rattle.digits_put.proofs.put_fixed.Given as goal
 
 abbrev pub invariant-loop-i : goal.invariant-loop-i
 invariant-loop-i l = FixedFrom l.initial.dst l.at l.k l.n l.dst l.m l.i
-
-abbrev pub decreases-loop-i : goal.decreases-loop-i
-decreases-loop-i l = l.i

@@ -1,17 +1,16 @@
-use Rattle.std.proofs.Common.{sym, refl, ◌∙◌, zero-le, drop_of_length-le, rules}
-use mathlib.Core.Bool.{and-true}
+-- `digits_scan::is_blank` meets its contract: after each byte the fold holds whether the bytes so far are blanks.
+use Rattle.std.proofs.Common.{◌≡◌, true, [], subst, rules, tests, refl}
+use Rattle.std.proofs.lemmas.Fn.{fold_over, slice_gives, fronts}
 use Rattle.digits.specs.Digits.{blanks, all_blank}
-use Rattle.digits_scan.proofs.Blank.{tested_again}
+use Rattle.digits_scan.proofs.Blank.{blank_more}
 use Rattle.digits_scan.proofs.is_blank.Goals as goal
 
-pub loop-i-init : goal.loop-i-init
-loop-i-init c = record { within = zero-le; whole = refl }
-
-pub loop-i-preserved : goal.loop-i-preserved
-loop-i-preserved c = tested_again _ _ _ c.loop-i.invariant (search rules)
+empty : true ≡ all_blank []
+unfolding all_blank blanks
+empty = refl
 
 pub returns : goal.returns
-unfolding all_blank blanks
 returns c =
-    let v = c.loop-i.invariant in
-    sym (v.whole ∙ rw (drop_of_length-le _ c.loop-i-test.false) (and-true _))
+    subst (λ s. c.fold.result ≡ all_blank s) c.iter.ensures.rest
+    (fold_over fronts (λ y. y.now) _ (λ ys good. good ≡ all_blank ys) _ (λ ys a x b f' j k. let more = blank_more ys x.now in search (rules, tests))
+    _ _ _ _ (slice_gives c.iter.result) empty c.fold.ensures.ran)

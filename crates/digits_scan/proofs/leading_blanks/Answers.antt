@@ -1,15 +1,14 @@
-use Rattle.std.proofs.Common.{arith}
-use Rattle.digits.proofs.Sign.{blank_start, blank_again, blank_other, blank_end}
+-- `digits_scan::leading_blanks` meets its contract: what stands before the first other byte, or the whole field, is blanks.
+use Rattle.std.proofs.Common.{not, eqb, rules, tests, arith}
+use Rattle.std.proofs.lemmas.Iterator.{YieldsList-from_slice}
+use Rattle.std.proofs.lemmas.Iterator.Search.{position_from_yields_List}
+use Rattle.std.proofs.lemmas.Bool.Decides.{nat_tests}
+use Rattle.digits_scan.proofs.Blank.{blanks_are, blanks_within}
 use Rattle.digits_scan.proofs.leading_blanks.Goals as goal
 
-pub loop-i-init : goal.loop-i-init
-loop-i-init c = blank_start _
-
-pub returns-then-s-i-ne32 : goal.returns-then-s-i-ne32
-returns-then-s-i-ne32 c = blank_other _ _ c.loop-i.invariant (omega arith) c.if-s-i-ne32.true
-
-pub loop-i-preserved : goal.loop-i-preserved
-loop-i-preserved c = blank_again _ _ c.loop-i.invariant (omega arith) c.if-s-i-ne32.false
-
 pub returns : goal.returns
-returns c = blank_end _ _ c.loop-i.invariant c.loop-i-test.false
+returns c =
+    let found = position_from_yields_List (λ b. not (eqb b 32)) _ _ c.position.result c.position.ensures.ran (YieldsList-from_slice c.args.s.now cc) (λ x b q k. search (rules, tests)) in
+    let are = blanks_are c.args.s.now in
+    let within = blanks_within c.args.s.now in
+    grind (arith, nat_tests)

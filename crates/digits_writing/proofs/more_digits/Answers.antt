@@ -1,12 +1,10 @@
-use native.Mathlib.Omega.{arith}
-use Rattle.digits.proofs.Count.{passed_start, passed_again, passed_end}
+-- `digits_writing::more_digits` meets its contract: the logarithm counts the digits after the first, and 0 has none.
+use Rattle.std.proofs.Common.{arith}
+use Rattle.digits.proofs.Count.{tens_of_power, tens_none}
 use Rattle.digits_writing.proofs.more_digits.Goals as goal
 
-pub loop-m-init : goal.loop-m-init
-loop-m-init c = passed_start _ (omega arith)
-
-pub loop-m-preserved : goal.loop-m-preserved
-loop-m-preserved c = passed_again _ _ _ c.loop-m.invariant c.loop-m-test.true
+pub returns-then-n-eq0 : goal.returns-then-n-eq0
+returns-then-n-eq0 c = (tens_none _ c.if-n-eq0.true, omega arith)
 
 pub returns : goal.returns
-returns c = passed_end _ _ _ c.loop-m.invariant c.loop-m-test.false
+returns c = (tens_of_power _ _ (omega arith) c.ilog10.ensures.power_le c.ilog10.ensures.next_power_gt, omega (arith, c.ilog10.ensures.bound))

@@ -1,12 +1,7 @@
-use native.Mathlib.Omega.{arith}
-use Rattle.digits.proofs.Count.{power_more, power_fits, power_end}
+-- `digits_writing::power` meets its contract: no power up to the ninth is too large.
+use Rattle.std.proofs.Common.{arith}
+use Rattle.digits.proofs.Count.{power_fits}
 use Rattle.digits_writing.proofs.power.Goals as goal
 
-pub loop-i-preserved : goal.loop-i-preserved
-loop-i-preserved c = (omega arith, power_more _ _ c.loop-i.invariant.1)
-
-pub returns : goal.returns
-returns c = power_end _ _ _ c.loop-i.invariant.1 (omega arith)
-
-pub overflow_mul-p : goal.overflow_mul-p
-overflow_mul-p c = omega (arith, power_fits c.loop-i.i (omega arith))
+pub pow-requires : goal.pow-requires
+pow-requires c = omega (arith, power_fits c.args.k c.requires)

@@ -17,8 +17,8 @@ pub returns : goal.returns
 returns c =
     let runs = lent_of c.args.records.now c.args.investor.now c.args.fund.now in
     let met =
-    parts_meet _ _ _ runs c.args.ask c.requires.kind_bound.0 (spans_in c.args.row.now) _ _ _ _ _ _
+    parts_meet _ _ _ runs c.args.ask (spans_in c.args.row.now) _ _ _ _ _ _
     c.part_in-r.ensures.start_value c.part_in-r.ensures.end c.part_in-i.ensures.start_value c.part_in-i.ensures.end
     c.part_in-f.ensures.start_value c.part_in-f.ensures.end _ _ _ _ _
     c.order-answer.ensures.result_value c.order-answer.ensures.book c.order-answer.ensures.lists in
-    record { result_value = c.of_order.ensures ∙ met.0; left = met.1 }
+    record { result_value = c.from.ensures ∙ met.0; left = met.1 }

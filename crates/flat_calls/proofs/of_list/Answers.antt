@@ -1,10 +1,10 @@
 -- `flat_calls::of_list` meets its contract: case by case.
-use mathlib.Core.Path.{sym, ap, ◌∙◌}
+use Rattle.std.proofs.Common.{sym, ap, ◌∙◌}
 use Rattle.list_rules.specs.Replies.{list_reply}
 use Rattle.flat_calls.proofs.of_list.Goals as goal
 
-pub returns-in-Done : goal.returns-in-Done
-returns-in-Done c = ap list_reply (sym c.in-Done.is)
+pub returns-in-Ok : goal.returns-in-Ok
+returns-in-Ok c = ap list_reply (sym c.in-Ok.is)
 
-pub returns-in-Refused : goal.returns-in-Refused
-returns-in-Refused c = c.of_refusal.ensures ∙ ap list_reply (sym c.in-Refused.is)
+pub returns-in-Err : goal.returns-in-Err
+returns-in-Err c = c.from.ensures ∙ ap list_reply (sym c.in-Err.is)

@@ -8,10 +8,10 @@ use Rattle.sequences.proofs.Below.{first_none}
 use Rattle.layout.specs.Places.{most_components}
 use Rattle.layout.specs.declared.Component.{Component}
 use Rattle.layout.specs.Components.{blank, component_at, places_of}
-use Rattle.fund.specs.Components.{fits, component_fault}
+use Rattle.fund.specs.Components.{fits}
 use Rattle.fund.proofs.Laws.{before_none, before_more}
 use Rattle.layout.proofs.Components.{places_at}
-use Rattle.fund.proofs.Search.{stops, goes_on}
+use Rattle.fund.proofs.Search.{stops, goes_on, ends}
 use Rattle.fund.proofs.run_fault.Goals as goal
 
 -- the places of a run
@@ -27,28 +27,26 @@ module _ (run : List ℕ) (n i : ℕ) (low : i < n) (most : n ≤ most_component
   tested g previous r a = ap not (ap (fits g i previous) (sym placed) ∙ sym a)
 
 pub loop-i-init : goal.loop-i-init
-loop-i-init c = (omega arith, first_none _, sym (before_none _))
+loop-i-init c = (first_none _, sym (before_none _))
 
 pub returns-then-not-component_fits : goal.returns-then-not-component_fits
 returns-then-not-component_fits c =
     let inv = c.loop-i.invariant in
     let read = c.component_at-c in
-    let low = c.loop-i-test.true in
-    sym (stops _ _ _ _ _ inv.1 inv.2 low (tested _ _ _ low (omega arith) read.result read.ensures _ _ _ c.component_fits.ensures ∙ ap not c.if-not-component_fits.true))
+    let low : c.loop-i.i < c.args.count = omega arith in
+    stops _ _ c.args.count _ _ inv.0 inv.1 low (tested _ _ _ low (omega arith) read.result read.ensures _ _ _ c.component_fits.ensures ∙ ap not c.if-not-component_fits.true)
 
 pub loop-i-preserved : goal.loop-i-preserved
 loop-i-preserved c =
     let inv = c.loop-i.invariant in
     let read = c.component_at-c in
     let count = c.args.count in
-    let low = c.loop-i-test.true in (
-      omega arith,
-      goes_on _ _ count _ _ inv.1 inv.2 (tested _ _ _ low (omega arith) read.result read.ensures _ _ _ c.component_fits.ensures ∙ ap not c.if-not-component_fits.false),
+    let low : c.loop-i.i < count = omega arith in (
+      goes_on _ _ count _ _ inv.0 inv.1 (tested _ _ _ low (omega arith) read.result read.ensures _ _ _ c.component_fits.ensures ∙ ap not c.if-not-component_fits.false),
       ap (λ (x : Component). x.code) (placed _ _ _ low (omega arith) read.result read.ensures) ∙ sym (before_more _ _),
     )
 
 pub returns : goal.returns
-unfolding component_fault
 returns c =
     let e : c.loop-i.i ≡ c.args.count = omega arith in
-    rw e (sym (rw e at c.loop-i.invariant.1))
+    ends _ _ _ (rw e at c.loop-i.invariant.0)

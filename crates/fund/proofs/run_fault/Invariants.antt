@@ -1,7 +1,6 @@
 -- `fund::run_fault` meets its contract. The loop's invariant: no component below `i` is at fault, and `previous` is the code before the
 -- `i`-th.
 use mathlib.Core.Path.{◌≡◌}
-use Prim.Native.Nat.{◌≤◌, ◌-◌}
 use Rattle.sequences.specs.Below.{first_below}
 use Rattle.layout.specs.Components.{component_at, places_of}
 use Rattle.fund.specs.Components.{fault_at}
@@ -10,7 +9,4 @@ use Rattle.fund.proofs.run_fault.Given as goal
 
 abbrev pub invariant-loop-i : goal.invariant-loop-i
 invariant-loop-i l =
-    (l.i ≤ l.count) × (first_below (fault_at l.first_code (places_of (component_at l.run) l.count)) l.i ≡ l.i) × (l.previous ≡ code_before (places_of (component_at l.run) l.count) l.i)
-
-abbrev pub decreases-loop-i : goal.decreases-loop-i
-decreases-loop-i l = l.count - l.i
+    (first_below (fault_at l.first_code (places_of (component_at l.run) l.count)) l.i ≡ l.i) × (l.previous ≡ code_before (places_of (component_at l.run) l.count) l.i)

@@ -1,8 +1,14 @@
--- `layout::limits_at` meets its contract: it reads the eight limits one by one.
-use native.Mathlib.Nat.{add-zero}
-use Rattle.sequences.specs.Below.{tabulate}
+-- `layout::limits_at` meets its contract: the eight limits are those from the place on.
+use Rattle.std.proofs.lemmas.Grind.{elements}
+use native.Mathlib.Omega.{arith}
+use lib.ListN.{get_or}
+use Prim.Native.Nat.{◌+◌}
+use Rattle.sequences.proofs.Below.{table_ext}
+use Rattle.layout.specs.Places.{limit_count}
 use Rattle.layout.proofs.limits_at.Goals as goal
 
 pub returns : goal.returns
-unfolding tabulate
-returns c = rw (add-zero c.args.at)
+returns c =
+    let a = c.args in
+    table_ext (λ k. get_or a.run.now (a.at + k) 0) limit_count 0 c.copy_from_slice.new.self c.copy_from_slice.ensures.len
+    (λ k h. rw c.copy_from_slice.ensures.after (grind (arith, elements)))

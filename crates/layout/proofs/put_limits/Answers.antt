@@ -1,12 +1,9 @@
+-- `layout::put_limits` meets its contract: the limits stand in the place of the part of the run.
+use Rattle.std.proofs.Common.{rules}
 use native.Mathlib.Omega.{arith}
-use Rattle.layout.proofs.Stored.{stored_none, stored_more, stored_all}
+use Rattle.layout.proofs.Stored.{limits_stored}
 use Rattle.layout.proofs.put_limits.Goals as goal
 
-pub loop-k-init : goal.loop-k-init
-loop-k-init c = stored_none _ _ _ _
-
-pub loop-k-preserved : goal.loop-k-preserved
-loop-k-preserved c = stored_more _ _ _ _ _ _ (omega arith) c.loop-k.invariant
-
 pub returns : goal.returns
-returns c = stored_all _ _ _ _ _ _ (omega arith) c.loop-k.invariant
+returns c =
+    limits_stored c.args.run.now c.args.limits c.args.at _ _ (search rules) (omega arith) c.requires c.copy_from_slice.ensures.after

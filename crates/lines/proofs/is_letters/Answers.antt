@@ -1,19 +1,12 @@
-use mathlib.Core.Path.{sym, ◌∙◌}
-use borrow.Author.Rules.{rules}
+-- `lines::is_letters` meets its contract: the test holds at each byte.
+use Rattle.std.proofs.Common.{◌∙◌, rules, tests}
+use Rattle.std.proofs.lemmas.Iterator.{YieldsList-from_slice}
+use Rattle.std.proofs.lemmas.Iterator.Search.{all_from_yields_List}
 use Rattle.lines.specs.Lines.{letter_byte}
-use Rattle.lines.proofs.Turns.{pass_start, pass_again, pass_other, pass_end}
+use Rattle.lines.proofs.Turns.{all_is}
 use Rattle.lines.proofs.is_letters.Goals as goal
 
-pub loop-i-init : goal.loop-i-init
-loop-i-init c = pass_start letter_byte _
-
-pub returns-then-not-letter_byte : goal.returns-then-not-letter_byte
-returns-then-not-letter_byte c =
-    pass_other letter_byte _ _ c.loop-i.invariant (search rules) (sym c.letter_byte.ensures ∙ c.if-not-letter_byte.true)
-
-pub loop-i-preserved : goal.loop-i-preserved
-loop-i-preserved c =
-    pass_again letter_byte _ _ c.loop-i.invariant (search rules) (sym c.letter_byte.ensures ∙ c.if-not-letter_byte.false)
-
 pub returns : goal.returns
-returns c = pass_end letter_byte _ _ c.loop-i.invariant c.loop-i-test.false
+returns c =
+    all_from_yields_List letter_byte _ _ c.all.result c.all.ensures.ran (YieldsList-from_slice c.args.s.now cc) (λ x b q k. search (rules, tests))
+    ∙ all_is letter_byte c.args.s.now

@@ -1,18 +1,18 @@
-use mathlib.Core.Path.{sym, ◌∙◌}
-use borrow.Author.Rules.{rules}
-use Rattle.lines.proofs.Turns.{scan_start, scan_again, scan_found, scan_end}
+use Rattle.std.proofs.Common.{sym, ◌∙◌, arith}
+use Rattle.lines.proofs.Turns.{line_ends, line_goes_on, no_line}
 use Rattle.lines.proofs.line_len.Goals as goal
-
-pub loop-i-init : goal.loop-i-init
-loop-i-init c = scan_start _
 
 pub returns-then-end_at : goal.returns-then-end_at
 returns-then-end_at c =
-    scan_found _ _ c.loop-i.invariant (search rules) (sym c.end_at.ensures ∙ c.if-end_at.true)
+    let e = line_ends _ _ (omega arith) (sym c.end_at.ensures ∙ c.if-end_at.true) in
+    (omega arith, omega arith)
 
 pub loop-i-preserved : goal.loop-i-preserved
 loop-i-preserved c =
-    scan_again _ _ c.loop-i.invariant (search rules) (sym c.end_at.ensures ∙ c.if-end_at.false)
+    let e = line_goes_on _ _ (omega arith) (sym c.end_at.ensures ∙ c.if-end_at.false) in
+    omega arith
 
 pub returns : goal.returns
-returns c = scan_end _ _ c.loop-i.invariant c.loop-i-test.false
+returns c =
+    let e = no_line c.args.s.now c.loop-i.i (omega arith) in
+    (omega arith, omega arith)

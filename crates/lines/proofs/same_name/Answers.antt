@@ -1,24 +1,18 @@
-use borrow.Author.Rules.{rules}
+-- `lines::same_name` meets its contract: the two have one length, and are the same in lower case at each place.
+use Rattle.std.proofs.Common.{ℕ, eqb, ◌∙◌, rules, tests, ne_eqb}
+use Rattle.std.proofs.lemmas.Iterator.{YieldsList-from_slice, YieldsList-from_zip}
+use Rattle.std.proofs.lemmas.Iterator.Search.{all_from_yields_List}
 use Rattle.lines.specs.Lines.{lower, same_in_any_case}
-use Rattle.lines.proofs.Turns.{same_long, same_start, same_again, same_other, same_end}
+use Rattle.lines.proofs.Turns.{same_pairs, same_long}
 use Rattle.lines.proofs.same_name.Goals as goal
 
 pub returns-then-a-b : goal.returns-then-a-b
 unfolding same_in_any_case
-returns-then-a-b c = same_long lower _ _ c.if-a-b.true
+returns-then-a-b c =
+    all_from_yields_List (λ (p : ℕ × ℕ). eqb (lower p.0) (lower p.1)) c.all.new.self _ c.all.result c.all.ensures.ran
+    (YieldsList-from_zip (YieldsList-from_slice c.args.a.now cc) (YieldsList-from_slice c.args.b.now cc)) (λ x b q k. search (rules, tests))
+    ∙ same_pairs lower c.args.a.now c.args.b.now c.if-a-b.true
 
-pub loop-i-init : goal.loop-i-init
-loop-i-init c = same_start lower _ _ (search rules)
-
-pub returns-then-lower_byte : goal.returns-then-lower_byte
+pub returns-else-a-b : goal.returns-else-a-b
 unfolding same_in_any_case
-returns-then-lower_byte c =
-    same_other lower _ _ _ c.loop-i.invariant (search rules) (λ e. c.if-lower_byte.true (cc))
-
-pub loop-i-preserved : goal.loop-i-preserved
-loop-i-preserved c =
-    same_again lower _ _ _ c.loop-i.invariant (search rules) (cc)
-
-pub returns : goal.returns
-unfolding same_in_any_case
-returns c = same_end lower _ _ _ c.loop-i.invariant c.loop-i-test.false
+returns-else-a-b c = ne_eqb _ _ c.if-a-b.false ∙ same_long lower _ _ c.if-a-b.false

@@ -1,21 +1,22 @@
 -- `list_shape::shape_of` meets its contract: a wrong line of the head, or what stands behind it.
-use native.Mathlib.Omega.{arith}
-use Rattle.list_rules.proofs.Lent.{fields_well_lem}
-use Rattle.list_shape.proofs.Shaped.{shaped_at, shaped_head, head_whole, lines_many, head_found}
+use mathlib.Core.Path.{◌≡◌, ap, subst⁻¹, ◌∙◌}
+use mathlib.Core.List.{List}
+use Rattle.std.proofs.Common.{Err, rules}
+use Rattle.text_rules.specs.Tables.{Field}
+use Rattle.text_head.specs.Head.{shape_found}
+use Rattle.list_shape.specs.Shape.{Shaped}
+use Rattle.list_shape.proofs.Shaped.{head_off, head_on}
 use Rattle.list_shape.proofs.shape_of.Goals as goal
 
-pub head_shape-head-requires : goal.head_shape-head-requires
-head_shape-head-requires c =
-    let f = c.requires.0 in
-    record { names_value = fields_well_lem _ _ f; names_len = f.all_named }
-
-pub returns-then-head : goal.returns-then-head
-returns-then-head c =
-    let found = head_found _ _ c.requires.0 _ _ c.head_shape-head.ensures.value in
-    shaped_at _ _ _ c.wrong_at.ensures (shaped_head _ _ found (omega (arith, lines_many, c.if-head.true)))
+pub returns-in_err-start : goal.returns-in_err-start
+returns-in_err-start c =
+    let found = c.head_shape.ensures.0 ∙ ap (λ (fs : List Field). shape_found fs c.args.text.now) c.field_table.ensures in
+    let h = head_off _ _ found _ c.in_err-start.was in
+    let same : c.from_residual.result ≡ Err c.in_err-start.field-0.0 = search rules in
+    subst⁻¹ (Shaped c.args.text.now) same h
 
 pub body_shape-requires : goal.body_shape-requires
 body_shape-requires c =
-    let found = head_found _ _ c.requires.0 _ _ c.head_shape-head.ensures.value in
-    let w = head_whole _ _ found c.head_shape-head.ensures.place_in_bounds (omega (arith, lines_many, c.if-head.false)) in
-    record { columns_lent = (c.requires.1, w.0); start_value = w.1 }
+    let found = c.head_shape.ensures.0 ∙ ap (λ (fs : List Field). shape_found fs c.args.text.now) c.field_table.ensures in
+    let h = head_on _ _ found _ c.in_ok-start.was in
+    record { head_stands = h.0; start_value = (h.1, c.in_ok-start.ensures.1) }

@@ -1,34 +1,32 @@
 -- `list_writing::write` meets its contract: an accepted answer writes the text, a refused one changes nothing.
-use mathlib.Core.Path.{refl}
-use Rattle.flags.specs.Table.{flag_table}
+use Rattle.std.proofs.Common.{◌≡◌, Err, rules}
+use mathlib.Core.Path.{subst⁻¹}
 use Rattle.list_rules.specs.Writing.{listing}
-use Rattle.list_rules.proofs.Lent.{fields_lent}
+use Rattle.list_writing.specs.Outcome.{WriteOutcome}
 use Rattle.list_writing.proofs.Outcomes.{outcome_written, outcome_refused, accepted_list}
 use Rattle.list_writing.proofs.write.Goals as goal
 
-pub write_answer-answer-requires : goal.write_answer-answer-requires
-write_answer-answer-requires c = (fields_lent _ _ c.field_rows-field_rows.ensures c.names-labels.ensures, c.columns-columns.ensures)
-
-pub put_list-requires : goal.put_list-requires
-unfolding flag_table
-put_list-requires c =
+pub returns-in_err-size : goal.returns-in_err-size
+returns-in_err-size c =
     let a = c.args in
     let l = listing a.fields a.run.now a.names.now a.letters.now in
-    let accepted = accepted_list l a.output.now _ c.write_answer-answer.ensures _ c.in-Done.is in
-    record {
-      fields_lent = (fields_lent _ _ c.field_rows-field_rows.ensures c.names-labels.ensures, c.columns-columns.ensures, refl);
-      letters_value = accepted.0;
-      letters_in_bounds = accepted.1;
-    }
+    let same : c.from_residual.result ≡ Err c.in_err-size.field-0.0 = search rules in
+    subst⁻¹ (λ r. WriteOutcome l a.output.now r a.output.now) same (outcome_refused l _ _ c.in_err-size.ensures)
 
-pub returns-in-Done : goal.returns-in-Done
-returns-in-Done c =
+pub put_list-requires-clause-passing : goal.put_list-requires-clause-passing
+put_list-requires-clause-passing c =
     let a = c.args in
     let l = listing a.fields a.run.now a.names.now a.letters.now in
-    outcome_written l _ _ c.write_answer-answer.ensures _ _ c.in-Done.is c.put_list.ensures
+    (accepted_list l a.output.now _ c.in_ok-size.ensures).0
 
-pub returns-in-Refused : goal.returns-in-Refused
-returns-in-Refused c =
+pub put_list-requires-clause-room : goal.put_list-requires-clause-room
+put_list-requires-clause-room c =
     let a = c.args in
     let l = listing a.fields a.run.now a.names.now a.letters.now in
-    outcome_refused l _ _ c.write_answer-answer.ensures _ c.in-Refused.is
+    (accepted_list l a.output.now _ c.in_ok-size.ensures).1
+
+pub returns : goal.returns
+returns c =
+    let a = c.args in
+    let l = listing a.fields a.run.now a.names.now a.letters.now in
+    outcome_written l _ _ c.in_ok-size.ensures _ c.put_list.ensures

@@ -1,10 +1,9 @@
 -- `list_writing_tests::write_answer` meets its contract: each return is the reply of a law for what was tested before it.
-use mathlib.Core.Path.{◌≡◌, sym, ◌∙◌}
-use mathlib.Core.Bool.{true}
+use Rattle.std.proofs.Common.{◌≡◌, ℕ, sym, ap, ◌∙◌, true, rules}
 use borrow.Author.Tests.{lt-ltb, le-ltb}
-use Rattle.sequences.specs.Checks.{passes}
+use Rattle.sequences.specs.Checks.{passes, reply}
 use Rattle.list_rules.specs.Writing.{listing, list_checks}
-use Rattle.list_writing_tests.proofs.Replies.{sizes_sound, sizes_are, range_fields, range_letters, range_right, list_passes, fault_is, reply_1, reply_2, reply_3, reply_16, reply_0}
+use Rattle.list_writing_tests.proofs.Replies.{sizes_sound, sizes_are, range_fields, range_letters, range_right, list_passes, fault_at, no_fault, reply_1, reply_2, reply_3, reply_16, reply_0}
 use Rattle.list_writing_tests.proofs.write_answer.Goals as goal
 
 pub returns-then-not-lengths_fit : goal.returns-then-not-lengths_fit
@@ -28,24 +27,24 @@ returns-then-not-is_letters c =
     let ranged = sym c.fields_in_range.ensures ∙ c.if-not-fields_in_range.false in
     reply_2 l _ sized (range_letters l ranged (sym c.is_letters.ensures ∙ c.if-not-is_letters.true))
 
-pub write_fault-fault-requires : goal.write_fault-fault-requires
-write_fault-fault-requires c =
+pub write_fault-requires : goal.write_fault-requires
+write_fault-requires c =
     let a = c.args in
     let l = listing a.fields a.run.now a.names.now a.letters.now in
     let sized = sym (sizes_are l) ∙ sym c.lengths_fit.ensures ∙ c.if-not-lengths_fit.false in
     let s = sizes_sound l sized in
     (s.few, s.run_length, s.names-length)
 
-pub returns-then-fault-count : goal.returns-then-fault-count
-returns-then-fault-count c =
+pub returns-in-Some : goal.returns-in-Some
+returns-in-Some c =
     let a = c.args in
     let l = listing a.fields a.run.now a.names.now a.letters.now in
     let sized = sym (sizes_are l) ∙ sym c.lengths_fit.ensures ∙ c.if-not-lengths_fit.false in
     let right =
     range_right l (sym c.fields_in_range.ensures ∙ c.if-not-fields_in_range.false) (sym c.is_letters.ensures ∙ c.if-not-is_letters.false)
     in
-    let fault = c.write_fault-fault.ensures ∙ fault_is l in
-    rw fault (reply_3 l _ sized right (rw fault at (lt-ltb _ _ c.if-fault-count.true)))
+    let fault = fault_at l _ c.write_fault.ensures _ c.in-Some.is in
+    ap (λ (p : ℕ). reply 3 p 0) (sym fault.0) ∙ reply_3 l _ sized right fault.1
 
 pub text_size-size-requires : goal.text_size-size-requires
 text_size-size-requires c =
@@ -55,9 +54,7 @@ text_size-size-requires c =
     let right =
     range_right l (sym c.fields_in_range.ensures ∙ c.if-not-fields_in_range.false) (sym c.is_letters.ensures ∙ c.if-not-is_letters.false)
     in
-    let fault = c.write_fault-fault.ensures ∙ fault_is l in
-    let passed : passes (list_checks l) ≡ true = list_passes l sized right (rw fault at (le-ltb _ _ c.if-fault-count.false)) in
-    record { fields_lent = c.requires; letters_value = passed }
+    list_passes l sized right (no_fault l _ c.write_fault.ensures c.in_default.is)
 
 pub returns-then-room-size : goal.returns-then-room-size
 returns-then-room-size c =
@@ -67,8 +64,7 @@ returns-then-room-size c =
     let right =
     range_right l (sym c.fields_in_range.ensures ∙ c.if-not-fields_in_range.false) (sym c.is_letters.ensures ∙ c.if-not-is_letters.false)
     in
-    let fault = c.write_fault-fault.ensures ∙ fault_is l in
-    let passed : passes (list_checks l) ≡ true = list_passes l sized right (rw fault at (le-ltb _ _ c.if-fault-count.false)) in
+    let passed = list_passes l sized right (no_fault l _ c.write_fault.ensures c.in_default.is) in
     reply_16 l _ passed (rw c.text_size-size.ensures at (lt-ltb _ _ c.if-room-size.true))
 
 pub returns : goal.returns
@@ -79,7 +75,6 @@ returns c =
     let right =
     range_right l (sym c.fields_in_range.ensures ∙ c.if-not-fields_in_range.false) (sym c.is_letters.ensures ∙ c.if-not-is_letters.false)
     in
-    let fault = c.write_fault-fault.ensures ∙ fault_is l in
-    let passed : passes (list_checks l) ≡ true = list_passes l sized right (rw fault at (le-ltb _ _ c.if-fault-count.false)) in
+    let passed = list_passes l sized right (no_fault l _ c.write_fault.ensures c.in_default.is) in
     let e = c.text_size-size.ensures in
     rw e (reply_0 l _ passed (rw e at (le-ltb _ _ c.if-room-size.false)))

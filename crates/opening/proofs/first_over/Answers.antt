@@ -1,27 +1,18 @@
-use mathlib.Core.Path.{◌≡◌, sym, ◌∙◌}
-use Prim.Native.Nat.{◌+◌}
-use native.Mathlib.Omega.{arith}
-use Rattle.sequences.proofs.Below.{first_none, first_more, first_here}
-use Rattle.rules.specs.Opening.{total_fault}
+-- `opening::first_over` meets its contract: the first place that is over is the first of the definition's.
+use mathlib.Core.Path.{◌≡◌}
+use mathlib.Core.Bool.{Bool, true, false}
+use Prim.Native.Nat.{ℕ, ◌+◌}
+use Rattle.std.proofs.Common.{rules, tests}
+use Rattle.std.proofs.lemmas.Iterator.{first_from_Range}
+use Rattle.sequences.proofs.Lists.{found_below}
+use Rattle.rules.specs.Opening.{over_at, total_fault}
+use Rattle.opening.specs.Given.{totals_in}
 use Rattle.opening.proofs.first_over.Goals as goal
-
-pub loop-place-init : goal.loop-place-init
-loop-place-init c = (omega arith, first_none _)
-
-pub over_at-requires : goal.over_at-requires
-over_at-requires c =
-    let p = c.requires in
-    (p.0, omega arith, p.1)
-
-pub returns-then-over_at : goal.returns-then-over_at
-unfolding total_fault
-returns-then-over_at c = sym (first_here _ _ _ (omega arith) c.loop-place.invariant.1 (sym c.over_at.ensures ∙ c.if-over_at.true))
-
-pub loop-place-preserved : goal.loop-place-preserved
-loop-place-preserved c = (omega arith, first_more _ _ c.loop-place.invariant.1 (sym c.over_at.ensures ∙ c.if-over_at.false))
 
 pub returns : goal.returns
 unfolding total_fault
 returns c =
-    let e : c.loop-place.place ≡ c.args.count + 2 = omega arith in
-    rw e (sym (rw e at c.loop-place.invariant.1))
+    let a = c.args in
+    let over : ℕ → Bool = over_at a.count (totals_in a.totals.now a.units) in
+    found_below over (a.count + 2) c.find.result
+    (first_from_Range _ _ _ c.find.result (λ k. over k ≡ true) (λ k. over k ≡ false) c.find.ensures.ran (λ x q k. search (rules, tests)) (λ x q k. search (rules, tests)))

@@ -1,19 +1,13 @@
-use mathlib.Core.Path.{sym, ◌∙◌}
+use mathlib.Core.Path.{refl}
 use native.Mathlib.Omega.{arith}
 use Rattle.opening.proofs.Front.{fronted_none, fronted_more, fronted_all}
 use Rattle.opening.proofs.open_account.Goals as goal
 
 pub loop-l-init : goal.loop-l-init
-loop-l-init c = (omega arith, fronted_none _ _ _ _ c.requires.stretch_len c.put_three.ensures)
+loop-l-init c = fronted_none _ _ _ _ c.requires.stretch_len refl
 
 pub loop-l-preserved : goal.loop-l-preserved
-loop-l-preserved c = (omega arith, fronted_more _ _ _ _ _ (omega arith) c.put_three-in-loop-l.ensures c.loop-l.invariant.1)
-
-pub shape_of-stretch : goal.shape_of-stretch
-shape_of-stretch c = c.loop-l.invariant.1.size ∙ sym c.requires.stretch_len
+loop-l-preserved c = fronted_more _ _ _ _ _ (omega arith) c.put_lots.ensures c.loop-l.invariant
 
 pub returns : goal.returns
-returns c = fronted_all _ _ _ _ (omega arith) c.loop-l.invariant.1
-
-pub put_three-requires-in-loop-l : goal.put_three-requires-in-loop-l
-put_three-requires-in-loop-l c = omega (arith, c.loop-l.invariant.1.size)
+returns c = fronted_all _ _ _ _ (omega arith) c.loop-l.invariant

@@ -6,8 +6,8 @@ use Rattle.fund.specs.Fund.{fund_in_range}
 use Rattle.rules.specs.Opening.{Opening, opening_sizes_fit}
 use Rattle.opening.specs.Given.{given}
 use Rattle.opening.proofs.Sizes.{lent_facts}
-use Rattle.opening.proofs.Answer.{Sizes, component_place, places_fault, answer_sizes, answer_fund, answer_component, answer_total, answer_done}
-use Rattle.opening.proofs.opening_answer.Goals.{After-run_fault-fault, Else-not-fund_in_range, Else-not-sizes_fit, Start}
+use Rattle.opening.proofs.Answer.{Sizes, places_fault, answer_sizes, answer_fund, answer_component, answer_total, answer_done}
+use Rattle.opening.proofs.opening_answer.Goals.{Else-not-fund_in_range, Else-not-sizes_fit, Start}
 use Rattle.opening.proofs.opening_answer.Goals as goal
 
 -- what is opened
@@ -26,10 +26,6 @@ sizes c = lent_facts _ _ _ _ _ _ _ (fits c)
 in_range : (c : Else-not-fund_in_range) → fund_in_range c.args.fund ≡ true
 in_range c = sym c.fund_in_range.ensures ∙ c.if-not-fund_in_range.false
 
--- the component at fault
-component : (c : After-run_fault-fault) → c.run_fault-fault.result ≡ component_place (opening (goal.at.After-run_fault-fault c).Start)
-component c = places_fault (opening (goal.at.After-run_fault-fault c).Start) _ c.run_fault-fault.ensures
-
 pub returns-then-not-sizes_fit : goal.returns-then-not-sizes_fit
 returns-then-not-sizes_fit c =
     answer_sizes (opening (goal.at.returns-then-not-sizes_fit c).Start) (sym c.sizes_fit.ensures ∙ c.if-not-sizes_fit.true)
@@ -39,33 +35,30 @@ returns-then-not-fund_in_range c =
     let at = goal.at.returns-then-not-fund_in_range c in
     answer_fund (opening at.Start) (fits at.Else-not-sizes_fit) (sym c.fund_in_range.ensures ∙ c.if-not-fund_in_range.true)
 
-pub run_fault-fault-requires : goal.run_fault-fault-requires
-run_fault-fault-requires c =
-    let s = sizes (goal.at.run_fault-fault-requires c).Else-not-sizes_fit in
+pub run_fault-requires : goal.run_fault-requires
+run_fault-requires c =
+    let s = sizes (goal.at.run_fault-requires c).Else-not-sizes_fit in
     (s.own.count_high, omega (arith, s.components_size))
 
-pub returns-then-fault-count : goal.returns-then-fault-count
-returns-then-fault-count c =
-    let at = goal.at.returns-then-fault-count c in
-    answer_component (opening at.Start) _ (fits at.Else-not-sizes_fit) (in_range at.Else-not-fund_in_range)
-    (component at.After-run_fault-fault) c.if-fault-count.true
+pub returns-in-Some : goal.returns-in-Some
+returns-in-Some c =
+    let at = goal.at.returns-in-Some c in
+    answer_component (opening at.Start) c.in-Some.place (fits at.Else-not-sizes_fit) (in_range at.Else-not-fund_in_range)
+    (places_fault (opening at.Start) _ (sym c.in-Some.is ∙ c.run_fault.ensures))
 
-pub total_fault-over-requires : goal.total_fault-over-requires
-total_fault-over-requires c =
-    let s = sizes (goal.at.total_fault-over-requires c).Else-not-sizes_fit in
+pub total_fault-requires : goal.total_fault-requires
+total_fault-requires c =
+    let s = sizes (goal.at.total_fault-requires c).Else-not-sizes_fit in
     (omega (arith, s.own.accounts_low), s.own.accounts_high, s.own.count_high, s.holdings_size)
 
-pub overflow_add-count : goal.overflow_add-count
-overflow_add-count c = omega (arith, (sizes (goal.at.overflow_add-count c).Else-not-sizes_fit).own.count_high)
-
-pub returns-then-over-count : goal.returns-then-over-count
-returns-then-over-count c =
-    let at = goal.at.returns-then-over-count c in
-    answer_total (opening at.Start) _ _ (fits at.Else-not-sizes_fit) (in_range at.Else-not-fund_in_range)
-    (component at.After-run_fault-fault) c.if-fault-count.false c.total_fault-over.ensures c.if-over-count.true
+pub returns-in-Some-total_fault : goal.returns-in-Some-total_fault
+returns-in-Some-total_fault c =
+    let at = goal.at.returns-in-Some-total_fault c in
+    answer_total (opening at.Start) c.in-Some-total_fault.place (fits at.Else-not-sizes_fit) (in_range at.Else-not-fund_in_range)
+    (places_fault (opening at.Start) _ (sym c.in_default.is ∙ c.run_fault.ensures)) (sym c.in-Some-total_fault.is ∙ c.total_fault.ensures)
 
 pub returns : goal.returns
 returns c =
     let at = goal.at.returns c in
-    answer_done (opening at.Start) _ _ (fits at.Else-not-sizes_fit) (in_range at.Else-not-fund_in_range)
-    (component at.After-run_fault-fault) c.if-fault-count.false c.total_fault-over.ensures c.if-over-count.false
+    answer_done (opening at.Start) (fits at.Else-not-sizes_fit) (in_range at.Else-not-fund_in_range)
+    (places_fault (opening at.Start) _ (sym c.in_default.is ∙ c.run_fault.ensures)) (sym c.in_default-total_fault.is ∙ c.total_fault.ensures)

@@ -1,79 +1,72 @@
-use mathlib.Core.Path.{◌≡◌, sym}
-use mathlib.Core.List.{List}
-use Prim.Native.Nat.{ℕ, ◌+◌, ◌*◌, ◌≤◌, ◌<◌}
+use mathlib.Core.Path.{◌≡◌, sym, ◌∙◌}
+use Prim.Native.Nat.{◌+◌}
 use native.Mathlib.Omega.{arith}
-use lib.ListN.{length, get_or}
-use Rattle.fund.specs.Fund.{ceiling}
-use Rattle.layout.specs.Places.{lines_from}
-use Rattle.layout.specs.Book.{width_of}
-use Rattle.order_form.specs.Form.{head_sum}
-use Rattle.order_form.proofs.Laws.{head_none, head_more, head_grows, slot, all_counts_lem}
+use Rattle.layout.specs.Book.{account, head_at, counter}
+use Rattle.rules.specs.Orders.{number_of, opposite_kind, fund_count}
+use Rattle.order_form.specs.Form.{all_counts}
+use Rattle.order_form.proofs.Laws.{heads_none, heads_more, heads_grow, heads_all, slot, sum_most, counter-below}
 use Rattle.order_form.proofs.counts_of_all.Goals as goal
 
 pub loop-a-init : goal.loop-a-init
-loop-a-init c = (omega arith, c.width_of-w.ensures, sym (head_none _ _ _), sym (head_none _ _ _))
+loop-a-init c = record { made = sym (heads_none _ _ _); reverse = sym (heads_none _ _ _) }
 
--- the account's place
-place : (k n a w : ℕ) (b : List ℕ) → length b ≡ k * width_of n → w ≡ width_of n → a < k → (a * w + w ≤ length b) × (width_of 0 ≤ w)
-place k n a w b = slot k n b a w
+pub head_of-made-requires : goal.head_of-made-requires
+head_of-made-requires c =
+    let a = c.args in
+    record {
+      w_in_bounds = rw (c.width_of-w.ensures, c.count.ensures) (slot a.day.now a.book.now c.loop-a.a c.requires.size (omega arith));
+      place_lt_w = rw (c.width_of-w.ensures, c.number-at.ensures) (counter-below a.kind _);
+    }
 
--- the next sum of a place, which the whole sum bounds
-next : (n a w p sum : ℕ) (b : List ℕ) → w ≡ width_of n → p < lines_from → sum ≡ head_sum a n b p
-    → sum + get_or b (a * w + p) 0 ≡ head_sum (a + 1) n b p
-next n a w p sum b w-is h e = rw e (sym (head_more _ _ _ _ _ w-is h))
+pub head_of-reverse-requires : goal.head_of-reverse-requires
+head_of-reverse-requires c =
+    let a = c.args in
+    record {
+      w_in_bounds = rw (c.width_of-w.ensures, c.count.ensures) (slot a.day.now a.book.now c.loop-a.a c.requires.size (omega arith));
+      place_lt_w = rw (c.width_of-w.ensures, c.number-back.ensures) (counter-below c.opposite.result _);
+    }
 
-bounded : (k n a p : ℕ) (b : List ℕ) → a < k → head_sum k n b p ≤ ceiling → head_sum (a + 1) n b p ≤ ceiling
-bounded k n a p b l h = omega (arith, head_grows (a + 1) k n b p (omega arith))
-
-pub overflow_add-made-in-loop-a : goal.overflow_add-made-in-loop-a
-overflow_add-made-in-loop-a c =
+pub overflow_add-made : goal.overflow_add-made
+overflow_add-made c =
+    let a = c.args in
+    let read : c.head_of-made.result ≡ head_at (account a.day.now a.book.now c.loop-a.a) (counter (number_of a.kind)) =
+    c.head_of-made.ensures ∙ rw (c.width_of-w.ensures, c.count.ensures, c.number-at.ensures) in
     omega (
       arith,
-      next _ _ _ _ _ c.args.book.now c.loop-a.invariant.1 (omega arith) c.loop-a.invariant.2,
-      bounded c.args.accounts _ c.loop-a.a _ c.args.book.now c.loop-a-test.true c.requires.kind_bound.0,
+      heads_more a.day.now a.book.now (counter (number_of a.kind)) c.loop-a.a,
+      heads_grow a.day.now a.book.now (counter (number_of a.kind)) (c.loop-a.a + 1) (omega arith),
+      sum_most _ _ c.requires a.kind,
     )
 
-pub overflow_add-reverse-in-loop-a : goal.overflow_add-reverse-in-loop-a
-overflow_add-reverse-in-loop-a c =
+pub overflow_add-reverse : goal.overflow_add-reverse
+overflow_add-reverse c =
+    let a = c.args in
+    let read : c.head_of-reverse.result ≡ head_at (account a.day.now a.book.now c.loop-a.a) (counter (number_of (opposite_kind a.kind))) =
+    c.head_of-reverse.ensures ∙ rw (c.width_of-w.ensures, c.count.ensures, c.number-back.ensures, c.opposite.ensures) in
     omega (
       arith,
-      next _ _ _ _ _ c.args.book.now c.loop-a.invariant.1 (omega arith) c.loop-a.invariant.3,
-      bounded c.args.accounts _ c.loop-a.a _ c.args.book.now c.loop-a-test.true c.requires.kind_bound.1,
+      heads_more a.day.now a.book.now (counter (number_of (opposite_kind a.kind))) c.loop-a.a,
+      heads_grow a.day.now a.book.now (counter (number_of (opposite_kind a.kind))) (c.loop-a.a + 1) (omega arith),
+      sum_most _ _ c.requires (opposite_kind a.kind),
     )
 
 pub loop-a-preserved : goal.loop-a-preserved
-loop-a-preserved c = (
-  omega arith,
-  c.loop-a.invariant.1,
-  next _ _ _ _ _ c.args.book.now c.loop-a.invariant.1 (omega arith) c.loop-a.invariant.2,
-  next _ _ _ _ _ c.args.book.now c.loop-a.invariant.1 (omega arith) c.loop-a.invariant.3,
-)
+loop-a-preserved c =
+    let a = c.args in
+    let made : c.head_of-made.result ≡ head_at (account a.day.now a.book.now c.loop-a.a) (counter (number_of a.kind)) =
+    c.head_of-made.ensures ∙ rw (c.width_of-w.ensures, c.count.ensures, c.number-at.ensures) in
+    let reverse : c.head_of-reverse.result ≡ head_at (account a.day.now a.book.now c.loop-a.a) (counter (number_of (opposite_kind a.kind))) =
+    c.head_of-reverse.ensures ∙ rw (c.width_of-w.ensures, c.count.ensures, c.number-back.ensures, c.opposite.ensures) in
+    record {
+      made = rw (c.loop-a.invariant.made, made) (sym (heads_more _ _ _ _));
+      reverse = rw (c.loop-a.invariant.reverse, reverse) (sym (heads_more _ _ _ _));
+    }
 
 pub returns : goal.returns
+unfolding all_counts fund_count
 returns c =
-    let e : c.loop-a.a ≡ c.args.accounts = omega arith in
-    all_counts_lem _ _ _ _ _ _ (rw e at c.loop-a.invariant.2) (rw e at c.loop-a.invariant.3)
-
-pub overflow_mul-made : goal.overflow_mul-made
-overflow_mul-made c = omega (arith, place _ _ c.loop-a.a _ c.args.book.now c.requires.accounts_bound.3 c.width_of-w.ensures c.loop-a-test.true)
-
-pub overflow_add-made : goal.overflow_add-made
-overflow_add-made c = omega (arith, place _ _ c.loop-a.a _ c.args.book.now c.requires.accounts_bound.3 c.width_of-w.ensures c.loop-a-test.true)
-
-pub offset_bounds-book-a : goal.offset_bounds-book-a
-offset_bounds-book-a c = omega (arith, place _ _ c.loop-a.a _ c.args.book.now c.requires.accounts_bound.3 c.width_of-w.ensures c.loop-a-test.true)
-
-pub bounds-book-a : goal.bounds-book-a
-bounds-book-a c = omega (arith, place _ _ c.loop-a.a _ c.args.book.now c.requires.accounts_bound.3 c.width_of-w.ensures c.loop-a-test.true)
-
-pub overflow_mul-reverse : goal.overflow_mul-reverse
-overflow_mul-reverse c = omega (arith, place _ _ c.loop-a.a _ c.args.book.now c.requires.accounts_bound.3 c.width_of-w.ensures c.loop-a-test.true)
-
-pub overflow_add-reverse : goal.overflow_add-reverse
-overflow_add-reverse c = omega (arith, place _ _ c.loop-a.a _ c.args.book.now c.requires.accounts_bound.3 c.width_of-w.ensures c.loop-a-test.true)
-
-pub offset_bounds-book-a-in-loop-a : goal.offset_bounds-book-a-in-loop-a
-offset_bounds-book-a-in-loop-a c = omega (arith, place _ _ c.loop-a.a _ c.args.book.now c.requires.accounts_bound.3 c.width_of-w.ensures c.loop-a-test.true)
-
-pub bounds-book-a-in-loop-a : goal.bounds-book-a-in-loop-a
-bounds-book-a-in-loop-a c = omega (arith, place _ _ c.loop-a.a _ c.args.book.now c.requires.accounts_bound.3 c.width_of-w.ensures c.loop-a-test.true)
+    let e : c.loop-a.a ≡ c.args.day.now.accounts = omega arith in
+    λ j. record {
+      made = ((rw e at c.loop-a.invariant.made) ∙ heads_all _ _ _) j;
+      reverse = ((rw e at c.loop-a.invariant.reverse) ∙ heads_all _ _ _) j;
+    }

@@ -26,11 +26,12 @@ with_premium-cash-requires c =
 
 pub returns : goal.returns
 returns c =
-    creation_parts _ _ _ _ _ _ _ _ _ _ _ _
+    creation_parts _ _ _ _ _ _ _ _ _ _ _ _ _
     c.entry_of-moves.ensures
     c.entry_of-in_cash.ensures
     c.entry_of-shanghai.ensures
     c.missing_of-missing.ensures
+    c.then_some.ensures
     c.chosen.ensures
     c.with_premium-cash.ensures
     c.is_short.ensures

@@ -1,7 +1,6 @@
 -- `order_records::put_after_stock` meets its contract: the two cash parts and the unit are written one behind another.
-use mathlib.Core.Path.{◌∙◌}
 use Rattle.order_records.specs.Written.{records_after_stock}
-use Rattle.order_records.proofs.Laws.{wrote_one, wrote_then, wrote_length, fits_first, fits_next, fits_one}
+use Rattle.order_records.proofs.Laws.{wrote_one, wrote_then, fits_first, fits_next, fits_one}
 use Rattle.order_records.proofs.put_after_stock.Goals as goal
 
 pub put_cash-shanghai_at-requires : goal.put_cash-shanghai_at-requires
@@ -16,12 +15,6 @@ pub put_record-requires : goal.put_record-requires
 unfolding records_after_stock
 put_record-requires c =
     fits_one (fits_next c.put_cash-unit_at.ensures (fits_next c.put_cash-shanghai_at.ensures c.requires.fits))
-
-pub shape_of-out : goal.shape_of-out
-shape_of-out c =
-    wrote_length c.put_record.ensures
-    ∙ wrote_length c.put_cash-unit_at.ensures
-    ∙ wrote_length c.put_cash-shanghai_at.ensures
 
 pub returns : goal.returns
 unfolding records_after_stock

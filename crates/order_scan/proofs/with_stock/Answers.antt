@@ -4,13 +4,8 @@ use Rattle.order_scan.proofs.Parts.{stock_parts}
 use Rattle.order_scan.proofs.Counts.{stock_count-le}
 use Rattle.order_scan.proofs.with_stock.Goals as goal
 
-pub next_short-requires : goal.next_short-requires
-next_short-requires c = c.requires.0
-
 pub overflow_add-result : goal.overflow_add-result
-overflow_add-result c =
-    omega (arith, c.records_of.ensures, stock_count-le c.args.need, c.requires.0, c.requires.1)
+overflow_add-result c = omega (arith, c.records_of.ensures, stock_count-le c.args.need, c.requires.0, c.requires.1)
 
 pub returns : goal.returns
-returns c =
-    stock_parts c.args.t c.args.i c.args.need _ _ c.next_short.ensures c.records_of.ensures
+returns c = stock_parts c.args.t c.args.i c.args.need _ c.records_of.ensures

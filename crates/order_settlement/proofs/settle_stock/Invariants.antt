@@ -1,8 +1,6 @@
 -- `order_settlement::settle_stock` meets its contract. The loop's invariant: the stock of the lines below `i` has moved, their records stand
 -- from `from` on, and `at` is the place behind them.
 use mathlib.Core.Path.{◌≡◌}
-use Prim.Native.Nat.{◌≤◌, ◌-◌}
-use Rattle.layout.specs.Day.{day_of}
 use Rattle.layout.specs.Book.{account}
 use Rattle.book.specs.Moved.{stock_moves}
 use Rattle.order_records.specs.Written.{Wrote}
@@ -11,9 +9,5 @@ use Rattle.order_settlement.proofs.settle_stock.Given as goal
 
 abbrev pub invariant-loop-i : goal.invariant-loop-i
 invariant-loop-i l =
-    (l.i ≤ l.d.count)
-    × ((l.book ≡ stock_moves l.kind (day_of l.d l.basket) l.a l.m l.i l.initial.book)
-    × Wrote (stock_below l.kind (day_of l.d l.basket) (account (day_of l.d l.basket) l.initial.book l.a) l.m l.i) l.from l.initial.out l.out l.at)
-
-abbrev pub decreases-loop-i : goal.decreases-loop-i
-decreases-loop-i l = l.d.count - l.i
+    (l.book ≡ stock_moves l.kind l.day l.a l.m l.i l.initial.book)
+    × Wrote (stock_below l.kind l.day (account l.day l.initial.book l.a) l.m l.i) l.from l.initial.out l.out l.at

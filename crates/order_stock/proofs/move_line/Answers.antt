@@ -1,6 +1,6 @@
 -- `order_stock::move_line` meets its contract: what moves is at most what the baskets need, on a creation what the account has, and on a
 -- redemption what the fund has; where it is nothing, every lot stays.
-use mathlib.Core.Path.{◌≡◌, sym, ap, ◌∙◌}
+use mathlib.Core.Path.{◌≡◌, ap, ◌∙◌}
 use Rattle.sequences.specs.Stretch.{stretch_of}
 use Rattle.layout.specs.Book.{lots_at}
 use Rattle.book.specs.Moved.{moved_of}
@@ -9,21 +9,16 @@ use Rattle.book.proofs.Turns.{line_none, fund_lots_kept, line_moved}
 use native.Mathlib.Omega.{arith}
 use Rattle.order_stock.proofs.move_line.Goals as goal
 
-pub stock_moved-q-requires : goal.stock_moved-q-requires
-stock_moved-q-requires c = rw c.lots_of-x.ensures (record { quantity_bound = c.requires.need; x_bound = omega (arith, c.requires.held) })
+pub returns-then-q-eq0-clause-book : goal.returns-then-q-eq0-clause-book
+returns-then-q-eq0-clause-book c = line_none _ _ _ _ _ c.requires.account_low c.requires.account_in
 
-pub returns-then-q-eq0 : goal.returns-then-q-eq0
-returns-then-q-eq0 c =
-    let p = c.requires in
-    let e = c.stock_moved-q.ensures ∙ ap (moved_of _ _ _) c.lots_of-x.ensures in
-    record { value = sym c.if-q-eq0.true ∙ e; book = line_none _ _ _ _ _ p.account_low p.account_in }
-
-pub stock_lots-own-requires : goal.stock_lots-own-requires
-stock_lots-own-requires c =
+pub account_lots-own-requires : goal.account_lots-own-requires
+account_lots-own-requires c =
     let a = c.args in
     let p = c.requires in
+    let own = lots_at (stretch_of a.w a.book.now a.a) a.line in
     rw (c.stock_moved-q.ensures, c.lots_of-x.ensures)
-    (record { q_bound = (λ k. moved_there _ _ _ _ k); q_bound_2 = omega (arith, p.need, p.held, moved-le a.kind a.c a.m (lots_at (stretch_of a.w a.book.now a.a) a.line)) })
+    (record { there = λ k. rw k (moved_there a.c a.m own); fits = omega (arith, p.need, p.held, moved-le a.c a.m own a.kind) })
 
 pub fund_lots-fund-requires : goal.fund_lots-fund-requires
 fund_lots-fund-requires c =
@@ -32,14 +27,10 @@ fund_lots-fund-requires c =
     let own = lots_at (stretch_of a.w a.book.now a.a) a.line in
     let e : c.stock_moved-q.result ≡ moved_of a.kind a.c a.m own = c.stock_moved-q.ensures ∙ ap (moved_of a.kind a.c a.m) c.lots_of-x.ensures in
     let kept = fund_lots_kept a.kind a.w a.a a.line a.book.now p.account_low p.account_in _ _ c.put_lots_of.ensures in
-    rw (c.lots_of-f.ensures, kept, e) (record { q_le_x = p.delivers; q_bound = omega (arith, p.need, p.room, moved-le a.kind a.c a.m own) })
+    rw (c.lots_of-f.ensures, kept, e) (record { q_le_x = p.delivers; q_bound = omega (arith, p.need, p.room, moved-le a.c a.m own a.kind) })
 
-pub returns : goal.returns
-returns c =
+pub returns-clause-book : goal.returns-clause-book
+returns-clause-book c =
     let p = c.requires in
-    record {
-      value = c.stock_moved-q.ensures ∙ ap (moved_of _ _ _) c.lots_of-x.ensures;
-      book =
-          line_moved _ _ _ _ _ p.account_low p.account_in _ _ c.put_lots_of.ensures _
-          c.lots_of-x.ensures c.stock_lots-own.ensures c.lots_of-f.ensures c.fund_lots-fund.ensures c.put_lots_of-2.ensures;
-    }
+    line_moved _ _ _ _ _ p.account_low p.account_in _ _ c.put_lots_of.ensures _
+    c.lots_of-x.ensures c.account_lots-own.ensures c.lots_of-f.ensures c.fund_lots-fund.ensures c.put_lots_of-2.ensures

@@ -1,39 +1,28 @@
 -- `order_tests::order_means` meets its contract: the scan has what the tests look at, and the cash of an order that is made.
-use mathlib.Core.Path.{refl, ap, ◌∙◌}
-use native.Mathlib.Omega.{arith}
+use mathlib.Core.Path.{sym, ap, ◌∙◌}
+use Rattle.std.proofs.lemmas.Result.{err_from_is_err_and}
 use Rattle.rules.specs.Replies.{order_answer_reply}
-use Rattle.rules.proofs.Replies.{leaves_after, leaves_before}
 use Rattle.order_tests.proofs.Laws.{means_done, means_cash, means_fit}
 use Rattle.order_tests.proofs.order_means.Goals as goal
 
-pub cash_held-held-requires : goal.cash_held-held-requires
-cash_held-held-requires c = (omega (arith, c.requires.scannable.stretch), omega (arith, c.requires.scannable.fund_stretch))
-
-pub order_from-requires : goal.order_from-requires
-order_from-requires c =
+pub order_from-requires-clause-m_le_most_baskets : goal.order_from-requires-clause-m_le_most_baskets
+order_from-requires-clause-m_le_most_baskets c =
     let p = c.requires in
     let fit = means_fit _ _ _ _ c.args.ask _ _ c.order_scan-t.ensures p.m_value.0 p.scannable in
-    record {
-      priceable = p.priceable;
-      m_le_most_baskets = (p.scannable.baskets, p.m_value.1, fit.0, fit.1);
-      count_in_bounds = (omega (arith, p.scannable.stretch), omega (arith, p.m_value.2));
-      basket_len = p.basket_len;
-    }
+    (p.scannable.baskets, p.m_value.1, fit.0, fit.1)
 
-pub returns-in-Made : goal.returns-in-Made
-returns-in-Made c =
-    let p = c.requires in
-    let scanned = c.order_scan-t.ensures in
-    let answered = rw c.cash_held-held.ensures at c.in-Made.ensures in
-    let made = answered ∙ means_done _ _ _ _ _ _ _ scanned p.m_value.0 p.scannable _ in
-    record { answer_value = made; cash = means_cash _ _ _ _ _ _ _ scanned p.m_value.0 p.scannable ∙ leaves_after _ _ _ _ refl made }
+pub returns-in_err-counts-clause-answer_value : goal.returns-in_err-counts-clause-answer_value
+returns-in_err-counts-clause-answer_value c =
+    let r = c.requires in
+    let p = err_from_is_err_and c.from_residual.result c.from_residual.ensures.1 in
+    let answered = rw c.cash_held-held.ensures at c.order_from.ensures in
+    rw (p.1, p.2) (ap order_answer_reply (sym c.in_err-counts.was) ∙ answered ∙ means_done _ _ _ _ _ _ _ c.order_scan-t.ensures r.m_value.0 r.scannable _)
 
-pub returns-in-Refused : goal.returns-in-Refused
-returns-in-Refused c =
-    let p = c.requires in
-    let answered = rw c.cash_held-held.ensures at c.in-Refused.ensures in
-    let stopped = answered ∙ means_done _ _ _ _ _ _ _ c.order_scan-t.ensures p.m_value.0 p.scannable _ in
-    record {
-      answer_value = ap order_answer_reply c.turned_back.ensures.0 ∙ stopped;
-      cash = c.turned_back.ensures.1 ∙ leaves_before _ _ _ _ stopped;
-    }
+pub returns-clause-answer_value : goal.returns-clause-answer_value
+returns-clause-answer_value c =
+    let r = c.requires in
+    let answered = rw c.cash_held-held.ensures at c.order_from.ensures in
+    ap order_answer_reply (sym c.in_ok-counts.was) ∙ answered ∙ means_done _ _ _ _ _ _ _ c.order_scan-t.ensures r.m_value.0 r.scannable _
+
+pub returns-clause-cash : goal.returns-clause-cash
+returns-clause-cash c = means_cash _ _ _ _ _ _ _ c.order_scan-t.ensures c.requires.m_value.0 c.requires.scannable

@@ -1,27 +1,33 @@
 -- `order_tests::ratio_answer` meets its contract: nothing missing asks for no value; else the value decides, and then the ratio.
-use Rattle.value.proofs.Answers.{worth_facts, refused_facts}
-use Rattle.order_tests.proofs.Laws.{ratio_none, ratio_no_value, ratio_over, ratio_within}
+use mathlib.Core.Path.{sym, ap, ◌∙◌}
+use Rattle.std.proofs.lemmas.Result.{err_from_is_err_and}
+use Rattle.rules.specs.Replies.{value_answer_reply}
+use Rattle.value.proofs.Answers.{worth_facts}
+use Rattle.order_tests.specs.Tests.{ratio_tests}
+use Rattle.sequences.specs.Checks.{answering}
+use Rattle.order_tests.proofs.Laws.{ratio_no_value, ratio_over, ratio_within}
 use Rattle.order_tests.proofs.ratio_answer.Goals as goal
 
-pub returns-then-not-missing : goal.returns-then-not-missing
-returns-then-not-missing c = ratio_none _ _ _ _ _ c.if-not-missing.true
+pub returns-in_default : goal.returns-in_default
+unfolding ratio_tests answering
+returns-in_default c = rw c.in_default.is
+
+pub returns-in_err-value : goal.returns-in_err-value
+returns-in_err-value c =
+    let p = err_from_is_err_and c.from_residual.result c.from_residual.ensures.1 in
+    rw (p.1, p.2, c.in-Some.is) (ratio_no_value _ _ _ _ _ (ap value_answer_reply (sym c.in_err-value.was) ∙ c.reference_value.ensures))
 
 pub ratio_passed-requires : goal.ratio_passed-requires
 ratio_passed-requires c =
-    let w = worth_facts _ _ _ c.in-Worth.ensures in
-    (w.2, c.requires.m_le_most_baskets.0, c.requires.priceable.size_high, c.requires.m_le_most_baskets.1)
+    let w = worth_facts _ _ _ (ap value_answer_reply (sym c.in_ok-value.was) ∙ c.reference_value.ensures) in
+    rw c.fund-fund.ensures (w.2, c.requires.m_le_most_baskets.0, c.requires.priceable.size_high, c.requires.m_le_most_baskets.1)
 
 pub returns-then-ratio_passed : goal.returns-then-ratio_passed
 returns-then-ratio_passed c =
-    let w = worth_facts _ _ _ c.in-Worth.ensures in
-    ratio_over _ _ _ _ _ c.if-not-missing.false w.0 _ w.1 _ c.ratio_passed.ensures c.if-ratio_passed.true
+    rw c.in-Some.is
+    (ratio_over _ _ _ _ _ (ap value_answer_reply (sym c.in_ok-value.was) ∙ c.reference_value.ensures) _ (rw c.fund-fund.ensures at c.ratio_passed.ensures) c.if-ratio_passed.true)
 
-pub returns-else-ratio_passed : goal.returns-else-ratio_passed
-returns-else-ratio_passed c =
-    let w = worth_facts _ _ _ c.in-Worth.ensures in
-    ratio_within _ _ _ _ _ c.if-not-missing.false w.0 _ w.1 _ c.ratio_passed.ensures c.if-ratio_passed.false
-
-pub returns-in-Refused : goal.returns-in-Refused
-returns-in-Refused c =
-    ratio_no_value _ _ _ _ _ c.if-not-missing.false
-    (refused_facts _ _ _ c.in-Refused.ensures)
+pub returns : goal.returns
+returns c =
+    rw c.in-Some.is
+    (ratio_within _ _ _ _ _ (ap value_answer_reply (sym c.in_ok-value.was) ∙ c.reference_value.ensures) _ (rw c.fund-fund.ensures at c.ratio_passed.ensures) c.if-ratio_passed.false)

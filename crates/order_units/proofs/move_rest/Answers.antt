@@ -1,26 +1,25 @@
--- `order_units::move_rest` meets its contract: the fund's cash leaves the account's stretch as it was.
+-- `order_units::move_rest` meets its contract: the parts lent are the fund's stretch and the account's, and the fund's cash leaves the account's
+-- as it was.
+use mathlib.Core.Path.{ap, ◌∙◌}
+use mathlib.Core.List.{List, ◌++◌}
+use Prim.Native.Nat.{ℕ}
+use lib.ListN.{drop}
+use Rattle.sequences.specs.Stretch.{put_stretch}
+use Rattle.sequences.proofs.Stretch.{part_is}
+use Rattle.book.specs.Moved.{rest_of}
+use Rattle.book.proofs.Sides.{first_is, middle_put}
 use Rattle.book.proofs.Whole.{account_rest_ready, rest_moved}
-use native.Mathlib.Omega.{arith}
 use Rattle.order_units.proofs.move_rest.Goals as goal
 
-pub fund_head_of-requires : goal.fund_head_of-requires
-fund_head_of-requires c =
-    let p = c.requires in
-    rw c.width_of-w.ensures (record { w_in_bounds = omega (arith, p.account_in); w_nonzero = omega arith; c_bound = p.fund_pays; c_bound_2 = p.fund_fits })
+pub fund_head-requires-clause-ready : goal.fund_head-requires-clause-ready
+fund_head-requires-clause-ready c = rw (first_is, c.width_of-w.ensures) c.requires.fund_money
 
-pub account_rest_of-requires : goal.account_rest_of-requires
-account_rest_of-requires c =
-    let r = account_rest_ready _ _ _ _ _ _ _ _ c.requires c.width_of-w.ensures c.fund_head_of.ensures in
-    record {
-      w_in_bounds = r.0;
-      kind_bound = r.1.0;
-      units_bound = r.1.1.0;
-      units_bound_2 = r.1.1.1.0;
-      c_bound = r.1.1.1.1.0;
-      c_bound_2 = r.1.1.1.1.1.0;
-      units_bound_3 = r.1.1.1.1.1.1;
-    }
+pub account_rest-requires : goal.account_rest-requires
+account_rest-requires c =
+    rw part_is (account_rest_ready _ _ _ _ _ _ _ _ c.requires c.width_of-w.ensures (ap (λ (s : List ℕ). s ++ drop c.width_of-w.result c.args.book.now) c.fund_head.ensures)).1
 
 pub returns : goal.returns
 returns c =
-    rest_moved _ _ _ _ _ _ _ _ c.requires c.width_of-w.ensures c.fund_head_of.ensures _ c.account_rest_of.ensures
+    let p = c.requires in
+    rest_moved _ _ _ _ _ _ _ _ p c.width_of-w.ensures (ap (λ (s : List ℕ). s ++ drop c.width_of-w.result c.args.book.now) c.fund_head.ensures) _
+    (middle_put _ _ _ _ ∙ ap (put_stretch _ _ _) (c.account_rest.ensures ∙ ap (rest_of _ _ _ _) (part_is c.width_of-w.result _ c.args.a)))

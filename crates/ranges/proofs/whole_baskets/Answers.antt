@@ -12,15 +12,15 @@ use Rattle.ranges.proofs.whole_baskets.Goals as goal
 parts : (size units m : ℕ) → m ≡ units / size → m * size + units % size ≡ units
 parts size units m e = rw e (omega (arith, div-add-mod units size, mul_comm (units / size) size))
 
+pub returns-else-m-size : goal.returns-else-m-size
+unfolding every
+returns-else-m-size c =
+    let left : c.args.units % c.args.size ≡ 0 → ⊥ = λ e. c.if-m-size.false (omega (arith, parts _ _ _ c.requires.1)) in
+    simp (ne_eqb _ _ c.if-m-size.false, ne_eqb _ _ left)
+
 pub returns-then-m-size : goal.returns-then-m-size
 unfolding every
 returns-then-m-size c =
-    let left : c.args.units % c.args.size ≡ 0 → ⊥ = λ e. c.if-m-size.true (omega (arith, parts _ _ _ c.requires.1)) in
-    simp (ne_eqb _ _ left)
-
-pub returns : goal.returns
-unfolding every
-returns c =
     let none : c.args.units % c.args.size ≡ 0 = omega (arith, parts _ _ _ c.requires.1) in
     c.is_inside.ensures ∙ rw c.requires.1 (simp (eq-eqb _ _ none, and-true))
 

@@ -3,8 +3,8 @@ use Rattle.std.proofs.Common.{arith}
 use Rattle.record_writer.proofs.Filled.{filled-length, filled_is}
 use Rattle.record_writer.proofs.fill.Goals as goal
 
-pub push-w-requires : goal.push-w-requires
-push-w-requires c = grind (arith, filled-length)
+pub push-requires : goal.push-requires
+push-requires c = grind (arith, filled-length)
 
 pub returns : goal.returns
 returns c = grind (arith, filled_is)

@@ -33,14 +33,12 @@ fill-requires c = (
   c.requires.1,
   c.requires.2 ∙ ap (λ (w : ℕ). c.args.accounts * w) (sym c.width_of.ensures),
   (λ k h. get_or-replicate widest k 0 0 (omega arith)),
-  omega arith,
 )
 
 pub totals_fit-requires : goal.totals_fit-requires
 totals_fit-requires c = (
   c.requires.0,
   low _ _ _ _ c.width_of.ensures c.fill.new.totals c.fill.ensures.sums,
-  c.fill.ensures.long,
 )
 
 pub returns : goal.returns

@@ -1,11 +1,6 @@
 -- `text_head::head_fields` meets its contract. The loop's invariant: no field before `k` is at fault, and their figures are kept.
-use Prim.Native.Nat.{◌-◌}
-use lib.ListN.{length}
 use Rattle.text_head.proofs.Fields.{Fielded}
 use Rattle.text_head.proofs.head_fields.Given as goal
 
 abbrev pub invariant-loop-k : goal.invariant-loop-k
-invariant-loop-k l = Fielded l.fields l.names l.text l.figures l.at l.from l.k
-
-abbrev pub decreases-loop-k : goal.decreases-loop-k
-decreases-loop-k l = length l.fields - l.k
+invariant-loop-k l = Fielded l.fields l.text l.figures l.at l.k

@@ -1,54 +1,35 @@
-use mathlib.Core.Path.{refl, sym, ap, ◌∙◌}
-use Prim.Native.Nat.{ℕ, ◌+◌}
+-- `text_head::head_shape` meets its contract: a line that stands lets the next one follow, and the first that does not is the answer.
+use mathlib.Core.Path.{◌≡◌}
 use native.Mathlib.Omega.{arith}
-use borrow.Author.Rules.{rules}
-use Rattle.text_rules.proofs.Tables.{fields-length}
-use Rattle.text_rules.proofs.Well.{fields_few}
-use Rattle.text_head.proofs.Names.{name_room}
-use Rattle.text_head.proofs.Shape.{shape_start, shape_open, shape_other, shape_again, shape_end}
+use Rattle.std.proofs.Common.{rules, length}
+use Rattle.text_head.proofs.Shape.{past, fields_many, head_first, head_named, head_tag, lines_are, shape_start, shape_on, shape_off, shape_end}
 use Rattle.text_head.proofs.head_shape.Goals as goal
 
-pub overflow_add-lines : goal.overflow_add-lines
-overflow_add-lines c =
-    record { fits = omega (arith, fields_few _ c.requires.names_value, fields-length c.args.fields.now c.args.names.now) }
-
-pub loop-k-init : goal.loop-k-init
-loop-k-init c = (refl, shape_start _ _ _ c.requires.names_len)
-
-pub returns-then-text-at : goal.returns-then-text-at
-returns-then-text-at c =
-    let h = shape_open _ _ _ c.requires.names_len _ _ _ c.loop-k.invariant.1 (omega (arith, c.loop-k.invariant.0, c.loop-k-test.true)) _ refl _
-    c.line_len-n.ensures.0 c.if-text-at.true in
-    record { value = h.0; place_in_bounds = h.1 }
-
-pub overflow_add-to : goal.overflow_add-to
-overflow_add-to c =
-    let r = name_room c.args.fields.now c.args.names.now c.requires.names_len c.loop-k.from c.loop-k.k (c.loop-k.from + c.name_length.result) c.loop-k.invariant.1.named
-    (ap (λ (n : ℕ). c.loop-k.from + n) c.name_length.ensures) in
+pub returns-in_err-at : goal.returns-in_err-at
+returns-in_err-at c =
+    let h = shape_off c.args.fields.now c.args.text.now _ _ (shape_start _ _) (omega (arith, lines_are _ _ c.table-table.ensures.value)) _
+    (c.pass_line.ensures _ (λ l b f. search (rules, head_first c.args.fields.now l))) _ c.in_err-at.was in
     search rules
 
-pub slice_bounds-is_head_line-end : goal.slice_bounds-is_head_line-end
-slice_bounds-is_head_line-end c =
-    let r = name_room c.args.fields.now c.args.names.now c.requires.names_len c.loop-k.from c.loop-k.k (c.loop-k.from + c.name_length.result) c.loop-k.invariant.1.named
-    (ap (λ (n : ℕ). c.loop-k.from + n) c.name_length.ensures) in
+pub loop-field-init : goal.loop-field-init
+loop-field-init c =
+    shape_on _ _ _ _ (shape_start _ _) (omega (arith, lines_are _ _ c.table-table.ensures.value)) _
+    (c.pass_line.ensures _ (λ l b f. search (rules, head_first c.args.fields.now l))) _ c.in_ok-at.was
+
+pub returns-in_err-at-2 : goal.returns-in_err-at-2
+returns-in_err-at-2 c =
+    let h = shape_off c.args.fields.now c.args.text.now _ _ c.loop-field.invariant (omega (arith, lines_are _ _ c.table-table.ensures.value, c.loop-field-test.true)) _
+    (c.pass_line-in-loop-field.ensures _ (λ l b f. search (rules, head_named _ _ c.table-table.ensures.value c.loop-field.field-index past l c.loop-field-test.true))) _ c.in_err-at-2.was in
     search rules
 
-pub returns-then-not-is_head_line : goal.returns-then-not-is_head_line
-returns-then-not-is_head_line c =
-    let h = shape_other _ _ _ c.requires.names_len _ _ _ c.loop-k.invariant.1 (omega (arith, c.loop-k.invariant.0, c.loop-k-test.true)) _
-    (ap (λ n. c.loop-k.from + n) c.name_length.ensures) _ c.line_len-n.ensures.0 (search rules)
-    (sym c.is_head_line.ensures ∙ c.if-not-is_head_line.true) in
-    record { value = h.0; place_in_bounds = h.1 }
-
-pub loop-k-preserved : goal.loop-k-preserved
-loop-k-preserved c = (
-  c.loop-k.invariant.0,
-  shape_again _ _ _ c.requires.names_len _ _ _ c.loop-k.invariant.1 (omega (arith, c.loop-k.invariant.0, c.loop-k-test.true)) _
-      (ap (λ n. c.loop-k.from + n) c.name_length.ensures) _ c.line_len-n.ensures.0 (search rules)
-      (sym c.is_head_line.ensures ∙ c.if-not-is_head_line.false),
-)
+pub loop-field-preserved : goal.loop-field-preserved
+loop-field-preserved c =
+    shape_on c.args.fields.now c.args.text.now _ _ c.loop-field.invariant (omega (arith, lines_are _ _ c.table-table.ensures.value, c.loop-field-test.true)) _
+    (c.pass_line-in-loop-field.ensures _ (λ l b f. search (rules, head_named _ _ c.table-table.ensures.value c.loop-field.field-index past l c.loop-field-test.true))) _ c.in_ok-at-2.was
 
 pub returns : goal.returns
 returns c =
-    let h = shape_end _ _ _ c.requires.names_len _ _ _ c.loop-k.invariant.1 (omega (arith, c.loop-k.invariant.0, c.loop-k-test.false)) in
-    record { value = h.0; place_in_bounds = h.1 }
+    let many = lines_are _ _ c.table-table.ensures.value in
+    let last : c.loop-field.field-index ≡ length c.args.fields.now = omega (arith, fields_many _ _ c.table-table.ensures.value, c.loop-field-test.false, c.loop-field.auto.field-index-end) in
+    shape_end c.args.fields.now c.args.text.now _ _ c.loop-field.invariant (omega (arith, many, last)) _
+    (c.pass_line-2.ensures _ (λ l b f. search (rules, head_tag c.args.fields.now l))) (omega (arith, many, last))

@@ -1,58 +1,36 @@
-use mathlib.Core.Path.{refl, ap}
-use Prim.Native.Nat.{ℕ, ◌+◌}
+-- `text_head_writing::head_size` meets its contract: a line more takes its bytes more.
+use mathlib.Core.Path.{◌≡◌}
+use Prim.Native.Nat.{◌<◌}
 use native.Mathlib.Omega.{arith}
-use Rattle.text_head.proofs.Names.{name_room}
-use Rattle.text_head_writing.proofs.Sizes.{sized_start, sized_again, sized_end, few, forms_well, part_short}
-use borrow.Author.Rules.{rules}
+use lib.ListN.{length, length-append}
+use Rattle.std.proofs.Common.{rules}
+use Rattle.std.proofs.lemmas.Slice.Zip.{zip_turn, zip_end}
+use Rattle.digits.specs.Digits.{plain}
+use Rattle.text_rules.proofs.Well.{fields_few}
+use Rattle.text_head.proofs.Shape.{fields_many}
+use Rattle.text_head_writing.proofs.Sizes.{reached, sized_start, sized_again, sized_end}
 use Rattle.text_head_writing.proofs.head_size.Goals as goal
 
-pub overflow_add-lines : goal.overflow_add-lines
-overflow_add-lines c =
-    record { fits = omega (arith, few c.args.fields.now c.args.names.now c.requires.names_value.0 c.requires.names_value.1) }
+pub loop-field-init : goal.loop-field-init
+loop-field-init c = sized_start _ _ _ c.requires
 
-pub loop-k-init : goal.loop-k-init
-loop-k-init c =
-    (refl, sized_start _ _ c.requires.names_value.0 c.requires.names_value.1 _ _)
+pub field_size-n-requires : goal.field_size-n-requires
+field_size-n-requires c =
+    let t = zip_turn c.table-table.result.now c.args.figures.now c.loop-field.yielded _ _ c.next.new.self _ (search rules) (search rules) c.loop-field.yielded_by _ c.in-Some.is c.next.ensures.steps in
+    (reached _ _ c.table-table.ensures.value c.table-table.ensures.well _ _ t.0 t.2).1
 
-pub overflow_add-to : goal.overflow_add-to
-overflow_add-to c =
-    let r = name_room c.args.fields.now c.args.names.now c.requires.names_value.1 c.loop-k.from c.loop-k.k (c.loop-k.from + c.name_length.result) c.loop-k.invariant.1.named
-    (ap (λ (n : ℕ). c.loop-k.from + n) c.name_length.ensures) in
-    search rules
-
-pub slice_bounds-line_size-end : goal.slice_bounds-line_size-end
-slice_bounds-line_size-end c =
-    let r = name_room c.args.fields.now c.args.names.now c.requires.names_value.1 c.loop-k.from c.loop-k.k (c.loop-k.from + c.name_length.result) c.loop-k.invariant.1.named
-    (ap (λ (n : ℕ). c.loop-k.from + n) c.name_length.ensures) in
-    search rules
-
-pub figure_for-requires : goal.figure_for-requires
-figure_for-requires c =
-    few c.args.fields.now c.args.names.now c.requires.names_value.0 c.requires.names_value.1
-
-pub line_size-n-requires : goal.line_size-n-requires
-line_size-n-requires c = (
-  forms_well c.args.fields.now c.args.names.now c.requires.names_value.0 c.requires.names_value.1,
-  part_short c.args.fields.now c.args.names.now c.requires.names_value.0 c.requires.names_value.1 c.args.letters.now c.args.figures c.loop-k.from c.loop-k.k _ c.loop-k.invariant.1.named
-      (ap (λ (i : ℕ). c.loop-k.from + i) c.name_length.ensures) _ c.figure_for.ensures,
-  c.requires.letters_len_bound,
-)
-
-pub overflow_add-n : goal.overflow_add-n
-overflow_add-n c =
-    let v = c.loop-k.invariant.1 in
-    record {
-      fits = omega (arith, v.small, v.turns, c.line_size-n.ensures.1, few c.args.fields.now c.args.names.now c.requires.names_value.0 c.requires.names_value.1);
-    }
-
-pub loop-k-preserved : goal.loop-k-preserved
-loop-k-preserved c = (
-  c.loop-k.invariant.0,
-  sized_again _ _ c.requires.names_value.0 c.requires.names_value.1 _ _ _ _ _ _ _ _ c.loop-k.invariant.1 (omega (arith, c.loop-k.invariant.0, c.loop-k-test.true))
-      (ap (λ (i : ℕ). c.loop-k.from + i) c.name_length.ensures) c.figure_for.ensures c.line_size-n.ensures.0 c.line_size-n.ensures.1,
-)
+pub loop-field-preserved : goal.loop-field-preserved
+loop-field-preserved c =
+    let t = zip_turn c.table-table.result.now c.args.figures.now c.loop-field.yielded _ _ c.next.new.self _ (search rules) (search rules) c.loop-field.yielded_by _ c.in-Some.is c.next.ensures.steps in
+    let r = reached _ _ c.table-table.ensures.value c.table-table.ensures.well _ _ t.0 t.2 in
+    let low : length c.loop-field.yielded < length c.args.fields.now = omega (arith, t.0, fields_many _ _ c.table-table.ensures.value) in
+    sized_again _ _ _ _ _ _ _ _ c.loop-field.invariant low r.0 (t.3 (plain 0)) c.field_size-n.ensures.0 c.field_size-n.ensures.1 _ (length-append c.loop-field.yielded _)
 
 pub returns : goal.returns
 returns c =
-    let h = sized_end _ _ c.requires.names_value.0 c.requires.names_value.1 _ _ _ _ _ c.loop-k.invariant.1 (omega (arith, c.loop-k.invariant.0, c.loop-k-test.false)) in
+    let t = zip_end c.table-table.result.now c.args.figures.now c.loop-field.yielded _ _ c.next.new.self _ (search rules) (search rules) c.loop-field.yielded_by c.in-None.is c.next.ensures.steps in
+    let many = fields_many _ _ c.table-table.ensures.value in
+    let few = fields_few _ c.table-table.ensures.well in
+    let last : length c.loop-field.yielded ≡ length c.args.fields.now = omega (arith, t, many, few, c.well_formed) in
+    let h = sized_end _ _ _ c.table-table.ensures.well _ _ c.loop-field.invariant last in
     record { value = h.0; upper_bound = h.1 }

@@ -1,58 +1,49 @@
-use mathlib.Core.Path.{refl, ap}
-use Prim.Native.Nat.{ℕ, ◌+◌}
+-- `text_head_writing::put_head` meets its contract: each line is written behind the one before it.
+use mathlib.Core.Path.{◌≡◌}
+use Prim.Native.Nat.{◌<◌}
 use native.Mathlib.Omega.{arith}
-use Rattle.text_head.proofs.Names.{name_room}
-use Rattle.text_head_writing.proofs.Sizes.{few, forms_well}
-use Rattle.text_head_writing.proofs.Write.{lined_start, lined_room, lined_again, lined_end}
-use borrow.Author.Rules.{rules}
+use lib.ListN.{length, length-append}
+use Rattle.std.proofs.Common.{rules}
+use Rattle.std.proofs.lemmas.Slice.Zip.{zip_turn, zip_end}
+use Rattle.digits.specs.Digits.{plain}
+use Rattle.text_rules.proofs.Well.{fields_few}
+use Rattle.text_head.proofs.Shape.{fields_many}
+use Rattle.text_head_writing.proofs.Sizes.{reached}
+use Rattle.text_head_writing.proofs.Write.{first_room, lined_start, lined_room, lined_again, tag_room, lined_end}
 use Rattle.text_head_writing.proofs.put_head.Goals as goal
 
-pub overflow_add-lines : goal.overflow_add-lines
-overflow_add-lines c =
-    record { fits = omega (arith, few c.args.fields.now c.args.names.now c.requires.names_value.0 c.requires.names_value.1) }
+pub put_opening-p-requires : goal.put_opening-p-requires
+put_opening-p-requires c = first_room _ _ _ _ _ c.requires
 
-pub loop-k-init : goal.loop-k-init
-loop-k-init c =
-    (refl, lined_start _ _ c.requires.names_value.0 c.requires.names_value.1 _ _ _ _)
+pub loop-field-init : goal.loop-field-init
+loop-field-init c = lined_start _ _ _ _ _ c.requires _ _ c.put_opening-p.ensures
 
-pub overflow_add-to : goal.overflow_add-to
-overflow_add-to c =
-    let r = name_room c.args.fields.now c.args.names.now c.requires.names_value.1 c.loop-k.from c.loop-k.k (c.loop-k.from + c.name_length.result) c.loop-k.invariant.1.named
-    (ap (λ (n : ℕ). c.loop-k.from + n) c.name_length.ensures) in
-    search rules
+pub put_field-p-requires : goal.put_field-p-requires
+put_field-p-requires c =
+    let t = zip_turn c.table-table.result.now c.args.figures.now c.loop-field.yielded _ _ c.next.new.self _ (search rules) (search rules) c.loop-field.yielded_by _ c.in-Some.is c.next.ensures.steps in
+    let r = reached _ _ c.table-table.ensures.value c.table-table.ensures.well _ _ t.0 t.2 in
+    let low : length c.loop-field.yielded < length c.args.fields.now = omega (arith, t.0, fields_many _ _ c.table-table.ensures.value) in
+    record { well = r.1; room = lined_room _ _ _ _ _ c.requires _ _ _ c.loop-field.invariant low _ _ r.0 (t.3 (plain 0)) }
 
-pub figure_for-z-requires : goal.figure_for-z-requires
-figure_for-z-requires c =
-    few c.args.fields.now c.args.names.now c.requires.names_value.0 c.requires.names_value.1
+pub loop-field-preserved : goal.loop-field-preserved
+loop-field-preserved c =
+    let t = zip_turn c.table-table.result.now c.args.figures.now c.loop-field.yielded _ _ c.next.new.self _ (search rules) (search rules) c.loop-field.yielded_by _ c.in-Some.is c.next.ensures.steps in
+    let r = reached _ _ c.table-table.ensures.value c.table-table.ensures.well _ _ t.0 t.2 in
+    let low : length c.loop-field.yielded < length c.args.fields.now = omega (arith, t.0, fields_many _ _ c.table-table.ensures.value) in
+    lined_again _ _ _ _ _ c.requires _ _ _ c.loop-field.invariant low _ _ r.0 (t.3 (plain 0)) _ _ c.put_field-p.ensures _ (length-append c.loop-field.yielded _)
 
-pub slice_bounds-put_line-end : goal.slice_bounds-put_line-end
-slice_bounds-put_line-end c =
-    let r = name_room c.args.fields.now c.args.names.now c.requires.names_value.1 c.loop-k.from c.loop-k.k (c.loop-k.from + c.name_length.result) c.loop-k.invariant.1.named
-    (ap (λ (n : ℕ). c.loop-k.from + n) c.name_length.ensures) in
-    search rules
-
-pub put_line-p-requires : goal.put_line-p-requires
-put_line-p-requires c =
-    let p = c.requires in
-    let v = c.loop-k.invariant in
-    let to = ap (λ (i : ℕ). c.loop-k.from + i) c.name_length.ensures in
-    record {
-      forms_well = forms_well c.args.fields.now c.args.names.now p.names_value.0 p.names_value.1;
-      z_in_bounds =
-          lined_room _ _ p.names_value.0 p.names_value.1 _ _ _ _ p.figures_in_bounds _ _ _ _ _ _ v.1
-          (omega (arith, v.0, c.loop-k-test.true)) to c.figure_for-z.ensures;
-    }
-
-pub loop-k-preserved : goal.loop-k-preserved
-loop-k-preserved c =
-    let p = c.requires in
-    let v = c.loop-k.invariant in
-    let to = ap (λ (i : ℕ). c.loop-k.from + i) c.name_length.ensures in (
-      v.0,
-      lined_again _ _ p.names_value.0 p.names_value.1 _ _ _ _ p.figures_in_bounds _ _ _ _ _ _ v.1
-          (omega (arith, v.0, c.loop-k-test.true)) to c.figure_for-z.ensures _ _ c.put_line-p.ensures,
-    )
+pub put_bytes-requires : goal.put_bytes-requires
+put_bytes-requires c =
+    let t = zip_end c.table-table.result.now c.args.figures.now c.loop-field.yielded _ _ c.next.new.self _ (search rules) (search rules) c.loop-field.yielded_by c.in-None.is c.next.ensures.steps in
+    let many = fields_many _ _ c.table-table.ensures.value in
+    let few = fields_few _ c.table-table.ensures.well in
+    let last : length c.loop-field.yielded ≡ length c.args.fields.now = omega (arith, t, many, few, c.well_formed) in
+    tag_room _ _ _ _ _ c.requires _ _ _ c.loop-field.invariant last
 
 pub returns : goal.returns
 returns c =
-    lined_end _ _ c.requires.names_value.0 c.requires.names_value.1 _ _ _ _ _ _ _ _ c.loop-k.invariant.1 (omega (arith, c.loop-k.invariant.0, c.loop-k-test.false))
+    let t = zip_end c.table-table.result.now c.args.figures.now c.loop-field.yielded _ _ c.next.new.self _ (search rules) (search rules) c.loop-field.yielded_by c.in-None.is c.next.ensures.steps in
+    let many = fields_many _ _ c.table-table.ensures.value in
+    let few = fields_few _ c.table-table.ensures.well in
+    let last : length c.loop-field.yielded ≡ length c.args.fields.now = omega (arith, t, many, few, c.well_formed) in
+    lined_end _ _ _ _ _ c.requires _ _ _ c.loop-field.invariant last _ _ c.put_bytes.ensures

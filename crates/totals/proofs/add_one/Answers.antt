@@ -1,4 +1,4 @@
-use Rattle.std.proofs.Common.{ℕ, ◌+◌, ◌%◌, ◌^◌, get_or, sym, ap, ◌∙◌, le_refl, arith}
+use Rattle.std.proofs.Common.{rules, ◌≡◌, ℕ, ◌<◌, ◌+◌, ◌%◌, ◌^◌, get_or, sym, ap, le_refl, arith}
 use lib.Bits.{bit_or}
 use Rattle.sequences.proofs.Below.{any_none}
 use Rattle.totals.specs.Totals.{plus_one, reaches}
@@ -7,22 +7,23 @@ use Rattle.totals.proofs.Pass.{pass_none, pass_more, pass_end, seen_more, seen_e
 use Rattle.totals.proofs.add_one.Goals as goal
 
 pub loop-j-init : goal.loop-j-init
-loop-j-init c = (pass_none _ _ _ c.requires.3, sym (any_none (reaches _)))
+loop-j-init c = (pass_none _ _ _ (search rules), sym (any_none (reaches _)))
 
 pub loop-j-preserved : goal.loop-j-preserved
 unfolding plus_one
 loop-j-preserved c =
     let l = c.loop-j in
     let x : ℕ = get_or c.args.run.now (c.args.from + l.j) 0 in
-    let e = c.wrapping_add_u64-t.ensures.value ∙ ap (λ (n : ℕ). (n + x) % 2 ^ 64) (l.invariant.0.rest l.j (le_refl l.j)) in
-    let i = c.loop-j-test.true in (
+    let t : ℕ = (get_or l.totals l.j 0 + x) % 2 ^ 64 in
+    let e : t ≡ (get_or c.args.totals.now l.j 0 + x) % 2 ^ 64 = ap (λ (n : ℕ). (n + x) % 2 ^ 64) (l.invariant.0.rest l.j (le_refl l.j)) in
+    let i : l.j < c.args.width = omega arith in (
       pass_more l.invariant.0 _ i c.requires.0 e,
-      seen_more _ l.j l.high (bit_or (bit_or l.high x) c.wrapping_add_u64-t.result) l.invariant.1
-          (or_one l.high (get_or c.args.totals.now l.j 0) x c.wrapping_add_u64-t.result (c.requires.2 l.j i) e),
+      seen_more _ l.j l.high (bit_or l.high (bit_or x t)) l.invariant.1
+          (or_one l.high (get_or c.args.totals.now l.j 0) x t (c.requires.2 l.j i) e),
     )
 
 pub returns : goal.returns
 returns c =
     let l = c.loop-j in
     let p = pass_end l.invariant.0 (omega arith) in
-    record { value = seen_end _ l.j l.high _ l.invariant.1 l.invariant.0.inside (omega arith); long = p.0; sums = p.1 }
+    record { value = seen_end _ l.j l.high _ l.invariant.1 (omega arith) (omega arith); long = p.0; sums = p.1 }

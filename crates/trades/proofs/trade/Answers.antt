@@ -5,17 +5,11 @@ use Rattle.rules.proofs.Replies.{leaves_after, leaves_before}
 use Rattle.trades.proofs.Laws.{tradable}
 use Rattle.trades.proofs.trade.Goals as goal
 
+pub returns-in_err-trade_answer-clause-book : goal.returns-in_err-trade_answer-clause-book
+returns-in_err-trade_answer-clause-book c = leaves_before _ _ _ _ (ap answer_reply (sym c.in_err-trade_answer.was) ∙ c.trade_answer.ensures)
+
 pub move_trade-requires : goal.move_trade-requires
-move_trade-requires c =
-    let e = ap answer_reply (sym c.in-Done.is) ∙ c.trade_answer-answer.ensures in
-    rw c.new.ensures (tradable _ _ _ _ _ _ _ _ c.requires e)
+move_trade-requires c = tradable _ _ _ _ _ _ _ _ c.requires (ap answer_reply (sym c.in_ok-trade_answer.was) ∙ c.trade_answer.ensures)
 
-pub returns-in-Done : goal.returns-in-Done
-returns-in-Done c =
-    let e = ap answer_reply (sym c.in-Done.is) ∙ c.trade_answer-answer.ensures in
-    record { result_value = e; book = c.move_trade.ensures ∙ rw c.new.ensures (leaves_after _ _ _ _ refl e) }
-
-pub returns-in-Refused : goal.returns-in-Refused
-returns-in-Refused c =
-    let e = ap answer_reply (sym c.in-Refused.is) ∙ c.trade_answer-answer.ensures in
-    record { result_value = e; book = leaves_before _ _ c.in-Refused.why _ e }
+pub returns-clause-book : goal.returns-clause-book
+returns-clause-book c = c.move_trade.ensures ∙ leaves_after _ _ _ _ refl (ap answer_reply (sym c.in_ok-trade_answer.was) ∙ c.trade_answer.ensures)

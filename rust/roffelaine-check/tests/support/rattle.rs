@@ -64,28 +64,11 @@ pub fn numbered(text: &str, start: &str, middle: &str) -> Refusals {
     refusals
 }
 
-/// The rows of each constant of a file that is a table of numbers: their words.
-fn tables(text: &str) -> BTreeMap<&str, Vec<Vec<&str>>> {
-    let declarations = text.split("const ").skip(1);
-    let tables = declarations.filter_map(|rest| {
-        let (name, rest) = rest.split_once(": [[usize; ")?;
-        let (_, rest) = rest.split_once(" = [\n")?;
-        let (body, _) = rest.split_once("\n];")?;
-        let rows = body.lines().filter_map(|line| {
-            let row = line.trim().strip_prefix('[')?.strip_suffix("],")?;
-            Some(row.split(',').map(str::trim).collect())
-        });
-        Some((name, rows.collect()))
-    });
-    tables.collect()
-}
-
-/// The constants of a file that are numbers, or sums and products of numbers,
-/// of other constants, its own or those `below`, and of entries of its tables.
+/// The constants of a file that are numbers, or sums and products of numbers
+/// and of other constants, its own or those `below`.
 pub fn constants(text: &str, below: &BTreeMap<String, usize>) -> BTreeMap<String, usize> {
     let mut known = below.clone();
     let mut own = BTreeMap::new();
-    let tables = tables(text);
     for line in text.lines().map(|line| line.trim_start_matches("pub ")) {
         let Some((name, value)) = line
             .strip_prefix("const ")
@@ -93,7 +76,7 @@ pub fn constants(text: &str, below: &BTreeMap<String, usize>) -> BTreeMap<String
         else {
             continue;
         };
-        let value = Sum::new(value.trim_end_matches(';'), &known, &tables).value();
+        let value = Sum::new(value.trim_end_matches(';'), &known).value();
         known.insert(name.to_string(), value);
         own.insert(name.to_string(), value);
     }
@@ -105,15 +88,10 @@ struct Sum<'t> {
     words: Vec<&'t str>,
     at: usize,
     known: &'t BTreeMap<String, usize>,
-    tables: &'t BTreeMap<&'t str, Vec<Vec<&'t str>>>,
 }
 
 impl<'t> Sum<'t> {
-    fn new(
-        text: &'t str,
-        known: &'t BTreeMap<String, usize>,
-        tables: &'t BTreeMap<&'t str, Vec<Vec<&'t str>>>,
-    ) -> Self {
+    fn new(text: &'t str, known: &'t BTreeMap<String, usize>) -> Self {
         let mut words = Vec::new();
         let mut rest = text.trim();
         while let Some(first) = rest.chars().next() {
@@ -129,7 +107,6 @@ impl<'t> Sum<'t> {
             words,
             at: 0,
             known,
-            tables,
         }
     }
 
@@ -170,20 +147,7 @@ impl<'t> Sum<'t> {
         }
         let word = self.words[self.at];
         self.at += 1;
-        match word.split_once('[') {
-            Some((table, places)) => self.entry(table, places),
-            None => self.word(word),
-        }
-    }
-
-    /// The entry of a table, whose places end each with a bracket.
-    fn entry(&self, table: &str, places: &str) -> usize {
-        let places = places.trim_end_matches(']').split("][");
-        let places: Vec<usize> = places.map(|place| self.word(place)).collect();
-        let &[row, column] = &places[..] else {
-            panic!("{table} has rows and columns");
-        };
-        self.word(self.tables[table][row][column])
+        self.word(word)
     }
 
     fn word(&self, word: &str) -> usize {

@@ -1,0 +1,38 @@
+// Runs that hold marks, by which is seen whether what is lent to a call is written.
+use std::alloc::{AllocError, Global};
+
+pub trait Mark: Copy + PartialEq {
+    // What stands at a place before a call.
+    fn mark(place: usize) -> Self;
+}
+
+impl Mark for u64 {
+    fn mark(place: usize) -> u64 {
+        place.min(999_999) as u64 + 1
+    }
+}
+
+impl Mark for u8 {
+    fn mark(place: usize) -> u8 {
+        (place % 251) as u8
+    }
+}
+
+// A run of so many marks.
+pub fn marked<T: Mark>(alloc: Global, length: usize) -> Result<Vec<T>, AllocError> {
+    (0..length).map(|place| T::mark(place)).collect(alloc)
+}
+
+// The first place from one on that no longer has its mark.
+pub fn first_marred<T: Mark>(run: &[T], from: usize) -> Option<usize> {
+    run.iter()
+        .enumerate()
+        .skip(from)
+        .find(|(place, x)| **x != T::mark(*place))
+        .map(|(place, _)| place)
+}
+
+// The first place at which two runs differ, as far as both go.
+pub fn first_difference<T: PartialEq>(a: &[T], b: &[T]) -> Option<usize> {
+    a.iter().zip(b.iter()).position(|(x, y)| x != y)
+}

@@ -1,0 +1,181 @@
+// Orders in the struct form, each with its tests alone before it. The records that are lent hold marks, and are printed as numbers.
+use answers::Numbers;
+use day_items::replies::Reply;
+use day_items::session;
+use day_items::session::Session;
+use layout::Record;
+use program_io::fault::Fault;
+use program_io::items::Item;
+use program_io::marks;
+use program_io::rows::Row;
+use rules::{Ask, OrderAnswer};
+use std::alloc::{AllocError, Global};
+use std::io;
+use std::io::Write;
+
+// How long a list of records may be lent, and one of reports.
+const MOST_RECORDS: usize = 2048;
+
+const MOST_REPORTS: usize = 4096;
+
+// What an order asks, and the lengths of the lists of records, of the investor's and of the fund's reports.
+#[derive(Clone, Copy)]
+pub struct Order {
+    ask: Ask,
+    records: usize,
+    investor: usize,
+    fund: usize,
+}
+
+// The lists that an order is lent.
+#[derive(Drop)]
+struct Lists {
+    records: Vec<u64>,
+    investor: Vec<u64>,
+    fund: Vec<u64>,
+}
+
+fn is_creation(ask: Ask) -> bool {
+    ask.kind == rules::CREATION
+}
+
+// As many of a list's numbers as so many entries take.
+fn front(list: &[u64], count: usize, width: usize) -> &[u64] {
+    let length = count.saturating_mul(width).min(list.len());
+    &list[..length]
+}
+
+// The records of a flat list.
+fn records_of(alloc: Global, flat: &[u64]) -> Result<Vec<Record>, AllocError> {
+    flat.chunks_exact(layout::RECORD_WIDTH)
+        .map(|numbers| layout::record_at(numbers, 0))
+        .collect(alloc)
+}
+
+fn put_records(flat: &mut [u64], records: &[Record]) {
+    for (numbers, record) in flat
+        .chunks_exact_mut(layout::RECORD_WIDTH)
+        .zip(records.iter())
+    {
+        layout::put_record(numbers, 0, *record);
+    }
+}
+
+impl Lists {
+    fn new(alloc: Global, order: &Order) -> Result<Lists, AllocError> {
+        Ok(Lists {
+            records: marks::marked(alloc, order.records)?,
+            investor: marks::marked(alloc, order.investor)?,
+            fund: marks::marked(alloc, order.fund)?,
+        })
+    }
+
+    // What an accepted order wrote: so many records, and so many reports to each party.
+    fn print_written<W: Write>(
+        &self,
+        records: &[u64],
+        investor: &[u64],
+        fund: &[u64],
+        out: &mut W,
+    ) -> io::Result<()> {
+        writeln!(out, "records{}", Row(records))?;
+        writeln!(out, "investor{}", Row(investor))?;
+        writeln!(out, "fund_reports{}", Row(fund))?;
+        self.print_rest(records.len(), investor.len(), out)
+    }
+
+    // `rest same` where the lists hold their marks from a place on, and for each that does not the first such place.
+    fn print_rest<W: Write>(&self, records: usize, reports: usize, out: &mut W) -> io::Result<()> {
+        let is_records = session::is_marked(out, "records", &self.records, records)?;
+        let is_investor = session::is_marked(out, "investor", &self.investor, reports)?;
+        let is_fund = session::is_marked(out, "fund_reports", &self.fund, reports)?;
+        if is_records && is_investor && is_fund {
+            writeln!(out, "rest same")?;
+        }
+        Ok(())
+    }
+
+    // The lists after an order; where it was refused, whether they are what they were.
+    fn print<W: Write>(&self, answer: OrderAnswer, out: &mut W) -> io::Result<()> {
+        match answer {
+            OrderAnswer::Made(counts) => {
+                let records = front(&self.records, counts.records, layout::RECORD_WIDTH);
+                let investor = front(&self.investor, counts.reports, layout::REPORT_WIDTH);
+                let fund = front(&self.fund, counts.reports, layout::REPORT_WIDTH);
+                self.print_written(records, investor, fund, out)
+            }
+            OrderAnswer::Refused(_) => self.print_rest(0, 0, out),
+        }
+    }
+}
+
+impl Order {
+    // Behind the account and the units stand the lengths of the lists.
+    pub fn new(ask: Ask, item: &Item) -> Order {
+        Order {
+            ask,
+            records: item.size(2),
+            investor: item.size(3),
+            fund: item.size(4),
+        }
+    }
+
+    // The same, with lists that there is room for.
+    pub fn with_room(ask: Ask, item: &Item) -> Result<Order, Fault> {
+        let order = Order::new(ask, item);
+        if MOST_RECORDS < order.records
+            || MOST_REPORTS < order.investor
+            || MOST_REPORTS < order.fund
+        {
+            return Err(Fault::BadInput);
+        }
+        Ok(order)
+    }
+
+    pub fn name(&self) -> &'static str {
+        if is_creation(self.ask) {
+            "create"
+        } else {
+            "redeem"
+        }
+    }
+
+    // What its tests alone answer.
+    pub fn tested(&self, session: &Session) -> Numbers {
+        let (day, book, prices) = (&session.day, &session.book, &session.prices);
+        let Ask { account, units, .. } = self.ask;
+        let (records, investor, fund) = (self.records, self.investor, self.fund);
+        let answer = if is_creation(self.ask) {
+            day::creation_test(day, book, prices, account, units, records, investor, fund)
+        } else {
+            day::redemption_test(day, book, prices, account, units, records, investor, fund)
+        };
+        answers::of_order(answer)
+    }
+
+    fn settle(&self, session: &mut Session, lists: &mut Lists) -> Result<OrderAnswer, AllocError> {
+        let mut records = records_of(session.alloc, &lists.records)?;
+        let answer = order_structs::order(
+            &session.day,
+            &mut session.book,
+            &session.prices,
+            self.ask,
+            &mut records,
+            &mut lists.investor,
+            &mut lists.fund,
+        );
+        put_records(&mut lists.records, &records);
+        Ok(answer)
+    }
+
+    // The tests alone, and then the order.
+    pub fn make<W: Write>(&self, session: &mut Session, out: &mut W) -> Result<Numbers, Fault> {
+        let mut lists = Lists::new(session.alloc, self)?;
+        writeln!(out, "test {}", Reply(self.tested(session)))?;
+        let answer = self.settle(session, &mut lists)?;
+        let reply = answers::of_order(answer);
+        writeln!(out, "{} {}", self.name(), Reply(reply))?;
+        lists.print(answer, out)?;
+        Ok(reply)
+    }
+}

@@ -1,0 +1,15 @@
+-- `sound::lines_fit` meets its contract: every line is asked in order.
+use mathlib.Core.Path.{refl, ◌∙◌}
+use native.Mathlib.Omega.{arith}
+use Rattle.std.proofs.Common.{◌+◌, rules, tests}
+use Rattle.std.proofs.lemmas.Iterator.{YieldsList-from_range}
+use Rattle.std.proofs.lemmas.Iterator.Search.{all_from_yields_List}
+use Rattle.sequences.proofs.Lists.{all_range}
+use Rattle.totals.specs.Totals.{number_at}
+use Rattle.sound.specs.Parts.{line_fits}
+use Rattle.sound.proofs.lines_fit.Goals as goal
+
+pub returns : goal.returns
+returns c =
+    all_from_yields_List (line_fits c.args.n (number_at c.args.totals.now)) _ _ c.all.result c.all.ensures.ran (YieldsList-from_range 0 (c.args.n + 1) (c.args.n + 1) refl (omega arith)) (λ x b q k. search (rules, tests))
+    ∙ all_range (line_fits c.args.n (number_at c.args.totals.now)) (c.args.n + 1)
