@@ -25,13 +25,13 @@ use Rattle.layout.specs.Records.{record_numbers, with_records}
 use Rattle.layout.specs.Reports.{with_reports}
 use Rattle.layout.proofs.Laid.{with_length}
 use Rattle.rules.specs.declared.Refusal.{Refusal}
-use Rattle.layout.specs.Book.{width_of, account, head_total}
+use Rattle.layout.specs.Book.{width_of, account}
 use Rattle.rules.specs.Replies.{refusal_reply, made_reply}
 use Rattle.rules.specs.Sound.{is_sound}
-use Rattle.rules.specs.Orders.{baskets, whole_baskets, count_of, fund_count, within_limits}
+use Rattle.rules.specs.Orders.{baskets, form_checks, permission_checks}
 use Rattle.rules.specs.Creation.{available, creation_due, creation_checks, creation_reply}
 use Rattle.rules.specs.Redemption.{redemption_paid, redemption_checks, redemption_reply}
-use Rattle.rules.specs.Kinds.{creation_of, redemption_of, all_cash, cash_by, order_moves, moved_by, stock_side, rest_side, records_by, reports_by, cash_report_count}
+use Rattle.rules.specs.Kinds.{all_cash, cash_by, order_moves, moved_by, stock_side, rest_side, records_by, reports_by, cash_report_count}
 use Rattle.rules.specs.Kinds.{asked_cash, asked_records, asked_reports, counts_by, asked_counts, asked_means, asked_checks, asked_reply, asked_moves, with_asked}
 use Rattle.rules.proofs.SoundDay.{SoundDay, sound_facts}
 use Rattle.rules.proofs.Accepted.{Orders, Listed, order_facts, creation_facts, creation_made, redemption_facts, redemption_made}
@@ -45,8 +45,7 @@ use Rattle.order_records.proofs.Sound.{sound_writable}
 use Rattle.order_reports.specs.Told.{told_reports}
 use Rattle.order_reports.proofs.Order.{record_count, investor_told, fund_told}
 use Rattle.order_tests.specs.Tests.{means_answer}
-use Rattle.order_form.specs.Form.{head_of, head_sum, whole_units, limits_held, order_form}
-use Rattle.order_form.proofs.Laws.{order_form_lem}
+use Rattle.order_form.specs.Form.{order_form}
 use Rattle.value.specs.Worth.{Priceable}
 use Rattle.value.proofs.Laws.{priceable}
 use Rattle.order_scan.specs.Ready.{Scannable}
@@ -59,9 +58,9 @@ module _ (d : Day) (b ps : List ℕ) (ask : Ask) (f : Formed d b ps ask) where
   sound = sound_facts d b ps f.sound
 
   pub order : Orders d b ask.kind ask.account ask.units
-  unfolding order_form whole_units limits_held head_of head_sum whole_baskets baskets within_limits fund_count count_of head_total
+  unfolding order_form form_checks permission_checks
   order =
-      let p = all_passed (order_form d.accounts d.count d.fund b ask) _ tt (is_accepted_lem _ _ refl f.formed) in
+      let p = all_passed (order_form d b ask) _ tt (is_accepted_lem _ _ refl f.formed) in
       order_facts d b ask.kind ask.account ask.units sound.own.accounts_low (not-false _ p.0) (not-false _ p.1.0) (not-false _ p.1.1.1.0)
 
   pub fund : FundRanges d.fund
@@ -74,8 +73,8 @@ module _ (d : Day) (b ps : List ℕ) (ask : Ask) (f : Formed d b ps ask) where
   first = omega (arith, sound.own.accounts_low)
 
   -- what the third stage asks, on parts s and t of the book that are the account's stretch and the fund's
-  pub stage_asks : (s t : List ℕ) (m : ℕ) → s ≡ account d b ask.account → t ≡ account d b 0 → m ≡ baskets d ask.units → Scannable ask.kind d s t ps m
-  stage_asks s t m e g whole = rw (e, g, whole) (scannable d b ps sound (baskets d ask.units) order.baskets_high ask.kind f.kind_in ask.account order.account_in)
+  pub stage_asks : (s t : List ℕ) (m : ℕ) → s ≡ account d b ask.account → t ≡ account d b 0 → m ≡ baskets d ask.units → Scannable d s t ps m
+  stage_asks s t m e g whole = rw (e, g, whole) (scannable d b ps sound (baskets d ask.units) order.baskets_high ask.account order.account_in)
 
   pub prices_ask : Priceable d ps
   prices_ask = priceable d b ps sound
@@ -87,26 +86,26 @@ module _ (d : Day) (b ps : List ℕ) (ask : Ask) (f : Formed d b ps ask) where
 -- the answer from the stages
 module _ (d : Day) (b ps : List ℕ) (rooms : Rooms) where
   abbrev form : Ask → List Check
-  form ask = order_form d.accounts d.count d.fund b ask
+  form ask = order_form d b ask
 
   abbrev means : Ask → List Check
   means ask = asked_means d (account d b ask.account) (account d b 0) ps ask rooms
 
-  stages : (ask : Ask) → ask.kind < 2 → asked_checks d b ps ask rooms ≡ form ask ++ means ask
-  unfolding asked_checks asked_means creation_checks redemption_checks
+  stages : (ask : Ask) → asked_checks d b ps ask rooms ≡ form ask ++ means ask
+  unfolding asked_checks asked_means creation_checks redemption_checks order_form
   stages =
       by_ask (λ ask. asked_checks d b ps ask rooms ≡ form ask ++ means ask)
-      (λ a units. rw (order_form_lem d b (creation_of a units)) (simp append_assoc))
-      (λ a units. rw (order_form_lem d b (redemption_of a units)) (simp append_assoc))
+      (λ a units. simp append_assoc)
+      (λ a units. simp append_assoc)
 
-  module _ (ask : Ask) (k : ask.kind < 2) where
+  module _ (ask : Ask) where
     pub form_passed : reply 0 0 0 ≡ answered (form ask) 0 → means_answer d (account d b ask.account) (account d b 0) ps ask rooms ≡ asked_answer d b ps ask rooms
-    unfolding asked_answer means_answer order_form
-    form_passed e = rw (stages ask k) (stage_passed (form ask) _ _ tt e)
+    unfolding asked_answer means_answer order_form form_checks permission_checks
+    form_passed e = rw (stages ask) (stage_passed (form ask) _ _ tt e)
 
     pub form_stopped : (why : Refusal) → refusal_reply why ≡ answered (form ask) 0 → refusal_reply why ≡ asked_answer d b ps ask rooms
     unfolding asked_answer
-    form_stopped why e = rw (stages ask k) (stage_stopped (form ask) _ _ why e)
+    form_stopped why e = rw (stages ask) (stage_stopped (form ask) _ _ why e)
 
 -- what an accepted order has
 record Accepted (d : Day) (b ps : List ℕ) (rooms : Rooms) (ask : Ask) : Type 0 where
@@ -114,7 +113,7 @@ record Accepted (d : Day) (b ps : List ℕ) (rooms : Rooms) (ask : Ask) : Type 0
   pub movable : OrderReady ask.kind d b ask.account ask.units (baskets d ask.units) (all_cash (asked_cash d (account d b ask.account) ps ask))
   pub listed : Listed rooms (asked_counts d b ps ask)
 
-accepted : (d : Day) (b ps : List ℕ) (rooms : Rooms) (ask : Ask) → ask.kind < 2 → is_accepted (asked_reply d b ps ask rooms) ≡ true → Accepted d b ps rooms ask
+accepted : (d : Day) (b ps : List ℕ) (rooms : Rooms) (ask : Ask) → is_accepted (asked_reply d b ps ask rooms) ≡ true → Accepted d b ps rooms ask
 unfolding asked_reply asked_checks asked_records asked_reports counts_by asked_cash cash_by creation_reply creation_due redemption_reply redemption_paid
 accepted d b ps rooms =
     by_ask (λ ask. is_accepted (asked_reply d b ps ask rooms) ≡ true → Accepted d b ps rooms ask)
@@ -122,7 +121,7 @@ accepted d b ps rooms =
     (λ a units e. let t = redemption_facts d b ps a units rooms e in record { sound = t.sound; movable = redemption_ready t; listed = t.listed })
 
 -- and its reply has its counts
-reply_made : (d : Day) (b ps : List ℕ) (rooms : Rooms) (ask : Ask) → ask.kind < 2 → is_accepted (asked_reply d b ps ask rooms) ≡ true
+reply_made : (d : Day) (b ps : List ℕ) (rooms : Rooms) (ask : Ask) → is_accepted (asked_reply d b ps ask rooms) ≡ true
     → asked_reply d b ps ask rooms ≡ made_reply (asked_counts d b ps ask)
 unfolding asked_reply asked_checks asked_records asked_reports counts_by creation_reply redemption_reply
 reply_made d b ps rooms =
@@ -131,7 +130,7 @@ reply_made d b ps rooms =
     (λ a units e. redemption_made d b ps a units rooms e)
 
 -- it can be written, moved and reported, and gives the rules' lists and book; m is its count of baskets, and c its cash
-module _ (d : Day) (b ps : List ℕ) (ask : Ask) (lent : Lent) (k : ask.kind < 2) (whole : is_sound d b ps ≡ true) (counts : Counts)
+module _ (d : Day) (b ps : List ℕ) (ask : Ask) (lent : Lent) (whole : is_sound d b ps ≡ true) (counts : Counts)
     (made : made_reply counts ≡ asked_answer d b ps ask (rooms_in lent)) (m : ℕ) (in-baskets : m ≡ baskets d ask.units) (c : CashByMarket)
     (paid : c ≡ asked_cash d (account d b ask.account) ps ask) where
   abbrev s : List ℕ
@@ -145,13 +144,13 @@ module _ (d : Day) (b ps : List ℕ) (ask : Ask) (lent : Lent) (k : ask.kind < 2
   taken = ap is_accepted own_reply ∙ is_accepted_lem _ _ refl made
 
   facts : Accepted d b ps (rooms_in lent) ask
-  facts = accepted d b ps (rooms_in lent) ask k taken
+  facts = accepted d b ps (rooms_in lent) ask taken
 
   records : records_by ask.kind d s ask.units m c ≡ asked_records d s ps ask
-  records = rw (in-baskets, paid) (asked_records_lem d s ps ask k)
+  records = rw (in-baskets, paid) (asked_records_lem d s ps ask)
 
   reports : reports_by ask.kind d s ask.units m c ≡ asked_reports d s ps ask
-  reports = rw (in-baskets, paid) (asked_reports_lem d s ps ask k)
+  reports = rw (in-baskets, paid) (asked_reports_lem d s ps ask)
 
   ready : OrderReady ask.kind d b ask.account ask.units m (all_cash c)
   ready = rw (in-baskets, paid) facts.movable
@@ -169,7 +168,7 @@ module _ (d : Day) (b ps : List ℕ) (ask : Ask) (lent : Lent) (k : ask.kind < 2
 
   counted : counts.reports ≡ length (asked_reports d s ps ask)
   unfolding counts_by
-  counted = ap (λ (r : Reply). r.reports) (made ∙ sym own_reply ∙ reply_made d b ps (rooms_in lent) ask k taken)
+  counted = ap (λ (r : Reply). r.reports) (made ∙ sym own_reply ∙ reply_made d b ps (rooms_in lent) ask taken)
 
   told : counts.reports ≡ 1 + stocked + cash_report_count c
   told = counted ∙ sym (ap length reports) ∙ report_count ask.kind d s ask.units m c
@@ -185,7 +184,7 @@ module _ (d : Day) (b ps : List ℕ) (ask : Ask) (lent : Lent) (k : ask.kind < 2
     unfolding rooms_in counts_by
     order_reports_lem = (
       (
-        omega (arith, ready.side.cash_fits),
+        omega (arith, ready.rest.money.fits),
         omega (arith, told),
         omega (arith, told, long, writable.room, record_count ask.kind d s ask.units m c lent.records),
       ),
@@ -204,4 +203,4 @@ module _ (d : Day) (b ps : List ℕ) (ask : Ask) (lent : Lent) (k : ask.kind < 2
         let to-fund : other ≡ with_reports (map opposite (asked_reports d s ps ask)) lent.fund =
         f ∙ rw (n, w, fund_told ask.kind d s ask.units m c lent.records, reports) in
         let all = w ∙ ap (λ (rs : List Record). with_records rs lent.records) records in
-        (e ∙ rw (in-baskets, paid) (asked_moves_lem d b ps ask k), λ j. record { records = all j; investor = to-investor j; fund = to-fund j })
+        (e ∙ rw (in-baskets, paid) (asked_moves_lem d b ps ask), λ j. record { records = all j; investor = to-investor j; fund = to-fund j })

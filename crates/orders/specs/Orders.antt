@@ -1,5 +1,5 @@
 -- The answer of an order on a sound day, and an order that has passed its form.
-use Rattle.std.specs.Prelude.{ℕ, ◌<◌, ◌≡◌, true, List}
+use Rattle.std.specs.Prelude.{ℕ, ◌≡◌, true, List}
 use Rattle.sequences.specs.Checks.{Reply, reply, answering, answered}
 use Rattle.layout.specs.Day.{Day}
 use Rattle.rules.specs.declared.Ask.{Ask}
@@ -16,5 +16,4 @@ asked_answer d b ps ask rooms = answering (asked_checks d b ps ask rooms) (made_
 -- a sound day, on which an order has passed its first two stages
 pub record Formed (d : Day) (b ps : List ℕ) (ask : Ask) : Type 0 where
   pub sound : is_sound d b ps ≡ true
-  pub kind_in : ask.kind < 2
-  pub formed : reply 0 0 0 ≡ answered (order_form d.accounts d.count d.fund b ask) 0
+  pub formed : reply 0 0 0 ≡ answered (order_form d b ask) 0

@@ -1,5 +1,4 @@
 -- `orders::order_tested` meets its contract: the quotient is the count of baskets.
-use mathlib.Core.Path.{refl}
 use native.Mathlib.Omega.{arith}
 use Rattle.fund.proofs.Laws.{fund_sound}
 use Rattle.rules.specs.Orders.{baskets}
@@ -7,12 +6,8 @@ use Rattle.rules.proofs.SoundDay.{sound_facts}
 use Rattle.orders.proofs.order_tested.Goals as goal
 
 pub nonzero_div-m : goal.nonzero_div-m
-nonzero_div-m c = omega (arith, (fund_sound _ (sound_facts _ _ _ c.requires.prices_value).own.fund_fields).size_low)
+nonzero_div-m c = rw c.fund.ensures (omega (arith, (fund_sound _ (sound_facts _ _ _ c.requires.prices_value).own.fund_fields).size_low))
 
 pub tested_in-requires : goal.tested_in-requires
 unfolding baskets
-tested_in-requires c =
-    record {
-      prices_value = c.requires.prices_value;
-      kind_bound = (c.requires.kind_bound.0, refl, c.requires.kind_bound.1);
-    }
+tested_in-requires c = record { prices_value = c.requires.prices_value; m_value = rw c.fund.ensures }
