@@ -18,7 +18,7 @@ pub view_of-requires : goal.view_of-requires
 view_of-requires c = sound_width _ _ _ c.in_ok-sound_day.ensures.ok
 
 pub order-requires : goal.order-requires
-order-requires c = rw c.view_of.ensures c.in_ok-sound_day.ensures.ok
+order-requires c = record { prices_value = rw c.view_of.ensures c.in_ok-sound_day.ensures.ok }
 
 pub returns : goal.returns
 returns c =

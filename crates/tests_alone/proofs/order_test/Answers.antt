@@ -19,12 +19,12 @@ returns-in_err-sound_day c =
 pub view_of-requires : goal.view_of-requires
 view_of-requires c = sound_width _ _ _ c.in_ok-sound_day.ensures.ok
 
-pub order_tested-accepted-requires : goal.order_tested-accepted-requires
-order_tested-accepted-requires c = rw c.view_of.ensures c.in_ok-sound_day.ensures.ok
+pub order_tested-requires : goal.order_tested-requires
+order_tested-requires c = record { prices_value = rw c.view_of.ensures c.in_ok-sound_day.ensures.ok }
 
 pub returns-in_err-accepted : goal.returns-in_err-accepted
 returns-in_err-accepted c =
-    let p = err_from_is_err_and c.from_residual.result c.from_residual.ensures.1 in
+    let p = err_from_is_err_and c.from_residual-in_err-accepted.result c.from_residual-in_err-accepted.ensures.1 in
     rw (p.1, p.2) (ap accepted_reply (sym c.in_err-accepted.was) ∙ (rw (c.view_of.ensures, c.rooms_of-rooms.ensures) at c.order_tested.ensures.answer_value)
     ∙ order_own _ _ _ c.in_ok-sound_day.ensures.ok _ _)
 
