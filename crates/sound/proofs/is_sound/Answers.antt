@@ -33,11 +33,17 @@ book_fits-requires c = let s = sizes (goal.at.book_fits-requires c).Else-not-siz
 pub returns-then-fund_still : goal.returns-then-fund_still
 unfolding every
 returns-then-fund_still c =
-    let tests = sound_tests c.args.day.now c.args.book.now c.args.prices.now c.basket-basket.result.now (sizes (goal.at.returns-then-fund_still c).Else-not-sizes_fit) c.accounts-accounts.ensures c.count-n.ensures c.fund-fund.ensures c.basket-basket.ensures.components in
+    let a = c.args in
+    let fit = sizes (goal.at.returns-then-fund_still c).Else-not-sizes_fit in
+    let basket = c.basket-basket in
+    let tests = sound_tests a.day.now a.book.now a.prices.now basket.result.now fit c.accounts-accounts.ensures c.count-n.ensures c.fund-fund.ensures basket.ensures.components in
     rw tests (grind (arith, common_steps))
 
 pub returns-else-fund_still : goal.returns-else-fund_still
 unfolding every
 returns-else-fund_still c =
-    let tests = sound_tests c.args.day.now c.args.book.now c.args.prices.now c.basket-basket.result.now (sizes (goal.at.returns-else-fund_still c).Else-not-sizes_fit) c.accounts-accounts.ensures c.count-n.ensures c.fund-fund.ensures c.basket-basket.ensures.components in
+    let a = c.args in
+    let fit = sizes (goal.at.returns-else-fund_still c).Else-not-sizes_fit in
+    let basket = c.basket-basket in
+    let tests = sound_tests a.day.now a.book.now a.prices.now basket.result.now fit c.accounts-accounts.ensures c.count-n.ensures c.fund-fund.ensures basket.ensures.components in
     rw tests (grind (arith, common_steps))
