@@ -1,6 +1,6 @@
 -- What the tests on totals, on the fund's stretch and on sizes say, fact by fact.
 use mathlib.Core.Path.{◌≡◌}
-use mathlib.Core.Bool.{true}
+use mathlib.Core.Bool.{true, false}
 use mathlib.Core.List.{List}
 use Prim.Native.Nat.{ℕ, ◌+◌, ◌≤◌, ◌<◌, min}
 use native.Mathlib.Omega.{arith}
@@ -9,7 +9,7 @@ use lib.ListN.{get_or}
 use borrow.Author.Tests.{le-leb, leb-true, lt-ltb, le-ltb, eq-eqb, eqb-true}
 use Rattle.totals.specs.Totals.{top}
 use Rattle.sequences.proofs.Below.{all_at, all_true, cond_le}
-use Rattle.sequences.proofs.Every.{every_at, every_more, every_none}
+use Rattle.sequences.proofs.Every.{every_at, every_more, every_none, false_of}
 use Rattle.sequences.proofs.Stretch.{within}
 use Rattle.fund.specs.Fund.{ceiling}
 use Rattle.layout.specs.Book.{cash, created, redeemed, width_of, line_from}
@@ -70,6 +70,9 @@ module _ (n : ℕ) (t : ℕ → ℕ) where
         redeemed_most = leb-true _ _ (at 2);
         lines = all_at (line_fits n t) (n + 1) (at 3);
       }
+
+  pub fits-false : (Fits n t → ⊥) → totals_fit n t ≡ false
+  fits-false h = false_of (totals_fit n t) (λ e. h (fits_facts e))
 
 -- Two families of totals: u is t as far as 2^62. As each limit is below that, both fit or neither does.
 module _ (n : ℕ) (t u : ℕ → ℕ) (capped : (k : ℕ) → k < width_of n → u k ≡ min (t k) top) where
