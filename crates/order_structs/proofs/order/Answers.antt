@@ -1,5 +1,5 @@
 -- `order_structs::order` meets its contract: the records of the run that `settle` fills are the order's, and `fill` lays them at the front of the list.
-use mathlib.Core.Path.{◌≡◌, refl, ◌∙◌}
+use mathlib.Core.Path.{refl, ◌∙◌}
 use native.Mathlib.Omega.{arith}
 use Rattle.std.proofs.lemmas.Result.{err_from_is_err_and}
 use Rattle.order_structs.proofs.Laws.{first_is, none_made}
