@@ -4,15 +4,13 @@ use mathlib.Core.Bool.{Bool, true, false, cond, false≢true}
 use mathlib.Core.List.{List, [], ◌++◌, append_assoc}
 use Prim.Native.Nat.{ℕ, ◌*◌, ◌≤◌, ◌<◌}
 use native.Mathlib.Omega.{arith}
-use lib.Dec.{eqb, lit<}
 use lib.ListN.{length, get_or, take, drop}
 use lib.Seq.{length-take-le, drop-append_seam}
 use Rattle.sequences.specs.Below.{tabulate}
-use Rattle.sequences.specs.Checks.{Reply, is_accepted, answering}
+use Rattle.sequences.specs.Checks.{Reply, is_accepted}
 use Rattle.sequences.proofs.Below.{table_length, table_ext}
 use Rattle.layout.specs.Places.{record_width}
 use Rattle.layout.specs.Day.{Day}
-use Rattle.layout.specs.Book.{account}
 use Rattle.layout.specs.declared.Record.{Record}
 use Rattle.layout.specs.Laid.{with_laid, room_of}
 use Rattle.layout.specs.Records.{record_at, flatten, with_records}
@@ -23,12 +21,11 @@ use Rattle.rules.specs.declared.Counts.{Counts}
 use Rattle.rules.specs.declared.Refusal.{Refusal}
 use Rattle.std.specs.Prelude.{Result, Ok, Err}
 use Rattle.rules.specs.Records.{record_of}
-use Rattle.rules.specs.Replies.{made_reply, order_answer_reply, if_accepted}
-use Rattle.rules.specs.Lent.{Lent, lent_of, rooms_in, counts_of, with_order}
-use Rattle.rules.specs.Sound.{on_sound_day}
-use Rattle.rules.specs.Creation.{creation_records, creation_reports, creation_checks, creation_reply}
-use Rattle.rules.specs.Redemption.{redemption_records, redemption_reports, redemption_checks, redemption_reply}
-use Rattle.rules.specs.Kinds.{by_kind, asked_records, asked_reports, counts_by, asked_checks, asked_reply, asked_moves, asked_book, with_asked, asked_lists}
+use Rattle.rules.specs.Replies.{order_answer_reply, if_accepted}
+use Rattle.rules.specs.Lent.{Lent, lent_of, rooms_in, with_order}
+use Rattle.rules.specs.Creation.{creation_reply}
+use Rattle.rules.specs.Redemption.{redemption_reply}
+use Rattle.rules.specs.Kinds.{asked_records, asked_reports, counts_by, asked_checks, asked_reply, asked_book, with_asked, asked_lists}
 use Rattle.rules.proofs.Accepted.{creation_facts, creation_made, redemption_facts, redemption_made}
 use Rattle.rules.proofs.Asked.{by_ask}
 use Rattle.rules.proofs.Replies.{is_accepted_lem, is_refused}

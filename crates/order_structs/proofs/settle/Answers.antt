@@ -1,5 +1,5 @@
 -- `order_structs::settle` meets its contract: the flat order on the front of the run, which has room enough for every order.
-use mathlib.Core.Path.{sym, ◌∙◌}
+use mathlib.Core.Path.{sym}
 use mathlib.Core.Bool.{false≢true}
 use native.Mathlib.Omega.{arith}
 use lib.Seq.{length-take-le}
