@@ -341,13 +341,6 @@ impl<'a> DayView<'a> {
         component_of(self.basket, i)
     }
 
-    // Its head.
-    pub fn head(&self) -> DayHead
-        ensures { result ≡ record { accounts = self.now.accounts; count = self.now.count; fund = self.now.fund } }
-    {
-        self.head
-    }
-
     // Its basket.
     pub fn basket(&self) -> &[u64]
         ensures length { length result.now ≡ basket_width }
