@@ -1,13 +1,11 @@
 -- Refusal 1 of the driver, and what it leaves in both cases.
 use mathlib.Core.Path.{◌≡◌, refl}
-use mathlib.Core.Bool.{Bool, true, false, ◌&&◌}
+use mathlib.Core.Bool.{true, false}
 use mathlib.Core.List.{List}
 use Prim.Native.Nat.{ℕ, ◌*◌, ◌/◌}
-use lib.Dec.{eqb}
-use borrow.Author.Tests.{eq-eqb, ne_eqb, eqb-true}
+use borrow.Author.Tests.{eqb-true}
 use Rattle.layout.specs.Places.{row_width, answer_width}
 use Rattle.sequences.specs.Checks.{reply, answering}
-use Rattle.sequences.specs.Every.{every}
 use Rattle.sequences.proofs.Every.{every_at}
 use Rattle.driver.specs.Batch.{Batch, run_from, rows_in, rows_fit, fits, run_reply, ran}
 

@@ -1,10 +1,9 @@
 -- What a row names, and that a call made for it gives what the definitions say of it.
 use mathlib.Core.Path.{◌≡◌, refl}
 use mathlib.Core.List.{List, ◌++◌}
-use Prim.Native.Nat.{ℕ, ◌+◌, ◌-◌, ◌<◌}
+use Prim.Native.Nat.{ℕ, ◌+◌, ◌-◌}
 use native.Mathlib.Omega.{arith}
 use lib.ListN.{length, take, drop}
-use borrow.Author.Tests.{ne_eqb}
 use Rattle.sequences.specs.Checks.{Reply, reply}
 use Rattle.layout.specs.Day.{Day}
 use Rattle.rules.specs.Price.{price_reply, priced_prices}
@@ -16,8 +15,8 @@ use Rattle.rules.specs.Creation.{creation_reply, created_book, created_lists}
 use Rattle.rules.specs.Redemption.{redemption_reply, redeemed_book, redeemed_lists}
 use Rattle.rules.specs.Kinds.{asked_records, asked_reports, counts_by, asked_checks, asked_reply, asked_moves, asked_book, asked_lists}
 use Rattle.rules.proofs.Asked.{by_ask}
-use Rattle.balance.specs.Calls.{State, Call, price, trade, create, redeem, value, step}
-use Rattle.driver_rows.specs.Rows.{Row, call, none, Span, Spans, no_spans, spans_in, span_within, cell, order_of, row_of, Work, work_of, lent_to, result_of, runs_after, row_reply, row_leaves}
+use Rattle.balance.specs.Calls.{State, Call, price, trade, value, step}
+use Rattle.driver_rows.specs.Rows.{Row, call, none, Span, Spans, no_spans, span_within, order_of, Work, work_of, lent_to, result_of, runs_after, row_reply, row_leaves}
 use Rattle.driver_rows.proofs.Parts.{none_within}
 
 -- a part of a run from a start to before an end, and the run with another in its place

@@ -1,5 +1,5 @@
 -- `driver_rows::row_call` meets its contract: the call that the row names, and 1 where it names none.
-use mathlib.Core.Path.{◌≡◌, sym, ap, ◌∙◌}
+use mathlib.Core.Path.{sym, ap, ◌∙◌}
 use Rattle.std.specs.Prelude.{Some}
 use Rattle.driver_rows.specs.Rows.{call_named}
 use Rattle.driver_rows.proofs.Rows.{call_meets, none_meets, price_meets, trade_meets, value_meets}

@@ -1,5 +1,5 @@
 -- `order_calls::order` meets its contract: 5 where the day is not sound, and else what the core answers and leaves.
-use mathlib.Core.Path.{◌≡◌, ◌∙◌}
+use mathlib.Core.Path.{◌∙◌}
 use Rattle.std.proofs.lemmas.Result.{err_from_is_err_and}
 use Rattle.rules.specs.Lent.{lent_of}
 use Rattle.order_calls.proofs.Laws.{stays_five, order_own, leaves_own}
