@@ -9,7 +9,8 @@ use borrow.Author.Tests.{eq-eqb, ne_eqb}
 use Rattle.sequences.specs.Checks.{reply, is_accepted}
 use Rattle.layout.specs.declared.Fund.{Fund}
 use Rattle.layout.specs.Places.{fund_width}
-use Rattle.rules.specs.declared.Answer.{Answer}
+use Rattle.std.specs.Prelude.{Result, ⊤}
+use Rattle.rules.specs.declared.Refusal.{Refusal}
 use Rattle.rules.specs.Replies.{answer_reply}
 use Rattle.rules.specs.Opening.{Opening, opening_reply, opened_run, opened_book, opened_prices}
 use Rattle.opening.specs.Given.{given, Outcome}
@@ -19,7 +20,7 @@ use Rattle.flat_calls.specs.Opening.{flat_reply, FlatOutcome}
 use Rattle.flat_calls.proofs.Laws.{told_as, kept, sizes_refuse}
 
 -- an outcome with the same fund
-pub outcome_as : {accounts count : ℕ} {f g : Fund} {components holdings book prices day : List ℕ} {r : Answer} {book' prices' day' : List ℕ}
+pub outcome_as : {accounts count : ℕ} {f g : Fund} {components holdings book prices day : List ℕ} {r : Result ⊤ Refusal} {book' prices' day' : List ℕ}
     → f ≡ g → Outcome (given accounts count f components holdings book prices day) r book' prices' day'
     → Outcome (given accounts count g components holdings book prices day) r book' prices' day'
 outcome_as {accounts} {count} {f} {g} {components} {holdings} {book} {prices} {day} {r} {book'} {prices'} {day'} e =
@@ -49,7 +50,7 @@ module _ (fund : List ℕ) (o : Opening) where
       }
 
   -- answered by opening
-  pub opens_done : length fund ≡ fund_width → (n : Numbers) (r : Answer) (book prices day : List ℕ) → reply_of n ≡ answer_reply r → Outcome o r book prices day
+  pub opens_done : length fund ≡ fund_width → (n : Numbers) (r : Result ⊤ Refusal) (book prices day : List ℕ) → reply_of n ≡ answer_reply r → Outcome o r book prices day
       → (number place value : ℕ) → Told (reply_of n) number place value → FlatOutcome fund o number place value book prices day
   unfolding opened_book opened_prices opened_run
   opens_done fit n r book prices day e out number place value t =

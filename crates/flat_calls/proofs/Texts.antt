@@ -63,8 +63,8 @@ module _ (text : List ℕ) (t : Taking) where
       }
 
 -- answered by reading
-module _ (text run : List ℕ) (run' : List ℕ) (n : Numbers) where
-  module _ (read : ListRead) (e : reply_of n ≡ read_answer_reply (Ok read)) (out : ReadOutcome text run (Ok read) run') where
+module _ (text run run' : List ℕ) where
+  module _ (read : ListRead) (out : ReadOutcome text run (Ok read) run') where
     accepted : is_accepted (read_reply text (length run)) ≡ true
     unfolding is_accepted
     accepted = rw (← out.answer_is)
@@ -78,11 +78,11 @@ module _ (text run : List ℕ) (run' : List ℕ) (n : Numbers) where
           cash_size _ (ap (λ (l : ListFields). cash_in_range l.cash_component) fields ∙ ranges.cash),
         )
 
-    pub read_done : (fields : List ℕ) (first : ℕ) → length fields ≡ fields_width → (number place value : ℕ) (fields' : List ℕ)
+    pub read_done : (n : Numbers) → reply_of n ≡ read_answer_reply (Ok read) → (fields : List ℕ) (first : ℕ) → length fields ≡ fields_width → (number place value : ℕ) (fields' : List ℕ)
         → Told (reply_of n) number place value → fields' ≡ fields_numbers read.fields
         → TextRead text (taking run fields first) number place value (taking run' fields' read.first_row)
     unfolding taking_reply run_after
-    read_done fields first wide number place value fields' told p =
+    read_done n e fields first wide number place value fields' told p =
         let same = width_fits (length fields) (read_reply text (length run)) wide in
         record {
           told = told_as (e ∙ out.answer_is ∙ sym same) told;
@@ -91,15 +91,15 @@ module _ (text run : List ℕ) (run' : List ℕ) (n : Numbers) where
           first_is = rw (same, accepted) out.handed.first_is;
         }
 
-  module _ (why : Refusal) (e : reply_of n ≡ read_answer_reply (Err why)) (out : ReadOutcome text run (Err why) run') where
+  module _ (why : Refusal) (out : ReadOutcome text run (Err why) run') where
     refused : is_accepted (read_reply text (length run)) ≡ false
     refused = is_refused why _ out.answer_is
 
-    pub read_stopped : (fields : List ℕ) (first : ℕ) → length fields ≡ fields_width → (number place value : ℕ)
+    pub read_stopped : (n : Numbers) → reply_of n ≡ read_answer_reply (Err why) → (fields : List ℕ) (first : ℕ) → length fields ≡ fields_width → (number place value : ℕ)
         → Told (reply_of n) number place value
         → TextRead text (taking run fields first) number place value (taking run' fields first)
     unfolding taking_reply run_after
-    read_stopped fields first wide number place value told =
+    read_stopped n e fields first wide number place value told =
         let same = width_fits (length fields) (read_reply text (length run)) wide in
         record {
           told = told_as (e ∙ out.answer_is ∙ sym same) told;

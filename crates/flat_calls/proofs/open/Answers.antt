@@ -5,8 +5,8 @@ use Rattle.flat_calls.proofs.open.Goals as goal
 
 pub returns-then-fund-ne-FUND_WIDTH : goal.returns-then-fund-ne-FUND_WIDTH
 returns-then-fund-ne-FUND_WIDTH c =
-    opens_refused _ _ c.if-fund-ne-FUND_WIDTH.true _ _ _ (told_as c.of_refusal.ensures c.tell.ensures)
+    opens_refused _ _ c.if-fund-ne-FUND_WIDTH.true _ _ _ (told_as c.from.ensures c.tell.ensures)
 
 pub returns : goal.returns
 returns c =
-    opens_done _ _ c.if-fund-ne-FUND_WIDTH.false _ _ _ _ _ c.of_answer.ensures (outcome_as c.fund_of-f.ensures c.open-answer.ensures) _ _ _ c.tell-2.ensures
+    opens_done _ _ c.if-fund-ne-FUND_WIDTH.false _ _ _ _ _ c.from-2.ensures (outcome_as c.fund_of-f.ensures c.open-answer.ensures) _ _ _ c.tell-2.ensures

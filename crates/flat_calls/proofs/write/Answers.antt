@@ -5,7 +5,7 @@ use Rattle.flat_calls.proofs.write.Goals as goal
 
 pub returns-then-fields-ne-FIELDS_WIDTH : goal.returns-then-fields-ne-FIELDS_WIDTH
 returns-then-fields-ne-FIELDS_WIDTH c =
-    write_refused _ _ _ c.if-fields-ne-FIELDS_WIDTH.true _ _ _ (told_as c.of_refusal.ensures c.tell.ensures)
+    write_refused _ _ _ c.if-fields-ne-FIELDS_WIDTH.true _ _ _ (told_as c.from.ensures c.tell.ensures)
 
 pub returns : goal.returns
 returns c =
