@@ -1,5 +1,5 @@
 // Items of a text: a tag, how many numbers follow, and these. Numbers are unsigned, in base ten, with blanks or line ends between them.
-ghost use Rattle.std.specs.Prelude.{◌≤◌, length};
+ghost use Rattle.std.specs.Prelude.{◌≡◌, ◌≤◌, length, slice_index};
 ghost use Rattle.std.specs.Iterator.{at_most};
 
 use crate::fault::Fault;
@@ -12,16 +12,22 @@ pub struct Item {
 }
 
 // The number at a place, 0 behind the last.
-pub fn number_at(numbers: &[u64], i: usize) -> u64 {
+pub fn number_at(numbers: &[u64], i: usize) -> u64
+    ensures { result ≡ slice_index numbers.now i }
+{
     numbers.get(i).copied().unwrap_or(0)
 }
 
 impl Item {
-    pub fn number(&self, i: usize) -> u64 {
+    pub fn number(&self, i: usize) -> u64
+        ensures { result ≡ slice_index self.now.numbers.items i }
+    {
         number_at(&self.numbers, i)
     }
 
-    pub fn size(&self, i: usize) -> usize {
+    pub fn size(&self, i: usize) -> usize
+        ensures { result ≡ slice_index self.now.numbers.items i }
+    {
         self.number(i) as usize
     }
 }

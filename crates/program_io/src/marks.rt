@@ -1,4 +1,6 @@
 // Runs that hold marks, by which is seen whether what is lent to a call is written.
+ghost use Rattle.std.specs.Prelude.{◌≡◌, ◌<◌, ◌≤◌, length, vec_len, IfOk, IfSome};
+
 use std::alloc::{AllocError, Global};
 
 pub trait Mark: Copy + PartialEq {
@@ -19,12 +21,16 @@ impl Mark for u8 {
 }
 
 // A run of so many marks.
-pub fn marked<T: Mark>(alloc: Global, length: usize) -> Result<Vec<T>, AllocError> {
+pub fn marked<T: Mark>(alloc: Global, length: usize) -> Result<Vec<T>, AllocError>
+    ensures { IfOk result (λ run. vec_len run ≡ length) }
+{
     (0..length).map(|place| T::mark(place)).collect(alloc)
 }
 
 // The first place from one on that no longer has its mark.
-pub fn first_marred<T: Mark>(run: &[T], from: usize) -> Option<usize> {
+pub fn first_marred<T: Mark>(run: &[T], from: usize) -> Option<usize>
+    ensures { IfSome result (λ place. (from ≤ place) × (place < length run.now)) }
+{
     run.iter()
         .enumerate()
         .skip(from)
@@ -33,6 +39,8 @@ pub fn first_marred<T: Mark>(run: &[T], from: usize) -> Option<usize> {
 }
 
 // The first place at which two runs differ, as far as both go.
-pub fn first_difference<T: PartialEq>(a: &[T], b: &[T]) -> Option<usize> {
+pub fn first_difference<T: PartialEq>(a: &[T], b: &[T]) -> Option<usize>
+    ensures { IfSome result (λ place. (place < length a.now) × (place < length b.now)) }
+{
     a.iter().zip(b.iter()).position(|(x, y)| x != y)
 }

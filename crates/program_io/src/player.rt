@@ -2,7 +2,6 @@
 use crate::fault::Fault;
 use crate::items;
 use crate::items::{Item, Items};
-use std::alloc::Global;
 use std::io;
 use std::io::{BufWriter, Input, Print, Read, Write};
 
@@ -12,7 +11,11 @@ pub trait Player {
 }
 
 // Obeys items to the last, or to the first that is malformed.
-fn obey_all<P: Player, W: Write>(player: &mut P, items: Items<'_>, out: &mut W) -> Result<(), Fault> {
+fn obey_all<P: Player, W: Write>(
+    player: &mut P,
+    items: Items<'_>,
+    out: &mut W,
+) -> Result<(), Fault> {
     for item in items {
         player.obey(&item?, out)?;
     }
@@ -20,17 +23,22 @@ fn obey_all<P: Player, W: Write>(player: &mut P, items: Items<'_>, out: &mut W) 
 }
 
 // Plays standard input; what is malformed ends it with a line `bad input`.
-pub fn play<R: Input + Print + AllocGlobal, P: Player>(rt: &R, player: &mut P) -> io::Result<()> {
+pub fn play<R: Input + Print + AllocGlobal, P: Player>(
+    rt: &R,
+    player: &mut P,
+) -> Result<(), Fault> {
     let alloc = rt.alloc();
     let mut text = Vec::new(alloc);
     rt.reader().read_to_end(&mut text)?;
     let words = items::numbers(alloc, &text)?;
-    let items = Items { alloc, words: &words };
+    let items = Items {
+        alloc,
+        words: &words,
+    };
     let mut out = BufWriter::new(alloc, io::writer(rt))?;
     match obey_all(player, items, &mut out) {
-        Ok(()) => {}
-        Err(Fault::BadInput) => writeln!(out, "bad input")?,
-        Err(Fault::Io(e)) => return Err(e),
+        Err(Fault::BadInput) => writeln!(out, "{}", Fault::BadInput)?,
+        played => played?,
     }
-    out.flush()
+    Ok(out.flush()?)
 }

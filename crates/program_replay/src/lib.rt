@@ -45,7 +45,7 @@ impl Player for Replay {
 }
 
 // Plays standard input, from the blank day on.
-pub fn run<R: Input + Print + AllocGlobal>(rt: &R) -> io::Result<()> {
+pub fn run<R: Input + Print + AllocGlobal>(rt: &R) -> Result<(), Fault> {
     let session = Session::new(rt.alloc())?;
     player::play(rt, &mut Replay { session })
 }

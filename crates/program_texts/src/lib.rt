@@ -10,7 +10,6 @@ use program_io::items::Item;
 use program_io::player;
 use program_io::player::Player;
 use std::alloc::Global;
-use std::io;
 use std::io::{Input, Print, Write};
 use text_parts::{bytes, made};
 
@@ -61,9 +60,7 @@ impl Replay {
         if MOST_BYTES < numbers.len() {
             return Err(Fault::BadInput);
         }
-        let mut base = Vec::with_capacity(self.alloc, numbers.len())?;
-        bytes::push_all(&mut base, numbers)?;
-        self.base = base;
+        self.base = bytes::of_numbers(self.alloc, numbers)?;
         Ok(())
     }
 }
@@ -85,7 +82,7 @@ impl Player for Replay {
 }
 
 // Plays standard input.
-pub fn run<R: Input + Print + AllocGlobal>(rt: &R) -> io::Result<()> {
+pub fn run<R: Input + Print + AllocGlobal>(rt: &R) -> Result<(), Fault> {
     let alloc = rt.alloc();
     let base = Vec::new(alloc);
     player::play(rt, &mut Replay { alloc, base })

@@ -28,13 +28,6 @@ struct List<'a> {
     letters: Vec<u8>,
 }
 
-// The numbers as bytes.
-fn bytes_of(alloc: Global, numbers: &[u64]) -> Result<Vec<u8>, AllocError> {
-    let mut taken = Vec::with_capacity(alloc, numbers.len())?;
-    bytes::push_all(&mut taken, numbers)?;
-    Ok(taken)
-}
-
 fn split(run: &[u64], at: usize) -> Result<(&[u64], &[u64]), Fault> {
     run.split_at_checked(at).ok_or(Fault::BadInput)
 }
@@ -47,8 +40,8 @@ fn list_of(alloc: Global, item: &Item) -> Result<List<'_>, Fault> {
     Ok(List {
         fields,
         components,
-        names: bytes_of(alloc, names)?,
-        letters: bytes_of(alloc, letters)?,
+        names: bytes::of_numbers(alloc, names)?,
+        letters: bytes::of_numbers(alloc, letters)?,
     })
 }
 

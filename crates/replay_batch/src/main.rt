@@ -13,7 +13,6 @@ use program_io::player;
 use program_io::player::Player;
 use rules::Answer;
 use std::alloc::AllocError;
-use std::io;
 use std::io::Write;
 
 // The tags of items.
@@ -125,7 +124,7 @@ impl Player for Replay {
 }
 
 // Plays standard input, from the blank day on.
-fn main(rt: HostRuntime) -> io::Result<()> {
+fn main(rt: HostRuntime) -> Result<(), Fault> {
     let session = Session::new(rt.alloc())?;
     player::play(&rt, &mut Replay { session })
 }

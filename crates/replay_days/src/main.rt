@@ -1,8 +1,8 @@
 #![tactic(auto)]
 
-use std::io;
+use program_io::fault::Fault;
 
 // Plays the test vectors of its standard input: openings, whole days, and calls on days that are broken.
-fn main(rt: HostRuntime) -> io::Result<()> {
+fn main(rt: HostRuntime) -> Result<(), Fault> {
     program_replay::run(&rt)
 }

@@ -1,37 +1,29 @@
 // What ends a run with no slips, or with a part of them.
 use list_rules::ListAnswer;
 use rules::{Answer, Counts, OrderAnswer, Refusal};
-use std::alloc::{AllocError, AllocFailed};
+use std::alloc::AllocError;
 use std::io;
+use thiserror::Error;
 
-#[derive(Drop)]
+#[derive(Debug, Drop, Error)]
 pub enum Fault {
+    #[error("input too long")]
     TooLong,
-    Refused(Refusal),
-    Io(io::Error),
+    #[error("refused {number} {place}")]
+    Refused { number: u64, place: u64 },
+    #[error(transparent)]
+    Memory(#[from(alloc)] AllocError),
+    #[error(transparent)]
+    Io(#[from] io::Error),
 }
 
 impl From<Refusal> for Fault {
     fn from(why: Refusal) -> Fault {
-        Fault::Refused(why)
-    }
-}
-
-impl From<io::Error> for Fault {
-    fn from(e: io::Error) -> Fault {
-        Fault::Io(e)
-    }
-}
-
-impl From<AllocError> for Fault {
-    fn from(e: AllocError) -> Fault {
-        Fault::Io(io::Error::from(e))
-    }
-}
-
-impl<T: Drop> From<AllocFailed<T>> for Fault {
-    fn from(e: AllocFailed<T>) -> Fault {
-        Fault::Io(io::Error::from(e))
+        let r = answers::of_refusal(why);
+        Fault::Refused {
+            number: r.number,
+            place: r.place,
+        }
     }
 }
 

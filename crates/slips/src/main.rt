@@ -9,9 +9,9 @@ mod printed;
 use answers::Numbers;
 use fault::{Fault, done, listed, made};
 use list_rules::ListFields;
-use printed::{Refused, Slip};
+use printed::Slip;
 use rules::OrderAnswer;
-use std::alloc::{AllocError, Global};
+use std::alloc::Global;
 use std::io;
 use std::io::{BufWriter, Read, Write};
 
@@ -135,14 +135,12 @@ fn play_input<R: Read + Drop, W: Write>(alloc: Global, input: R, out: &mut W) ->
     play(alloc, &text, out)
 }
 
-fn main(rt: HostRuntime) -> io::Result<()> {
+fn main(rt: HostRuntime) -> Result<(), Fault> {
     let alloc = rt.alloc();
     let mut out = BufWriter::new(alloc, io::writer(&rt))?;
     match play_input(alloc, rt.reader(), &mut out) {
-        Ok(()) => {}
-        Err(Fault::TooLong) => writeln!(out, "input too long")?,
-        Err(Fault::Refused(why)) => writeln!(out, "{}", Refused(why))?,
-        Err(Fault::Io(e)) => return Err(e),
+        Err(fault @ (Fault::TooLong | Fault::Refused { .. })) => writeln!(out, "{fault}")?,
+        played => played?,
     }
-    out.flush()
+    Ok(out.flush()?)
 }

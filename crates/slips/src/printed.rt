@@ -1,6 +1,5 @@
-// How records and a refusal are printed.
+// How records are printed.
 use layout::Record;
-use rules::Refusal;
 use std::fmt;
 use std::fmt::Display;
 
@@ -32,18 +31,5 @@ impl Display for Slip {
         let price = Yuan(self.0.price.0);
         let amount = Yuan(self.0.amount.0);
         write!(f, "{code:06} {side} {quantity} {price} {amount}")
-    }
-}
-
-// A refusal's number and place.
-#[derive(Drop)]
-pub struct Refused(pub Refusal);
-
-impl Display for Refused {
-    fn fmt<W: fmt::Write>(&self, f: &mut fmt::Formatter<W>) -> fmt::Result {
-        let r = answers::of_refusal(self.0);
-        let number = r.number;
-        let place = r.place;
-        write!(f, "refused {number} {place}")
     }
 }

@@ -1,12 +1,13 @@
 // Bytes: taken from numbers, and summed.
-use std::alloc::AllocError;
+ghost use Rattle.std.specs.Prelude.{◌≡◌, ◌<◌, ◌%◌, map, IfOk};
 
-// Adds numbers as bytes.
-pub fn push_all(bytes: &mut Vec<u8>, numbers: &[u64]) -> Result<(), AllocError> {
-    for x in numbers {
-        bytes.push((*x % 256) as u8)?;
-    }
-    Ok(())
+use std::alloc::{AllocError, Global};
+
+// Numbers as bytes.
+pub fn of_numbers(alloc: Global, numbers: &[u64]) -> Result<Vec<u8>, AllocError>
+    ensures { IfOk result (λ bytes. bytes.items ≡ map (λ x. x % 256) numbers.now) }
+{
+    numbers.iter().map(|x| (*x % 256) as u8).collect(alloc)
 }
 
 // The sum goes by this factor and is a remainder of this prime, so that no step is out of range.
@@ -19,6 +20,8 @@ fn with_byte(sum: u64, b: u8) -> u64 {
 }
 
 // A sum of all bytes, in which each counts by its place.
-pub fn sum(bytes: &[u8]) -> u64 {
+pub fn sum(bytes: &[u8]) -> u64
+    ensures { result < 1000000007 }
+{
     bytes.iter().fold(0, |sum, b| with_byte(sum, *b)) % SUM_PRIME
 }

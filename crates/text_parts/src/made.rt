@@ -37,7 +37,7 @@ pub fn change(alloc: Global, base: &[u8], item: &Item) -> Result<Vec<u8>, Fault>
     let (before, rest) = split(base, item.size(PLACE))?;
     let (_, behind) = split(rest, item.size(GONE))?;
     let mut text = before.to_vec(alloc)?;
-    bytes::push_all(&mut text, come)?;
+    text.extend_from_slice(&bytes::of_numbers(alloc, come)?)?;
     text.extend_from_slice(behind)?;
     Ok(text)
 }
@@ -56,11 +56,11 @@ pub fn grow(alloc: Global, item: &Item) -> Result<Vec<u8>, Fault> {
     if !fits(times, part.len(), front.len().saturating_add(tail.len())) {
         return Err(Fault::BadInput);
     }
-    let mut text = Vec::new(alloc);
-    bytes::push_all(&mut text, front)?;
+    let mut text = bytes::of_numbers(alloc, front)?;
+    let part = bytes::of_numbers(alloc, part)?;
     for _ in 0..times {
-        bytes::push_all(&mut text, part)?;
+        text.extend_from_slice(&part)?;
     }
-    bytes::push_all(&mut text, tail)?;
+    text.extend_from_slice(&bytes::of_numbers(alloc, tail)?)?;
     Ok(text)
 }
