@@ -2,7 +2,7 @@
 use mathlib.Core.Path.{◌≡◌, refl, sym, ap, ap₂, ◌∙◌}
 use mathlib.Core.Bool.{Bool, true, false, not, ◌&&◌, cond, and-eq-true_iff}
 use mathlib.Core.List.{List, [], ◌++◌}
-use Prim.Native.Nat.{ℕ, suc, ◌*◌, ◌≤◌, ◌<◌}
+use Prim.Native.Nat.{ℕ, ◌*◌, ◌≤◌, ◌<◌}
 use native.Mathlib.Nat.{mul_comm, le_antisymm}
 use native.Mathlib.Omega.{arith}
 use lib.Dec.{leb, ltb, eqb}
@@ -19,8 +19,6 @@ use Rattle.sequences.proofs.Every.{every_at, inside_facts}
 use Rattle.layout.specs.Components.{component_at, places_of}
 use Rattle.fund.specs.Components.{component_fault}
 use Rattle.layout.specs.Places.{component_width, most_components, basket_width}
-use Rattle.rules.specs.declared.Refusal.{Refusal}
-use Rattle.rules.specs.Replies.{refusal_reply}
 use Rattle.digits.specs.declared.Figure.{Figure}
 use Rattle.digits.specs.Digits.{plain, cap}
 use Rattle.digits.proofs.Trip.{figure_capped}
@@ -31,15 +29,18 @@ use Rattle.text_rules.specs.Columns.{line_pitch, column_fault, line_numbers, num
 use Rattle.lines.specs.Lines.{ended}
 use Rattle.text_rules.specs.Head.{is_opening, letters_start}
 use Rattle.text_lines.proofs.Opening.{letters_count}
-use Rattle.text_rules.specs.Reading.{start_of, line_of, line_stands, letters_read, row_count, row_of, shape_checks}
-use Rattle.text_rules.specs.Reading.{field_checks, wrong_field, field_start, figure_read, wrong_row, column_place, run_read}
+use Rattle.text_rules.specs.Reading.{line_of, line_stands, letters_read, row_count, row_of}
+use Rattle.text_rules.specs.Reading.{field_checks, wrong_field, figure_read, wrong_row, run_read}
 use Rattle.text_rules.specs.Well.{most_fields}
 use Rattle.text_trip.proofs.Below.{join-same}
+use Rattle.text_head.specs.declared.WrongField.{WrongField}
+use Rattle.text_head.specs.declared.HeadFields.{HeadFields}
 use Rattle.text_head.specs.Head.{figures_found, fields_found}
 use Rattle.text_rows.specs.Rows.{row_in, fault_row}
 use Rattle.text_rows.proofs.Kept.{kept_all, numbers_long}
 use Rattle.list_rules.specs.Shanghai.{shanghai, shanghai_fields, shanghai_columns, shanghai_lines, field_count, count_field, creation_code_field}
 use Rattle.list_rules.specs.Reading.{fields_read, is_counted, read_fault, read_reply, components_run, name_read, name_from, letters_place}
+use Rattle.list_rows.specs.declared.RowFault.{RowFault}
 use Rattle.list_rows.specs.Rows.{rows_of, rows_found, run_kept}
 use Rattle.list_rows.proofs.Rows.{row_ours, fault_ours, numbers_ours}
 use Rattle.list_rules.proofs.Lent.{fields_count}
@@ -51,7 +52,7 @@ use Rattle.list_shape.specs.Shape.{RowsStand, LineWrong}
 use Rattle.list_reading.specs.Outcome.{ReadOutcome}
 use Rattle.list_reading.specs.Stages.{Found, Spelled, Ranged}
 use Rattle.list_reading.proofs.Replies.{field_wrong, row_wrong, count_wrong, field_facts, fields_pass, reply_18, reply_19_field, reply_19_row, reply_20, reply_2, reply_3, reply_16, reply_0}
-use Rattle.list_reading.proofs.Stages.{outcome_refused, outcome_read}
+use Rattle.list_reading.proofs.Stages.{outcome_read}
 
 -- the code's search of a line is that of its definition
 fault_in_lem : (text : List ℕ) (j : ℕ) → j < row_count shanghai text → column_fault shanghai_lines (row_in shanghai_columns (rows_of text) j) ≡ column_fault shanghai (row_of shanghai text j)
@@ -67,19 +68,21 @@ unfolding name_read
 name_wrong text j place w = rw w.line_stops
 
 -- a choice by a test, and the choice that was made
-made_err : (b : Bool) (x : ℕ) (y : List Figure) (place : ℕ) → Err place ≡ cond {A = Result (List Figure) ℕ} b (Err x) (Ok y) → (b ≡ true) × (place ≡ x)
-made_err true x y place e = (refl, cc)
-made_err false x y place e = absurd (cc)
+made_err : (b : Bool) (x : WrongField) (y : HeadFields) (wrong : WrongField) → Err wrong ≡ cond {A = Result HeadFields WrongField} b (Err x) (Ok y)
+    → (b ≡ true) × (wrong ≡ x)
+made_err true x y wrong e = (refl, cc)
+made_err false x y wrong e = absurd (cc)
 
-made_ok : (b : Bool) (x : ℕ) (y figures : List Figure) → Ok figures ≡ cond {A = Result (List Figure) ℕ} b (Err x) (Ok y) → (b ≡ false) × (figures ≡ y)
-made_ok true x y figures e = absurd (cc)
-made_ok false x y figures e = (refl, cc)
+made_ok : (b : Bool) (x : WrongField) (y head : HeadFields) → Ok head ≡ cond {A = Result HeadFields WrongField} b (Err x) (Ok y)
+    → (b ≡ false) × (head ≡ y)
+made_ok true x y head e = absurd (cc)
+made_ok false x y head e = (refl, cc)
 
-made_some : (b : Bool) (x place : ℕ) → Some place ≡ cond b (Some x) None → (b ≡ true) × (place ≡ x)
-made_some true x place e = (refl, cc)
-made_some false x place e = absurd (cc)
+made_some : (b : Bool) (x fault : RowFault) → Some fault ≡ cond b (Some x) None → (b ≡ true) × (fault ≡ x)
+made_some true x fault e = (refl, cc)
+made_some false x fault e = absurd (cc)
 
-made_none : (b : Bool) (x : ℕ) → None ≡ cond b (Some x) None → b ≡ false
+made_none : (b : Bool) (x : RowFault) → None ≡ cond b (Some x) None → b ≡ false
 made_none true x e = absurd (cc)
 made_none false x e = refl
 
@@ -97,36 +100,36 @@ module _ (text : List ℕ) (r : Rows) (s : RowsStand text r) where
       ∙ sym (name_read_lem text s.lines_stand j (omega (arith, s.count_is))))
 
   -- 19 in the head
-  pub field_reply : (place room : ℕ) → Err place ≡ fields_found shanghai_fields text → reply 19 place 0 ≡ read_reply text room
+  pub field_reply : (wrong : WrongField) (room : ℕ) → Err wrong ≡ fields_found shanghai_fields text → reply 19 wrong.place 0 ≡ read_reply text room
   unfolding fields_found
-  field_reply place room e =
-      let m = made_err _ _ _ place e in
-      ap (λ (p : ℕ). reply 19 p 0) m.1 ∙ reply_19_field text room s.lines_stand m.0
+  field_reply wrong room e =
+      let m = made_err _ _ _ wrong e in
+      ap (λ (w : WrongField). reply 19 w.place 0) m.1 ∙ reply_19_field text room s.lines_stand m.0
 
-  module _ (figures : List Figure) (e : Ok figures ≡ fields_found shanghai_fields text) where
+  module _ (head : HeadFields) (e : Ok head ≡ fields_found shanghai_fields text) where
     fields_right : field_wrong text ≡ false
     unfolding fields_found
-    fields_right = (made_ok _ _ _ figures e).0
+    fields_right = (made_ok _ _ _ head e).0
 
     -- 19 in a component line
-    pub row_reply_lem : (place room : ℕ) → Some place ≡ rows_found text → reply 19 place 0 ≡ read_reply text room
+    pub row_reply_lem : (fault : RowFault) (room : ℕ) → Some fault ≡ rows_found text → reply 19 fault.place 0 ≡ read_reply text room
     unfolding rows_found
-    row_reply_lem place room f =
-        let m = made_some _ _ place f in
-        ap (λ (p : ℕ). reply 19 p 0) m.1 ∙ reply_19_row text room s.lines_stand fields_right m.0
+    row_reply_lem fault room f =
+        let m = made_some _ _ fault f in
+        ap (λ (w : RowFault). reply 19 w.place 0) m.1 ∙ reply_19_row text room s.lines_stand fields_right m.0
 
     module _ (f : None ≡ rows_found text) where
       row_right : row_wrong text ≡ false
       unfolding rows_found
       row_right = made_none _ _ f
 
-      pub spelled : Spelled text r figures
+      pub spelled : Spelled text r head.figures
       unfolding fields_found
       spelled =
           record {
             stand = s;
             fields_well_lem = fields_pass text fields_right row_right;
-            figures_are = (made_ok _ _ _ figures e).1;
+            figures_are = ap (λ (h : HeadFields). h.figures) (made_ok _ _ _ head e).1;
           }
 
       -- the numbers that wait in the array

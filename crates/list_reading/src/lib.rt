@@ -71,14 +71,14 @@ fn read_fields(text: &[u8], rows: Rows, run: &mut [u64]) -> Result<ListRead, Ref
     requires { RowsStand text.now rows }
     ensures { ReadOutcome text.now run.old result run.new }
 {
-    let figures = match list_shape::head_fields(text) {
-        Ok(figures) => figures,
-        Err(place) => return Err(Refusal::TextField(place)),
+    let head = match list_shape::head_fields(text) {
+        Ok(head) => head,
+        Err(wrong) => return Err(Refusal::TextField(wrong.place)),
     };
     let mut numbers = [0u64; layout::BASKET_WIDTH];
     match list_rows::read_rows(text, rows.start, rows.count, &mut numbers) {
-        Some(column) => Err(Refusal::TextField(column)),
-        None => read_values(text, rows, figures, &numbers, run),
+        Some(fault) => Err(Refusal::TextField(fault.place)),
+        None => read_values(text, rows, head.figures, &numbers, run),
     }
 }
 

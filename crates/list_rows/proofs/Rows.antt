@@ -111,7 +111,8 @@ module _ (text : List ℕ) (start count : ℕ) (e : start ≡ body_start shangha
     unfolding column_fault shanghai
     column_low = omega (arith, column_found, first-le (wrong_cell shanghai (row_of shanghai text fault.row)) (length shanghai_columns))
 
-    pub row_place : (pitch at : ℕ) → pitch ≡ line_pitch shanghai_columns → at ≡ column_start shanghai_columns fault.column → Some (start + fault.row * pitch + at) ≡ rows_found text
+    pub row_place : (pitch at : ℕ) → pitch ≡ line_pitch shanghai_columns → at ≡ column_start shanghai_columns fault.column
+        → Some (record { row = fault.row; place = start + fault.row * pitch + at }) ≡ rows_found text
     unfolding rows_found column_place row_start shanghai
     row_place pitch at p q = rw (← row_found, ← row_is, ← f, lt-ltb fault.row count row_low, e, p, q, column_found)
 

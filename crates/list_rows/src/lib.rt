@@ -7,9 +7,15 @@ ghost use Rattle.text_rules.specs.Reading.{body_start, row_count};
 ghost use Rattle.list_rules.specs.Shanghai.{shanghai, shanghai_columns};
 ghost use Rattle.list_rows.specs.Rows.{rows_found, run_kept};
 
-// Reads all component lines, as far as the first with a column at fault, and answers the place of that column. Their numbers go to
-// the run, as far as it has room.
-pub fn read_rows(text: &[u8], start: usize, count: usize, run: &mut [u64]) -> Option<usize>
+// The first component line with a column at fault, and the place of that column.
+#[derive(Clone, Copy, PartialEq, Eq, Debug)]
+pub struct RowFault {
+    pub row: usize,
+    pub place: usize,
+}
+
+// Reads all component lines, as far as the first with a column at fault. Their numbers go to the run, as far as it has room.
+pub fn read_rows(text: &[u8], start: usize, count: usize, run: &mut [u64]) -> Option<RowFault>
     requires start_value { (start ≡ body_start shanghai text.now) × (count ≡ row_count shanghai text.now) }
     requires shanghai_columns_in_bounds { start + count * line_pitch shanghai_columns ≤ length text.now }
     ensures value { result ≡ rows_found text.now }
@@ -20,5 +26,8 @@ pub fn read_rows(text: &[u8], start: usize, count: usize, run: &mut [u64]) -> Op
     let pitch = columns.pitch();
     let end = start + count * pitch;
     let fault = text_rows::read_columns(&form, &text[start..end], count, run)?;
-    Some(start + fault.row * pitch + columns.start(fault.column))
+    Some(RowFault {
+        row: fault.row,
+        place: start + fault.row * pitch + columns.start(fault.column),
+    })
 }

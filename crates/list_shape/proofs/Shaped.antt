@@ -16,33 +16,38 @@ use Rattle.lines.proofs.Laws.{same_is, first-length}
 use Rattle.text_rules.specs.Columns.{line_pitch}
 use Rattle.text_rules.specs.Head.{end_word, head_lines, end_size}
 use Rattle.text_rules.specs.Reading.{start_of, line_of, line_stands, wrong_line, body_start, rows_from, row_start, row_count, end_start}
+use Rattle.text_head.specs.declared.WrongLine.{WrongLine}
 use Rattle.text_head.specs.Head.{shape_found}
 use Rattle.list_rules.specs.Shanghai.{shanghai, shanghai_fields, shanghai_columns}
 use Rattle.list_shape.specs.Shape.{Shaped}
 use Rattle.list_shape.proofs.Checks.{line_wrong, end_missing, shape_passes, line_stops, end_stops, more_stops}
 
--- ---- the head
-module _ (text : List ℕ) (h : Result ℕ ℕ) (e : h ≡ shape_found shanghai_fields text) where
+-- ---- the head: its first wrong line
+abbrev stops : List ℕ → WrongLine
+stops text = record { line = wrong_line shanghai_fields text; place = start_of text (wrong_line shanghai_fields text) }
+
+module _ (text : List ℕ) (h : Result ℕ WrongLine) (e : h ≡ shape_found shanghai_fields text) where
   -- a wrong line of the head
-  pub head_off : (p : ℕ) → h ≡ Err p → Shaped text (Err p)
+  pub head_off : (p : WrongLine) → h ≡ Err p → Shaped text (Err p.place)
   unfolding shape_found
   head_off p f = case (line_wrong text) refl (sym e ∙ f)
     where
-      case : (b : Bool) → line_wrong text ≡ b → cond b (Err (start_of text (wrong_line shanghai_fields text))) (Ok (start_of text (head_lines shanghai_fields))) ≡ Err p → Shaped text (Err p)
+      case : (b : Bool) → line_wrong text ≡ b → cond b (Err (stops text)) (Ok (start_of text (head_lines shanghai_fields))) ≡ Err p
+          → Shaped text (Err p.place)
       case true w g =
-          let same : start_of text (wrong_line shanghai_fields text) ≡ p = cc in
+          let same : stops text ≡ p = cc in
           let s = line_stops text w in
-          record { line_stops = s.0; place_is = s.1 ∙ ap (λ (n : ℕ). reply 18 n 0) same }
-      case false w g = absurd (subst (λ (x : Result ℕ ℕ). MatchResult x (λ _. ⊤) (λ _. ⊥)) g tt)
+          record { line_stops = s.0; place_is = s.1 ∙ ap (λ (w : WrongLine). reply 18 w.place 0) same }
+      case false w g = absurd (subst (λ (x : Result ℕ WrongLine). MatchResult x (λ _. ⊤) (λ _. ⊥)) g tt)
 
   -- every line of the head stands
   pub head_on : (p : ℕ) → h ≡ Ok p → (wrong_line shanghai_fields text ≡ head_lines shanghai_fields) × (p ≡ body_start shanghai text)
   unfolding shape_found wrong_line body_start shanghai
   head_on p f = case (line_wrong text) refl (sym e ∙ f)
     where
-      case : (b : Bool) → line_wrong text ≡ b → cond b (Err (start_of text (wrong_line shanghai_fields text))) (Ok (start_of text (head_lines shanghai_fields))) ≡ Ok p
+      case : (b : Bool) → line_wrong text ≡ b → cond b (Err (stops text)) (Ok (start_of text (head_lines shanghai_fields))) ≡ Ok p
           → (wrong_line shanghai_fields text ≡ head_lines shanghai_fields) × (p ≡ start_of text (head_lines shanghai_fields))
-      case true w g = absurd (subst (λ (x : Result ℕ ℕ). MatchResult x (λ _. ⊥) (λ _. ⊤)) g tt)
+      case true w g = absurd (subst (λ (x : Result ℕ WrongLine). MatchResult x (λ _. ⊥) (λ _. ⊤)) g tt)
       case false w g =
           let same : start_of text (head_lines shanghai_fields) ≡ p = cc in
           (le_antisymm (first-le _ (head_lines shanghai_fields)) (ltb-false _ _ w), sym same)

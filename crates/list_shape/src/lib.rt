@@ -10,8 +10,7 @@ ghost use Rattle.list_rules.specs.Shanghai.{shanghai, shanghai_fields};
 ghost use Rattle.list_rules.specs.Reading.{is_counted};
 ghost use Rattle.list_shape.specs.Shape.{Shaped};
 
-use digits::Figure;
-use text_rules::MOST_FIELDS;
+use text_head::{HeadFields, WrongField};
 
 // Where the component lines of a text start, and how many there are.
 #[derive(Clone, Copy)]
@@ -56,12 +55,14 @@ fn body_shape(text: &[u8], start: usize) -> Result<Rows, usize>
 pub fn shape_of(text: &[u8]) -> Result<Rows, usize>
     ensures { Shaped text.now result }
 {
-    let start = text_head::head_shape(&list_rules::field_table(), text)?;
-    body_shape(text, start)
+    match text_head::head_shape(&list_rules::field_table(), text) {
+        Ok(start) => body_shape(text, start),
+        Err(wrong) => Err(wrong.place),
+    }
 }
 
-// Refusal 19 in the head, where its lines stand: the figures, or the place of the first wrong field.
-pub fn head_fields(text: &[u8]) -> Result<[Figure; MOST_FIELDS], usize>
+// Refusal 19 in the head, where its lines stand: the figures, or the first wrong field.
+pub fn head_fields(text: &[u8]) -> Result<HeadFields, WrongField>
     requires { wrong_line shanghai_fields text.now ≡ head_lines shanghai_fields }
     ensures { result ≡ fields_found shanghai_fields text.now }
 {

@@ -28,6 +28,7 @@ use Rattle.text_rules.specs.Well.{most_decimals, most_fields, fields_well}
 use Rattle.text_rules.proofs.Well.{field_well_lem, fields_few}
 use Rattle.text_lines.proofs.Standing.{stands_facts}
 use Rattle.text_lines.proofs.Opening.{drop-front}
+use Rattle.text_head.specs.declared.WrongField.{WrongField}
 use Rattle.text_head.specs.Head.{field_reading, figures_found, fields_found}
 use Rattle.text_head.proofs.Shape.{wrong_at}
 
@@ -126,6 +127,9 @@ module _ (fs : List Field) (made : fields_well fs ≡ true) (text : List ℕ) (w
       abbrev value : ℕ
       value = at + (length f.name.now + 1)
 
+      abbrev stops : WrongField
+      stops = record { field = k; place = value }
+
       -- the part that the code reads is the field's word
       abbrev part : List ℕ
       part = take (at + n - value) (drop value text)
@@ -151,7 +155,7 @@ module _ (fs : List Field) (made : fields_well fs ≡ true) (text : List ℕ) (w
       says : (x : Option Figure) → x ≡ field_reading (field_of f) part → x ≡ field_reading (field_at fs k) part
       says x h = h ∙ ap (λ (y : Field). field_reading y part) is
 
-      fielded_ill : (x : Option Figure) → x ≡ field_reading (field_of f) part → x ≡ None → Err value ≡ fields_found fs text
+      fielded_ill : (x : Option Figure) → x ≡ field_reading (field_of f) part → x ≡ None → Err stops ≡ fields_found fs text
       unfolding wrong_field fault_at field_start fields_found
       fielded_ill x h i =
           let w : fault_at fs text k ≡ true = fault_is false (says_none (field_at fs k) part (sym (says x h) ∙ i)) in
@@ -186,23 +190,24 @@ module _ (fs : List Field) (made : fields_well fs ≡ true) (text : List ℕ) (w
               ]
 
       -- by what the code makes of it
-      module _ (x : Option Figure) (h : x ≡ field_reading (field_of f) part) (r : Result Figure ℕ) (e : r ≡ ok_or x value) where
-        pub fielded_off : (p : ℕ) → r ≡ Err p → Err p ≡ fields_found fs text
+      module _ (x : Option Figure) (h : x ≡ field_reading (field_of f) part) (r : Result Figure WrongField) (e : r ≡ ok_or x stops) where
+        pub fielded_off : (p : WrongField) → r ≡ Err p → Err p ≡ fields_found fs text
         fielded_off p g = case x refl (sym e ∙ g)
           where
-            case : (y : Option Figure) → x ≡ y → ok_or y value ≡ Err p → Err p ≡ fields_found fs text
-            case None i q = let same : value ≡ p = cc in subst (λ (n : ℕ). Err n ≡ fields_found fs text) same (fielded_ill x h i)
-            case (Some z) i q = absurd (subst (λ (y : Result Figure ℕ). MatchResult y (λ _. ⊤) (λ _. ⊥)) q tt)
+            case : (y : Option Figure) → x ≡ y → ok_or y stops ≡ Err p → Err p ≡ fields_found fs text
+            case None i q = let same : stops ≡ p = cc in subst (λ (w : WrongField). Err w ≡ fields_found fs text) same (fielded_ill x h i)
+            case (Some z) i q = absurd (subst (λ (y : Result Figure WrongField). MatchResult y (λ _. ⊤) (λ _. ⊥)) q tt)
 
         pub fielded_on : (z : Figure) → r ≡ Ok z → Fielded fs text (set figures k z) (at + n + 2) (k + 1)
         fielded_on z g = case x refl (sym e ∙ g)
           where
-            case : (y : Option Figure) → x ≡ y → ok_or y value ≡ Ok z → Fielded fs text (set figures k z) (at + n + 2) (k + 1)
-            case None i q = absurd (subst (λ (y : Result Figure ℕ). MatchResult y (λ _. ⊥) (λ _. ⊤)) q tt)
+            case : (y : Option Figure) → x ≡ y → ok_or y stops ≡ Ok z → Fielded fs text (set figures k z) (at + n + 2) (k + 1)
+            case None i q = absurd (subst (λ (y : Result Figure WrongField). MatchResult y (λ _. ⊥) (λ _. ⊤)) q tt)
             case (Some w) i q = let same : w ≡ z = cc in fielded_again x h z (i ∙ ap Some same)
 
-  pub fielded_end : (figures : List Figure) (at k : ℕ) → Fielded fs text figures at k → k ≡ length fs → Ok figures ≡ fields_found fs text
+  pub fielded_end : (figures : List Figure) (at k : ℕ) → Fielded fs text figures at k → k ≡ length fs
+      → Ok (record { place = at; figures = figures }) ≡ fields_found fs text
   unfolding wrong_field fault_at fields_found
   fielded_end figures at k v l =
       let e : wrong_field fs text ≡ k = ap (first_below (fault_at fs text)) (sym l) ∙ v.none in
-      rw (e, le-ltb k (length fs) (omega arith), kept_are figures at k v e)
+      rw (e, le-ltb k (length fs) (omega arith), kept_are figures at k v e, v.place, l)

@@ -20,6 +20,7 @@ use Rattle.text_rules.specs.Head.{head_lines, field_name, tag_word, is_opening, 
 use Rattle.text_rules.specs.Reading.{start_of, line_stands, wrong_line}
 use Rattle.text_rules.proofs.Tables.{fields-length, field_lent}
 use Rattle.text_lines.proofs.Standing.{stands_facts}
+use Rattle.text_head.specs.declared.WrongLine.{WrongLine}
 use Rattle.text_head.specs.Head.{line_passed, shape_found}
 
 -- ---- what line k of the head has to be: the first, the line of a field, and the last
@@ -70,8 +71,8 @@ module _ (fs : List Field) (text : List ℕ) where
   shape_start = record { place = refl; within = zero-le; none = first_none wrong_at }
 
   -- what the code answers of line k, by the test of that line
-  abbrev Answered : Result ℕ ℕ → Type 0
-  Answered r = (r ≡ shape_found fs text) × MatchResult r (λ place. place ≤ length text) (λ place. place ≤ length text)
+  abbrev Answered : Result ℕ WrongLine → Type 0
+  Answered r = (r ≡ shape_found fs text) × MatchResult r (λ place. place ≤ length text) (λ wrong. wrong.place ≤ length text)
 
   -- all lines stand
   shape_all : (at : ℕ) → Shape at (head_lines fs) → Answered (Ok at)
@@ -87,7 +88,10 @@ module _ (fs : List Field) (text : List ℕ) where
     unfolding wrong_at
     wrong_is b e = rw (← v.place, e)
 
-    shape_wrong : line_stands (is_head_line fs k) text at ≡ false → Answered (Err at)
+    abbrev stops : WrongLine
+    stops = record { line = k; place = at }
+
+    shape_wrong : line_stands (is_head_line fs k) text at ≡ false → Answered (Err stops)
     unfolding shape_found wrong_line wrong_at
     shape_wrong e =
         let w : wrong_line fs text ≡ k = first_here (wrong_at) (head_lines fs) k low v.none (wrong_is false e) in
@@ -103,28 +107,28 @@ module _ (fs : List Field) (text : List ℕ) where
         }
 
     -- by what passing the line gives
-    module _ (r : Result ℕ ℕ) (e : r ≡ line_passed (is_head_line fs k) text at) where
+    module _ (r : Result ℕ WrongLine) (e : r ≡ line_passed (is_head_line fs k) text k at) where
       pub shape_on : (p : ℕ) → r ≡ Ok p → Shape p (k + 1)
       unfolding line_passed
       shape_on p f = case (line_stands (is_head_line fs k) text at) refl (sym e ∙ f)
         where
-          case : (b : Bool) → line_stands (is_head_line fs k) text at ≡ b → cond b (Ok (next_at text at)) (Err at) ≡ Ok p → Shape p (k + 1)
+          case : (b : Bool) → line_stands (is_head_line fs k) text at ≡ b → cond b (Ok (next_at text at)) (Err stops) ≡ Ok p → Shape p (k + 1)
           case true h g = let q : next_at text at ≡ p = cc in subst (λ (i : ℕ). Shape i (k + 1)) q (shape_more h)
-          case false h g = absurd (subst (λ (x : Result ℕ ℕ). MatchResult x (λ _. ⊥) (λ _. ⊤)) g tt)
+          case false h g = absurd (subst (λ (x : Result ℕ WrongLine). MatchResult x (λ _. ⊥) (λ _. ⊤)) g tt)
 
-      pub shape_off : (p : ℕ) → r ≡ Err p → Answered (Err p)
+      pub shape_off : (p : WrongLine) → r ≡ Err p → Answered (Err p)
       unfolding line_passed
       shape_off p f = case (line_stands (is_head_line fs k) text at) refl (sym e ∙ f)
         where
-          case : (b : Bool) → line_stands (is_head_line fs k) text at ≡ b → cond b (Ok (next_at text at)) (Err at) ≡ Err p → Answered (Err p)
-          case false h g = let q : at ≡ p = cc in subst (λ (i : ℕ). Answered (Err i)) q (shape_wrong h)
-          case true h g = absurd (subst (λ (x : Result ℕ ℕ). MatchResult x (λ _. ⊤) (λ _. ⊥)) g tt)
+          case : (b : Bool) → line_stands (is_head_line fs k) text at ≡ b → cond b (Ok (next_at text at)) (Err stops) ≡ Err p → Answered (Err p)
+          case false h g = let q : stops ≡ p = cc in subst (λ (w : WrongLine). Answered (Err w)) q (shape_wrong h)
+          case true h g = absurd (subst (λ (x : Result ℕ WrongLine). MatchResult x (λ _. ⊤) (λ _. ⊥)) g tt)
 
       -- the last line
       pub shape_end : k + 1 ≡ head_lines fs → Answered r
       unfolding line_passed
       shape_end last = subst⁻¹ Answered e (case (line_stands (is_head_line fs k) text at) refl)
         where
-          case : (b : Bool) → line_stands (is_head_line fs k) text at ≡ b → Answered (cond b (Ok (next_at text at)) (Err at))
+          case : (b : Bool) → line_stands (is_head_line fs k) text at ≡ b → Answered (cond b (Ok (next_at text at)) (Err stops))
           case false h = shape_wrong h
           case true h = shape_all (next_at text at) (subst (λ (i : ℕ). Shape (next_at text at) i) last (shape_more h))

@@ -12,6 +12,27 @@ ghost use Rattle.text_head.specs.Head.{field_reading, line_passed, shape_found, 
 use digits::Figure;
 use text_rules::{Field, Fields, MOST_FIELDS, ValueKind};
 
+// The first wrong line of the head, counted from 0, and its place.
+#[derive(Clone, Copy, PartialEq, Eq, Debug)]
+pub struct WrongLine {
+    pub line: usize,
+    pub place: usize,
+}
+
+// The first wrong field of the head, counted from 0, and the place of its value.
+#[derive(Clone, Copy, PartialEq, Eq, Debug)]
+pub struct WrongField {
+    pub field: usize,
+    pub place: usize,
+}
+
+// The figures of all fields, and the place of TAGTAG behind them.
+#[derive(Clone, Copy)]
+pub struct HeadFields {
+    pub place: usize,
+    pub figures: [Figure; MOST_FIELDS],
+}
+
 // What more than its form a field's value has to be.
 #[tactic(auto, unfolding(text_rules::specs::Head::is_kind))]
 fn is_kind(kind: ValueKind, v: u64) -> bool
@@ -34,39 +55,49 @@ fn read_field(field: &Field, s: &[u8]) -> Option<Figure>
     is_kind(field.kind, z.size).then_some(z)
 }
 
-// The place behind the line at a place, where it has its end and passes the test; the place itself where it does not.
-fn pass_line<F: FnOnce(&[u8]) -> bool>(text: &[u8], at: usize, test: F) -> Result<usize, usize>
+// The place behind line k, which starts at a place, where it has its end and passes the test.
+fn pass_line<F: FnOnce(&[u8]) -> bool>(
+    text: &[u8],
+    k: usize,
+    at: usize,
+    test: F,
+) -> Result<usize, WrongLine>
     requires callable { F.IsAlwaysCallable test }
     requires at_in_bounds { at ≤ length text.now }
     ensures { (said : List ℕ → Bool)
         → ((l : List ℕ) → (b : Bool) → FnOnceReturnsAt F.FnOnce test l b → b ≡ said l)
-        → result ≡ line_passed said text.now at }
+        → result ≡ line_passed said text.now k at }
 {
     let n = lines::line_len(&text[at..]);
     if text.len() - at <= n {
-        return Err(at);
+        return Err(WrongLine { line: k, place: at });
     }
     if !test(&text[at..at + n]) {
-        return Err(at);
+        return Err(WrongLine { line: k, place: at });
     }
     Ok(at + (n + 2))
 }
 
-// Refusal 18 in the head: the place behind it, or that of its first wrong line.
-pub fn head_shape(fields: &Fields, text: &[u8]) -> Result<usize, usize>
+// Refusal 18 in the head: the place behind it, or its first wrong line.
+pub fn head_shape(fields: &Fields, text: &[u8]) -> Result<usize, WrongLine>
     ensures { (result ≡ shape_found fields.now text.now)
-        × MatchResult result (λ place. place ≤ length text.now) (λ place. place ≤ length text.now) }
+        × MatchResult result (λ place. place ≤ length text.now) (λ wrong. wrong.place ≤ length text.now) }
 {
     let table = fields.table();
-    let mut at = pass_line(text, 0, text_lines::is_opening)?;
-    for field in table {
-        at = pass_line(text, at, |line| lines::is_named(field.name, line))?;
+    let mut at = pass_line(text, 0, 0, text_lines::is_opening)?;
+    for (k, field) in table.iter().enumerate() {
+        at = pass_line(text, k + 1, at, |line| lines::is_named(field.name, line))?;
     }
-    pass_line(text, at, |line| lines::same_bytes(line, b"TAGTAG"))
+    pass_line(
+        text,
+        table.len() + 1,
+        at,
+        |line| lines::same_bytes(line, b"TAGTAG"),
+    )
 }
 
-// Refusal 19 in the head, where its lines stand: the figures, or the place of the first wrong field.
-pub fn head_fields(fields: &Fields, text: &[u8]) -> Result<[Figure; MOST_FIELDS], usize>
+// Refusal 19 in the head, where its lines stand: the figures, or the first wrong field.
+pub fn head_fields(fields: &Fields, text: &[u8]) -> Result<HeadFields, WrongField>
     requires { wrong_line fields.now text.now ≡ head_lines fields.now }
     ensures { result ≡ fields_found fields.now text.now }
 {
@@ -78,9 +109,9 @@ pub fn head_fields(fields: &Fields, text: &[u8]) -> Result<[Figure; MOST_FIELDS]
     let mut at = lines::line_len(text) + 2;
     for (k, field) in table.iter().enumerate() {
         let end = at + lines::line_len(&text[at..]);
-        let value = at + (field.name.len() + 1);
-        figures[k] = read_field(field, &text[value..end]).ok_or(value)?;
+        let place = at + (field.name.len() + 1);
+        figures[k] = read_field(field, &text[place..end]).ok_or(WrongField { field: k, place })?;
         at = end + 2;
     }
-    Ok(figures)
+    Ok(HeadFields { place: at, figures })
 }

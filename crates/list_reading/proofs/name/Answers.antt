@@ -1,5 +1,5 @@
 -- `list_reading::name` meets its contract: an empty part where a line is wrong or the component is none of the text's, else its name.
-use Rattle.std.proofs.Common.{◌∙◌, sym}
+use Rattle.std.proofs.Common.{◌∙◌}
 use Rattle.list_reading.proofs.Handed.{name_wrong, name_past, name_is}
 use Rattle.list_reading.proofs.name.Goals as goal
 

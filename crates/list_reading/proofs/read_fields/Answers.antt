@@ -1,7 +1,5 @@
 -- `list_reading::read_fields` meets its contract: each return is the reply of a law for what was tested before it.
-use Rattle.std.proofs.Common.{◌≡◌, ◌∙◌, sym, refl, Ok, rules, arith}
-use Rattle.text_head.specs.Head.{fields_found}
-use Rattle.list_rules.specs.Shanghai.{shanghai_fields}
+use Rattle.std.proofs.Common.{◌∙◌, sym, refl}
 use Rattle.list_reading.proofs.Stages.{outcome_refused}
 use Rattle.list_reading.proofs.Handed.{field_reply, row_reply_lem, spelled, found}
 use Rattle.list_reading.proofs.read_fields.Goals as goal
@@ -18,6 +16,6 @@ returns-in-Some c =
 
 pub read_values-requires : goal.read_values-requires
 read_values-requires c =
-    let figures = sym c.in-Ok.is ∙ c.head_fields.ensures in
+    let head = sym c.in-Ok.is ∙ c.head_fields.ensures in
     let none = sym c.in-None.is ∙ c.read_rows.ensures.value in
-    record { spelled = spelled _ _ c.requires _ figures none; found = found _ _ c.requires _ figures none _ _ c.read_rows.ensures.run_after refl }
+    record { spelled = spelled _ _ c.requires _ head none; found = found _ _ c.requires _ head none _ _ c.read_rows.ensures.run_after refl }
