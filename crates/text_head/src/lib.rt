@@ -27,7 +27,7 @@ pub struct WrongField {
 }
 
 // The figures of all fields, and the place of TAGTAG behind them.
-#[derive(Clone, Copy)]
+#[derive(Clone, Copy, PartialEq, Eq, Debug)]
 pub struct HeadFields {
     pub place: usize,
     pub figures: [Figure; MOST_FIELDS],
