@@ -36,7 +36,13 @@ pub fn open(
 }
 
 // Sets a component's price.
-pub fn price(day: &[u64], book: &[u64], prices: &mut [u64], line: usize, price: u64) -> Result<(), Refusal>
+pub fn price(
+    day: &[u64],
+    book: &[u64],
+    prices: &mut [u64],
+    line: usize,
+    price: u64,
+) -> Result<(), Refusal>
     ensures result_value { answer_reply result ≡ price_reply (day_at day.now) book.now prices.old line price }
     ensures prices { prices.new ≡ priced_prices (day_at day.now) book.now prices.old line price }
 {
@@ -44,12 +50,7 @@ pub fn price(day: &[u64], book: &[u64], prices: &mut [u64], line: usize, price: 
 }
 
 // Trades a quantity of a line at a price.
-pub fn trade(
-    day: &[u64],
-    book: &mut [u64],
-    prices: &[u64],
-    trade: Trade,
-) -> Result<(), Refusal>
+pub fn trade(day: &[u64], book: &mut [u64], prices: &[u64], trade: Trade) -> Result<(), Refusal>
     ensures result_value { answer_reply result ≡ trade_reply (day_at day.now) book.old prices.now trade.line trade.quantity trade.price.0 trade.seller trade.buyer }
     ensures book { book.new ≡ traded_book (day_at day.now) book.old prices.now trade.line trade.quantity trade.price.0 trade.seller trade.buyer }
 {

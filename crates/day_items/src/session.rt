@@ -1,10 +1,11 @@
 // The day, book and prices that calls are made on, and the items that give them.
 use crate::replies::Reply;
+use answers::Numbers;
 use layout::Fund;
 use program_io::fault::Fault;
 use program_io::items::Item;
 use program_io::{funds, marks};
-use rules::Answer;
+use rules::Refusal;
 use std::alloc::{AllocError, Global};
 use std::io;
 use std::io::Write;
@@ -114,7 +115,7 @@ impl Session {
     }
 
     // Opens on runs that hold marks.
-    fn open_given(&mut self, given: &Given<'_>) -> Result<Answer, AllocError> {
+    fn open_given(&mut self, given: &Given<'_>) -> Result<Result<(), Refusal>, AllocError> {
         self.mark(given.book_length, given.prices_length)?;
         Ok(day::open(
             given.accounts,
@@ -142,8 +143,7 @@ impl Session {
     // Behind a refused opening calls are made on the blank day.
     pub fn open<W: Write>(&mut self, item: &Item, out: &mut W) -> Result<(), Fault> {
         let given = Given::new(item)?;
-        let answer = self.open_given(&given)?;
-        let reply = answers::of_answer(answer);
+        let reply = Numbers::from(self.open_given(&given)?);
         writeln!(out, "row {}", item.number(0))?;
         writeln!(out, "opening {}", Reply(reply))?;
         if reply.number != 0 {

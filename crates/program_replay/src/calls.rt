@@ -7,55 +7,17 @@ use day_items::replies::Reply;
 use day_items::session::Session;
 use program_io::fault::Fault;
 use program_io::items::Item;
-use rules::Answer;
+use rules::Trade;
 use std::io::Write;
+use units::Money;
 
 #[derive(Clone, Copy)]
 pub enum Call {
-    Price {
-        line: usize,
-        price: u64,
-    },
-    Trade {
-        line: usize,
-        quantity: u64,
-        price: u64,
-        seller: usize,
-        buyer: usize,
-    },
+    Price { line: usize, price: u64 },
+    Trade(Trade),
     Value,
     Order(Order),
     Test(Order),
-}
-
-fn price(session: &mut Session, line: usize, price: u64) -> Answer {
-    day::price(
-        &session.day,
-        &session.book,
-        &mut session.prices,
-        line,
-        price,
-    )
-}
-
-fn trade(
-    session: &mut Session,
-    line: usize,
-    quantity: u64,
-    price: u64,
-    seller: usize,
-    buyer: usize,
-) -> Answer {
-    day::trade(
-        &session.day,
-        &mut session.book,
-        &session.prices,
-        line,
-        quantity,
-        price,
-        seller,
-        buyer,
-    )
 }
 
 // Prints a reply, behind a word.
@@ -74,13 +36,13 @@ impl Call {
                 line: item.size(0),
                 price: item.number(1),
             }),
-            (Tag::Trade, 5) => Ok(Call::Trade {
+            (Tag::Trade, 5) => Ok(Call::Trade(Trade {
                 line: item.size(0),
                 quantity: item.number(1),
-                price: item.number(2),
+                price: Money(item.number(2)),
                 seller: item.size(3),
                 buyer: item.size(4),
-            }),
+            })),
             (Tag::Value, 0) => Ok(Call::Value),
             (Tag::Create, 5) => Ok(Call::Order(Order::with_room(
                 rules::creation(account, units),
@@ -108,24 +70,23 @@ impl Call {
 
     fn answered<W: Write>(&self, session: &mut Session, out: &mut W) -> Result<Numbers, Fault> {
         match *self {
-            Call::Price { line, price: p } => print(
-                out,
-                "price",
-                answers::of_answer(price(session, line, p)),
-            ),
-            Call::Trade {
-                line,
-                quantity,
-                price,
-                seller,
-                buyer,
-            } => {
-                let answer = trade(session, line, quantity, price, seller, buyer);
-                print(out, "trade", answers::of_answer(answer))
+            Call::Price { line, price } => {
+                let answer = day::price(
+                    &session.day,
+                    &session.book,
+                    &mut session.prices,
+                    line,
+                    price,
+                );
+                print(out, "price", Numbers::from(answer))
+            }
+            Call::Trade(trade) => {
+                let answer = day::trade(&session.day, &mut session.book, &session.prices, trade);
+                print(out, "trade", Numbers::from(answer))
             }
             Call::Value => {
                 let answer = day::reference_value(&session.day, &session.book, &session.prices);
-                print(out, "value", answers::of_value(answer))
+                print(out, "value", Numbers::from(answer))
             }
             Call::Order(order) => order.make(session, out),
             Call::Test(order) => {

@@ -8,7 +8,7 @@ use program_io::fault::Fault;
 use program_io::items::Item;
 use program_io::marks;
 use program_io::rows::Row;
-use rules::{Ask, OrderAnswer};
+use rules::{Ask, Counts, Kind, Refusal};
 use std::alloc::{AllocError, Global};
 use std::io;
 use std::io::Write;
@@ -33,10 +33,6 @@ struct Lists {
     records: Vec<u64>,
     investor: Vec<u64>,
     fund: Vec<u64>,
-}
-
-fn is_creation(ask: Ask) -> bool {
-    ask.kind == rules::CREATION
 }
 
 // As many of a list's numbers as so many entries take.
@@ -96,15 +92,15 @@ impl Lists {
     }
 
     // The lists after an order; where it was refused, whether they are what they were.
-    fn print<W: Write>(&self, answer: OrderAnswer, out: &mut W) -> io::Result<()> {
+    fn print<W: Write>(&self, answer: Result<Counts, Refusal>, out: &mut W) -> io::Result<()> {
         match answer {
-            OrderAnswer::Made(counts) => {
+            Ok(counts) => {
                 let records = front(&self.records, counts.records, layout::RECORD_WIDTH);
                 let investor = front(&self.investor, counts.reports, layout::REPORT_WIDTH);
                 let fund = front(&self.fund, counts.reports, layout::REPORT_WIDTH);
                 self.print_written(records, investor, fund, out)
             }
-            OrderAnswer::Refused(_) => self.print_rest(0, 0, out),
+            Err(_) => self.print_rest(0, 0, out),
         }
     }
 }
@@ -133,27 +129,36 @@ impl Order {
     }
 
     pub fn name(&self) -> &'static str {
-        if is_creation(self.ask) {
-            "create"
-        } else {
-            "redeem"
+        match self.ask.kind {
+            Kind::Creation => "create",
+            Kind::Redemption => "redeem",
         }
     }
 
     // What its tests alone answer.
     pub fn tested(&self, session: &Session) -> Numbers {
         let (day, book, prices) = (&session.day, &session.book, &session.prices);
-        let Ask { account, units, .. } = self.ask;
+        let Ask {
+            kind,
+            account,
+            units,
+        } = self.ask;
         let (records, investor, fund) = (self.records, self.investor, self.fund);
-        let answer = if is_creation(self.ask) {
-            day::creation_test(day, book, prices, account, units, records, investor, fund)
-        } else {
-            day::redemption_test(day, book, prices, account, units, records, investor, fund)
-        };
-        answers::of_order(answer)
+        Numbers::from(match kind {
+            Kind::Creation => {
+                day::creation_test(day, book, prices, account, units, records, investor, fund)
+            }
+            Kind::Redemption => {
+                day::redemption_test(day, book, prices, account, units, records, investor, fund)
+            }
+        })
     }
 
-    fn settle(&self, session: &mut Session, lists: &mut Lists) -> Result<OrderAnswer, AllocError> {
+    fn settle(
+        &self,
+        session: &mut Session,
+        lists: &mut Lists,
+    ) -> Result<Result<Counts, Refusal>, AllocError> {
         let mut records = records_of(session.alloc, &lists.records)?;
         let answer = order_structs::order(
             &session.day,
@@ -173,7 +178,7 @@ impl Order {
         let mut lists = Lists::new(session.alloc, self)?;
         writeln!(out, "test {}", Reply(self.tested(session)))?;
         let answer = self.settle(session, &mut lists)?;
-        let reply = answers::of_order(answer);
+        let reply = Numbers::from(answer);
         writeln!(out, "{} {}", self.name(), Reply(reply))?;
         lists.print(answer, out)?;
         Ok(reply)

@@ -7,7 +7,7 @@ use program_io::rows::Row;
 use std::alloc::{AllocError, Global};
 use std::io;
 use std::io::Write;
-use text_parts::replies::{Reply, of_answer};
+use text_parts::replies::Reply;
 use text_parts::{bytes, fields, names};
 
 // A list starts with its row, the length of the lent output, and the lengths of its components and of its names. Behind them
@@ -85,10 +85,12 @@ fn read_back<W: Write>(
     out: &mut W,
 ) -> Result<(), Fault> {
     let mut run = marks::marked(alloc, crate::MOST_RUN)?;
-    let read = list_reading::read(text, &mut run);
-    let answer = of_answer(read.answer);
-    writeln!(out, "read {}", Reply(answer))?;
-    if answer.is_err() || !is_listed(list, &read, &run, out)? {
+    let answer = list_reading::read(text, &mut run);
+    writeln!(out, "read {}", Reply(answer.map(|read| read.fields.count)))?;
+    let Ok(read) = answer else {
+        return Ok(());
+    };
+    if !is_listed(list, &read, &run, out)? {
         return Ok(());
     }
     if is_named(alloc, list, &read, text)? {
@@ -131,13 +133,13 @@ pub fn write<W: Write>(alloc: Global, item: &Item, out: &mut W) -> Result<(), Fa
     }
     writeln!(out, "row {}", item.number(0))?;
     let mut output = marks::marked(alloc, room)?;
-    let answer = of_answer(list_writing::write(
+    let answer = list_writing::write(
         given,
         list.components,
         &list.names,
         &list.letters,
         &mut output,
-    ));
+    );
     writeln!(out, "write {}", Reply(answer))?;
     match answer {
         Ok(size) => print_written(alloc, &list, &output, size, out),

@@ -7,7 +7,7 @@ use program_io::rows::Row;
 use std::alloc::Global;
 use std::io;
 use std::io::Write;
-use text_parts::replies::{Reply, of_answer};
+use text_parts::replies::Reply;
 use text_parts::{bytes, fields, names};
 
 // How long the lent component run is. Where the parts of a text are asked for, the component stands in its place.
@@ -18,17 +18,10 @@ const COMPONENT: usize = 1;
 // The bytes of a written text are printed up to this length.
 const SHOWN: usize = 2000;
 
-// What a refused reading leaves and hands back: `same`, or the first place that is not as it should be.
-fn print_refused<W: Write>(read: &ListRead, run: &[u64], out: &mut W) -> io::Result<()> {
+// What a refused reading leaves: `same`, or the first place that is not as it should be.
+fn print_refused<W: Write>(run: &[u64], out: &mut W) -> io::Result<()> {
     if let Some(place) = marks::first_marred(run, 0) {
         return writeln!(out, "run {place}");
-    }
-    let numbers = fields::numbers_of(read.fields);
-    if let Some(place) = numbers.iter().position(|x| *x != 0) {
-        return writeln!(out, "fields {place}");
-    }
-    if read.first_row != 0 {
-        return writeln!(out, "first {}", read.first_row);
     }
     writeln!(out, "same")
 }
@@ -64,7 +57,7 @@ fn write_again<W: Write>(
 ) -> Result<(), Fault> {
     let mut output = marks::marked(alloc, text.len().min(crate::MOST_BYTES))?;
     let letters = list_reading::letters(text);
-    let answer = of_answer(list_writing::write(l, components, joined, letters, &mut output));
+    let answer = list_writing::write(l, components, joined, letters, &mut output);
     writeln!(out, "written {}", Reply(answer))?;
     if let Ok(size) = answer {
         output.truncate(size);
@@ -104,17 +97,16 @@ pub fn read<W: Write>(alloc: Global, item: &Item, text: &[u8], out: &mut W) -> R
     }
     writeln!(out, "row {}", item.number(0))?;
     let mut run = marks::marked(alloc, room)?;
-    let read = list_reading::read(text, &mut run);
-    let answer = of_answer(read.answer);
-    writeln!(out, "read {}", Reply(answer))?;
+    let answer = list_reading::read(text, &mut run);
+    writeln!(out, "read {}", Reply(answer.map(|read| read.fields.count)))?;
     match answer {
-        Ok(count) => {
-            let length = count.saturating_mul(layout::COMPONENT_WIDTH);
+        Ok(read) => {
+            let length = read.fields.count.saturating_mul(layout::COMPONENT_WIDTH);
             print_rest(&run, length, out)?;
             run.truncate(length);
             print_list(alloc, &read, &run, text, out)
         }
-        Err(_) => Ok(print_refused(&read, &run, out)?),
+        Err(_) => Ok(print_refused(&run, out)?),
     }
 }
 

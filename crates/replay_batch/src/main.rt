@@ -4,6 +4,7 @@
 
 mod lent;
 
+use answers::Numbers;
 use day_items::replies::Reply;
 use day_items::session::Session;
 use lent::{Lengths, Lent};
@@ -11,7 +12,7 @@ use program_io::fault::Fault;
 use program_io::items::Item;
 use program_io::player;
 use program_io::player::Player;
-use rules::Answer;
+use rules::Refusal;
 use std::alloc::AllocError;
 use std::io::Write;
 
@@ -45,7 +46,7 @@ struct Ran {
 
 impl Ran {
     // Runs rows from the book and the prices of a session.
-    fn new<F: Fn(&mut Lent) -> Answer>(
+    fn new<F: Fn(&mut Lent) -> Result<(), Refusal>>(
         session: &Session,
         lengths: Lengths,
         run: F,
@@ -53,7 +54,7 @@ impl Ran {
         requires { F.IsAlwaysCallable run }
     {
         let mut left = Lent::new(session, lengths)?;
-        let reply = Reply(answers::of_answer(run(&mut left)));
+        let reply = Reply(Numbers::from(run(&mut left)));
         Ok(Ran { reply, left })
     }
 }

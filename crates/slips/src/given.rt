@@ -1,5 +1,4 @@
 // What the day is given: holdings and prices, by the codes of its components.
-use crate::fault::done;
 use rules::Refusal;
 use std::alloc::{AllocError, Global};
 
@@ -68,7 +67,7 @@ pub fn set_prices(
 ) -> Result<(), Refusal> {
     for (line, component) in components.chunks_exact(layout::COMPONENT_WIDTH).enumerate() {
         if let Some(price) = price_of(code_of(component)) {
-            done(day::price(day, book, prices, line, price))?;
+            day::price(day, book, prices, line, price)?;
         }
     }
     Ok(())

@@ -6,11 +6,10 @@ mod fault;
 mod given;
 mod printed;
 
-use answers::Numbers;
-use fault::{Fault, done, listed, made};
+use fault::Fault;
 use list_rules::ListFields;
 use printed::Slip;
-use rules::OrderAnswer;
+use rules::{Counts, Refusal};
 use std::alloc::Global;
 use std::io;
 use std::io::{BufWriter, Read, Write};
@@ -37,7 +36,7 @@ struct Market {
 }
 
 // What the tests of the creation alone answer, with room for all that an order can make.
-fn test(market: &Market, units: u64) -> OrderAnswer {
+fn test(market: &Market, units: u64) -> Result<Counts, Refusal> {
     day::creation_test(
         &market.day,
         &market.book,
@@ -48,10 +47,6 @@ fn test(market: &Market, units: u64) -> OrderAnswer {
         REPORTS_LENGTH,
         REPORTS_LENGTH,
     )
-}
-
-fn is_same(a: Numbers, b: Numbers) -> bool {
-    a.number == b.number && a.place == b.place && a.value == b.value && a.reports == b.reports
 }
 
 // Creates one basket, and prints its records. The tests alone never answer otherwise than the creation; a line says so if they do.
@@ -75,10 +70,10 @@ fn create<W: Write>(
         &mut investor,
         &mut fund,
     );
-    if !is_same(answers::of_order(tested), answers::of_order(answer)) {
+    if tested != answer {
         writeln!(out, "the tests alone answered otherwise")?;
     }
-    let counts = made(answer)?;
+    let counts = answer?;
     for record in records
         .chunks_exact(layout::RECORD_WIDTH)
         .take(counts.records)
@@ -95,7 +90,7 @@ fn open(alloc: Global, fields: ListFields, components: &[u64]) -> Result<Market,
     let mut day = vec![in alloc; 0u64; layout::DAY_WIDTH]?;
     let mut book = vec![in alloc; 0u64; ACCOUNTS * layout::width_of(count)]?;
     let mut prices = vec![in alloc; 0u64; count]?;
-    done(day::open(
+    day::open(
         ACCOUNTS,
         count,
         fields.fund,
@@ -104,16 +99,15 @@ fn open(alloc: Global, fields: ListFields, components: &[u64]) -> Result<Market,
         &mut book,
         &mut prices,
         &mut day,
-    ))?;
+    )?;
     Ok(Market { day, book, prices })
 }
 
 // The fields and the components of a list text.
 fn read(alloc: Global, text: &[u8]) -> Result<(ListFields, Vec<u64>), Fault> {
     let mut components = vec![in alloc; 0u64; layout::BASKET_WIDTH]?;
-    let list = list_reading::read(text, &mut components);
-    let count = listed(list.answer)?;
-    components.truncate(layout::COMPONENT_WIDTH.saturating_mul(count));
+    let list = list_reading::read(text, &mut components)?;
+    components.truncate(layout::COMPONENT_WIDTH.saturating_mul(list.fields.count));
     Ok((list.fields, components))
 }
 

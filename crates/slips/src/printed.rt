@@ -16,7 +16,11 @@ impl Display for Yuan {
 }
 
 fn side_of(x: u64) -> char {
-    if x == rules::SIDE_B { 'B' } else { 'S' }
+    if x == rules::Side::B.number() {
+        'B'
+    } else {
+        'S'
+    }
 }
 
 // A record: code, side, quantity, price and amount.

@@ -1,17 +1,10 @@
 // An answer of reading or writing as the paper's number, place and value, as it is printed.
-use list_rules::ListAnswer;
+use answers::Numbers;
 use rules::Refusal;
 use std::fmt;
 use std::fmt::Display;
 
 // The count of components or bytes, or why it was refused.
-pub fn of_answer(answer: ListAnswer) -> Result<usize, Refusal> {
-    match answer {
-        ListAnswer::Done(count) => Ok(count),
-        ListAnswer::Refused(why) => Err(why),
-    }
-}
-
 #[derive(Drop)]
 pub struct Reply(pub Result<usize, Refusal>);
 
@@ -20,7 +13,7 @@ impl Display for Reply {
         match self.0 {
             Ok(count) => write!(f, "0 0 {count}"),
             Err(why) => {
-                let r = answers::of_refusal(why);
+                let r = Numbers::from(why);
                 write!(f, "{} {} {}", r.number, r.place, r.value)
             }
         }
