@@ -3,12 +3,12 @@
 // what is to be printed.
 #![tactic(auto)]
 
-mod calls;
+mod call_items;
 mod kept;
-mod orders;
+mod order_items;
 mod tags;
 
-use calls::Call;
+use call_items::Call;
 use day_items::session::Session;
 use program_io::fault::Fault;
 use program_io::items::Item;

@@ -1,6 +1,6 @@
 // Calls: each is made and its reply printed; what was lent to one that is refused or only reads is compared with what it was.
 use crate::kept::Kept;
-use crate::orders::Order;
+use crate::order_items::Order;
 use crate::tags::Tag;
 use answers::Numbers;
 use day_items::replies::Reply;
