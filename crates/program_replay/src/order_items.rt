@@ -143,14 +143,10 @@ impl Order {
             account,
             units,
         } = self.ask;
-        let (records, investor, fund) = (self.records, self.investor, self.fund);
+        let rooms = rules::rooms_of(self.records, self.investor, self.fund);
         Numbers::from(match kind {
-            Kind::Creation => {
-                day::creation_test(day, book, prices, account, units, records, investor, fund)
-            }
-            Kind::Redemption => {
-                day::redemption_test(day, book, prices, account, units, records, investor, fund)
-            }
+            Kind::Creation => day::creation_test(day, book, prices, account, units, rooms),
+            Kind::Redemption => day::redemption_test(day, book, prices, account, units, rooms),
         })
     }
 
@@ -160,14 +156,17 @@ impl Order {
         lists: &mut Lists,
     ) -> Result<Result<Counts, Refusal>, AllocError> {
         let mut records = records_of(session.alloc, &lists.records)?;
+        let mut lent = order_structs::Lists {
+            records: &mut records,
+            investor: &mut lists.investor,
+            fund: &mut lists.fund,
+        };
         let answer = order_structs::order(
             &session.day,
             &mut session.book,
             &session.prices,
             self.ask,
-            &mut records,
-            &mut lists.investor,
-            &mut lists.fund,
+            &mut lent,
         );
         put_records(&mut lists.records, &records);
         Ok(answer)
