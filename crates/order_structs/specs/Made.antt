@@ -9,7 +9,6 @@ use Rattle.layout.specs.declared.Report.{Report}
 use Rattle.layout.specs.Reports.{with_reports}
 use Rattle.rules.specs.declared.Ask.{Ask}
 use Rattle.rules.specs.declared.Rooms.{Rooms}
-use Rattle.order_structs.specs.declared.Lists.{Lists}
 use Rattle.rules.specs.Replies.{if_accepted}
 use Rattle.rules.specs.Reports.{opposite}
 use Rattle.rules.specs.Kinds.{asked_records, asked_reports, asked_reply}
@@ -38,33 +37,3 @@ unfoldable pub made_reports : Day → List ℕ → List ℕ → Ask → Rooms �
 made_reports d b ps ask rooms investor fund =
     if_accepted (asked_reply d b ps ask rooms) (with_reports (reports_of d b ps ask) investor, with_reports (map opposite (reports_of d b ps ask)) fund)
     (investor, fund)
-
--- What is lent in this form: a list of records, the investor's reports and the fund's. And their rooms.
-pub record Listed : Type 0 where
-  pub records : List Record
-  pub investor : List ℕ
-  pub fund : List ℕ
-
-abbrev pub listed_in : Lists → Listed
-listed_in lists = record { records = lists.records.now; investor = lists.investor.now; fund = lists.fund.now }
-
-abbrev pub rooms_for : Listed → Rooms
-rooms_for lent = rooms_beside (length lent.records) lent.investor lent.fund
-
--- what an order leaves of them
-abbrev pub made : Day → List ℕ → List ℕ → Ask → Listed → Listed
-made d b ps ask lent =
-    record {
-      records = made_records d b ps ask (rooms_for lent) lent.records;
-      investor = (made_reports d b ps ask (rooms_for lent) lent.investor lent.fund).0;
-      fund = (made_reports d b ps ask (rooms_for lent) lent.investor lent.fund).1;
-    }
-
--- the same lists, in which that stands
-abbrev pub made_in : Lists → Listed → Lists
-made_in lists left =
-    record lists {
-      records = record lists.records { now = left.records };
-      investor = record lists.investor { now = left.investor };
-      fund = record lists.fund { now = left.fund };
-    }

@@ -2,29 +2,21 @@
 // numbers. The order is made into a flat run, and a writer over the list (`record_writer`) takes the records of that run.
 #![tactic(auto)]
 
-ghost use Rattle.std.specs.Prelude.{◌≡◌};
+ghost use Rattle.std.specs.Prelude.{◌≡◌, length};
 ghost use Rattle.layout.specs.Day.{day_at};
 ghost use Rattle.rules.specs.Replies.{order_answer_reply};
 ghost use Rattle.rules.specs.Kinds.{asked_reply, asked_book};
-ghost use Rattle.order_structs.specs.Made.{rooms_for, listed_in, made, made_in};
+ghost use Rattle.order_structs.specs.Made.{rooms_beside, made_records, made_reports};
 ghost use Rattle.order_structs.specs.Settling.{lent_records};
 
 use layout::Record;
-use rules::{Ask, Counts, Refusal};
+use rules::{Ask, Counts, Lists, Refusal};
 
 // The most records of an order.
 pub const MOST_RECORDS: usize = rules::MOST_RECORDS;
 
 // How many numbers they take in a flat run.
 const FLAT_LENGTH: usize = layout::RECORD_WIDTH * MOST_RECORDS;
-
-// The lists lent to an order: records as structs, and the investor's reports and the fund's as runs of numbers.
-#[derive(Drop)]
-pub struct Lists<'a> {
-    pub records: &'a mut [Record],
-    pub investor: &'a mut [u64],
-    pub fund: &'a mut [u64],
-}
 
 // The fewer of a list's room and the most records of an order.
 #[tactic(auto, unfolding(crate::specs::Settling::lent_records))]
@@ -41,20 +33,23 @@ pub fn order(
     book: &mut [u64],
     prices: &[u64],
     ask: Ask,
-    lists: &mut Lists,
+    list: &mut [Record],
+    investor: &mut [u64],
+    fund: &mut [u64],
 ) -> Result<Counts, Refusal>
-    ensures result_value { order_answer_reply result ≡ asked_reply (day_at day.now) book.old prices.now ask (rooms_for (listed_in lists.old)) }
-    ensures book { book.new ≡ asked_book (day_at day.now) book.old prices.now ask (rooms_for (listed_in lists.old)) }
-    ensures lists { lists.new ≡ made_in lists.old (made (day_at day.now) book.old prices.now ask (listed_in lists.old)) }
+    ensures result_value { order_answer_reply result ≡ asked_reply (day_at day.now) book.old prices.now ask (rooms_beside (length list.old) investor.old fund.old) }
+    ensures book { book.new ≡ asked_book (day_at day.now) book.old prices.now ask (rooms_beside (length list.old) investor.old fund.old) }
+    ensures list { list.new ≡ made_records (day_at day.now) book.old prices.now ask (rooms_beside (length list.old) investor.old fund.old) list.old }
+    ensures reports { (investor.new, fund.new) ≡ made_reports (day_at day.now) book.old prices.now ask (rooms_beside (length list.old) investor.old fund.old) investor.old fund.old }
 {
     let mut flat = [0u64; FLAT_LENGTH];
-    let lent = layout::RECORD_WIDTH * records_lent(lists.records.len());
-    let mut run = rules::Lists {
+    let lent = layout::RECORD_WIDTH * records_lent(list.len());
+    let mut lists = Lists {
         records: &mut flat[..lent],
-        investor: lists.investor,
-        fund: lists.fund,
+        investor,
+        fund,
     };
-    let counts = order_calls::order(day, book, prices, ask, &mut run)?;
-    record_writer::fill(lists.records, &flat, counts.records);
+    let counts = order_calls::order(day, book, prices, ask, &mut lists)?;
+    record_writer::fill(list, &flat, counts.records);
     Ok(counts)
 }

@@ -99,14 +99,11 @@ pub fn order(
     let m = ask.units / day.fund().basket_size;
     let accepted = tested_in(day, book, prices, ask, m, lists.rooms())?;
     let cash = accepted.cash;
-    order_settlement::settle(ask, day, book, m, cash, lists.records);
-    order_reports::report(
-        ask.kind,
-        accepted.counts.reports,
-        cash,
-        lists.records,
-        lists.investor,
-        lists.fund,
-    );
+    let records = &mut *lists.records;
+    let investor = &mut *lists.investor;
+    let fund = &mut *lists.fund;
+    order_settlement::settle(ask, day, book, m, cash, records);
+    let reports = accepted.counts.reports;
+    order_reports::report(ask.kind, reports, cash, records, investor, fund);
     Ok(accepted.counts)
 }

@@ -156,17 +156,14 @@ impl Order {
         lists: &mut Lists,
     ) -> Result<Result<Counts, Refusal>, AllocError> {
         let mut records = records_of(session.alloc, &lists.records)?;
-        let mut lent = order_structs::Lists {
-            records: &mut records,
-            investor: &mut lists.investor,
-            fund: &mut lists.fund,
-        };
         let answer = order_structs::order(
             &session.day,
             &mut session.book,
             &session.prices,
             self.ask,
-            &mut lent,
+            &mut records,
+            &mut lists.investor,
+            &mut lists.fund,
         );
         put_records(&mut lists.records, &records);
         Ok(answer)
