@@ -7,7 +7,7 @@ ghost use Rattle.digits.specs.Digits.{from, capped, is_whole, is_plain, plain_si
 use digits::{Figure, Form};
 
 // What stands before the point.
-fn read_whole(digits: usize, s: &[u8]) -> Option<u64>
+fn read_whole(digits: Option<usize>, s: &[u8]) -> Option<u64>
     ensures { result ≡ size_reading (is_whole digits s.now) (capped (from 0 s.now)) }
 {
     if !digits_scan::is_shaped(digits, s) {
@@ -65,7 +65,7 @@ pub fn read_number(form: Form, s: &[u8]) -> Option<Figure>
     requires { form.decimals ≤ 9 }
     ensures { result ≡ reading (is_number form s.now) (figure_of form s.now) }
 {
-    if form.width == 0 {
+    if form.width.is_none() {
         return read_signed(form, s);
     }
     let b = digits_scan::leading_blanks(s);

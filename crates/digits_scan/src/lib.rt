@@ -61,15 +61,15 @@ pub fn read_few(s: &[u8], before: u64) -> Option<u64>
     read_digits::<false>(s, before)
 }
 
-// Whether there are so many digits, or for 0 some and no spare zero.
+// Whether there are so many digits, or some and no spare zero.
 #[tactic(auto, using(crate::proofs::Blank::shapes), unfolding(digits::specs::Digits::is_shaped))]
-pub fn is_shaped(digits: usize, s: &[u8]) -> bool
+pub fn is_shaped(digits: Option<usize>, s: &[u8]) -> bool
     ensures { result ≡ is_shaped digits s.now }
 {
-    if digits != 0 {
-        return s.len() == digits;
+    match digits {
+        Some(digits) => s.len() == digits,
+        None => s.len() == 1 || 1 < s.len() && s[0] != b'0',
     }
-    s.len() == 1 || 1 < s.len() && s[0] != b'0'
 }
 
 // How many blanks stand first.

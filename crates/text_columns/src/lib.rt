@@ -1,7 +1,7 @@
 // One component line, by a table of columns: its width and bars, and what a column with a number says.
 #![tactic(auto)]
 
-ghost use Rattle.std.specs.Prelude.{◌≡◌, ◌-◌, ◌≤◌, ◌<◌, length};
+ghost use Rattle.std.specs.Prelude.{◌≡◌, ◌-◌, ◌≤◌, ◌<◌, length, None};
 ghost use Rattle.digits.specs.Digits.{all_blank, size_reading};
 ghost use Rattle.text_rules.specs.Columns.{line_width, is_row};
 ghost use Rattle.text_rules.specs.Well.{most_width};
@@ -35,14 +35,14 @@ pub fn flag_digit(b: u8) -> u64
     u64::from(b.saturating_sub(48))
 }
 
-// A whole number of n digits, or for 0 of as many as there are, right in its column.
-fn read_right(n: usize, s: &[u8]) -> Option<u64>
+// A whole number of so many digits, or of as many as there are, right in its column.
+fn read_right(digits: Option<usize>, s: &[u8]) -> Option<u64>
     requires { length s.now ≤ most_width }
-    ensures { result ≡ number_size (right_form n 0) s.now }
+    ensures { result ≡ number_size (right_form digits 0) s.now }
 {
     let b = digits_scan::leading_blanks(s);
     let t = &s[b..];
-    if !digits_scan::is_shaped(n, t) {
+    if !digits_scan::is_shaped(digits, t) {
         return None;
     }
     digits_scan::read_few(t, 0)
@@ -52,13 +52,13 @@ fn read_right(n: usize, s: &[u8]) -> Option<u64>
 #[tactic(auto, using(crate::proofs::Numbers::point_missing))]
 fn read_point(decimals: usize, s: &[u8]) -> Option<u64>
     requires { (0 < decimals) × (decimals < length s.now) × (length s.now ≤ most_width) }
-    ensures { result ≡ number_size (right_form 0 decimals) s.now }
+    ensures { result ≡ number_size (right_form None decimals) s.now }
 {
     let p = s.len() - (decimals + 1);
     if s[p] != 46 {
         return None;
     }
-    let head = read_right(0, &s[..p])?;
+    let head = read_right(None, &s[..p])?;
     digits_scan::read_few(&s[p + 1..], head)
 }
 
@@ -73,10 +73,10 @@ fn read_blanks(s: &[u8]) -> Option<u64>
     }
 }
 
-// The number of a column, with so many digits (0: as many as there are) and decimals; 0 for its blanks where it is not used.
-pub fn read_cell(used: bool, digits: usize, decimals: usize, s: &[u8]) -> Option<u64>
+// The number of a column, with so many digits, or as many as there are, and so many decimals; 0 for its blanks where it is not used.
+pub fn read_cell(used: bool, digits: Option<usize>, decimals: usize, s: &[u8]) -> Option<u64>
     requires s_len_bound { length s.now ≤ most_width }
-    requires digits_value { 0 < decimals → (digits ≡ 0) × (decimals < length s.now) }
+    requires digits_value { 0 < decimals → (digits ≡ None) × (decimals < length s.now) }
     ensures { result ≡ cell_size used digits decimals s.now }
 {
     if !used {
