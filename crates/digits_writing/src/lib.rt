@@ -1,7 +1,7 @@
 // Writes a number's field, by its form.
 #![tactic(auto)]
 
-ghost use Rattle.std.specs.Prelude.{◌≡◌, ◌+◌, ◌≤◌, ◌<◌, ◌^◌, length};
+ghost use Rattle.std.specs.Prelude.{◌≡◌, ◌+◌, ◌≤◌, ◌<◌, ◌^◌, length, unwrap_or};
 ghost use Rattle.digits.specs.Digits.{tens, whole_text, plain_text, signed_text, number_text};
 ghost use Rattle.digits.specs.Written.{Written};
 
@@ -26,18 +26,18 @@ fn power(k: usize) -> u64
 }
 
 // How many digits stand before the point.
-fn whole_size(digits: usize, n: u64) -> usize
+fn whole_size(digits: Option<usize>, n: u64) -> usize
     ensures { result ≡ length (whole_text digits n) }
 {
-    if digits == 0 {
-        return more_digits(n) + 1;
+    match digits {
+        Some(digits) => digits,
+        None => more_digits(n) + 1,
     }
-    digits
 }
 
 // How many bytes the number takes, without its sign and its blanks.
 fn plain_size(form: Form, n: u64) -> usize
-    requires { (form.decimals ≤ 9) × (form.digits ≤ 20) }
+    requires { (form.decimals ≤ 9) × (unwrap_or form.digits 0 ≤ 20) }
     ensures { (result ≡ length (plain_text form n)) × (result ≤ 40) }
 {
     let k = form.decimals;
@@ -49,7 +49,7 @@ fn plain_size(form: Form, n: u64) -> usize
 
 // How many bytes the number takes, without its blanks.
 fn signed_size(form: Form, z: Figure) -> usize
-    requires { (form.decimals ≤ 9) × (form.digits ≤ 20) }
+    requires { (form.decimals ≤ 9) × (unwrap_or form.digits 0 ≤ 20) }
     ensures { (result ≡ length (signed_text form z)) × (result ≤ 41) }
 {
     plain_size(form, z.size) + usize::from(z.negative)
@@ -57,14 +57,14 @@ fn signed_size(form: Form, z: Figure) -> usize
 
 // How many bytes the field takes.
 pub fn number_size(form: Form, z: Figure) -> usize
-    requires { (form.decimals ≤ 9) × (form.digits ≤ 20) }
+    requires { (form.decimals ≤ 9) × (unwrap_or form.digits 0 ≤ 20) }
     ensures { result ≡ length (number_text form z) }
 {
-    signed_size(form, z).max(form.width)
+    signed_size(form, z).max(form.width.unwrap_or(0))
 }
 
 // Writes the digits before the point.
-fn put_whole(dst: &mut [u8], at: usize, digits: usize, n: u64) -> usize
+fn put_whole(dst: &mut [u8], at: usize, digits: Option<usize>, n: u64) -> usize
     requires { at + length (whole_text digits n) ≤ length dst.old }
     ensures { Written dst.old at (whole_text digits n) dst.new result }
 {
@@ -102,7 +102,7 @@ fn put_signed(dst: &mut [u8], at: usize, form: Form, z: Figure) -> usize
 
 // Writes the number right in its field.
 pub fn put_number(dst: &mut [u8], at: usize, form: Form, z: Figure) -> usize
-    requires decimals_bound { (form.decimals ≤ 9) × (form.digits ≤ 20) }
+    requires decimals_bound { (form.decimals ≤ 9) × (unwrap_or form.digits 0 ≤ 20) }
     requires z_in_bounds { at + length (number_text form z) ≤ length dst.old }
     ensures { Written dst.old at (number_text form z) dst.new result }
 {
