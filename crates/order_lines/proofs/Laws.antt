@@ -60,7 +60,7 @@ module _ (c : Component) (m : ℕ) (r : Ranged c) (few : m ≤ most_baskets) whe
 
   creation_worth-le : (have price : ℕ) → price ≤ most_price → worth_of c have price m ≤ 20_000_000_000_000_000
   unfolding worth_of missing_of
-  creation_worth-le have price p = worth-le (missing_of c have m) price (missing-le (entry c.flag shortage_in_cash) (m * c.quantity) have) p
+  creation_worth-le have price p = worth-le (missing_of c have m) price (missing-le _ (m * c.quantity) have) p
 
   pub creation_small : (have price : ℕ) → price ≤ most_price → Small (creation_line c have price m)
   unfolding creation_line

@@ -2,13 +2,14 @@
 #![tactic(auto)]
 
 ghost use Rattle.std.specs.Prelude.{true, ◌≡◌, ◌*◌, ◌≤◌};
-ghost use Rattle.flags.specs.Table.{entry, stock_moves, shanghai};
+ghost use Rattle.flags.specs.Table.{entry, column_number, stock_moves};
 ghost use Rattle.rules.specs.Kinds.{no_cash};
 ghost use Rattle.rules.specs.Sound.{most_price};
 ghost use Rattle.rules.specs.Orders.{most_baskets};
 ghost use Rattle.order_lines.specs.Lines.{in_market, need_of, creation_line, redemption_line, amount_due, amount_line, order_line};
 ghost use Rattle.order_lines.specs.Ready.{Ranged};
 
+use flags::Column;
 use layout::Component;
 use rules::{CashByMarket, Kind};
 use units::Money;
@@ -49,8 +50,8 @@ impl Part {
     }
 
     // What the flag table has for it in a column.
-    fn entry(self, column: usize) -> bool
-        ensures { result ≡ entry self.component.flag column }
+    fn entry(self, column: Column) -> bool
+        ensures { result ≡ entry self.component.flag (column_number column) }
     {
         flags::entry_of(self.component.flag, column)
     }
@@ -59,7 +60,7 @@ impl Part {
     fn in_market(self, cash: Money) -> CashByMarket
         ensures { result ≡ in_market self.component cash.0 }
     {
-        if self.entry(flags::SHANGHAI) {
+        if self.entry(Column::Shanghai) {
             CashByMarket {
                 shanghai: cash,
                 ..NO_CASH
@@ -106,7 +107,7 @@ impl Part {
     {
         let need = self.need();
         let moves = 0 < need.min(have);
-        if have < need && self.entry(flags::SHORTAGE_IN_CASH) {
+        if have < need && self.entry(Column::ShortageInCash) {
             let worth = Money((need - have) * price);
             let cash = worth.with_premium(self.component.premium);
             return Line {
@@ -145,7 +146,7 @@ impl Part {
         requires { price ≤ most_price }
         ensures { result ≡ order_line kind self.component have price self.baskets }
     {
-        if !self.entry(flags::STOCK_MOVES) {
+        if !self.entry(Column::StockMoves) {
             return self.amount_line(kind);
         }
         match kind {
