@@ -62,28 +62,33 @@ module _ (c : Component) (m : ℕ) (r : Ranged c) (few : m ≤ most_baskets) whe
   unfolding worth_of missing_of
   creation_worth-le have price p = worth-le (missing_of c have m) price (missing-le _ (m * c.quantity) have) p
 
-  pub creation_small : (have price : ℕ) → price ≤ most_price → Small (creation_line c have price m)
-  unfolding creation_line
-  creation_small have price p =
+  -- its cash
+  pub creation_cash-le : (have price : ℕ) → price ≤ most_price
+      → premium (cond (entry c.flag stock_moves) (worth_of c have price m) (m * c.amount.0)) c.premium.0 ≤ 40_000_000_000_000_000
+  creation_cash-le have price p =
       let base : cond (entry c.flag stock_moves) (worth_of c have price m) (m * c.amount.0) ≤ 20_000_000_000_000_000 =
       cond_le (entry c.flag stock_moves) (creation_worth-le have price p) (le_trans amount-le (lit≤ tt)) in
-      let cash : premium (cond (entry c.flag stock_moves) (worth_of c have price m) (m * c.amount.0)) c.premium.0 ≤ 40_000_000_000_000_000 =
-      omega (arith, premium-le (cond (entry c.flag stock_moves) (worth_of c have price m) (m * c.amount.0)) c.premium.0 r.premium) in
+      omega (arith, premium-le (cond (entry c.flag stock_moves) (worth_of c have price m) (m * c.amount.0)) c.premium.0 r.premium)
+
+  pub redemption_cash-le : cond (entry c.flag stock_moves) 0 (discount (m * c.amount.0) c.discount.0) ≤ 40_000_000_000_000_000
+  redemption_cash-le = cond_le (entry c.flag stock_moves) zero-le (omega (arith, amount-le, discount-le (m * c.amount.0) c.discount.0))
+
+  creation_small : (have price : ℕ) → price ≤ most_price → Small (creation_line c have price m)
+  unfolding creation_line
+  creation_small have price p =
       record {
         worth = worth_in-le (ltb 0 (missing_of c have m)) _ _ (creation_worth-le have price p);
-        other = cond_le (entry c.flag shanghai) zero-le cash;
-        shanghai = cond_le (entry c.flag shanghai) cash zero-le;
+        other = cond_le (entry c.flag shanghai) zero-le (creation_cash-le have price p);
+        shanghai = cond_le (entry c.flag shanghai) (creation_cash-le have price p) zero-le;
       }
 
-  pub redemption_small : (have : ℕ) → Small (redemption_line c have m)
+  redemption_small : (have : ℕ) → Small (redemption_line c have m)
   unfolding redemption_line
   redemption_small have =
-      let cash : cond (entry c.flag stock_moves) 0 (discount (m * c.amount.0) c.discount.0) ≤ 40_000_000_000_000_000 =
-      cond_le (entry c.flag stock_moves) zero-le (omega (arith, amount-le, discount-le (m * c.amount.0) c.discount.0)) in
       record {
         worth = zero-le;
-        other = cond_le (entry c.flag shanghai) zero-le cash;
-        shanghai = cond_le (entry c.flag shanghai) cash zero-le;
+        other = cond_le (entry c.flag shanghai) zero-le redemption_cash-le;
+        shanghai = cond_le (entry c.flag shanghai) redemption_cash-le zero-le;
       }
 
   pub order_small : (kind : Kind) (have price : ℕ) → price ≤ most_price → Small (order_line kind c have price m)
