@@ -5,7 +5,7 @@ use mir.Val.{to_z, of_z}
 use borrow.Author.Rules.{rules}
 use Rattle.digits.proofs.Read.{capped_within}
 use Rattle.layout.specs.Fund.{signed_at}
-use Rattle.layout.proofs.signed_at.Goals as goal
+use Rattle.layout.proofs.funds.signed_at.Goals as goal
 
 pub signed_of-requires : goal.signed_of-requires
 signed_of-requires c = rw c.capped_size-size.ensures (capped_within _)

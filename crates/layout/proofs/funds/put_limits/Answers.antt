@@ -2,7 +2,7 @@
 use Rattle.std.proofs.Common.{rules}
 use native.Mathlib.Omega.{arith}
 use Rattle.layout.proofs.Stored.{limits_stored}
-use Rattle.layout.proofs.put_limits.Goals as goal
+use Rattle.layout.proofs.funds.put_limits.Goals as goal
 
 pub returns : goal.returns
 returns c =

@@ -5,7 +5,7 @@ use lib.ListN.{get_or}
 use Prim.Native.Nat.{◌+◌}
 use Rattle.sequences.proofs.Below.{table_ext}
 use Rattle.layout.specs.Places.{limit_count}
-use Rattle.layout.proofs.limits_at.Goals as goal
+use Rattle.layout.proofs.funds.limits_at.Goals as goal
 
 pub returns : goal.returns
 returns c =

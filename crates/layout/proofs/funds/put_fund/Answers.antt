@@ -4,7 +4,7 @@ use mir.Val.{to_z, of_z}
 use mir.Syntax.{w64}
 use borrow.Author.Rules.{rules}
 use Rattle.layout.proofs.Stored.{fund_stored}
-use Rattle.layout.proofs.put_fund.Goals as goal
+use Rattle.layout.proofs.funds.put_fund.Goals as goal
 
 -- the machine reads the estimated cash back
 -- the run keeps its length

@@ -4,7 +4,7 @@ use native.Mathlib.Omega.{arith}
 use Rattle.layout.specs.Places.{most_components}
 use Rattle.layout.specs.Components.{component_at}
 use Rattle.layout.proofs.Components.{places_at}
-use Rattle.layout.proofs.component_of.Goals as goal
+use Rattle.layout.proofs.basket.component_of.Goals as goal
 
 pub returns : goal.returns
 returns c =

@@ -1,6 +1,6 @@
 -- `layout::put_day` meets its contract: the components are stored behind A, N and the fund, through the rest of the run.
 use Rattle.layout.proofs.Stored.{day_stored}
-use Rattle.layout.proofs.put_day.Goals as goal
+use Rattle.layout.proofs.days.put_day.Goals as goal
 
 -- the run keeps its length
 pub returns : goal.returns

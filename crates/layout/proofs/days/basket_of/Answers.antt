@@ -2,7 +2,7 @@
 use Rattle.digits.proofs.Put.{rest_all}
 use Rattle.layout.specs.Places.{basket_from}
 use Rattle.layout.specs.Day.{basket_at}
-use Rattle.layout.proofs.basket_of.Goals as goal
+use Rattle.layout.proofs.days.basket_of.Goals as goal
 
 pub returns : goal.returns
 unfolding basket_at
