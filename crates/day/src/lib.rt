@@ -37,6 +37,7 @@ pub fn open(
 }
 
 // Sets a component's price.
+#[tactic(auto, using(calls::proofs::Laws::price_five, calls::proofs::Laws::prices_five, calls::proofs::Laws::price_own, calls::proofs::Laws::prices_own, calls::proofs::Laws::prices_long))]
 pub fn price(
     day: &[u64],
     book: &[u64],
@@ -52,6 +53,7 @@ pub fn price(
 }
 
 // Trades a quantity of a line at a price.
+#[tactic(auto, using(calls::proofs::Laws::trade_five, calls::proofs::Laws::traded_five, calls::proofs::Laws::trade_own, calls::proofs::Laws::traded_own, calls::proofs::Laws::book_fits))]
 pub fn trade(day: &[u64], book: &mut [u64], prices: &[u64], trade: Trade) -> Result<(), Refusal>
     ensures result_value { answer_reply result ≡ trade_reply (day_at day.now) book.old prices.now trade.line trade.quantity trade.price.0 trade.seller trade.buyer }
     ensures book { book.new ≡ traded_book (day_at day.now) book.old prices.now trade.line trade.quantity trade.price.0 trade.seller trade.buyer }
@@ -61,14 +63,15 @@ pub fn trade(day: &[u64], book: &mut [u64], prices: &[u64], trade: Trade) -> Res
 }
 
 // The reference value at this moment.
+#[tactic(auto, using(calls::proofs::Laws::value_five, calls::proofs::Laws::value_own, calls::proofs::Laws::priceable))]
 pub fn reference_value(day: &[u64], book: &[u64], prices: &[u64]) -> Result<ReferenceValue, Refusal>
     ensures { value_answer_reply result ≡ value_reply (day_at day.now) book.now prices.now }
 {
-    let day = calls::sound_day(day, book, prices)?;
-    value::reference_value(&day, prices)
+    value::reference_value(&calls::sound_day(day, book, prices)?, prices)
 }
 
 // Creates units for an account; the records and the reports to both parties go to the lent lists.
+#[tactic(auto, using(rules::proofs::Asked::creation_asked, rules::proofs::Asked::created_book_lem, rules::proofs::Asked::created_lists_lem))]
 pub fn create(
     day: &[u64],
     book: &mut [u64],
@@ -85,6 +88,7 @@ pub fn create(
 }
 
 // Redeems units of an account; the records and the reports to both parties go to the lent lists.
+#[tactic(auto, using(rules::proofs::Asked::redemption_asked, rules::proofs::Asked::redeemed_book_lem, rules::proofs::Asked::redeemed_lists_lem))]
 pub fn redeem(
     day: &[u64],
     book: &mut [u64],
@@ -101,6 +105,7 @@ pub fn redeem(
 }
 
 // The tests of a creation alone, with the rooms of the lists: the answer that the creation would give.
+#[tactic(auto, using(rules::proofs::Asked::creation_asked))]
 pub fn creation_test(
     day: &[u64],
     book: &[u64],
@@ -111,10 +116,11 @@ pub fn creation_test(
 ) -> Result<Counts, Refusal>
     ensures { order_answer_reply result ≡ creation_reply (day_at day.now) book.now prices.now account units rooms }
 {
-    tests_alone::order_test(day, book, prices, rules::creation(account, units), rooms)
+    order_calls::order_test(day, book, prices, rules::creation(account, units), rooms)
 }
 
 // The tests of a redemption alone.
+#[tactic(auto, using(rules::proofs::Asked::redemption_asked))]
 pub fn redemption_test(
     day: &[u64],
     book: &[u64],
@@ -125,5 +131,5 @@ pub fn redemption_test(
 ) -> Result<Counts, Refusal>
     ensures { order_answer_reply result ≡ redemption_reply (day_at day.now) book.now prices.now account units rooms }
 {
-    tests_alone::order_test(day, book, prices, rules::redemption(account, units), rooms)
+    order_calls::order_test(day, book, prices, rules::redemption(account, units), rooms)
 }
