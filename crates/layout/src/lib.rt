@@ -13,7 +13,7 @@ ghost use Rattle.layout.specs.Day.{Day, day_of, day_head_at, basket_at, day_at, 
 ghost use Rattle.layout.specs.Book.{width_of, behind_line, lots_at, put_lots};
 ghost use Rattle.layout.specs.Records.{record_at, record_numbers};
 ghost use Rattle.layout.specs.Reports.{report_numbers};
-ghost use Rattle.layout.specs.Answers.{put_reply};
+ghost use Rattle.layout.specs.Answers.{reply_in, put_reply};
 
 use digits::Figure;
 use lots::Lots;
@@ -461,13 +461,13 @@ pub fn put_report(list: &mut [u64], k: usize, r: Report)
 
 // Stores the i-th answer: a refusal's number, its place, the value of an accepted call and the count of an order's reports.
 #[tactic(auto, unfolding(crate::specs::Answers::put_reply))]
-pub fn put_answer(answers: &mut [u64], i: usize, number: u64, place: u64, value: u64, reports: u64)
+pub fn put_answer(answers: &mut [u64], i: usize, numbers: [u64; ANSWER_WIDTH])
     requires { answer_width * i + answer_width ≤ length answers.old }
-    ensures { answers.new ≡ put_reply answers.old i (record { number = number; place = place; value = value; reports = reports }) }
+    ensures { answers.new ≡ put_reply answers.old i (reply_in numbers) }
 {
     let at = ANSWER_WIDTH * i;
-    answers[at] = number;
-    answers[at + 1] = place;
-    answers[at + 2] = value;
-    answers[at + 3] = reports;
+    answers[at] = numbers[0];
+    answers[at + 1] = numbers[1];
+    answers[at + 2] = numbers[2];
+    answers[at + 3] = numbers[3];
 }
