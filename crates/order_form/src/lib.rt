@@ -3,10 +3,12 @@
 
 ghost use Rattle.std.specs.Prelude.{◌≡◌, ◌+◌, ◌/◌, ◌≤◌, ◌<◌, ◌^◌};
 ghost use Rattle.sequences.specs.Checks.{answered};
+ghost use Rattle.fund.specs.Fund.{limit_number};
 ghost use Rattle.rules.specs.Orders.{limit_for, within_limits};
 ghost use Rattle.rules.specs.Replies.{answer_reply};
 ghost use Rattle.order_form.specs.Form.{all_counts, own_counts, within_both, all_held, own_held, order_form, Countable};
 
+use fund::Limit;
 use layout::DayView;
 use rules::{Ask, Kind, Refusal};
 
@@ -50,12 +52,11 @@ fn counts_of(day: &DayView, book: &[u64], a: usize, kind: Kind) -> Counts
 
 // One of the fund's limits on orders of a kind.
 #[tactic(auto, unfolding(fund::specs::Fund::limit_of))]
-fn limit_of(day: &DayView, limit: usize, kind: Kind) -> u64
-    requires { limit < 4 }
-    ensures { result ≡ limit_for day.now limit kind }
+fn limit_of(day: &DayView, limit: Limit, kind: Kind) -> u64
+    ensures { result ≡ limit_for day.now (limit_number limit) kind }
 {
     let limits = day.fund().limits;
-    limits[2 * limit + kind.number()]
+    limits[2 * limit.number() + kind.number()]
 }
 
 // Whether the counts after so many units more pass neither the limit on them nor that on their net.
@@ -77,8 +78,8 @@ fn all_held(day: &DayView, book: &[u64], ask: Ask) -> bool
     ensures { result ≡ all_held day.now book.now ask }
 {
     let all = counts_of_all(day, book, ask.kind);
-    let limit = limit_of(day, fund::CUMULATIVE, ask.kind);
-    let net_limit = limit_of(day, fund::NET, ask.kind);
+    let limit = limit_of(day, Limit::Cumulative, ask.kind);
+    let net_limit = limit_of(day, Limit::Net, ask.kind);
     within_both(all, ask.units, limit, net_limit) && all.made + ask.units <= fund::CEILING
 }
 
@@ -89,8 +90,8 @@ fn own_held(day: &DayView, book: &[u64], ask: Ask) -> bool
     ensures { result ≡ own_held day.now book.now ask }
 {
     let own = counts_of(day, book, ask.account, ask.kind);
-    let limit = limit_of(day, fund::CUMULATIVE_EACH, ask.kind);
-    let net_limit = limit_of(day, fund::NET_EACH, ask.kind);
+    let limit = limit_of(day, Limit::CumulativeEach, ask.kind);
+    let net_limit = limit_of(day, Limit::NetEach, ask.kind);
     within_both(own, ask.units, limit, net_limit)
 }
 

@@ -63,9 +63,9 @@ fn creation_line(c: Component, have: u64, price: u64, m: u64) -> Line
     ensures { result ≡ creation_line c have price m }
 {
     let need = m * c.quantity;
-    let moves = flags::entry_of(c.flag, flags::STOCK_MOVES);
-    let in_cash = flags::entry_of(c.flag, flags::SHORTAGE_IN_CASH);
-    let shanghai = flags::entry_of(c.flag, flags::SHANGHAI);
+    let moves = flags::entry_of(c.flag, flags::Column::StockMoves);
+    let in_cash = flags::entry_of(c.flag, flags::Column::ShortageInCash);
+    let shanghai = flags::entry_of(c.flag, flags::Column::Shanghai);
     let missing = missing_of(in_cash, need, have);
     let worth = Money(missing * price);
     let amount = Money(m * c.amount.0);
@@ -85,8 +85,8 @@ fn redemption_line(c: Component, have: u64, m: u64) -> Line
     ensures { result ≡ redemption_line c have m }
 {
     let need = m * c.quantity;
-    let moves = flags::entry_of(c.flag, flags::STOCK_MOVES);
-    let shanghai = flags::entry_of(c.flag, flags::SHANGHAI);
+    let moves = flags::entry_of(c.flag, flags::Column::StockMoves);
+    let shanghai = flags::entry_of(c.flag, flags::Column::Shanghai);
     let moved = moved_of(moves, need, need);
     let paid = Money(m * c.amount.0).with_discount(c.discount);
     Line {
@@ -119,7 +119,7 @@ pub fn amount_line(kind: Kind, c: Component, m: u64) -> Line
         short: false,
         missing: None,
         cash: amount_due(kind, c, Money(m * c.amount.0)),
-        shanghai: flags::entry_of(c.flag, flags::SHANGHAI),
+        shanghai: flags::entry_of(c.flag, flags::Column::Shanghai),
         moved: 0,
     }
 }
@@ -141,5 +141,5 @@ pub fn order_line(kind: Kind, c: Component, have: u64, price: u64, m: u64) -> Li
 pub fn is_covered(flag: u64, need: u64, have: u64) -> bool
     ensures { result ≡ every (leb need have ∷ entry flag stock_moves ∷ []) }
 {
-    need <= have && flags::entry_of(flag, flags::STOCK_MOVES)
+    need <= have && flags::entry_of(flag, flags::Column::StockMoves)
 }

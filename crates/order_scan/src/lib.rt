@@ -133,7 +133,7 @@ fn order_turn(kind: Kind, t: Scan, i: usize, c: Component, have: u64, price: u64
     if order_lines::is_covered(c.flag, need, have) {
         return with_stock(t, i, need);
     }
-    if !flags::entry_of(c.flag, flags::STOCK_MOVES) {
+    if !flags::entry_of(c.flag, flags::Column::StockMoves) {
         return with_amount(t, i, order_lines::amount_line(kind, c, m));
     }
     with_line(t, i, order_lines::order_line(kind, c, have, price, m))

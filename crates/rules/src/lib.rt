@@ -3,7 +3,8 @@
 
 ghost use Rattle.std.specs.Prelude.{◌≡◌, ◌<◌, ◌^◌};
 ghost use Rattle.rules.specs.Kinds.{all_cash, cash_report_count, creation_of, redemption_of};
-ghost use Rattle.rules.specs.Lent.{rooms_of};
+ghost use Rattle.rules.specs.Lent.{rooms_of, rooms_in};
+ghost use Rattle.rules.specs.Lists.{lent_in};
 ghost use Rattle.rules.specs.Orders.{kind_at, number_of, opposite_kind};
 ghost use Rattle.rules.specs.Records.{side_number};
 ghost use Rattle.rules.specs.Reports.{turned};
@@ -58,6 +59,24 @@ pub fn rooms_of(records: usize, investor: usize, fund: usize) -> Rooms
         records: records / layout::RECORD_WIDTH,
         investor: investor / layout::REPORT_WIDTH,
         fund: fund / layout::REPORT_WIDTH,
+    }
+}
+
+// The lists lent to an order: records, the investor's reports and the fund's.
+#[derive(Drop)]
+pub struct Lists<'a> {
+    pub records: &'a mut [u64],
+    pub investor: &'a mut [u64],
+    pub fund: &'a mut [u64],
+}
+
+impl<'a> Lists<'a> {
+    // How many records and reports each takes.
+    #[tactic(auto, unfolding(crate::specs::Lent::rooms_in))]
+    pub fn rooms(&self) -> Rooms
+        ensures { result ≡ rooms_in (lent_in self.now) }
+    {
+        rooms_of(self.records.len(), self.investor.len(), self.fund.len())
     }
 }
 
