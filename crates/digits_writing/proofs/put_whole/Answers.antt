@@ -4,5 +4,5 @@ use Rattle.digits_writing.proofs.Ending.{whole_put}
 use Rattle.digits_writing.proofs.put_whole.Goals as goal
 
 pub returns : goal.returns
-returns c =
-    whole_put _ _ _ _ _ _ c.whole_size.ensures (omega (arith, c.requires, c.whole_size.ensures)) (omega (arith, c.requires)) c.put_last.ensures.bytes
+returns g c =
+    whole_put _ _ _ _ _ _ c.whole_size.ensures (omega (arith, c.requires.room, c.whole_size.ensures)) (omega (arith, c.requires.room)) c.put_last.ensures.bytes
