@@ -70,7 +70,7 @@ fn with_missing(found: Option<Money>, more: Option<Money>) -> Option<Money>
     ensures { result ≡ with_missing found more }
 {
     match (found, more) {
-        (Some(x), Some(y)) => Some(x.plus(y)),
+        (Some(x), Some(y)) => Some(x + y),
         (None, y) => y,
         (x, None) => x,
     }
@@ -83,8 +83,8 @@ fn with_cash(cash: CashByMarket, more: CashByMarket) -> CashByMarket
     ensures { result ≡ with_cash cash more }
 {
     CashByMarket {
-        shanghai: cash.shanghai.plus(more.shanghai),
-        other: cash.other.plus(more.other),
+        shanghai: cash.shanghai + more.shanghai,
+        other: cash.other + more.other,
     }
 }
 

@@ -67,7 +67,7 @@ fn per_unit(basket: Money, size: u64) -> ReferenceValue
     ensures { result.0 ≡ rounded (10 * basket.0) size }
 {
     let tenths = 10 * basket.0;
-    ReferenceValue::new((2 * tenths + size) / (2 * size))
+    ReferenceValue((2 * tenths + size) / (2 * size))
 }
 
 // The answer from the sum of the components and what the estimated cash adds to it and takes from it.
@@ -75,7 +75,7 @@ fn value_with(sum: Money, added: Money, taken: Money, size: u64) -> Result<Refer
     requires { (sum.0 + added.0 ≤ 400_000_000_000_000_000) × (1 ≤ size) × (size ≤ 99_999_999) }
     ensures { value_answer_reply result ≡ value_from (sum.0 + added.0) taken.0 size }
 {
-    let before = sum.plus(added);
+    let before = sum + added;
     if before.0 < taken.0 {
         return Err(Refusal::NoReferenceValue);
     }
@@ -98,7 +98,7 @@ pub fn reference_value(day: &DayView, prices: &[u64]) -> Result<ReferenceValue, 
         if lacks_price(component, price) {
             return Err(Refusal::NoReferenceValue);
         }
-        sum = sum.plus(worth_of(component, price));
+        sum = sum + worth_of(component, price);
     }
     let fund = day.fund();
     let added = cash_added(fund.estimated_cash);

@@ -8,7 +8,7 @@ use Rattle.value.proofs.value_with.Goals.{After-per_unit-value, Start}
 use Rattle.value.proofs.value_with.Goals as goal
 
 pub returns-then-before-taken : goal.returns-then-before-taken
-returns-then-before-taken c = value_negative _ _ _ (omega (arith, c.plus-before.ensures))
+returns-then-before-taken c = value_negative _ _ _ (omega (arith, c.add-before.ensures))
 
 -- the value in the definition's terms
 abbrev found : Start → ℕ
@@ -17,14 +17,14 @@ found c = rounded (10 * (c.args.sum.0 + c.args.added.0 - c.args.taken.0)) c.args
 same : (c : After-per_unit-value) →
     c.per_unit-value.result.0
     ≡ found c.before.before.before.before.before.before.before
-same c = c.per_unit-value.ensures ∙ rw c.plus-before.ensures
+same c = c.per_unit-value.ensures ∙ rw c.add-before.ensures
 
 pub returns-then-value-gt-MOST_VALUE : goal.returns-then-value-gt-MOST_VALUE
 returns-then-value-gt-MOST_VALUE c =
-    let sum = c.plus-before in
+    let sum = c.add-before in
     value_high _ _ _ _ (same c.before.before) (omega (arith, sum.ensures, c.if-before-taken.false)) c.if-value-gt-MOST_VALUE.true
 
 pub returns : goal.returns
 returns c =
-    let sum = c.plus-before in
+    let sum = c.add-before in
     value_stands _ _ _ _ (same c.before.before) (omega (arith, sum.ensures, c.if-before-taken.false)) c.if-value-gt-MOST_VALUE.false
