@@ -10,9 +10,9 @@ ghost use Rattle.rules.specs.Sound.{is_sound};
 ghost use Rattle.rules.specs.Orders.{baskets};
 ghost use Rattle.rules.specs.Lent.{rooms_in};
 ghost use Rattle.rules.specs.Lists.{lent_in, left_in};
-ghost use Rattle.rules.specs.Kinds.{asked_cash, asked_moves, with_asked};
+ghost use Rattle.rules.specs.Kinds.{asked_cash, asked_moves};
 ghost use Rattle.order_tests.specs.Tests.{accepted_reply, means_answer};
-ghost use Rattle.orders.specs.Orders.{asked_answer, Formed};
+ghost use Rattle.orders.specs.Orders.{asked_answer, answered_lists, Formed};
 
 use layout::DayView;
 use order_tests::Accepted;
@@ -94,7 +94,7 @@ pub fn order(
     requires prices_value { is_sound day.now book.old prices.now ≡ true }
     ensures result_value { order_answer_reply result ≡ asked_answer day.now book.old prices.now ask (rooms_in (lent_in lists.old)) }
     ensures book { book.new ≡ if_accepted (asked_answer day.now book.old prices.now ask (rooms_in (lent_in lists.old))) (asked_moves day.now prices.now ask book.old) book.old }
-    ensures lists { lists.new ≡ left_in lists.old (if_accepted (asked_answer day.now book.old prices.now ask (rooms_in (lent_in lists.old))) (with_asked day.now book.old prices.now ask (lent_in lists.old)) (lent_in lists.old)) }
+    ensures lists { lists.new ≡ left_in lists.old (answered_lists day.now book.old prices.now ask (lent_in lists.old)) }
 {
     let m = ask.units / day.fund().basket_size;
     let accepted = tested_in(day, book, prices, ask, m, lists.rooms())?;
