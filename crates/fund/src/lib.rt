@@ -3,7 +3,7 @@
 
 ghost use Rattle.std.specs.Prelude.{◌≡◌, ◌*◌, ◌≤◌, ◌<◌, length};
 ghost use Rattle.sequences.specs.Below.{below};
-ghost use Rattle.fund.specs.Fund.{cash_in_range, limit_in_range, limits_in_range, fund_in_range};
+ghost use Rattle.fund.specs.Fund.{cash_in_range, limit_in_range, limits_in_range, fund_in_range, limit_number};
 ghost use Rattle.layout.specs.Places.{most_components, component_width};
 ghost use Rattle.layout.specs.Components.{component_at, places_of};
 ghost use Rattle.fund.specs.Components.{outside_group, zero_unless, used_within, component_in_range, fits, component_fault};
@@ -14,13 +14,22 @@ use layout::{Component, Fund};
 pub const CEILING: u64 = 999_999_999_999;
 
 // The limits on a kind of order: cumulative for the fund and per account, net for the fund and per account.
-pub const CUMULATIVE: usize = 0;
+#[derive(Clone, Copy, PartialEq, Eq, Debug)]
+pub enum Limit {
+    Cumulative,
+    CumulativeEach,
+    Net,
+    NetEach,
+}
 
-pub const CUMULATIVE_EACH: usize = 1;
-
-pub const NET: usize = 2;
-
-pub const NET_EACH: usize = 3;
+impl Limit {
+    // Its place among those of a kind.
+    pub fn number(self) -> usize
+        ensures { result ≡ limit_number self }
+    {
+        self as usize
+    }
+}
 
 #[tactic(auto, using(std::proofs::lemmas::Bool::Decides::nat_tests), unfolding(crate::specs::Fund::cash_in_range))]
 pub fn cash_in_range(e: i64) -> bool
@@ -93,8 +102,8 @@ pub fn outside_group(first_code: u64, code: u64) -> bool
 pub fn component_in_range(first_code: u64, c: Component) -> bool
     ensures { result ≡ component_in_range first_code c }
 {
-    let rate_used = flags::entry_of(c.flag, flags::RATE_USED);
-    let amount_used = flags::entry_of(c.flag, flags::AMOUNT_USED);
+    let rate_used = flags::entry_of(c.flag, flags::Column::RateUsed);
+    let amount_used = flags::entry_of(c.flag, flags::Column::AmountUsed);
     c.code <= 999_999
         && outside_group(first_code, c.code)
         && c.quantity <= 99_999_999

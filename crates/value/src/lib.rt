@@ -22,7 +22,7 @@ fn worth_of(c: Component, price: u64) -> Money
     requires { Countable c price }
     ensures { result.0 ≡ worth c price }
 {
-    if flags::entry_of(c.flag, flags::PRICED) {
+    if flags::entry_of(c.flag, flags::Column::Priced) {
         return Money(c.quantity * price);
     }
     Money(c.amount.0)
@@ -33,7 +33,7 @@ fn worth_of(c: Component, price: u64) -> Money
 fn lacks_price(c: Component, price: u64) -> bool
     ensures { result ≡ lacks c price }
 {
-    flags::entry_of(c.flag, flags::PRICED) && c.quantity != 0 && price == 0
+    flags::entry_of(c.flag, flags::Column::Priced) && c.quantity != 0 && price == 0
 }
 
 // What the estimated cash adds to the sum. This function and the next are all that computes with signed numbers.
