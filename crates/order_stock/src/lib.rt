@@ -21,7 +21,7 @@ fn stock_moved(kind: Kind, c: Component, m: u64, x: Lots) -> u64
     requires x_bound { handable x < 2 ^ 62 }
     ensures { result ≡ moved_of kind c m x }
 {
-    if !flags::entry_of(c.flag, flags::STOCK_MOVES) {
+    if !flags::entry_of(c.flag, flags::Column::StockMoves) {
         return 0;
     }
     let needed = m * c.quantity;

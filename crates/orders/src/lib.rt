@@ -8,14 +8,15 @@ ghost use Rattle.layout.specs.Book.{width_of, account};
 ghost use Rattle.rules.specs.Replies.{order_answer_reply, if_accepted};
 ghost use Rattle.rules.specs.Sound.{is_sound};
 ghost use Rattle.rules.specs.Orders.{baskets};
-ghost use Rattle.rules.specs.Lent.{lent_of, rooms_in};
+ghost use Rattle.rules.specs.Lent.{rooms_in};
+ghost use Rattle.rules.specs.Lists.{lent_in, left_in};
 ghost use Rattle.rules.specs.Kinds.{asked_cash, asked_moves, with_asked};
 ghost use Rattle.order_tests.specs.Tests.{accepted_reply, means_answer};
 ghost use Rattle.orders.specs.Orders.{asked_answer, Formed};
 
 use layout::DayView;
 use order_tests::Accepted;
-use rules::{Ask, Counts, Refusal, Rooms};
+use rules::{Ask, Counts, Lists, Refusal, Rooms};
 
 // An account's part of the book.
 fn part_of(book: &[u64], count: usize, a: usize) -> &[u64]
@@ -88,27 +89,21 @@ pub fn order(
     book: &mut [u64],
     prices: &[u64],
     ask: Ask,
-    records: &mut [u64],
-    investor: &mut [u64],
-    fund: &mut [u64],
+    lists: &mut Lists,
 ) -> Result<Counts, Refusal>
     requires prices_value { is_sound day.now book.old prices.now ≡ true }
-    ensures result_value { order_answer_reply result ≡ asked_answer day.now book.old prices.now ask (rooms_in (lent_of records.old investor.old fund.old)) }
-    ensures book { book.new ≡ if_accepted (asked_answer day.now book.old prices.now ask (rooms_in (lent_of records.old investor.old fund.old))) (asked_moves day.now prices.now ask book.old) book.old }
-    ensures lists { lent_of records.new investor.new fund.new ≡ if_accepted (asked_answer day.now book.old prices.now ask (rooms_in (lent_of records.old investor.old fund.old))) (with_asked day.now book.old prices.now ask (lent_of records.old investor.old fund.old)) (lent_of records.old investor.old fund.old) }
+    ensures result_value { order_answer_reply result ≡ asked_answer day.now book.old prices.now ask (rooms_in (lent_in lists.old)) }
+    ensures book { book.new ≡ if_accepted (asked_answer day.now book.old prices.now ask (rooms_in (lent_in lists.old))) (asked_moves day.now prices.now ask book.old) book.old }
+    ensures lists { lists.new ≡ left_in lists.old (if_accepted (asked_answer day.now book.old prices.now ask (rooms_in (lent_in lists.old))) (with_asked day.now book.old prices.now ask (lent_in lists.old)) (lent_in lists.old)) }
 {
     let m = ask.units / day.fund().basket_size;
-    let rooms = rules::rooms_of(records.len(), investor.len(), fund.len());
-    let accepted = tested_in(day, book, prices, ask, m, rooms)?;
+    let accepted = tested_in(day, book, prices, ask, m, lists.rooms())?;
     let cash = accepted.cash;
+    let records = &mut *lists.records;
+    let investor = &mut *lists.investor;
+    let fund = &mut *lists.fund;
     order_settlement::settle(ask, day, book, m, cash, records);
-    order_reports::report(
-        ask.kind,
-        accepted.counts.reports,
-        cash,
-        records,
-        investor,
-        fund,
-    );
+    let reports = accepted.counts.reports;
+    order_reports::report(ask.kind, reports, cash, records, investor, fund);
     Ok(accepted.counts)
 }

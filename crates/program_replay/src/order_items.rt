@@ -143,14 +143,10 @@ impl Order {
             account,
             units,
         } = self.ask;
-        let (records, investor, fund) = (self.records, self.investor, self.fund);
+        let rooms = rules::rooms_of(self.records, self.investor, self.fund);
         Numbers::from(match kind {
-            Kind::Creation => {
-                day::creation_test(day, book, prices, account, units, records, investor, fund)
-            }
-            Kind::Redemption => {
-                day::redemption_test(day, book, prices, account, units, records, investor, fund)
-            }
+            Kind::Creation => day::creation_test(day, book, prices, account, units, rooms),
+            Kind::Redemption => day::redemption_test(day, book, prices, account, units, rooms),
         })
     }
 

@@ -9,7 +9,7 @@ mod printed;
 use fault::Fault;
 use list_rules::ListFields;
 use printed::Slip;
-use rules::{Counts, Refusal};
+use rules::{Counts, Lists, Refusal};
 use std::alloc::Global;
 use std::io;
 use std::io::{BufWriter, Read, Write};
@@ -37,15 +37,14 @@ struct Market {
 
 // What the tests of the creation alone answer, with room for all that an order can make.
 fn test(market: &Market, units: u64) -> Result<Counts, Refusal> {
+    let rooms = rules::rooms_of(RECORDS_LENGTH, REPORTS_LENGTH, REPORTS_LENGTH);
     day::creation_test(
         &market.day,
         &market.book,
         &market.prices,
         ACCOUNT,
         units,
-        RECORDS_LENGTH,
-        REPORTS_LENGTH,
-        REPORTS_LENGTH,
+        rooms,
     )
 }
 
@@ -60,15 +59,18 @@ fn create<W: Write>(
     let mut investor = vec![in alloc; 0u64; REPORTS_LENGTH]?;
     let mut fund = vec![in alloc; 0u64; REPORTS_LENGTH]?;
     let tested = test(market, units);
+    let mut lists = Lists {
+        records: &mut records,
+        investor: &mut investor,
+        fund: &mut fund,
+    };
     let answer = day::create(
         &market.day,
         &mut market.book,
         &market.prices,
         ACCOUNT,
         units,
-        &mut records,
-        &mut investor,
-        &mut fund,
+        &mut lists,
     );
     if tested != answer {
         writeln!(out, "the tests alone answered otherwise")?;

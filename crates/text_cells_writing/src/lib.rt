@@ -22,7 +22,7 @@ fn put_small(cell: &mut [u8], column: Column, n: u32)
     ensures { cell.new ≡ number_text (number_form column) (plain n) }
 {
     let width = column.width;
-    if column.digits != 0 {
+    if column.digits.is_some() {
         digits_put::tail::put_last(cell, width, width, n);
         return;
     }
@@ -51,7 +51,7 @@ fn put_number(cell: &mut [u8], column: Column, n: u64)
         digits: column.digits,
         decimals: column.decimals,
         signed: false,
-        width: column.width,
+        width: Some(column.width),
     };
     let z = Figure {
         negative: false,

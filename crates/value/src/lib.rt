@@ -22,7 +22,7 @@ fn worth_of(c: Component, price: u64) -> Money
     requires { Countable c price }
     ensures { result.0 ≡ worth c price }
 {
-    if flags::entry_of(c.flag, flags::PRICED) {
+    if flags::entry_of(c.flag, flags::Column::Priced) {
         return Money(c.quantity * price);
     }
     Money(c.amount.0)
@@ -33,7 +33,7 @@ fn worth_of(c: Component, price: u64) -> Money
 fn lacks_price(c: Component, price: u64) -> bool
     ensures { result ≡ lacks c price }
 {
-    flags::entry_of(c.flag, flags::PRICED) && c.quantity != 0 && price == 0
+    flags::entry_of(c.flag, flags::Column::Priced) && c.quantity != 0 && price == 0
 }
 
 // What the estimated cash adds to the sum, and what it takes from it. All that computes with signed numbers.
@@ -58,7 +58,7 @@ fn per_unit(basket: Money, size: u64) -> ReferenceValue
     ensures { result.0 ≡ rounded (10 * basket.0) size }
 {
     let tenths = 10 * basket.0;
-    ReferenceValue::new((2 * tenths + size) / (2 * size))
+    ReferenceValue((2 * tenths + size) / (2 * size))
 }
 
 // The answer from the sum of the components and what the estimated cash adds to it and takes from it.
@@ -66,7 +66,7 @@ fn value_with(sum: Money, added: Money, taken: Money, size: u64) -> Result<Refer
     requires { (sum.0 + added.0 ≤ 400_000_000_000_000_000) × (1 ≤ size) × (size ≤ 99_999_999) }
     ensures { value_answer_reply result ≡ value_from (sum.0 + added.0) taken.0 size }
 {
-    let before = sum.plus(added);
+    let before = sum + added;
     if before < taken {
         return Err(Refusal::NoReferenceValue);
     }
@@ -88,7 +88,7 @@ pub fn reference_value(day: &DayView, prices: &[u64]) -> Result<ReferenceValue, 
         if lacks_price(component, *price) {
             return Err(Refusal::NoReferenceValue);
         }
-        sum = sum.plus(worth_of(component, *price));
+        sum = sum + worth_of(component, *price);
     }
     let fund = day.fund();
     let (added, taken) = cash_parts(fund.estimated_cash);

@@ -30,9 +30,9 @@ unfolding price_of
 worth_of-requires c = rw c.component-component.ensures (c.requires.countable c.loop-i.i (omega arith))
 
 -- the sum with this component's worth
-pub plus-sum-requires : goal.plus-sum-requires
+pub add-sum-requires : goal.add-sum-requires
 unfolding price_of
-plus-sum-requires c =
+add-sum-requires c =
     let d = c.args.day.now in
     let more : c.loop-i.sum.0 + c.worth_of.result.0 ≡ sum_below (worth_at d c.args.prices.now) (c.loop-i.i + 1) =
     rw (c.loop-i.invariant.1, c.worth_of.ensures, c.component-component.ensures) (sum_next d _ _) in
@@ -44,7 +44,7 @@ loop-i-preserved c =
     let d = c.args.day.now in
     let priced = rw c.component-component.ensures at (sym c.lacks_price.ensures ∙ c.if-lacks_price.false) in (
       priced_next d _ _ c.loop-i.invariant.0 priced,
-      c.plus-sum.ensures ∙ rw (c.loop-i.invariant.1, c.worth_of.ensures, c.component-component.ensures) (sum_next d _ _),
+      c.add-sum.ensures ∙ rw (c.loop-i.invariant.1, c.worth_of.ensures, c.component-component.ensures) (sum_next d _ _),
     )
 
 -- the machine reads the estimated cash back

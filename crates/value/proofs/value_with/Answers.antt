@@ -14,17 +14,17 @@ not_less a b e = grind (arith, nat_tests)
 
 -- the value in the definition's terms
 same : (c : After-per_unit-value) → c.per_unit-value.result.0 ≡ rounded (10 * (c.args.sum.0 + c.args.added.0 - c.args.taken.0)) c.args.size
-same c = c.per_unit-value.ensures ∙ rw c.plus-before.ensures
+same c = c.per_unit-value.ensures ∙ rw c.add-before.ensures
 
 pub returns-then-lt : goal.returns-then-lt
-returns-then-lt c = value_negative _ _ _ (omega (arith, less c.plus-before.result.0 c.args.taken.0 (sym c.lt.ensures ∙ c.if-lt.true), c.plus-before.ensures))
+returns-then-lt c = value_negative _ _ _ (omega (arith, less c.add-before.result.0 c.args.taken.0 (sym c.lt.ensures ∙ c.if-lt.true), c.add-before.ensures))
 
 pub returns-then-lt-2 : goal.returns-then-lt-2
 returns-then-lt-2 c =
-    value_high _ _ _ _ (same (goal.at.returns-then-lt-2 c).After-per_unit-value) (omega (arith, not_less c.plus-before.result.0 c.args.taken.0 (sym c.lt.ensures ∙ c.if-lt.false), c.plus-before.ensures))
+    value_high _ _ _ _ (same (goal.at.returns-then-lt-2 c).After-per_unit-value) (omega (arith, not_less c.add-before.result.0 c.args.taken.0 (sym c.lt.ensures ∙ c.if-lt.false), c.add-before.ensures))
     (less _ _ (sym c.lt-2.ensures ∙ c.if-lt-2.true))
 
 pub returns : goal.returns
 returns c =
-    value_stands _ _ _ _ (same (goal.at.returns c).After-per_unit-value) (omega (arith, not_less c.plus-before.result.0 c.args.taken.0 (sym c.lt.ensures ∙ c.if-lt.false), c.plus-before.ensures))
+    value_stands _ _ _ _ (same (goal.at.returns c).After-per_unit-value) (omega (arith, not_less c.add-before.result.0 c.args.taken.0 (sym c.lt.ensures ∙ c.if-lt.false), c.add-before.ensures))
     (not_less _ _ (sym c.lt-2.ensures ∙ c.if-lt-2.false))
