@@ -1,16 +1,17 @@
 -- Writing: how long each text is, and how it is written part by part.
 use mathlib.Core.Path.{◌≡◌, refl, sym, ap, ◌∙◌, subst}
 use mathlib.Core.Bool.{Bool, true, false, cond}
-use mathlib.Core.List.{List, [], ◌∷◌, ◌++◌, append_assoc}
+use mathlib.Core.List.{List, [], ◌∷◌, ◌++◌, append_assoc, append-nil}
 use Prim.Native.Nat.{ℕ, zero, suc, ◌+◌, ◌-◌, ◌/◌, ◌^◌, ◌≤◌}
 use native.Mathlib.Omega.{arith}
 use Rattle.std.specs.Prelude.{Option, Some, None, unwrap_or}
-use lib.ListN.{length, replicate, length-append, length-replicate}
+use lib.ListN.{length, take, drop, replicate, length-append, length-replicate, replicate-append-replicate, drop_of_length-le}
+use lib.Seq.{take_at}
 use borrow.Author.Tests.{eq-eqb, ne_eqb, lt-ltb, le-ltb}
 use Rattle.digits.specs.declared.Form.{Form}
 use Rattle.digits.specs.declared.Figure.{Figure}
 use Rattle.digits.specs.Digits.{fixed, tens_within, tens, decimal, whole_text, plain_text, signed_text, blanks_left, number_text}
-use Rattle.digits.specs.Written.{Written}
+use Rattle.digits.specs.Written.{put, Written}
 use Rattle.digits.proofs.Read.{compare}
 use Rattle.digits.proofs.Put.{written_then}
 use Rattle.digits.proofs.Count.{fixed-length, decimal-length}
@@ -26,7 +27,7 @@ unfolding whole_text
 digits-length digits n = sym (fixed-length digits n)
 
 -- all of them are digits of n
-whole_is : (digits : Option ℕ) (n : ℕ) → fixed (length (whole_text digits n)) n ≡ whole_text digits n
+pub whole_is : (digits : Option ℕ) (n : ℕ) → fixed (length (whole_text digits n)) n ≡ whole_text digits n
 unfolding whole_text decimal
 whole_is None n = ap (λ (k : ℕ). fixed k n) (fixed-length (suc (tens n)) n)
 whole_is (Some digits) n = ap (λ (k : ℕ). fixed k n) (fixed-length digits n)
@@ -120,3 +121,22 @@ module _ (f : Form) (z : Figure) where
       let l = number-length in
       let w : k ≡ blanks_put = omega arith in
       subst (λ (j : ℕ). Written d at (replicate j 32 ++ signed_text f z) d₂ q) w (written_then a b (omega (arith, length-replicate {A = ℕ} k 32)))
+
+-- ---- in a field of blanks
+
+sum_back : (w k : ℕ) → k ≤ w → w ≡ w - k + k
+sum_back w k h = omega arith
+
+pub blanks-put : (w : ℕ) (xs : List ℕ) → length xs ≤ w → put (replicate w 32) (w - length xs) xs ≡ replicate (w - length xs) 32 ++ xs
+unfolding put
+blanks-put w xs h =
+    let parts : replicate {A = ℕ} w 32 ≡ replicate (w - length xs) 32 ++ replicate (length xs) 32 =
+    ap (λ (k : ℕ). replicate {A = ℕ} k 32) (sum_back w (length xs) h) ∙ sym (replicate-append-replicate (w - length xs) (length xs) 32)
+    in
+    let front : take (w - length xs) (replicate {A = ℕ} w 32) ≡ replicate (w - length xs) 32 =
+    ap (take (w - length xs)) parts ∙ take_at _ _ (w - length xs) (length-replicate {A = ℕ} (w - length xs) 32)
+    in
+    let none : drop (w - length xs + length xs) (replicate {A = ℕ} w 32) ≡ [] =
+    drop_of_length-le (replicate {A = ℕ} w 32) {i = w - length xs + length xs} (rw length-replicate (omega arith))
+    in
+    rw (front, none) (simp append-nil)

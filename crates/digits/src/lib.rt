@@ -24,6 +24,9 @@ pub struct Figure {
     pub size: u64,
 }
 
+// Above every range: a number that is more is read as this.
+pub const CAP: u64 = 1_000_000_000_000_000_000;
+
 // The most decimals of a form.
 pub const MOST_DECIMALS: usize = 9;
 

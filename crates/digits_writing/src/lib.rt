@@ -1,9 +1,9 @@
 // Writes a number's field, by its form.
 #![tactic(auto)]
 
-ghost use Rattle.std.specs.Prelude.{◌≡◌, ◌+◌, ◌≤◌, ◌<◌, ◌^◌, length, unwrap_or};
+ghost use Rattle.std.specs.Prelude.{◌≡◌, ◌+◌, ◌-◌, ◌≤◌, ◌^◌, length, unwrap_or};
 ghost use Rattle.digits.specs.Digits.{tens, whole_text, plain_text, signed_text, number_text};
-ghost use Rattle.digits.specs.Written.{Written};
+ghost use Rattle.digits.specs.Written.{put, Written};
 
 use digits::{Figure, Form};
 
@@ -11,10 +11,7 @@ use digits::{Figure, Form};
 fn more_digits(n: u64) -> usize
     ensures { (result ≡ tens n) × (result ≤ 19) }
 {
-    if n == 0 {
-        return 0;
-    }
-    n.ilog10() as usize
+    n.checked_ilog10().unwrap_or(0) as usize
 }
 
 // 10 ^ k.
@@ -63,50 +60,59 @@ pub fn number_size(form: Form, z: Figure) -> usize
     signed_size(form, z).max(form.width.unwrap_or(0))
 }
 
-// Writes the digits before the point.
-fn put_whole(dst: &mut [u8], at: usize, digits: Option<usize>, n: u64) -> usize
-    requires { at + length (whole_text digits n) ≤ length dst.old }
-    ensures { Written dst.old at (whole_text digits n) dst.new result }
+// Writes the digits before the point so that they end before a place, and says where they start.
+fn put_whole(field: &mut [u8], end: usize, digits: Option<usize>, n: u64) -> usize
+    requires { (length (whole_text digits n) ≤ end) × (end ≤ length field.old) }
+    ensures { Written field.old result (whole_text digits n) field.new end }
 {
-    let k = whole_size(digits, n);
-    digits_put::put_fixed(dst, at, k, n)
+    let start = end - whole_size(digits, n);
+    digits_put::put_last(&mut field[start..end], n);
+    start
 }
 
-// Writes the number without its sign.
-fn put_plain(dst: &mut [u8], at: usize, form: Form, n: u64) -> usize
-    requires decimals_bound { form.decimals ≤ 9 }
-    requires n_in_bounds { at + length (plain_text form n) ≤ length dst.old }
-    ensures { Written dst.old at (plain_text form n) dst.new result }
+// Writes the number without its sign at the end of a field, and says where it starts.
+fn put_plain(field: &mut [u8], form: Form, n: u64) -> usize
+    requires { length (plain_text form n) ≤ length field.old }
+    ensures { Written field.old result (plain_text form n) field.new (length field.old) }
 {
+    let end = field.len();
     let k = form.decimals;
     if k == 0 {
-        return put_whole(dst, at, form.digits, n);
+        return put_whole(field, end, form.digits, n);
     }
-    let p = put_whole(dst, at, form.digits, n / power(k));
-    let q = digits_put::put_byte(dst, p, b'.');
-    digits_put::put_fixed(dst, q, k, n)
+    let point = end - (k + 1);
+    let whole = digits_put::put_last(&mut field[point + 1..], n);
+    field[point] = b'.';
+    put_whole(field, point, form.digits, whole)
 }
 
-// Writes the number with its sign.
-fn put_signed(dst: &mut [u8], at: usize, form: Form, z: Figure) -> usize
-    requires decimals_bound { form.decimals ≤ 9 }
-    requires z_in_bounds { at + length (signed_text form z) ≤ length dst.old }
-    ensures { Written dst.old at (signed_text form z) dst.new result }
+// Writes the number with its sign at the end of a field; what stands before it stays.
+pub fn put_signed(field: &mut [u8], form: Form, z: Figure)
+    requires { length (signed_text form z) ≤ length field.old }
+    ensures { field.new ≡ put field.old (length field.old - length (signed_text form z)) (signed_text form z) }
 {
+    let start = put_plain(field, form, z.size);
     if z.negative {
-        let p = digits_put::put_byte(dst, at, b'-');
-        return put_plain(dst, p, form, z.size);
+        field[start - 1] = b'-';
     }
-    put_plain(dst, at, form, z.size)
 }
 
-// Writes the number right in its field.
+// Writes the number right in its field, which is as long as its text.
+fn put_right(field: &mut [u8], form: Form, z: Figure)
+    requires { length field.old ≡ length (number_text form z) }
+    ensures { field.new ≡ number_text form z }
+{
+    field.fill(b' ');
+    put_signed(field, form, z);
+}
+
+// Writes the number's field into its place, and gives the place behind it.
 pub fn put_number(dst: &mut [u8], at: usize, form: Form, z: Figure) -> usize
     requires decimals_bound { (form.decimals ≤ 9) × (unwrap_or form.digits 0 ≤ 20) }
     requires z_in_bounds { at + length (number_text form z) ≤ length dst.old }
     ensures { Written dst.old at (number_text form z) dst.new result }
 {
-    let k = number_size(form, z) - signed_size(form, z);
-    let p = digits_put::put_blanks(dst, at, k);
-    put_signed(dst, p, form, z)
+    let end = at + number_size(form, z);
+    put_right(&mut dst[at..end], form, z);
+    end
 }
