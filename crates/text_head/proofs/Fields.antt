@@ -24,10 +24,9 @@ use Rattle.text_rules.specs.Head.{head_lines, field_name, is_field, is_head_line
 use Rattle.text_rules.specs.Reading.{start_of, line_of, line_stands, wrong_line, field_start, word_of, figure_read, wrong_field}
 use Rattle.text_rules.specs.Well.{most_decimals, most_fields, fields_well}
 use Rattle.text_rules.proofs.Well.{field_well_lem, fields_few}
-use Rattle.text_lines.proofs.Standing.{stands_facts}
+use Rattle.text_lines.proofs.Standing.{rest_is, stands_facts}
 use Rattle.text_head.specs.declared.WrongField.{WrongField}
 use Rattle.text_head.specs.Head.{field_reading, figures_found, fields_found}
-use Rattle.text_head.proofs.Lines.{rest_is}
 use Rattle.text_head.proofs.Shape.{wrong_at}
 
 -- ---- a field that says something, and one that does not

@@ -70,7 +70,9 @@ fn pass_line<F: FnOnce(&[u8]) -> bool>(
         → result ≡ line_passed said text.now k at }
 {
     let wrong = WrongLine { line: k, place: at };
-    let line = lines::first_line(&text[at..]).ok_or(wrong)?;
+    let Some(line) = lines::first_line(&text[at..]) else {
+        return Err(wrong);
+    };
     if test(line) {
         Ok(at + (line.len() + 2))
     } else {
