@@ -9,9 +9,10 @@ use native.Mathlib.Omega.{arith}
 use lib.Dec.{ltb}
 use lib.ListN.{length, get_or, take, drop, set, replicate, length-drop, length-set, length-replicate, get_or-replicate}
 use lib.Seq.{get_or-set_same, get_or-set_other}
-use borrow.Author.Tests.{ne_eqb, not-false, ltb-true, lt-ltb, le-ltb, le-leb}
+use borrow.Author.Tests.{ne_eqb, not-false, lt-ltb, le-ltb, le-leb}
 use Rattle.std.proofs.Common.{Option, Some, None, Ok, Err}
 use Rattle.std.specs.Prelude.{MatchOption, ⊤}
+use Rattle.std.specs.Option.{IsSome}
 use Rattle.sequences.specs.Below.{first_below}
 use Rattle.sequences.proofs.Below.{first_none, first_more, first_here, first_all, table_ext}
 use Rattle.digits.specs.Digits.{figure_of, plain}
@@ -22,12 +23,17 @@ use Rattle.text_rules.specs.declared.Field.{Field as LentField}
 use Rattle.text_rules.specs.Tables.{Field, field_of, field_at}
 use Rattle.text_rules.specs.Head.{head_lines, field_name, is_field, is_head_line}
 use Rattle.text_rules.specs.Reading.{start_of, line_of, line_stands, wrong_line, field_start, word_of, figure_read, wrong_field}
-use Rattle.text_rules.specs.Well.{most_decimals, most_fields, fields_well}
-use Rattle.text_rules.proofs.Well.{field_well_lem, fields_few}
+use Rattle.text_rules.specs.Well.{most_fields, fields_well}
+use Rattle.text_rules.proofs.Well.{fields_few}
 use Rattle.text_lines.proofs.Standing.{rest_is, stands_facts}
 use Rattle.text_head.specs.declared.WrongField.{WrongField}
 use Rattle.text_head.specs.Head.{field_reading, figures_found, fields_found}
 use Rattle.text_head.proofs.Shape.{wrong_at}
+
+-- a line that cannot be missing
+pub some_line : {A B : Type 0} (P : A → Type 0) → (B → ⊥) → (r : Option A) → MatchOption r B P → IsSome r
+some_line P n None h = absurd (n h)
+some_line P n (Some x) h = refl
 
 -- ---- a field that says something, and one that does not
 module _ (f : Field) (s : List ℕ) where
@@ -73,10 +79,19 @@ module _ (fs : List Field) (made : fields_well fs ≡ true) (text : List ℕ) (w
       rw (ne_eqb (suc k) 0 (λ z. omega arith), le-leb (suc k) (length fs) (omega arith), back) at
       (stands_facts (is_head_line fs (suc k)) text (start_of text (suc k)) (all_stand (suc k) (omega arith))).1
 
-  -- line k has its end
-  pub fielded_ended : (k at : ℕ) → k < head_lines fs → at ≡ start_of text k → ended (take (length text - at) (drop at text)) ≡ false → ⊥
-  fielded_ended k at l e f =
-      true≢false (sym (stands_facts (is_head_line fs k) text (start_of text k) (all_stand k l)).0 ∙ ap (λ (i : ℕ). ended (drop i text)) (sym e) ∙ ap ended (sym (rest_is text at)) ∙ f)
+  -- the first line has its end, and so have those of the fields
+  line_ended : (k : ℕ) → k < head_lines fs → ended (drop (start_of text k) text) ≡ true
+  line_ended k l = (stands_facts (is_head_line fs k) text (start_of text k) (all_stand k l)).0
+
+  pub first_ended : ended text ≡ false → ⊥
+  unfolding start_of head_lines
+  first_ended f = true≢false (sym (line_ended 0 (omega arith)) ∙ f)
+
+  pub next_ended : (figures : List Figure) (at k : ℕ) → Fielded fs text figures at k → k < length fs → ended (take (length text - at) (drop at text)) ≡ false → ⊥
+  unfolding head_lines
+  next_ended figures at k v l f =
+      true≢false
+      (sym (line_ended (suc k) (omega arith)) ∙ ap (λ (i : ℕ). ended (drop i text)) (sym v.place) ∙ ap ended (sym (rest_is text at)) ∙ f)
 
   pub fielded_start : (line : List ℕ) → line ≡ first_line text → length line + 2 ≤ length text → Fielded fs text (replicate most_fields (plain 0)) (length line + 2) 0
   unfolding start_of next_at head_lines
@@ -97,10 +112,6 @@ module _ (fs : List Field) (made : fields_well fs ≡ true) (text : List ℕ) (w
       (λ i l. v.said i l ∙ ap (λ (n : ℕ). cond (ltb i n) (figure_read fs text i) (plain 0)) (sym e))
 
   module _ (figures : List Figure) (at k : ℕ) (v : Fielded fs text figures at k) (low : k < length fs) (f : LentField) (is : field_of f ≡ field_at fs k) where
-    pub decimals_few : f.form.decimals ≤ most_decimals
-    unfolding field_of
-    decimals_few = subst⁻¹ (λ (x : Field). x.form.decimals ≤ most_decimals) is (field_well_lem fs made k low).decimals
-
     room_more : k < most_fields
     room_more = omega (arith, fields_few fs made)
 
@@ -154,7 +165,7 @@ module _ (fs : List Field) (made : fields_well fs ≡ true) (text : List ℕ) (w
             let e : wrong_field fs text ≡ k = first_here (fault_at fs text) (length fs) k low v.none w in
             rw (← kept_are figures at k v e, e, lt-ltb k (length fs) low, name_is, ← v.place)
 
-        pub fielded_on : (z : Figure) → x ≡ Some z → at + (length line + 2) ≤ length text → Fielded fs text (set figures k z) (at + (length line + 2)) (k + 1)
+        pub fielded_on : (z : Figure) → x ≡ Some z → length line + 2 ≤ length (take (length text - at) (drop at text)) → Fielded fs text (set figures k z) (at + (length line + 2)) (k + 1)
         unfolding start_of next_at
         fielded_on z i room =
             let p = says_some (field_at fs k) part z (sym says ∙ i) in
@@ -162,7 +173,7 @@ module _ (fs : List Field) (made : fields_well fs ≡ true) (text : List ℕ) (w
             let next : at + (length line + 2) ≡ next_at text at = ap (λ (n : ℕ). at + (n + 2)) (ap length line_here ∙ first-length (drop at text)) in
             record {
               place = next ∙ rw (add-one, ← v.place);
-              within = room;
+              within = omega (arith, room, ap length (rest_is text at), length-drop at text, v.within);
               none = first_more (fault_at fs text) k v.none w;
               size = length-set figures k z ∙ v.size;
               said = more (figure_is ∙ p.1);

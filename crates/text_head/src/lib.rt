@@ -6,7 +6,6 @@ ghost use Rattle.std.specs.Fn.{FnOnceReturnsAt};
 ghost use Rattle.text_rules.specs.Tables.{field_of};
 ghost use Rattle.text_rules.specs.Head.{head_lines, is_kind};
 ghost use Rattle.text_rules.specs.Reading.{wrong_line};
-ghost use Rattle.text_rules.specs.Well.{most_decimals};
 ghost use Rattle.text_head.specs.Head.{field_reading, line_passed, shape_found, fields_found};
 
 use digits::Figure;
@@ -49,7 +48,6 @@ fn is_kind(kind: ValueKind, v: u64) -> bool
 // What a field says.
 #[tactic(auto, unfolding(crate::specs::Head::field_reading, text_rules::specs::Tables::field_of, text_rules::specs::Head::is_field))]
 fn read_field(field: &Field, s: &[u8]) -> Option<Figure>
-    requires { field.now.form.decimals ≤ most_decimals }
     ensures { result ≡ field_reading (field_of field.now) s.now }
 {
     let z = digits_reading::read_number(field.form, s)?;
