@@ -1,32 +1,43 @@
 // Refusal 5: a call looks at its day first. A run of another length than a day's is the blank day, which is not sound.
 #![tactic(auto)]
 
-ghost use Rattle.std.specs.Prelude.{◌≡◌, true, false, OnOk, IfOk, IfErr};
-ghost use Rattle.layout.specs.Day.{day_at};
+ghost use Rattle.std.specs.Prelude.{◌≡◌, true, false, MatchOption, OnOk, IfOk, IfErr};
+ghost use Rattle.layout.specs.Day.{blank_day, day_at};
 ghost use Rattle.rules.specs.declared.Refusal.TheVariants.{UnsoundDay};
 ghost use Rattle.rules.specs.Sound.{is_sound, is_kept};
 
 use layout::DayView;
 use rules::Refusal;
 
+// The day in a run, where the run has a day's length.
+#[tactic(auto, using(layout::proofs::Day::day_none))]
+fn day_in(run: &[u64]) -> Option<DayView<'_>>
+    ensures { MatchOption result (day_at run.now ≡ blank_day) (λ day. day ≡ day_at run.now) }
+{
+    if run.len() == layout::DAY_WIDTH {
+        Some(layout::view_of(run))
+    } else {
+        None
+    }
+}
+
 // The day in a run, where it is sound; else refusal 5.
+#[tactic(auto, using(crate::proofs::Run::blank_unsound))]
 pub fn sound_day<'a>(run: &'a [u64], book: &[u64], prices: &[u64]) -> Result<DayView<'a>, Refusal>
     ensures ok { IfOk result (λ day. day ≡ day_at run.now) }
     ensures sound { OnOk result (is_sound (day_at run.now) book.now prices.now ≡ true) }
     ensures err { IfErr result (λ why. (why ≡ UnsoundDay) × (is_sound (day_at run.now) book.now prices.now ≡ false)) }
 {
-    if run.len() == layout::DAY_WIDTH {
-        let day = layout::view_of(run);
-        if sound::is_sound(&day, book, prices) {
-            return Ok(day);
-        }
+    match day_in(run) {
+        Some(day) if sound::is_sound(&day, book, prices) => Ok(day),
+        _ => Err(Refusal::UnsoundDay),
     }
-    Err(Refusal::UnsoundDay)
 }
 
 // Whether the day has what every call keeps.
+#[tactic(auto, using(crate::proofs::Run::blank_not_kept))]
 pub fn is_kept(run: &[u64], book: &[u64], prices: &[u64]) -> bool
     ensures { result ≡ is_kept (day_at run.now) book.now prices.now }
 {
-    run.len() == layout::DAY_WIDTH && sound::is_kept(&layout::view_of(run), book, prices)
+    day_in(run).is_some_and(|day| sound::is_kept(&day, book, prices))
 }

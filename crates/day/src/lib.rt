@@ -15,6 +15,7 @@ ghost use Rattle.rules.specs.Redemption.{redemption_reply, redeemed_book, redeem
 ghost use Rattle.opening.specs.Given.{given, Outcome};
 
 use layout::Fund;
+use opening::Given;
 use rules::{Counts, Lists, Refusal, Rooms, Trade};
 use units::ReferenceValue;
 
@@ -31,12 +32,18 @@ pub fn open(
 ) -> Result<(), Refusal>
     ensures { Outcome (given accounts count fund components.now holdings.now book.old prices.old day.old) result book.new prices.new day.new }
 {
-    opening::open(
-        accounts, count, fund, components, holdings, book, prices, day,
-    )
+    let given = Given {
+        accounts,
+        count,
+        fund,
+        components,
+        holdings,
+    };
+    opening::open(given, book, prices, day)
 }
 
 // Sets a component's price.
+#[tactic(auto, using(calls::proofs::Laws::price_five, calls::proofs::Laws::prices_five, calls::proofs::Laws::price_own, calls::proofs::Laws::prices_own, calls::proofs::Laws::prices_long))]
 pub fn price(
     day: &[u64],
     book: &[u64],
@@ -52,6 +59,7 @@ pub fn price(
 }
 
 // Trades a quantity of a line at a price.
+#[tactic(auto, using(calls::proofs::Laws::trade_five, calls::proofs::Laws::traded_five, calls::proofs::Laws::trade_own, calls::proofs::Laws::traded_own, calls::proofs::Laws::book_fits))]
 pub fn trade(day: &[u64], book: &mut [u64], prices: &[u64], trade: Trade) -> Result<(), Refusal>
     ensures result_value { answer_reply result ≡ trade_reply (day_at day.now) book.old prices.now trade.line trade.quantity trade.price.0 trade.seller trade.buyer }
     ensures book { book.new ≡ traded_book (day_at day.now) book.old prices.now trade.line trade.quantity trade.price.0 trade.seller trade.buyer }
@@ -61,14 +69,15 @@ pub fn trade(day: &[u64], book: &mut [u64], prices: &[u64], trade: Trade) -> Res
 }
 
 // The reference value at this moment.
+#[tactic(auto, using(calls::proofs::Laws::value_five, calls::proofs::Laws::value_own, calls::proofs::Laws::priceable))]
 pub fn reference_value(day: &[u64], book: &[u64], prices: &[u64]) -> Result<ReferenceValue, Refusal>
     ensures { value_answer_reply result ≡ value_reply (day_at day.now) book.now prices.now }
 {
-    let day = calls::sound_day(day, book, prices)?;
-    value::reference_value(&day, prices)
+    value::reference_value(&calls::sound_day(day, book, prices)?, prices)
 }
 
 // Creates units for an account; the records and the reports to both parties go to the lent lists.
+#[tactic(auto, using(rules::proofs::Asked::creation_asked, rules::proofs::Asked::created_book_lem, rules::proofs::Asked::created_lists_lem))]
 pub fn create(
     day: &[u64],
     book: &mut [u64],
@@ -81,10 +90,17 @@ pub fn create(
     ensures book { book.new ≡ created_book (day_at day.now) book.old prices.now account units (rooms_in (lent_in lists.old)) }
     ensures lists { lists.new ≡ left_in lists.old (created_lists (day_at day.now) book.old prices.now account units (lent_in lists.old)) }
 {
-    order_calls::order(day, book, prices, rules::creation(account, units), lists)
+    order_calls::order(
+        day,
+        book,
+        prices,
+        rules::Kind::Creation.ask(account, units),
+        lists,
+    )
 }
 
 // Redeems units of an account; the records and the reports to both parties go to the lent lists.
+#[tactic(auto, using(rules::proofs::Asked::redemption_asked, rules::proofs::Asked::redeemed_book_lem, rules::proofs::Asked::redeemed_lists_lem))]
 pub fn redeem(
     day: &[u64],
     book: &mut [u64],
@@ -97,10 +113,17 @@ pub fn redeem(
     ensures book { book.new ≡ redeemed_book (day_at day.now) book.old prices.now account units (rooms_in (lent_in lists.old)) }
     ensures lists { lists.new ≡ left_in lists.old (redeemed_lists (day_at day.now) book.old prices.now account units (lent_in lists.old)) }
 {
-    order_calls::order(day, book, prices, rules::redemption(account, units), lists)
+    order_calls::order(
+        day,
+        book,
+        prices,
+        rules::Kind::Redemption.ask(account, units),
+        lists,
+    )
 }
 
 // The tests of a creation alone, with the rooms of the lists: the answer that the creation would give.
+#[tactic(auto, using(rules::proofs::Asked::creation_asked))]
 pub fn creation_test(
     day: &[u64],
     book: &[u64],
@@ -111,10 +134,17 @@ pub fn creation_test(
 ) -> Result<Counts, Refusal>
     ensures { order_answer_reply result ≡ creation_reply (day_at day.now) book.now prices.now account units rooms }
 {
-    tests_alone::order_test(day, book, prices, rules::creation(account, units), rooms)
+    order_calls::order_test(
+        day,
+        book,
+        prices,
+        rules::Kind::Creation.ask(account, units),
+        rooms,
+    )
 }
 
 // The tests of a redemption alone.
+#[tactic(auto, using(rules::proofs::Asked::redemption_asked))]
 pub fn redemption_test(
     day: &[u64],
     book: &[u64],
@@ -125,5 +155,11 @@ pub fn redemption_test(
 ) -> Result<Counts, Refusal>
     ensures { order_answer_reply result ≡ redemption_reply (day_at day.now) book.now prices.now account units rooms }
 {
-    tests_alone::order_test(day, book, prices, rules::redemption(account, units), rooms)
+    order_calls::order_test(
+        day,
+        book,
+        prices,
+        rules::Kind::Redemption.ask(account, units),
+        rooms,
+    )
 }

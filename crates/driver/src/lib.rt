@@ -46,10 +46,7 @@ fn do_row(
     layout::put_answer(
         answers,
         i,
-        reply.number,
-        reply.place,
-        reply.value,
-        reply.reports,
+        [reply.number, reply.place, reply.value, reply.reports],
     );
 }
 

@@ -101,11 +101,7 @@ impl Order {
             return Err(Fault::BadInput);
         };
         Ok(Order {
-            ask: Ask {
-                kind,
-                account: *account as usize,
-                units: *units,
-            },
+            ask: kind.ask(*account as usize, *units),
             records: *records as usize,
             investor: *investor as usize,
             fund: *fund as usize,
