@@ -2,4 +2,5 @@
 #![tactic(auto)]
 
 pub mod given;
+pub mod replies;
 pub mod session;

@@ -1,9 +1,9 @@
 // The day, book and prices that calls are made on, and the items that give them.
 use crate::given::Given;
+use crate::replies;
 use answers::Numbers;
 use program_io::fault::Fault;
 use program_io::items::split;
-use program_io::rows::Row;
 use program_io::{changes, marks};
 use rules::Refusal;
 use std::alloc::{AllocError, Global};
@@ -24,11 +24,6 @@ pub struct Session {
     pub book: Vec<u64>,
     pub prices: Vec<u64>,
     longest: Longest,
-}
-
-// The paper's number, place, value and count of reports.
-pub fn reply(r: Numbers) -> [u64; 4] {
-    [r.number, r.place, r.value, r.reports]
 }
 
 impl Session {
@@ -88,7 +83,7 @@ impl Session {
         self.fits(given)?;
         let answer = self.open_given(given)?;
         writeln!(out, "row {}", given.row)?;
-        writeln!(out, "opening{}", Row(&reply(Numbers::from(answer))))?;
+        replies::print(out, "opening", Numbers::from(answer))?;
         if answer.is_err() {
             self.print_left(out)?;
             self.day.fill(0);

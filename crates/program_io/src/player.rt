@@ -40,7 +40,7 @@ pub fn play<P: Player, R: Read + Drop, W: Write + Drop>(
     }
     let _ = out.flush();
     match played {
-        Err(Fault::Memory(e)) => Err(Fault::Memory(e)),
+        Err(fault @ Fault::Memory(_)) => Err(fault),
         _ => Ok(()),
     }
 }

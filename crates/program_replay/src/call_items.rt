@@ -2,13 +2,11 @@
 use crate::kept::Kept;
 use crate::order_items::Order;
 use answers::Numbers;
-use day_items::session;
+use day_items::replies;
 use day_items::session::Session;
 use program_io::fault::Fault;
 use program_io::items::Item;
-use program_io::rows::Row;
 use rules::{Kind, Refusal, Trade};
-use std::io;
 use std::io::Write;
 use units::Money;
 
@@ -49,11 +47,6 @@ impl TryFrom<&Item> for Call {
     }
 }
 
-// Prints a reply, behind a word.
-fn print<W: Write>(out: &mut W, word: &str, r: Numbers) -> io::Result<()> {
-    writeln!(out, "{word}{}", Row(&session::reply(r)))
-}
-
 impl Call {
     fn is_reading(&self) -> bool {
         matches!(self, Call::Value | Call::Test(_))
@@ -69,24 +62,24 @@ impl Call {
             Call::Price { line, price } => {
                 let (day, book) = (&session.day, &session.book);
                 let answer = day::price(day, book, &mut session.prices, line, price);
-                print(out, "price", Numbers::from(answer))?;
+                replies::print(out, "price", Numbers::from(answer))?;
                 Ok(answer)
             }
             Call::Trade(trade) => {
                 let answer = day::trade(&session.day, &mut session.book, &session.prices, trade);
-                print(out, "trade", Numbers::from(answer))?;
+                replies::print(out, "trade", Numbers::from(answer))?;
                 Ok(answer)
             }
             Call::Value => {
                 let answer = day::reference_value(&session.day, &session.book, &session.prices);
-                print(out, "value", Numbers::from(answer))?;
+                replies::print(out, "value", Numbers::from(answer))?;
                 Ok(answer.map(|_| ()))
             }
             Call::Order(order) => Ok(order.make(session, out)?.map(|_| ())),
             Call::Test(order) => {
                 let answer = order.tested(session);
-                let r = session::reply(Numbers::from(answer));
-                writeln!(out, "test-{}{}", order.name(), Row(&r))?;
+                write!(out, "test-")?;
+                replies::print(out, order.name(), Numbers::from(answer))?;
                 Ok(answer.map(|_| ()))
             }
         }

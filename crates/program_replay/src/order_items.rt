@@ -1,6 +1,6 @@
 // Orders in the struct form, each with its tests alone before it. The records that are lent hold marks, and are printed as numbers.
 use answers::Numbers;
-use day_items::session;
+use day_items::replies;
 use day_items::session::Session;
 use layout::Record;
 use program_io::fault::Fault;
@@ -165,11 +165,9 @@ impl Order {
         out: &mut W,
     ) -> Result<Result<Counts, Refusal>, Fault> {
         let mut lists = Lists::new(session.alloc, self)?;
-        let tested = session::reply(Numbers::from(self.tested(session)));
-        writeln!(out, "test{}", Row(&tested))?;
+        replies::print(out, "test", Numbers::from(self.tested(session)))?;
         let answer = self.settle(session, &mut lists)?;
-        let made = session::reply(Numbers::from(answer));
-        writeln!(out, "{}{}", self.name(), Row(&made))?;
+        replies::print(out, self.name(), Numbers::from(answer))?;
         lists.print(answer, out)?;
         Ok(answer)
     }

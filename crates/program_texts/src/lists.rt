@@ -34,8 +34,7 @@ fn read_back<W: Write>(
 ) -> Result<(), Fault> {
     let mut run = marks::marked(alloc, crate::MOST_RUN)?;
     let answer = list_reading::read(text, &mut run);
-    let reply = replies::numbers_of(answer.map(|read| read.fields.count));
-    writeln!(out, "read{}", Row(&reply))?;
+    replies::print(out, "read", answer.map(|read| read.fields.count))?;
     let Ok(read) = answer else {
         return Ok(());
     };
@@ -125,7 +124,7 @@ impl<'a> List<'a> {
             &self.letters,
             &mut output,
         );
-        writeln!(out, "write{}", Row(&replies::numbers_of(answer)))?;
+        replies::print(out, "write", answer)?;
         match answer {
             Ok(size) => self.print_written(alloc, &output, size, out),
             Err(_) => {

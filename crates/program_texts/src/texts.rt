@@ -49,7 +49,7 @@ fn write_again<W: Write>(
     let mut output = marks::marked(alloc, text.len().min(crate::MOST_BYTES))?;
     let letters = list_reading::letters(text);
     let answer = list_writing::write(l, components, joined, letters, &mut output);
-    writeln!(out, "written{}", Row(&replies::numbers_of(answer)))?;
+    replies::print(out, "written", answer)?;
     if let Ok(size) = answer {
         output.truncate(size);
         print_written(text, &output, out)?;
@@ -96,8 +96,7 @@ impl Reading {
         writeln!(out, "row {}", self.row)?;
         let mut run = marks::marked(alloc, self.room)?;
         let answer = list_reading::read(text, &mut run);
-        let reply = replies::numbers_of(answer.map(|read| read.fields.count));
-        writeln!(out, "read{}", Row(&reply))?;
+        replies::print(out, "read", answer.map(|read| read.fields.count))?;
         match answer {
             Ok(read) => {
                 let length = read.fields.count.saturating_mul(layout::COMPONENT_WIDTH);

@@ -6,14 +6,13 @@ mod lent;
 
 use answers::Numbers;
 use day_items::given::Given;
-use day_items::session;
+use day_items::replies;
 use day_items::session::{Longest, Session};
 use lent::{Batch, Lent};
 use program_io::fault::Fault;
 use program_io::items::Item;
 use program_io::player;
 use program_io::player::Player;
-use program_io::rows::Row;
 use std::alloc::Global;
 use std::io;
 use std::io::{Read, Write};
@@ -56,9 +55,9 @@ fn run_both<W: Write>(
     let mut other = Lent::new(session, batch)?;
     let driven = left.run(&session.day, batch, driver::run);
     let public = other.run(&session.day, batch, driver::run_public);
-    writeln!(out, "run{}", Row(&session::reply(Numbers::from(driven))))?;
+    replies::print(out, "run", Numbers::from(driven))?;
     left.print(out)?;
-    writeln!(out, "public{}", Row(&session::reply(Numbers::from(public))))?;
+    replies::print(out, "public", Numbers::from(public))?;
     left.print_same(&other, out)?;
     left.leave(session);
     Ok(())

@@ -125,7 +125,7 @@ fn run<R: Read + Drop, W: Write + Drop>(alloc: Global, input: R, output: W) -> R
         Err(fault @ (Fault::TooLong | Fault::Refused { .. })) => {
             let _ = writeln!(out, "{fault}");
         }
-        Err(Fault::Memory(e)) => return Err(Fault::Memory(e)),
+        Err(fault @ Fault::Memory(_)) => return Err(fault),
         Ok(()) | Err(Fault::Io(_)) => {}
     }
     let _ = out.flush();

@@ -1,14 +1,21 @@
-// An answer of reading or writing as the paper's number, place and value.
+// Replies of reading and writing as they are printed.
 use answers::Numbers;
+use program_io::rows::Row;
 use rules::Refusal;
+use std::io;
+use std::io::Write;
 
-// The count of components or bytes, or why it was refused.
-pub fn numbers_of(answer: Result<usize, Refusal>) -> [u64; 3] {
+// A word and a reply, the paper's number, place and value, on a line. The value is the count of components or bytes.
+pub fn print<W: Write>(
+    out: &mut W,
+    word: &str,
+    answer: Result<usize, Refusal>,
+) -> io::Result<()> {
     match answer {
-        Ok(count) => [0, 0, count as u64],
+        Ok(count) => writeln!(out, "{word}{}", Row(&[0, 0, count])),
         Err(why) => {
             let r = Numbers::from(why);
-            [r.number, r.place, r.value]
+            writeln!(out, "{word}{}", Row(&[r.number, r.place, r.value]))
         }
     }
 }
