@@ -15,6 +15,7 @@ ghost use Rattle.rules.specs.Redemption.{redemption_reply, redeemed_book, redeem
 ghost use Rattle.opening.specs.Given.{given, Outcome};
 
 use layout::Fund;
+use opening::Given;
 use rules::{Counts, Lists, Refusal, Rooms, Trade};
 use units::ReferenceValue;
 
@@ -31,9 +32,14 @@ pub fn open(
 ) -> Result<(), Refusal>
     ensures { Outcome (given accounts count fund components.now holdings.now book.old prices.old day.old) result book.new prices.new day.new }
 {
-    opening::open(
-        accounts, count, fund, components, holdings, book, prices, day,
-    )
+    let given = Given {
+        accounts,
+        count,
+        fund,
+        components,
+        holdings,
+    };
+    opening::open(given, book, prices, day)
 }
 
 // Sets a component's price.
@@ -84,7 +90,13 @@ pub fn create(
     ensures book { book.new ≡ created_book (day_at day.now) book.old prices.now account units (rooms_in (lent_in lists.old)) }
     ensures lists { lists.new ≡ left_in lists.old (created_lists (day_at day.now) book.old prices.now account units (lent_in lists.old)) }
 {
-    order_calls::order(day, book, prices, rules::creation(account, units), lists)
+    order_calls::order(
+        day,
+        book,
+        prices,
+        rules::Kind::Creation.ask(account, units),
+        lists,
+    )
 }
 
 // Redeems units of an account; the records and the reports to both parties go to the lent lists.
@@ -101,7 +113,13 @@ pub fn redeem(
     ensures book { book.new ≡ redeemed_book (day_at day.now) book.old prices.now account units (rooms_in (lent_in lists.old)) }
     ensures lists { lists.new ≡ left_in lists.old (redeemed_lists (day_at day.now) book.old prices.now account units (lent_in lists.old)) }
 {
-    order_calls::order(day, book, prices, rules::redemption(account, units), lists)
+    order_calls::order(
+        day,
+        book,
+        prices,
+        rules::Kind::Redemption.ask(account, units),
+        lists,
+    )
 }
 
 // The tests of a creation alone, with the rooms of the lists: the answer that the creation would give.
@@ -116,7 +134,13 @@ pub fn creation_test(
 ) -> Result<Counts, Refusal>
     ensures { order_answer_reply result ≡ creation_reply (day_at day.now) book.now prices.now account units rooms }
 {
-    order_calls::order_test(day, book, prices, rules::creation(account, units), rooms)
+    order_calls::order_test(
+        day,
+        book,
+        prices,
+        rules::Kind::Creation.ask(account, units),
+        rooms,
+    )
 }
 
 // The tests of a redemption alone.
@@ -131,5 +155,11 @@ pub fn redemption_test(
 ) -> Result<Counts, Refusal>
     ensures { order_answer_reply result ≡ redemption_reply (day_at day.now) book.now prices.now account units rooms }
 {
-    order_calls::order_test(day, book, prices, rules::redemption(account, units), rooms)
+    order_calls::order_test(
+        day,
+        book,
+        prices,
+        rules::Kind::Redemption.ask(account, units),
+        rooms,
+    )
 }
