@@ -15,6 +15,7 @@ ghost use Rattle.rules.specs.Redemption.{redemption_reply, redeemed_book, redeem
 ghost use Rattle.opening.specs.Given.{given, Outcome};
 
 use layout::Fund;
+use opening::Given;
 use rules::{Counts, Lists, Refusal, Rooms, Trade};
 use units::ReferenceValue;
 
@@ -31,9 +32,14 @@ pub fn open(
 ) -> Result<(), Refusal>
     ensures { Outcome (given accounts count fund components.now holdings.now book.old prices.old day.old) result book.new prices.new day.new }
 {
-    opening::open(
-        accounts, count, fund, components, holdings, book, prices, day,
-    )
+    let given = Given {
+        accounts,
+        count,
+        fund,
+        components,
+        holdings,
+    };
+    opening::open(given, book, prices, day)
 }
 
 // Sets a component's price.
