@@ -10,7 +10,8 @@ ghost use Rattle.book.specs.Ready.{Tradable};
 use rules::Trade;
 use units::Money;
 
-// What a trade makes of the seller's stretch.
+// What a trade makes of the seller's stretch. It and the next differ in what they do with the lots and with the cash: as one function it
+// would take both as closures, and its two calls would say no less than these.
 #[tactic(auto, unfolding(rules::specs::Trade::sell_side, layout::specs::Book::head_at, layout::specs::Book::put_head, layout::specs::Book::on_line))]
 fn sell_side(stretch: &mut [u64], line: usize, quantity: u64, amount: Money)
     requires line_in_bounds { behind_line line ≤ length stretch.old }
