@@ -1,7 +1,7 @@
 -- The loop of `put_all`: as many digits as the number has, from the right.
 use mathlib.Core.Path.{◌≡◌, ap, ◌∙◌, sym, subst}
 use mathlib.Core.List.{List}
-use Prim.Native.Nat.{ℕ, suc, ◌+◌, ◌-◌, ◌*◌, ◌/◌, ◌%◌, ◌^◌, ◌≤◌, ◌<◌}
+use Prim.Native.Nat.{ℕ, suc, ◌+◌, ◌-◌, ◌/◌, ◌%◌, ◌^◌, ◌≤◌, ◌<◌}
 use native.Mathlib.Nat.{div-le_self, div-add-mod', mod-lt}
 use native.Mathlib.Omega.{arith}
 use lib.ListN.{length, set}
@@ -61,10 +61,9 @@ module _ (d : List ℕ) (end n : ℕ) (room : suc (tens n) ≤ end) (fits : end 
     whole_end h =
         let w = (passed_end n (end - suc i) m v.passed h).0 in
         let last : suc i - start_of end n - 1 ≤ 0 = omega (arith, v.high) in
-        let here : start_of end n ≡ i = omega (arith, v.low, v.high, w) in
-        (
+        let here : start_of end n ≡ i = omega (arith, v.low, v.high, w) in (
           (fixed_end d (start_of end n) (suc (tens n)) n _ (m / 10) (suc i - start_of end n - 1) more last).bytes
-          ∙ ap (λ (p : ℕ). put d p (fixed (suc (tens n)) n)) here,
+              ∙ ap (λ (p : ℕ). put d p (fixed (suc (tens n)) n)) here,
           omega (arith, here, fixed-length (suc (tens n)) n),
         )
 

@@ -1,20 +1,17 @@
 -- The first line, and the letters in it.
-use mathlib.Core.Bool.{true, false, and-true, and-eq-true_iff}
+use mathlib.Core.Bool.{◌&&◌, true, false, and-true, and-eq-true_iff}
 use mathlib.Core.List.{List, []}
-use mathlib.Core.Path.{◌≡◌, sym, ap, ◌∙◌}
+use mathlib.Core.Path.{◌≡◌, refl, sym}
 use Prim.Native.Nat.{ℕ, ◌-◌, ◌≤◌, ◌<◌}
 use native.Mathlib.Omega.{arith}
 use lib.Dec.{eqb}
-use lib.ListN.{length, get_or, take, drop, length-take, length-drop, take-append-drop}
-use lib.Seq.{length-take-le, take-take, take_at, drop-append-le}
-use borrow.Author.Tests.{lt-ltb, le-ltb}
+use lib.ListN.{length, get_or, take, drop, length-take}
 use Rattle.sequences.specs.Every.{every}
 use Rattle.sequences.proofs.Every.{every_at, inside-true, inside_facts, false_of}
 use Rattle.lines.proofs.Answers.{inside_low, inside_high}
-use Rattle.lines.specs.Lines.{same, letter_byte, all_bytes, line_len, ended, first_line}
+use Rattle.lines.specs.Lines.{same, letter_byte, all_bytes, ended, first_line}
 use Rattle.text_rules.specs.Head.{is_letters, letters_of, is_opening, opening_word, most_letters, letters_start, beside_letters, shortest_opening}
 use Rattle.text_rules.specs.Reading.{line_of, line_stands, letters_read}
-use Rattle.text_lines.proofs.Standing.{stands_not, stands_as}
 
 -- 1 to 8 letters or digits
 module _ (s : List ℕ) where
@@ -68,39 +65,21 @@ module _ (l : List ℕ) where
 
 pub ruleset opening_cases = (opening_short, opening_other, opening_bare, opening_last)
 
--- the rest of a part
-pub drop-front : (a n : ℕ) (s : List ℕ) → n ≤ length s → a ≤ n → drop a (take n s) ≡ take (n - a) (drop a s)
-drop-front a n s h l =
-    let e : length (take n s) ≡ n = length-take-le n s h in
-    let f : length (drop a (take n s)) ≡ n - a = length-drop a (take n s) ∙ omega arith in
-    sym (take_at (drop a (take n s)) (drop n s) (n - a) f)
-    ∙ ap (take (n - a)) (sym (drop-append-le a (take n s) (drop n s) (omega arith)) ∙ ap (drop a) (take-append-drop n s))
+-- ---- the letters that a text says, l its first line
+module _ (text : List ℕ) where
+  stands_first : line_stands is_opening text 0 ≡ ended text && is_opening (first_line text)
+  unfolding line_stands line_of
+  stands_first = refl
 
--- ---- the letters that a text says
-module _ (text : List ℕ) (n : ℕ) (len : n ≡ line_len text) where
-  pub letters_open : length text ≤ n → [] ≡ letters_read text
-  unfolding letters_read ended
-  letters_open h = rw (stands_not is_opening text 0 (le-ltb (line_len text) (length text) (omega arith)))
+  pub letters_open : ended text ≡ false → [] ≡ letters_read text
+  unfolding letters_read
+  letters_open e = rw (stands_first, e)
 
-  module _ (h : n < length text) where
-    stands_first : line_stands is_opening text 0 ≡ is_opening (take n text)
-    unfolding line_of first_line ended
-    stands_first =
-        stands_as is_opening text 0 (lt-ltb (line_len text) (length text) (omega arith))
-        ∙ ap (λ (k : ℕ). is_opening (take k text)) (sym len)
-
-    pub letters_other : is_opening (take n text) ≡ false → [] ≡ letters_read text
+  module _ {l : List ℕ} (here : (ended text ≡ true) × (l ≡ first_line text)) where
+    pub letters_other : is_opening l ≡ false → [] ≡ letters_read text
     unfolding letters_read
-    letters_other e = rw (stands_first, e)
+    letters_other e = rw (stands_first, here.0, ← here.1, e)
 
-    -- the line has 6 bytes and more
-    pub letters_room : is_opening (take n text) ≡ true → shortest_opening ≤ n
-    letters_room e = omega (arith, opening_room (take n text) e, length-take n text)
-
-    pub letters_part : is_opening (take n text) ≡ true → take (n - 1 - letters_start) (drop letters_start text) ≡ letters_read text
-    unfolding letters_read letters_of line_of first_line
-    letters_part e =
-        let r : shortest_opening ≤ n = letters_room e in
-        let m : n - 1 - letters_start ≡ n - beside_letters = omega arith in
-        rw (stands_first, e, ← len, length-take-le n text (omega arith), drop-front letters_start n text (omega arith) (omega arith), m)
-        (sym (take-take (n - beside_letters) (n - letters_start) (drop letters_start text) (omega arith)))
+    pub letters_part : is_opening l ≡ true → take (length l - 1 - letters_start) (drop letters_start l) ≡ letters_read text
+    unfolding letters_read line_of
+    letters_part e = rw (stands_first, here.0, ← here.1, e) (opening_part l)

@@ -10,8 +10,9 @@ use lib.ListN.{length, take, drop, length-drop}
 use borrow.Author.Tests.{ltb-true, eqb-true}
 use Rattle.sequences.specs.Below.{first_below}
 use Rattle.sequences.proofs.Below.{first_none, first_more, first_here}
-use Rattle.lines.specs.Lines.{line_len, ended, first_line}
-use Rattle.lines.proofs.Laws.{first-length, line_room, part_ended, part_open, part_first}
+use Rattle.lines.specs.Lines.{ended, first_line}
+use lib.Seq.{take_all}
+use Rattle.lines.proofs.Laws.{first-length, line_room}
 use Rattle.text_rules.specs.declared.Column.{Column}
 use Rattle.text_rules.specs.Columns.{line_width, line_pitch, is_row}
 use Rattle.text_rules.specs.Reading.{line_of, line_stands, rows_from}
@@ -31,15 +32,25 @@ module _ (test : List ℕ → Bool) (text : List ℕ) (at : ℕ) where
   unfolding line_stands
   stands_facts e = (and-eq-true_iff (ended (drop at text)) (test (line_of text at))).0 e
 
--- What the code's tests say of a line at a place, n its length.
+-- What the code's search for a line at a place says.
 
-module _ (test : List ℕ → Bool) (text : List ℕ) (at n : ℕ) (e : n ≡ line_len (take (length text - at) (drop at text))) where
-  pub stands_open : length text - at ≤ n → false ≡ line_stands test text at
-  stands_open h = sym (stands_not test text at (part_open text at n e h))
+module _ (test : List ℕ → Bool) (text : List ℕ) (at : ℕ) where
+  -- the part that it looks at, as the code has it
+  abbrev behind : List ℕ
+  behind = take (length text - at) (drop at text)
 
-  pub stands_ended : n < length text - at → {b : Bool} → b ≡ test (take (at + n - at) (drop at text)) → b ≡ line_stands test text at
+  behind_is : behind ≡ drop at text
+  behind_is = take_all (length text - at) (drop at text) (omega (arith, length-drop at text))
+
+  pub stands_open : ended behind ≡ false → false ≡ line_stands test text at
+  stands_open e = sym (stands_not test text at (ap ended (sym behind_is) ∙ e))
+
+  pub stands_ended : {l : List ℕ} → (ended behind ≡ true) × (l ≡ first_line behind) → {b : Bool} → b ≡ test l → b ≡ line_stands test text at
   unfolding line_of
-  stands_ended h f = f ∙ ap test (part_first text at n e) ∙ sym (stands_as test text at (part_ended text at n e h))
+  stands_ended here f =
+      f
+      ∙ ap test (here.1 ∙ ap first_line behind_is)
+      ∙ sym (stands_as test text at (ap ended (sym behind_is) ∙ here.0))
 
 -- Lines of one width, one behind the other.
 

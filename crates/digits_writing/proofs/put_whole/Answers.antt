@@ -1,6 +1,6 @@
 -- `digits_writing::put_whole` meets its contract: so many digits fill their part, and as many as there are end before their place.
 use Rattle.digits_writing.proofs.Ending.{fixed_room, fixed_put, all_room, all_put}
-use Rattle.std.proofs.Common.{rules, sym}
+use Rattle.std.proofs.Common.{rules}
 use Rattle.digits_writing.proofs.put_whole.Goals as goal
 
 pub overflow_sub-start : goal.overflow_sub-start
