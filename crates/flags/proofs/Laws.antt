@@ -1,14 +1,14 @@
 -- What callers need of the flag table, shown once by one test of its five rows.
 use mathlib.Core.Path.{◌≡◌, refl, sym, ap, ◌∙◌}
-use mathlib.Core.Bool.{Bool, true, false, not, ◌||◌, ◌&&◌, and-false, false≢true}
+use mathlib.Core.Bool.{Bool, true, false, not, ◌||◌, and-false, false≢true}
 use mathlib.Core.List.{List, [], ◌∷◌}
 use Prim.Native.Nat.{ℕ, zero, suc, ◌≤◌, ◌<◌}
 use native.Mathlib.Nat.{le_trans}
 use native.Mathlib.Decide.{dec_lt}
 use native.Mathlib.Omega.{arith}
-use lib.Dec.{lit≤, eqb}
+use lib.Dec.{lit≤}
 use lib.ListN.{length, get_or, get_or-eq_default}
-use borrow.Author.Tests.{not-true, ne_eqb, lt-ltb, le-ltb}
+use borrow.Author.Tests.{not-true, lt-ltb, le-ltb}
 use Rattle.sequences.specs.Below.{all_below}
 use Rattle.sequences.specs.Every.{every}
 use Rattle.sequences.proofs.Below.{all_at}
@@ -32,23 +32,6 @@ row_width_lem (suc (suc (suc (suc (suc flag))))) = lit≤ tt
 pub past_columns : (flag column : ℕ) → 6 ≤ column → entry flag column ≡ false
 unfolding entry
 past_columns flag column h = get_or-eq_default (get_or flag_table flag []) false (le_trans (row_width_lem flag) h)
-
--- of the five rows the flag's own says what the table has
-pub or_false : (b : Bool) → (b || false) ≡ b
-or_false true = refl
-or_false false = refl
-
-pub row_of : (flag column : ℕ)
-    → (eqb flag 0 && entry 0 column || eqb flag 1 && entry 1 column || eqb flag 2 && entry 2 column || eqb flag 3 && entry 3 column || eqb flag 4 && entry 4 column)
-    ≡ entry flag column
-row_of zero column = simp or_false
-row_of (suc zero) column = simp or_false
-row_of (suc (suc zero)) column = simp or_false
-row_of (suc (suc (suc zero))) column = simp or_false
-row_of (suc (suc (suc (suc zero)))) column = refl
-row_of (suc (suc (suc (suc (suc flag))))) column =
-    let other : (k : ℕ) → k ≤ 4 → eqb (suc (suc (suc (suc (suc flag))))) k ≡ false = λ k h. ne_eqb _ k (λ e. omega arith) in
-    rw (other 0 (lit≤ tt), other 1 (lit≤ tt), other 2 (lit≤ tt), other 3 (lit≤ tt), other 4 (lit≤ tt)) (sym (past_flags (suc (suc (suc (suc (suc flag))))) column (omega arith)))
 
 -- a is false or b is true
 abbrev implies : Bool → Bool → Bool

@@ -1,5 +1,7 @@
 -- The flag table: six columns for each of the flags 0 to 4.
 use Rattle.std.specs.Prelude.{ℕ, Bool, true, false, ◌&&◌, List, [], ◌∷◌, ltb, get_or}
+use Rattle.flags.specs.declared.Column.{Column}
+use Rattle.flags.specs.declared.Column.TheVariants.{StockMoves, ShortageInCash, RateUsed, AmountUsed, Shanghai, Priced}
 
 -- columns: stock moves, shortage in cash, r used, P used, Shanghai, priced
 unfoldable pub flag_table : List (List Bool)
@@ -42,3 +44,12 @@ shanghai = 4
 
 abbrev pub priced : ℕ
 priced = 5
+
+-- the place of a column
+abbrev pub column_number : Column → ℕ
+column_number StockMoves = stock_moves
+column_number ShortageInCash = shortage_in_cash
+column_number RateUsed = rate_used
+column_number AmountUsed = amount_used
+column_number Shanghai = shanghai
+column_number Priced = priced

@@ -4,6 +4,8 @@ use Rattle.sequences.specs.Below.{all_below}
 use Rattle.sequences.specs.Every.{every, inside}
 use Rattle.layout.specs.declared.Fund.{Fund}
 use Rattle.layout.specs.Places.{limit_count}
+use Rattle.fund.specs.declared.Limit.{Limit}
+use Rattle.fund.specs.declared.Limit.TheVariants.{Cumulative, CumulativeEach, Net, NetEach}
 
 -- the ceiling on limits and on fund_wide created and redeemed units
 abbrev pub ceiling : ℕ
@@ -46,6 +48,12 @@ net_limit = 2
 
 abbrev pub net_limit_each : ℕ
 net_limit_each = 3
+
+abbrev pub limit_number : Limit → ℕ
+limit_number Cumulative = cumulative_limit
+limit_number CumulativeEach = cumulative_limit_each
+limit_number Net = net_limit
+limit_number NetEach = net_limit_each
 
 -- they stand in the list text's order, of creation and of redemption by turns
 unfoldable pub limit_of : Fund → ℕ → ℕ → ℕ

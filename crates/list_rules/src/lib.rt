@@ -80,21 +80,21 @@ const COLUMNS: [Column; COLUMN_COUNT] = [
         width: 7,
         digits: None,
         decimals: 5,
-        used: Use::ByFlag(flags::RATE_USED),
+        used: Use::ByFlag(flags::Column::RateUsed as usize),
     },
     // Discount.
     Column {
         width: 7,
         digits: None,
         decimals: 5,
-        used: Use::ByFlag(flags::RATE_USED),
+        used: Use::ByFlag(flags::Column::RateUsed as usize),
     },
     // Amount.
     Column {
         width: 12,
         digits: None,
         decimals: 3,
-        used: Use::ByFlag(flags::AMOUNT_USED),
+        used: Use::ByFlag(flags::Column::AmountUsed as usize),
     },
 ];
 

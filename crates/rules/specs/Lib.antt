@@ -8,6 +8,7 @@ pub mod Value
 pub mod Records
 pub mod Reports
 pub mod Lent
+pub mod Lists
 pub mod Orders
 pub mod Creation
 pub mod Redemption

@@ -1,7 +1,7 @@
 -- The first line, and the letters in it.
-use mathlib.Core.Bool.{◌&&◌, true, false, and-true, and-eq-true_iff}
+use mathlib.Core.Bool.{true, false, and-true, and-eq-true_iff}
 use mathlib.Core.List.{List, []}
-use mathlib.Core.Path.{◌≡◌, refl, sym}
+use mathlib.Core.Path.{◌≡◌, sym, ap, ◌∙◌}
 use Prim.Native.Nat.{ℕ, ◌-◌, ◌≤◌, ◌<◌}
 use native.Mathlib.Omega.{arith}
 use lib.Dec.{eqb}
@@ -12,6 +12,7 @@ use Rattle.lines.proofs.Answers.{inside_low, inside_high}
 use Rattle.lines.specs.Lines.{same, letter_byte, all_bytes, ended, first_line}
 use Rattle.text_rules.specs.Head.{is_letters, letters_of, is_opening, opening_word, most_letters, letters_start, beside_letters, shortest_opening}
 use Rattle.text_rules.specs.Reading.{line_of, line_stands, letters_read}
+use Rattle.text_lines.proofs.Standing.{stands_not, stands_as}
 
 -- 1 to 8 letters or digits
 module _ (s : List ℕ) where
@@ -50,7 +51,7 @@ module _ (l : List ℕ) where
   opening_other e = rw e
 
   -- the part that the code passes on
-  opening_part : take (length l - 1 - letters_start) (drop letters_start l) ≡ letters_of l
+  pub opening_part : take (length l - 1 - letters_start) (drop letters_start l) ≡ letters_of l
   unfolding letters_of
   opening_part = let e : length l - 1 - letters_start ≡ length l - beside_letters = omega arith in rw e
 
@@ -65,21 +66,21 @@ module _ (l : List ℕ) where
 
 pub ruleset opening_cases = (opening_short, opening_other, opening_bare, opening_last)
 
--- ---- the letters that a text says, l its first line
+-- ---- the letters that a text says
 module _ (text : List ℕ) where
-  stands_first : line_stands is_opening text 0 ≡ ended text && is_opening (first_line text)
-  unfolding line_stands line_of
-  stands_first = refl
-
   pub letters_open : ended text ≡ false → [] ≡ letters_read text
   unfolding letters_read
-  letters_open e = rw (stands_first, e)
+  letters_open h = rw (stands_not is_opening text 0 h)
 
-  module _ {l : List ℕ} (here : (ended text ≡ true) × (l ≡ first_line text)) where
-    pub letters_other : is_opening l ≡ false → [] ≡ letters_read text
+  module _ (h : ended text ≡ true) {line : List ℕ} (is : line ≡ first_line text) where
+    stands_first : line_stands is_opening text 0 ≡ is_opening line
+    unfolding line_of
+    stands_first = stands_as is_opening text 0 h ∙ ap is_opening (sym is)
+
+    pub letters_other : is_opening line ≡ false → [] ≡ letters_read text
     unfolding letters_read
-    letters_other e = rw (stands_first, here.0, ← here.1, e)
+    letters_other e = rw (stands_first, e)
 
-    pub letters_part : is_opening l ≡ true → take (length l - 1 - letters_start) (drop letters_start l) ≡ letters_read text
+    pub letters_part : is_opening line ≡ true → take (length line - 1 - letters_start) (drop letters_start line) ≡ letters_read text
     unfolding letters_read line_of
-    letters_part e = rw (stands_first, here.0, ← here.1, e) (opening_part l)
+    letters_part e = rw (stands_first, e, ← is) (opening_part line)

@@ -3,15 +3,15 @@ use Prim.Native.Nat.{ℕ, ◌+◌, ◌-◌, ◌*◌, ◌/◌, ◌≤◌, ◌<◌
 use mathlib.Core.Path.{◌≡◌, refl, sym, ap, ◌∙◌}
 use mathlib.Core.Bool.{Bool, true, false, not, and-eq-true_iff}
 use mathlib.Core.List.{List}
-use native.Mathlib.Nat.{suc-mul, zero-mul, mul-le-mul_right, le-div_iff_mul-le}
+use native.Mathlib.Nat.{suc-mul, zero-mul, mul-le-mul_right, le-div_iff_mul-le, le_of_eq}
 use native.Mathlib.Numerals.{add-one}
 use native.Mathlib.Omega.{arith}
 use lib.ListN.{length, take, drop, length-drop}
 use borrow.Author.Tests.{ltb-true, eqb-true}
 use Rattle.sequences.specs.Below.{first_below}
 use Rattle.sequences.proofs.Below.{first_none, first_more, first_here}
+use Rattle.std.proofs.lemmas.List.{take_all}
 use Rattle.lines.specs.Lines.{ended, first_line}
-use lib.Seq.{take_all}
 use Rattle.lines.proofs.Laws.{first-length, line_room}
 use Rattle.text_rules.specs.declared.Column.{Column}
 use Rattle.text_rules.specs.Columns.{line_width, line_pitch, is_row}
@@ -32,25 +32,20 @@ module _ (test : List ℕ → Bool) (text : List ℕ) (at : ℕ) where
   unfolding line_stands
   stands_facts e = (and-eq-true_iff (ended (drop at text)) (test (line_of text at))).0 e
 
--- What the code's search for a line at a place says.
+-- What the code says of a line at a place.
+
+-- the text from there on, as the code has it
+pub rest_is : (text : List ℕ) (at : ℕ) → take (length text - at) (drop at text) ≡ drop at text
+rest_is text at = take_all (length text - at) (drop at text) (le_of_eq (length-drop at text))
 
 module _ (test : List ℕ → Bool) (text : List ℕ) (at : ℕ) where
-  -- the part that it looks at, as the code has it
-  abbrev behind : List ℕ
-  behind = take (length text - at) (drop at text)
+  pub stands_none : ended (take (length text - at) (drop at text)) ≡ false → false ≡ line_stands test text at
+  stands_none h = sym (stands_not test text at (ap ended (sym (rest_is text at)) ∙ h))
 
-  behind_is : behind ≡ drop at text
-  behind_is = take_all (length text - at) (drop at text) (omega (arith, length-drop at text))
-
-  pub stands_open : ended behind ≡ false → false ≡ line_stands test text at
-  stands_open e = sym (stands_not test text at (ap ended (sym behind_is) ∙ e))
-
-  pub stands_ended : {l : List ℕ} → (ended behind ≡ true) × (l ≡ first_line behind) → {b : Bool} → b ≡ test l → b ≡ line_stands test text at
+  pub stands_some : ended (take (length text - at) (drop at text)) ≡ true → {line : List ℕ} → line ≡ first_line (take (length text - at) (drop at text))
+      → {b : Bool} → b ≡ test line → b ≡ line_stands test text at
   unfolding line_of
-  stands_ended here f =
-      f
-      ∙ ap test (here.1 ∙ ap first_line behind_is)
-      ∙ sym (stands_as test text at (ap ended (sym behind_is) ∙ here.0))
+  stands_some h e f = f ∙ ap test (e ∙ ap first_line (rest_is text at)) ∙ sym (stands_as test text at (ap ended (sym (rest_is text at)) ∙ h))
 
 -- Lines of one width, one behind the other.
 
