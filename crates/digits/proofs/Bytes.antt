@@ -2,10 +2,11 @@
 use mathlib.Core.Path.{◌≡◌, refl}
 use mathlib.Core.Bool.{Bool, true, false, ◌&&◌}
 use mathlib.Core.List.{List, [], ◌∷◌, ◌++◌}
-use Prim.Native.Nat.{ℕ, zero, suc, ◌-◌, ◌/◌, ◌^◌}
+use Prim.Native.Nat.{ℕ, zero, suc, ◌/◌, ◌^◌}
 use native.Mathlib.Omega.{arith}
 use native.Mathlib.Decide.{ℕ_discrete}
-use lib.ListN.{length, replicate}
+use Rattle.std.specs.Prelude.{Option, Some, None}
+use lib.ListN.{replicate}
 use lib.Dec.{leb}
 use borrow.Author.Tests.{le-leb}
 use Rattle.digits.specs.declared.Form.{Form}
@@ -13,7 +14,7 @@ use Rattle.digits.specs.declared.Figure.{Figure}
 use Rattle.digits.specs.Digits.{fixed, decimal, whole_text, plain_text, signed_text, number_text, all_digits}
 use Rattle.digits.proofs.Read.{both_pass, digit_bounds}
 use Rattle.digits.proofs.Count.{fixed_digits_lem, digits-cons, decimal_digits}
-use Rattle.digits.proofs.Write.{whole_free, whole_fixed, plain_free, plain_pointed, signed_below, signed_above}
+use Rattle.digits.proofs.Write.{blanks_put, plain_free, plain_pointed, signed_below, signed_above}
 
 -- every byte is 32 or more
 unfoldable pub is_high : List ℕ → Bool
@@ -38,12 +39,10 @@ high_digits (b ∷ r) e =
     let d = digit_bounds b p.0 in
     rw (le-leb 32 b (omega arith)) (high_digits r p.1)
 
-whole_high : (digits n : ℕ) → is_high (whole_text digits n) ≡ true
-whole_high digits n =
-    elim (ℕ_discrete digits 0) [
-      | yes e ↦ rw (whole_free digits n e) (high_digits (decimal n) (decimal_digits n))
-      | no h ↦ rw (whole_fixed digits n h) (high_digits (fixed digits n) (fixed_digits_lem digits n))
-    ]
+whole_high : (digits : Option ℕ) (n : ℕ) → is_high (whole_text digits n) ≡ true
+unfolding whole_text
+whole_high None n = high_digits (decimal n) (decimal_digits n)
+whole_high (Some digits) n = high_digits (fixed digits n) (fixed_digits_lem digits n)
 
 plain_high : (f : Form) (n : ℕ) → is_high (plain_text f n) ≡ true
 unfolding is_high
@@ -64,5 +63,4 @@ signed_high f z false n = rw (signed_above f z n) (plain_high f z.size)
 pub number_high : (f : Form) (z : Figure) → is_high (number_text f z) ≡ true
 unfolding number_text
 number_high f z =
-    high_append (replicate (f.width - length (signed_text f z)) 32) (signed_text f z)
-    (high_blanks (f.width - length (signed_text f z))) (signed_high f z z.negative refl)
+    high_append (replicate (blanks_put f z) 32) (signed_text f z) (high_blanks (blanks_put f z)) (signed_high f z z.negative refl)

@@ -6,7 +6,7 @@ use native.Mathlib.Omega.{arith}
 use native.Mathlib.Numerals.{add-one}
 use native.Mathlib.Nat.{add_assoc, add-zero}
 use lib.ListN.{length, get_or, take, drop, set, length-set, length-append, length-take, length-drop, take-append-drop}
-use lib.Seq.{take_all, set_split, take-suc, set_at, length-take-le, take_at, drop_at, drop-drop}
+use lib.Seq.{take_all, set_split, take-suc, set_at, length-take-le, take_at, drop_at, drop-drop, take-append-le, take-take}
 use borrow.Rule.Slice.PartMut.{put_mid}
 use Rattle.digits.specs.Written.{put, Written}
 
@@ -43,6 +43,19 @@ put-put d at xs ys h =
     ∙ drop-drop (length ys) (at + length xs) d
     in
     ap₂ (λ (a b : List ℕ). a ++ (ys ++ b)) (take_put d at xs f) e ∙ simp (append_assoc, length-append, add_assoc)
+
+-- what is written in front of what was written
+pub put_front : (d : List ℕ) (at : ℕ) (xs ys : List ℕ) → at + length xs + length ys ≤ length d
+    → put (put d (at + length xs) ys) at xs ≡ put d at (xs ++ ys)
+unfolding put
+put_front d at xs ys h =
+    let front : length (take (at + length xs) d) ≡ at + length xs = length-take-le (at + length xs) d (omega arith) in
+    let rest : List ℕ = ys ++ drop (at + length xs + length ys) d in
+    let start : take at (take (at + length xs) d ++ rest) ≡ take at d =
+    take-append-le at (take (at + length xs) d) rest (omega arith) ∙ take-take at (at + length xs) d (omega arith)
+    in
+    let end : at + length (xs ++ ys) ≡ at + length xs + length ys = rw length-append (omega arith) in
+    rw (start, drop_at (take (at + length xs) d) rest (at + length xs) front, end, append_assoc)
 
 -- one byte more, in front of what was written
 pub put-before : (d : List ℕ) (p b : ℕ) (xs : List ℕ) → p + 1 + length xs ≤ length d → set (put d (p + 1) xs) p b ≡ put d p (b ∷ xs)

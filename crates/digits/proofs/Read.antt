@@ -2,19 +2,19 @@
 use mathlib.Core.Path.{◌≡◌, refl, sym, ap, ◌∙◌}
 use mathlib.Core.Bool.{Bool, true, false, not, ◌&&◌, false≢true, and-false, and-true}
 use mathlib.Core.List.{List, [], ◌∷◌}
-use Prim.Native.Nat.{ℕ, zero, suc, ◌+◌, ◌-◌, ◌*◌, ◌≤◌, ◌<◌}
+use Prim.Native.Nat.{ℕ, suc, ◌+◌, ◌-◌, ◌*◌, ◌≤◌, ◌<◌}
 use native.Mathlib.Omega.{arith}
 use native.Mathlib.Numerals.{add-one}
 use native.Mathlib.Decide.{dec_le}
 use native.Mathlib.Nat.{lt_of_not-le}
 use lib.ListN.{length, get_or, take, drop, drop_of_length-le}
 use lib.Seq.{drop-cons}
-use lib.Dec.{leb, eqb, eqb-suc-zero, eqb-zero-suc}
-use borrow.Author.Tests.{le-leb, lt-leb, eq-eqb, ne_eqb}
+use lib.Dec.{leb, eqb}
+use borrow.Author.Tests.{le-leb, lt-leb, le-ltb, lt-ltb, eq-eqb, ne_eqb}
 use Rattle.sequences.specs.Every.{every, inside}
 use Rattle.sequences.proofs.Every.{every_at, inside-true, inside_facts}
 use Rattle.digits.specs.declared.Form.{Form}
-use Rattle.std.specs.Prelude.{Some, None}
+use Rattle.std.specs.Prelude.{Option, Some, None}
 use Rattle.digits.specs.Digits.{is_digit, all_digits, from, spare, cap, capped, is_shaped, is_whole, point_at, is_plain, plain_size, size_reading, read_on}
 
 -- a is at most b, or more
@@ -108,31 +108,28 @@ module _ (s : List ℕ) (before : ℕ) where
 
 -- ---- before the point
 
-pub shaped_none : (digits : ℕ) (s : List ℕ) → digits ≡ 0 → length s ≡ 0 → is_shaped digits s ≡ false
+pub shaped_none : (s : List ℕ) → length s ≡ 0 → is_shaped None s ≡ false
 unfolding is_shaped spare
-shaped_none digits [] e h = rw e
-shaped_none digits (b ∷ r) e h = absurd (omega arith)
+shaped_none [] h = refl
+shaped_none (b ∷ r) h = absurd (omega arith)
 
-pub shaped_one : (digits : ℕ) (s : List ℕ) → digits ≡ 0 → length s ≡ 1 → is_shaped digits s ≡ true
+pub shaped_one : (s : List ℕ) → length s ≡ 1 → is_shaped None s ≡ true
 unfolding is_shaped spare
-shaped_one digits [] e h = absurd (omega arith)
-shaped_one digits (b ∷ []) e h = rw e
-shaped_one digits (b ∷ d ∷ r) e h = absurd (omega arith)
+shaped_one [] h = absurd (omega arith)
+shaped_one (b ∷ []) h = refl
+shaped_one (b ∷ d ∷ r) h = absurd (omega arith)
 
-pub shaped_first : (digits : ℕ) (s : List ℕ) → digits ≡ 0 → 1 < length s → not (eqb (get_or s 0 0) 48) ≡ is_shaped digits s
+pub shaped_first : (s : List ℕ) → 1 < length s → not (eqb (get_or s 0 0) 48) ≡ is_shaped None s
 unfolding is_shaped spare
-shaped_first digits [] e h = absurd (omega arith)
-shaped_first digits (b ∷ []) e h = absurd (omega arith)
-shaped_first digits (b ∷ d ∷ r) e h = rw e
+shaped_first [] h = absurd (omega arith)
+shaped_first (b ∷ []) h = absurd (omega arith)
+shaped_first (b ∷ d ∷ r) h = refl
 
-pub shaped_count : (digits : ℕ) (s : List ℕ) → (digits ≡ 0 → ⊥) → eqb (length s) digits ≡ is_shaped digits s
+pub shaped_fixed : (digits : ℕ) (s : List ℕ) → length s ≡ digits → is_shaped (Some digits) s ≡ true
 unfolding is_shaped
-shaped_count digits s e = rw (ne_eqb digits 0 e)
+shaped_fixed digits s h = eq-eqb (length s) digits h
 
-pub shaped_fixed : (digits : ℕ) (s : List ℕ) → (digits ≡ 0 → ⊥) → length s ≡ digits → is_shaped digits s ≡ true
-shaped_fixed digits s e h = sym (shaped_count digits s e) ∙ eq-eqb (length s) digits h
-
-module _ (digits : ℕ) (s : List ℕ) where
+module _ (digits : Option ℕ) (s : List ℕ) where
   pub whole_ill : (n : ℕ) → is_shaped digits s ≡ false → None ≡ size_reading (is_whole digits s) n
   unfolding is_whole is_shaped every
   whole_ill n e = rw e
@@ -160,13 +157,8 @@ pub size_known : (b : Bool) (n v : ℕ) → size_reading b n ≡ Some v → (b �
 size_known true n v e = (refl, cc)
 size_known false n v e = let z : ◌≡◌ {A = ℕ} 0 1 = cc in absurd (omega arith)
 
-pub known_within : (digits : ℕ) (s : List ℕ) (v : ℕ) → size_reading (is_whole digits s) (capped (from 0 s)) ≡ Some v → v ≤ cap
+pub known_within : (digits : Option ℕ) (s : List ℕ) (v : ℕ) → size_reading (is_whole digits s) (capped (from 0 s)) ≡ Some v → v ≤ cap
 known_within digits s v e = omega (arith, (size_known (is_whole digits s) (capped (from 0 s)) v e).1, capped_within (from 0 s))
-
-pub whole_empty : (digits : ℕ) → is_whole digits [] ≡ false
-unfolding is_whole is_shaped every spare
-whole_empty zero = refl
-whole_empty (suc digits) = rw (eqb-suc-zero digits, eqb-zero-suc digits)
 
 module _ (f : Form) (s : List ℕ) where
   -- the place of the point, as the code has it
@@ -180,24 +172,22 @@ module _ (f : Form) (s : List ℕ) where
   module _ (some : f.decimals ≡ 0 → ⊥) where
     pub plain_short : length s ≤ f.decimals → None ≡ size_reading (is_plain f s) (plain_size f s)
     unfolding is_plain every point_at
-    plain_short h =
-        let p : length s - (f.decimals + 1) ≡ 0 = omega arith in
-        rw (ne_eqb f.decimals 0 some, p, whole_empty f.digits)
+    plain_short h = rw (ne_eqb f.decimals 0 some, le-ltb f.decimals (length s) h)
 
     pub plain_point : (get_or s point_place 0 ≡ 46 → ⊥) → None ≡ size_reading (is_plain f s) (plain_size f s)
     unfolding is_plain every point_at
-    plain_point h = rw (ne_eqb f.decimals 0 some, ne_eqb (get_or s point_place 0) 46 h, and-false)
+    plain_point h = rw (ne_eqb f.decimals 0 some, ne_eqb (get_or s point_place 0) 46 h, and-false, and-false)
 
     pub plain_ill : (n : ℕ) → size_reading (is_whole f.digits (take point_place s)) n ≡ None → None ≡ size_reading (is_plain f s) (plain_size f s)
     unfolding is_plain every point_at
-    plain_ill n e = rw (ne_eqb f.decimals 0 some, size_ill (is_whole f.digits (take point_place s)) n e)
+    plain_ill n e = rw (ne_eqb f.decimals 0 some, size_ill (is_whole f.digits (take point_place s)) n e, and-false)
 
-    pub plain_known : (v : ℕ) → get_or s point_place 0 ≡ 46
+    pub plain_known : (v : ℕ) → f.decimals < length s → get_or s point_place 0 ≡ 46
         → size_reading (is_whole f.digits (take point_place s)) (capped (from 0 (take point_place s))) ≡ Some v
         → read_on v (drop (point_place + 1) s) ≡ size_reading (is_plain f s) (plain_size f s)
     unfolding is_plain plain_size every point_at read_on
-    plain_known v h e =
+    plain_known v l h e =
         let head : List ℕ = take point_place s in
         let k = size_known (is_whole f.digits head) (capped (from 0 head)) v e in
         let past = capped_from (from 0 head) (drop (point_place + 1) s) in
-        rw (ne_eqb f.decimals 0 some, eq-eqb (get_or s point_place 0) 46 h, k.0, and-true, ← k.1, past)
+        rw (ne_eqb f.decimals 0 some, lt-ltb f.decimals (length s) l, eq-eqb (get_or s point_place 0) 46 h, k.0, and-true, ← k.1, past)

@@ -1,6 +1,6 @@
 -- Reading: a number's sign, and the blanks before it.
-use mathlib.Core.Path.{◌≡◌, refl}
-use mathlib.Core.Bool.{Bool, true, false, cond, not, ◌&&◌, and-false}
+use mathlib.Core.Path.{◌≡◌, refl, sym}
+use mathlib.Core.Bool.{Bool, true, false, cond, not, ◌&&◌, and-false, false≢true}
 use mathlib.Core.List.{List, [], ◌∷◌}
 use Prim.Native.Nat.{ℕ, ◌-◌, ◌≤◌}
 use native.Mathlib.Omega.{arith}
@@ -9,9 +9,9 @@ use lib.Dec.{eqb}
 use borrow.Author.Tests.{eq-eqb, ne_eqb}
 use Rattle.sequences.specs.Every.{every}
 use Rattle.digits.specs.declared.Form.{Form}
-use Rattle.std.specs.Prelude.{Some, None}
+use Rattle.std.specs.Prelude.{Option, Some, None, is_none}
 use Rattle.digits.specs.Digits.{plain, blanks, minus_figure, is_plain, plain_size, has_minus, is_signed}
-use Rattle.digits.specs.Digits.{signed_figure, trimmed, is_number, figure_of, size_reading, reading, below_zero, above_zero}
+use Rattle.digits.specs.Digits.{signed_figure, trimmed_by, trimmed, is_number, figure_of, size_reading, reading, below_zero, above_zero}
 use Rattle.digits.proofs.Put.{rest_all}
 
 -- ---- a size behind a "-"
@@ -23,6 +23,16 @@ minus-zero n e = rw (eq-eqb n 0 e)
 pub minus_some : (n : ℕ) → (n ≡ 0 → ⊥) → Some (record { negative = true; size = n }) ≡ minus_figure n
 unfolding minus_figure
 minus_some n h = rw (ne_eqb n 0 h)
+
+-- ---- with and without a width
+
+is-none : (o : Option ℕ) → is_none o ≡ true → o ≡ None
+is-none None e = refl
+is-none (Some n) e = absurd (false≢true e)
+
+is-some : (o : Option ℕ) → is_none o ≡ false → (n : ℕ) × (o ≡ Some n)
+is-some None e = absurd (false≢true (sym e))
+is-some (Some n) e = (n, refl)
 
 -- ---- with its sign
 
@@ -67,12 +77,12 @@ module _ (f : Form) (s : List ℕ) where
 
   -- ---- right in its field
 
-  pub number_plain : f.width ≡ 0 → reading (is_signed f s) (signed_figure f s) ≡ reading (is_number f s) (figure_of f s)
-  unfolding is_number figure_of trimmed
-  number_plain e = rw (eq-eqb f.width 0 e)
+  pub number_plain : is_none f.width ≡ true → reading (is_signed f s) (signed_figure f s) ≡ reading (is_number f s) (figure_of f s)
+  unfolding is_number figure_of trimmed trimmed_by
+  number_plain e = rw (is-none f.width e)
 
-  pub number_right : (b : ℕ) → (f.width ≡ 0 → ⊥) → b ≡ blanks s
+  pub number_right : (b : ℕ) → is_none f.width ≡ false → b ≡ blanks s
       → reading (is_signed f (take (length s - b) (drop b s))) (signed_figure f (take (length s - b) (drop b s)))
       ≡ reading (is_number f s) (figure_of f s)
-  unfolding is_number figure_of trimmed
-  number_right b h e = rw (rest_all b s, ne_eqb f.width 0 h, e)
+  unfolding is_number figure_of trimmed trimmed_by
+  number_right b h e = let w = is-some f.width h in rw (rest_all b s, w.1, e)

@@ -7,53 +7,48 @@ use native.Mathlib.Omega.{arith}
 use native.Mathlib.Numerals.{add-one}
 use native.Mathlib.Decide.{ℕ_discrete}
 use native.Mathlib.Nat.{pow-le-pow_right, mod-eq_of_lt, div-le_self, div-add-mod'}
-use lib.ListN.{length, get_or, take, drop, replicate, length-append, length-drop, length-replicate, get_or-append, get_or-eq_default}
+use Rattle.std.specs.Prelude.{Option, Some, None}
+use lib.ListN.{length, get_or, take, drop, replicate, length-append, length-drop, length-replicate}
 use lib.Seq.{take_at, drop_at, drop-append-add, get_or_at, split_at, drop-length}
 use lib.Arith.{digits_div}
-use lib.Dec.{eqb}
-use borrow.Author.Tests.{eq-eqb, ne_eqb, eqb-true, eqb-false, not-true}
+use lib.Dec.{eqb, ltb}
+use borrow.Author.Tests.{lt-ltb, ltb-true, eq-eqb, ne_eqb, eqb-true, eqb-false, not-true}
 use Rattle.sequences.specs.Every.{every}
 use Rattle.sequences.proofs.Every.{every_at}
 use Rattle.digits.specs.declared.Form.{Form}
 use Rattle.digits.specs.declared.Figure.{Figure}
-use Rattle.digits.specs.Digits.{plain, fixed, tens, decimal, whole_text, plain_text, signed_text, number_text, all_digits, from, spare, cap, capped}
-use Rattle.digits.specs.Digits.{is_shaped, is_whole, point_at, is_plain, plain_size, has_minus, is_signed, signed_figure, blanks, all_blank, trimmed, is_number, figure_of}
-use Rattle.digits.proofs.Read.{compare, both_pass, capped_small, capped_within, capped_exact, from_grows, shaped_fixed, whole-true, whole_facts, whole_empty}
+use Rattle.digits.specs.Digits.{plain, fixed, tens, decimal, whole_text, plain_text, signed_text, blanks_left, number_text, all_digits, from, spare, cap, capped}
+use Rattle.digits.specs.Digits.{is_shaped, is_whole, point_at, is_plain, plain_size, has_minus, is_signed, signed_figure, blanks, all_blank, trimmed_by, trimmed, is_number, figure_of}
+use Rattle.digits.proofs.Read.{compare, both_pass, capped_small, capped_within, capped_exact, from_grows, shaped_fixed, whole-true, whole_facts}
 use Rattle.digits.proofs.Count.{fixed-length, fixed_digits_lem, from_fixed, from_shift, from_below, fixed_from, tens_wide, decimal-length, decimal_spare, decimal_digits, decimal_from, from_decimal}
 use Rattle.digits.proofs.Sign.{minus_first, minus_other}
 use Rattle.digits.specs.Fits.{Fits}
-use Rattle.digits.proofs.Write.{whole_free, whole_fixed, plain_free, plain_pointed, signed_below, signed_above, number-length}
+use Rattle.digits.proofs.Write.{plain_free, plain_pointed, signed_below, signed_above, number-length}
 
 -- ---- before the point
 
-module _ (digits n : ℕ) (small : n ≤ cap) (fits : (digits ≡ 0 → ⊥) → n < 10 ^ digits) where
-  whole_well : is_whole digits (whole_text digits n) ≡ true
-  unfolding is_shaped
-  whole_well =
-      elim (ℕ_discrete digits 0) [
-        | yes e ↦ rw (whole_free digits n e) (whole-true digits (decimal n) (rw (e, decimal_spare n (omega arith))) (decimal_digits n))
-        | no h ↦
-            let shape = shaped_fixed digits (fixed digits n) h (fixed-length digits n) in
-            rw (whole_fixed digits n h) (whole-true digits (fixed digits n) shape (fixed_digits_lem digits n))
-      ]
+-- a number fits in so many digits, where it is to have so many
+abbrev FitsDigits : Option ℕ → ℕ → Type 0
+FitsDigits digits n = (most : ℕ) → digits ≡ Some most → n < 10 ^ most
 
-  whole_from : from 0 (whole_text digits n) ≡ n
-  whole_from =
-      elim (ℕ_discrete digits 0) [
-        | yes e ↦ rw (whole_free digits n e) (decimal_from n (omega arith))
-        | no h ↦ rw (whole_fixed digits n h) (from_fixed 0 digits n ∙ rw (mod-eq_of_lt (fits h)) (omega arith))
-      ]
+whole_well : (digits : Option ℕ) (n : ℕ) → n ≤ cap → is_whole digits (whole_text digits n) ≡ true
+unfolding is_shaped whole_text
+whole_well None n small = whole-true None (decimal n) (rw (decimal_spare n (omega arith))) (decimal_digits n)
+whole_well (Some digits) n small =
+    whole-true (Some digits) (fixed digits n) (shaped_fixed digits (fixed digits n) (fixed-length digits n)) (fixed_digits_lem digits n)
 
-whole_again : (digits : ℕ) (s : List ℕ) → is_whole digits s ≡ true → from 0 s ≤ cap → whole_text digits (from 0 s) ≡ s
-unfolding is_shaped
-whole_again digits s e small =
-    let t = whole_facts digits s e in
-    elim (ℕ_discrete digits 0) [
-      | yes z ↦ whole_free digits (from 0 s) z ∙ from_decimal s (not-true (spare s) (rw z at t.0)) t.1 (omega arith)
-      | no h ↦
-          let l : length s ≡ digits = eqb-true (length s) digits (rw (ne_eqb digits 0 h) at t.0) in
-          whole_fixed digits (from 0 s) h ∙ ap (λ (k : ℕ). fixed k (from 0 s)) (sym l) ∙ fixed_from s 0 t.1
-    ]
+whole_from : (digits : Option ℕ) (n : ℕ) → n ≤ cap → FitsDigits digits n → from 0 (whole_text digits n) ≡ n
+unfolding whole_text
+whole_from None n small fits = decimal_from n (omega arith)
+whole_from (Some digits) n small fits = from_fixed 0 digits n ∙ rw (mod-eq_of_lt (fits digits refl)) (omega arith)
+
+whole_again : (digits : Option ℕ) (s : List ℕ) → is_whole digits s ≡ true → from 0 s ≤ cap → whole_text digits (from 0 s) ≡ s
+unfolding is_shaped whole_text
+whole_again None s e small = let t = whole_facts None s e in from_decimal s (not-true (spare s) t.0) t.1 (omega arith)
+whole_again (Some digits) s e small =
+    let t = whole_facts (Some digits) s e in
+    let l : length s ≡ digits = eqb-true (length s) digits t.0 in
+    ap (λ (k : ℕ). fixed k (from 0 s)) (sym l) ∙ fixed_from s 0 t.1
 
 -- ---- with the decimals of the form
 
@@ -73,13 +68,14 @@ module _ (f : Form) (some : f.decimals ≡ 0 → ⊥) (D F : List ℕ) (long : l
   unfolding is_plain every
   pointed_well d e =
       let p : get_or (D ++ 46 ∷ F) (point_at f.decimals (D ++ 46 ∷ F)) 0 ≡ 46 = rw point_at_lem (get_or_at D 46 F 0 (length D) refl) in
-      rw (ne_eqb f.decimals 0 some, front, back, p, d, e)
+      let l : f.decimals < length (D ++ 46 ∷ F) = omega (arith, length-append D (46 ∷ F)) in
+      rw (ne_eqb f.decimals 0 some, lt-ltb f.decimals (length (D ++ 46 ∷ F)) l, front, back, p, d, e)
 
   pointed_size : plain_size f (D ++ 46 ∷ F) ≡ capped (from (from 0 D) F)
   unfolding plain_size
   pointed_size = rw (ne_eqb f.decimals 0 some, front, back)
 
-module _ (f : Form) (n : ℕ) (small : n ≤ cap) (fits : (f.digits ≡ 0 → ⊥) → n / 10 ^ f.decimals < 10 ^ f.digits) where
+module _ (f : Form) (n : ℕ) (small : n ≤ cap) (fits : FitsDigits f.digits (n / 10 ^ f.decimals)) where
   -- what stands before the point, and behind it
   abbrev whole : List ℕ
   whole = whole_text f.digits (n / 10 ^ f.decimals)
@@ -87,18 +83,18 @@ module _ (f : Form) (n : ℕ) (small : n ≤ cap) (fits : (f.digits ≡ 0 → �
   head_small : n / 10 ^ f.decimals ≤ cap
   head_small = omega (arith, div-le_self n (10 ^ f.decimals))
 
-  all_fit : f.decimals ≡ 0 → (f.digits ≡ 0 → ⊥) → n < 10 ^ f.digits
-  all_fit e h = let one : n / 10 ^ f.decimals ≡ n = rw e (omega arith) in omega (arith, fits h, one)
+  all_fit : f.decimals ≡ 0 → FitsDigits f.digits n
+  all_fit e most h = let one : n / 10 ^ f.decimals ≡ n = rw e (omega arith) in omega (arith, fits most h, one)
 
   plain_well : is_plain f (plain_text f n) ≡ true
   unfolding is_plain
   plain_well =
       elim (ℕ_discrete f.decimals 0) [
-        | yes e ↦ rw (plain_free f n e, eq-eqb f.decimals 0 e) (whole_well f.digits n small (all_fit e))
+        | yes e ↦ rw (plain_free f n e, eq-eqb f.decimals 0 e) (whole_well f.digits n small)
         | no h ↦
             rw (plain_pointed f n h)
             (pointed_well f h whole (fixed f.decimals n) (fixed-length f.decimals n)
-            (whole_well f.digits (n / 10 ^ f.decimals) head_small fits) (fixed_digits_lem f.decimals n))
+            (whole_well f.digits (n / 10 ^ f.decimals) head_small) (fixed_digits_lem f.decimals n))
       ]
 
   plain_read : plain_size f (plain_text f n) ≡ n
@@ -118,21 +114,14 @@ module _ (f : Form) (s : List ℕ) (well : is_plain f s ≡ true) (small : plain
     abbrev place : ℕ
     place = point_at f.decimals s
 
-    -- the three tests of a number with a point
-    tests : every (is_whole f.digits (take place s) ∷ eqb (get_or s place 0) 46 ∷ all_digits (drop (place + 1) s) ∷ []) ≡ true
+    -- the tests of a number with a point
+    tests : every (ltb f.decimals (length s) ∷ is_whole f.digits (take place s) ∷ eqb (get_or s place 0) 46 ∷ all_digits (drop (place + 1) s) ∷ []) ≡ true
     unfolding is_plain
     tests = rw (ne_eqb f.decimals 0 some) at well
 
     -- there is something before the point
     room : f.decimals < length s
-    unfolding point_at
-    room =
-        compare (length s) f.decimals
-        (λ h.
-        let p : place ≡ 0 = omega arith in
-        let e : is_whole f.digits [] ≡ true = ap (λ (k : ℕ). is_whole f.digits (take k s)) (sym p) ∙ every_at _ tests 0 in
-        absurd (false≢true (sym (whole_empty f.digits) ∙ e)))
-        (λ h. h)
+    room = ltb-true f.decimals (length s) (every_at _ tests 0)
 
     pointed_again : plain_text f (plain_size f s) ≡ s
     unfolding point_at plain_size
@@ -143,15 +132,15 @@ module _ (f : Form) (s : List ℕ) (well : is_plain f s ≡ true) (small : plain
         let size : plain_size f s ≡ capped v = rw (ne_eqb f.decimals 0 some) in
         let exact : capped v ≡ v = capped_exact v (omega (arith, size)) in
         let long : length F ≡ f.decimals = length-drop (place + 1) s ∙ omega (arith, room) in
-        let digits : all_digits F ≡ true = every_at _ tests 2 in
+        let digits : all_digits F ≡ true = every_at _ tests 3 in
         let head : v / 10 ^ f.decimals ≡ from 0 W =
         ap₂ ◌/◌ (from_shift F (from 0 W)) (ap (λ (k : ℕ). 10 ^ k) (sym long)) ∙ digits_div (from 0 W) (from_below F digits)
         in
         let front : whole_text f.digits (v / 10 ^ f.decimals) ≡ W =
-        ap (whole_text f.digits) head ∙ whole_again f.digits W (every_at _ tests 0) (omega (arith, size, exact, from_grows F (from 0 W)))
+        ap (whole_text f.digits) head ∙ whole_again f.digits W (every_at _ tests 1) (omega (arith, size, exact, from_grows F (from 0 W)))
         in
         let back : fixed f.decimals v ≡ F = ap (λ (k : ℕ). fixed k v) (sym long) ∙ fixed_from F (from 0 W) digits in
-        let point : get_or s place 0 ≡ 46 = eqb-true (get_or s place 0) 46 (every_at _ tests 1) in
+        let point : get_or s place 0 ≡ 46 = eqb-true (get_or s place 0) 46 (every_at _ tests 2) in
         ap (plain_text f) (size ∙ exact)
         ∙ plain_pointed f v some
         ∙ ap₂ (λ (a b : List ℕ). a ++ 46 ∷ b) front back
@@ -171,21 +160,25 @@ module _ (f : Form) (s : List ℕ) (well : is_plain f s ≡ true) (small : plain
 
 -- ---- with its sign
 
--- a digit stands first
-whole_first : (digits n : ℕ) → 48 ≤ get_or (whole_text digits n) 0 0
-unfolding whole_text decimal fixed
-whole_first zero n = omega arith
-whole_first (suc digits) n = rw (ne_eqb (suc digits) 0 (λ e. omega arith)) (omega arith)
+-- a digit stands first, or the point, or nothing: no "-" and no blank
+abbrev Unmarked : ℕ → Type 0
+Unmarked b = (b ≡ 45 → ⊥) × (b ≡ 32 → ⊥)
 
-plain_first : (f : Form) (n : ℕ) → 48 ≤ get_or (plain_text f n) 0 0
+whole_first : (digits : Option ℕ) (n : ℕ) → Unmarked (get_or (whole_text digits n) 0 0)
+unfolding whole_text decimal fixed
+whole_first None n = (λ e. omega arith, λ e. omega arith)
+whole_first (Some zero) n = (λ e. omega arith, λ e. omega arith)
+whole_first (Some (suc digits)) n = (λ e. omega arith, λ e. omega arith)
+
+pointed_first : (w r : List ℕ) → Unmarked (get_or w 0 0) → Unmarked (get_or (w ++ 46 ∷ r) 0 0)
+pointed_first [] r u = (λ e. omega arith, λ e. omega arith)
+pointed_first (b ∷ w) r u = u
+
+plain_first : (f : Form) (n : ℕ) → Unmarked (get_or (plain_text f n) 0 0)
 plain_first f n =
     elim (ℕ_discrete f.decimals 0) [
       | yes e ↦ rw (plain_free f n e) (whole_first f.digits n)
-      | no h ↦
-          let w : List ℕ = whole_text f.digits (n / 10 ^ f.decimals) in
-          let first : 48 ≤ get_or w 0 0 = whole_first f.digits (n / 10 ^ f.decimals) in
-          let some : 0 < length w = compare (length w) 0 (λ l. absurd (omega (arith, first, get_or-eq_default w 0 l))) (λ l. l) in
-          rw (plain_pointed f n h, get_or-append w (46 ∷ fixed f.decimals n) 0 0 some) first
+      | no h ↦ rw (plain_pointed f n h) (pointed_first (whole_text f.digits (n / 10 ^ f.decimals)) (fixed f.decimals n) (whole_first f.digits (n / 10 ^ f.decimals)))
     ]
 
 -- what it starts with is no blank
@@ -194,7 +187,7 @@ signed_first f z e = case z.negative refl
   where
     case : (b : Bool) → z.negative ≡ b → ⊥
     case true n = omega (arith, e, ap (λ (l : List ℕ). get_or l 0 0) (signed_below f z n))
-    case false n = omega (arith, e, ap (λ (l : List ℕ). get_or l 0 0) (signed_above f z n), plain_first f z.size)
+    case false n = (plain_first f z.size).1 (sym (ap (λ (l : List ℕ). get_or l 0 0) (signed_above f z n)) ∙ e)
 
 module _ (f : Form) (z : Figure) (fits : Fits f z) where
   abbrev text : List ℕ
@@ -211,7 +204,7 @@ module _ (f : Form) (z : Figure) (fits : Fits f z) where
   signed_well true n =
       let k = fits.sign n in
       rw (signed_below f z n, minus_first f (45 ∷ text) k.0 refl, well, size, ne_eqb z.size 0 (λ e. omega (arith, k.1)))
-  signed_well false n = rw (signed_above f z n, minus_other f text (λ e. omega (arith, plain_first f z.size))) well
+  signed_well false n = rw (signed_above f z n, minus_other f text (plain_first f z.size).0) well
 
   signed_read : (b : Bool) → z.negative ≡ b → signed_figure f (signed_text f z) ≡ z
   unfolding signed_figure
@@ -219,7 +212,7 @@ module _ (f : Form) (z : Figure) (fits : Fits f z) where
       rw (signed_below f z n, minus_first f (45 ∷ text) (fits.sign n).0 refl, size)
       (ap (λ (b : Bool). record { negative = b; size = z.size }) (sym n))
   signed_read false n =
-      rw (signed_above f z n, minus_other f text (λ e. omega (arith, plain_first f z.size)), size)
+      rw (signed_above f z n, minus_other f text (plain_first f z.size).0, size)
       (ap (λ (b : Bool). record { negative = b; size = z.size }) (sym n))
 
 -- a "-" and what stands behind it
@@ -285,15 +278,15 @@ blanks_inside s =
     omega (arith, ap length (blanks_split s), parts, length-replicate {A = ℕ} (blanks s) 32)
 
 trimmed_text : (f : Form) (z : Figure) → trimmed f (number_text f z) ≡ signed_text f z
-unfolding trimmed number_text
-trimmed_text f z =
-    let k : ℕ = f.width - length (signed_text f z) in
-    elim (ℕ_discrete f.width 0) [
-      | yes e ↦ rw (eq-eqb f.width 0 e) (ap (λ (i : ℕ). replicate i 32 ++ signed_text f z) {x = k} {y = 0} (omega arith))
-      | no h ↦
-          rw (ne_eqb f.width 0 h, blanks_before k (signed_text f z) (signed_first f z))
-          (drop_at (replicate k 32) (signed_text f z) k (length-replicate k 32))
-    ]
+unfolding trimmed trimmed_by number_text blanks_left
+trimmed_text f z = by_width f.width
+  where
+    by_width : (width : Option ℕ)
+        → trimmed_by width (replicate (blanks_left width (length (signed_text f z))) 32 ++ signed_text f z) ≡ signed_text f z
+    by_width None = refl
+    by_width (Some width) =
+        let k : ℕ = width - length (signed_text f z) in
+        rw (blanks_before k (signed_text f z) (signed_first f z)) (drop_at (replicate k 32) (signed_text f z) k (length-replicate k 32))
 
 -- what is written reads back
 pub number_read : (f : Form) (z : Figure) → Fits f z → is_number f (number_text f z) ≡ true
@@ -304,22 +297,29 @@ pub figure_read_lem : (f : Form) (z : Figure) → Fits f z → figure_of f (numb
 unfolding figure_of
 figure_read_lem f z h = rw (trimmed_text f z) (signed_read f z h z.negative refl)
 
-pub number_width : (f : Form) (z : Figure) → Fits f z → (f.width ≡ 0 → ⊥) → length (number_text f z) ≡ f.width
-number_width f z h some = omega (arith, number-length f z, h.width some)
+pub number_width : (f : Form) (z : Figure) → Fits f z → (width : ℕ) → f.width ≡ Some width → length (number_text f z) ≡ width
+unfolding blanks_left
+number_width f z h width some =
+    let l : length (number_text f z) ≡ width - length (signed_text f z) + length (signed_text f z) =
+    number-length f z ∙ ap (λ (w : Option ℕ). blanks_left w (length (signed_text f z)) + length (signed_text f z)) some
+    in
+    omega (arith, l, h.width width some)
 
 -- what is read is written again
+blanks_again : (width : Option ℕ) (s t : List ℕ) → ((w : ℕ) → width ≡ Some w → length s ≡ w) → t ≡ trimmed_by width s
+    → replicate (blanks_left width (length t)) 32 ++ t ≡ s
+unfolding trimmed_by blanks_left
+blanks_again None s t long e = e
+blanks_again (Some width) s t long e =
+    let k : width - length (drop (blanks s) s) ≡ blanks s = omega (arith, long width refl, length-drop (blanks s) s, blanks_inside s) in
+    rw (e, k) (blanks_split s)
+
 pub number_again : (f : Form) (s : List ℕ) → is_number f s ≡ true → (figure_of f s).size < cap
-    → ((f.width ≡ 0 → ⊥) → length s ≡ f.width) → number_text f (figure_of f s) ≡ s
+    → ((width : ℕ) → f.width ≡ Some width → length s ≡ width) → number_text f (figure_of f s) ≡ s
 unfolding is_number figure_of trimmed number_text
 number_again f s well small long =
     let t : List ℕ = trimmed f s in
-    let same : signed_text f (signed_figure f t) ≡ t = signed_again f t well (has_minus f t) refl small in
-    ap (λ (l : List ℕ). replicate (f.width - length l) 32 ++ l) same ∙ elim (ℕ_discrete f.width 0) [
-      | yes e ↦ rw (eq-eqb f.width 0 e) (ap (λ (i : ℕ). replicate i 32 ++ s) {x = f.width - length s} {y = 0} (omega arith))
-      | no h ↦
-          let k : f.width - length (drop (blanks s) s) ≡ blanks s = omega (arith, long h, length-drop (blanks s) s, blanks_inside s) in
-          rw (ne_eqb f.width 0 h, k) (blanks_split s)
-    ]
+    blanks_again f.width s (signed_text f (signed_figure f t)) long (signed_again f t well (has_minus f t) refl small)
 
 -- a well-written "-" is only where the form has a sign, and above zero
 pub figure_sign : (f : Form) (s : List ℕ) → is_number f s ≡ true → (figure_of f s).negative ≡ true → (f.signed ≡ true) × (0 < (figure_of f s).size)

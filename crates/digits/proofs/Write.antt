@@ -1,49 +1,41 @@
 -- Writing: how long each text is, and how it is written part by part.
 use mathlib.Core.Path.{◌≡◌, refl, sym, ap, ◌∙◌, subst}
 use mathlib.Core.Bool.{Bool, true, false, cond}
-use mathlib.Core.List.{List, [], ◌∷◌, ◌++◌, append_assoc}
+use mathlib.Core.List.{List, [], ◌∷◌, ◌++◌, append_assoc, append-nil}
 use Prim.Native.Nat.{ℕ, zero, suc, ◌+◌, ◌-◌, ◌/◌, ◌^◌, ◌≤◌}
 use native.Mathlib.Omega.{arith}
-use native.Mathlib.Decide.{ℕ_discrete}
-use lib.ListN.{length, replicate, length-append, length-replicate}
+use Rattle.std.specs.Prelude.{Option, Some, None, unwrap_or}
+use lib.ListN.{length, take, drop, replicate, length-append, length-replicate, replicate-append-replicate, drop_of_length-le}
+use lib.Seq.{take_at}
 use borrow.Author.Tests.{eq-eqb, ne_eqb, lt-ltb, le-ltb}
 use Rattle.digits.specs.declared.Form.{Form}
 use Rattle.digits.specs.declared.Figure.{Figure}
-use Rattle.digits.specs.Digits.{fixed, tens_within, tens, decimal, whole_text, plain_text, signed_text, number_text}
-use Rattle.digits.specs.Written.{Written}
+use Rattle.digits.specs.Digits.{fixed, tens_within, tens, decimal, whole_text, plain_text, signed_text, blanks_left, number_text}
+use Rattle.digits.specs.Written.{put, Written}
 use Rattle.digits.proofs.Read.{compare}
 use Rattle.digits.proofs.Put.{written_then}
 use Rattle.digits.proofs.Count.{fixed-length, decimal-length}
 
 -- ---- before the point
 
-module _ (digits n : ℕ) where
-  pub whole_free : digits ≡ 0 → whole_text digits n ≡ decimal n
-  unfolding whole_text
-  whole_free e = rw (eq-eqb digits 0 e)
+pub free_length : (n w : ℕ) → w ≡ tens n → w + 1 ≡ length (whole_text None n)
+unfolding whole_text
+free_length n w h = omega (arith, decimal-length n)
 
-  pub whole_fixed : (digits ≡ 0 → ⊥) → whole_text digits n ≡ fixed digits n
-  unfolding whole_text
-  whole_fixed h = rw (ne_eqb digits 0 h)
+pub digits-length : (digits n : ℕ) → digits ≡ length (whole_text (Some digits) n)
+unfolding whole_text
+digits-length digits n = sym (fixed-length digits n)
 
-  pub free_length : (w : ℕ) → digits ≡ 0 → w ≡ tens n → w + 1 ≡ length (whole_text digits n)
-  free_length w e h = omega (arith, ap length (whole_free e), decimal-length n)
+-- all of them are digits of n
+pub whole_is : (digits : Option ℕ) (n : ℕ) → fixed (length (whole_text digits n)) n ≡ whole_text digits n
+unfolding whole_text decimal
+whole_is None n = ap (λ (k : ℕ). fixed k n) (fixed-length (suc (tens n)) n)
+whole_is (Some digits) n = ap (λ (k : ℕ). fixed k n) (fixed-length digits n)
 
-  pub digits-length : (digits ≡ 0 → ⊥) → digits ≡ length (whole_text digits n)
-  digits-length h = sym (ap length (whole_fixed h) ∙ fixed-length digits n)
-
-  -- all of them are digits of n
-  whole_is : fixed (length (whole_text digits n)) n ≡ whole_text digits n
-  unfolding decimal
-  whole_is =
-      elim (ℕ_discrete digits 0) [
-        | yes e ↦ ap (λ (k : ℕ). fixed k n) (ap length (whole_free e) ∙ fixed-length (suc (tens n)) n) ∙ sym (whole_free e)
-        | no h ↦ ap (λ (k : ℕ). fixed k n) (sym (digits-length h)) ∙ sym (whole_fixed h)
-      ]
-
+module _ (digits : Option ℕ) (n : ℕ) where
   pub whole-put : {d d' : List ℕ} {at r : ℕ} (k : ℕ) → k ≡ length (whole_text digits n)
       → Written d at (fixed k n) d' r → Written d at (whole_text digits n) d' r
-  whole-put {d} {d'} {at} {r} k e w = subst (λ (xs : List ℕ). Written d at xs d' r) (ap (λ (i : ℕ). fixed i n) e ∙ whole_is) w
+  whole-put {d} {d'} {at} {r} k e w = subst (λ (xs : List ℕ). Written d at xs d' r) (ap (λ (i : ℕ). fixed i n) e ∙ whole_is digits n) w
 
 within_most : (most n : ℕ) → tens_within most n ≤ most
 unfolding tens_within
@@ -51,13 +43,10 @@ within_most zero n = omega arith
 within_most (suc most) n =
     compare 10 n (λ h. rw (le-ltb n 10 h) (omega (arith, within_most most (n / 10)))) (λ h. rw (lt-ltb n 10 h) (omega arith))
 
-pub whole_short : (digits n : ℕ) → digits ≤ 20 → length (whole_text digits n) ≤ 20
+pub whole_short : (digits : Option ℕ) (n : ℕ) → unwrap_or digits 0 ≤ 20 → length (whole_text digits n) ≤ 20
 unfolding tens
-whole_short digits n l =
-    elim (ℕ_discrete digits 0) [
-      | yes e ↦ omega (arith, free_length digits n (tens n) e refl, within_most 19 n)
-      | no h ↦ omega (arith, digits-length digits n h)
-    ]
+whole_short None n l = omega (arith, free_length n (tens n) refl, within_most 19 n)
+whole_short (Some digits) n l = omega (arith, digits-length digits n)
 
 -- ---- with the decimals of the form
 
@@ -117,11 +106,12 @@ module _ (f : Form) (z : Figure) where
 
   -- ---- right in its field
 
-  pub number-length : length (number_text f z) ≡ f.width - length (signed_text f z) + length (signed_text f z)
+  abbrev pub blanks_put : ℕ
+  blanks_put = blanks_left f.width (length (signed_text f z))
+
+  pub number-length : length (number_text f z) ≡ blanks_put + length (signed_text f z)
   unfolding number_text
-  number-length =
-      length-append (replicate (f.width - length (signed_text f z)) 32) (signed_text f z)
-      ∙ rw (length-replicate {A = ℕ} (f.width - length (signed_text f z)) 32)
+  number-length = length-append (replicate blanks_put 32) (signed_text f z) ∙ rw (length-replicate {A = ℕ} blanks_put 32)
 
   pub number_put : {d d₁ d₂ : List ℕ} {at p q : ℕ} (k : ℕ) → k ≡ length (number_text f z) - length (signed_text f z)
       → at + length (number_text f z) ≤ length d
@@ -129,5 +119,24 @@ module _ (f : Form) (z : Figure) where
   unfolding number_text
   number_put {d} {d₁} {d₂} {at} {p} {q} k e room a b =
       let l = number-length in
-      let w : k ≡ f.width - length (signed_text f z) = omega arith in
+      let w : k ≡ blanks_put = omega arith in
       subst (λ (j : ℕ). Written d at (replicate j 32 ++ signed_text f z) d₂ q) w (written_then a b (omega (arith, length-replicate {A = ℕ} k 32)))
+
+-- ---- in a field of blanks
+
+sum_back : (w k : ℕ) → k ≤ w → w ≡ w - k + k
+sum_back w k h = omega arith
+
+pub blanks-put : (w : ℕ) (xs : List ℕ) → length xs ≤ w → put (replicate w 32) (w - length xs) xs ≡ replicate (w - length xs) 32 ++ xs
+unfolding put
+blanks-put w xs h =
+    let parts : replicate {A = ℕ} w 32 ≡ replicate (w - length xs) 32 ++ replicate (length xs) 32 =
+    ap (λ (k : ℕ). replicate {A = ℕ} k 32) (sum_back w (length xs) h) ∙ sym (replicate-append-replicate (w - length xs) (length xs) 32)
+    in
+    let front : take (w - length xs) (replicate {A = ℕ} w 32) ≡ replicate (w - length xs) 32 =
+    ap (take (w - length xs)) parts ∙ take_at _ _ (w - length xs) (length-replicate {A = ℕ} (w - length xs) 32)
+    in
+    let none : drop (w - length xs + length xs) (replicate {A = ℕ} w 32) ≡ [] =
+    drop_of_length-le (replicate {A = ℕ} w 32) {i = w - length xs + length xs} (rw length-replicate (omega arith))
+    in
+    rw (front, none) (simp append-nil)

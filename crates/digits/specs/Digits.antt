@@ -27,9 +27,10 @@ tens n = tens_within 19 n
 unfoldable pub decimal : ℕ → List ℕ
 decimal n = fixed (suc (tens n)) n
 
--- the digits before the point: so many, or for 0 as many as n has
-unfoldable pub whole_text : ℕ → ℕ → List ℕ
-whole_text digits n = cond (eqb digits 0) (decimal n) (fixed digits n)
+-- the digits before the point: so many, or as many as n has
+unfoldable pub whole_text : Option ℕ → ℕ → List ℕ
+whole_text None n = decimal n
+whole_text (Some digits) n = fixed digits n
 
 -- with the decimals of the form, n counts 10 ^ decimals-ths
 unfoldable pub plain_text : Form → ℕ → List ℕ
@@ -41,9 +42,14 @@ plain_text f n =
 unfoldable pub signed_text : Form → Figure → List ℕ
 signed_text f z = cond z.negative (45 ∷ plain_text f z.size) (plain_text f z.size)
 
+-- how many blanks stand before so many characters in a field of that width
+unfoldable pub blanks_left : Option ℕ → ℕ → ℕ
+blanks_left None n = 0
+blanks_left (Some width) n = width - n
+
 -- right in the blanks of the form's width
 unfoldable pub number_text : Form → Figure → List ℕ
-number_text f z = replicate (f.width - length (signed_text f z)) 32 ++ signed_text f z
+number_text f z = replicate (blanks_left f.width (length (signed_text f z))) 32 ++ signed_text f z
 
 -- ---- reading
 
@@ -73,24 +79,26 @@ cap = 1_000_000_000_000_000_000
 unfoldable pub capped : ℕ → ℕ
 capped n = cond (leb n cap) n cap
 
--- so many characters, or for 0 some with no spare zero
-unfoldable pub is_shaped : ℕ → List ℕ → Bool
-is_shaped digits s = cond (eqb digits 0) (not (spare s)) (eqb (length s) digits)
+-- so many characters, or some with no spare zero
+unfoldable pub is_shaped : Option ℕ → List ℕ → Bool
+is_shaped None s = not (spare s)
+is_shaped (Some digits) s = eqb (length s) digits
 
--- so many digits, or for 0 digits with no spare zero
-unfoldable pub is_whole : ℕ → List ℕ → Bool
+-- so many digits, or digits with no spare zero
+unfoldable pub is_whole : Option ℕ → List ℕ → Bool
 is_whole digits s = every (is_shaped digits s ∷ all_digits s ∷ [])
 
 -- where the point stands, with so many decimals behind it
 unfoldable pub point_at : ℕ → List ℕ → ℕ
 point_at decimals s = length s - (decimals + 1)
 
--- a number with the decimals of the form
+-- a number with the decimals of the form, which has room for its point
 unfoldable pub is_plain : Form → List ℕ → Bool
 is_plain f s =
     cond (eqb f.decimals 0) (is_whole f.digits s)
     (every
-    (is_whole f.digits (take (point_at f.decimals s) s)
+    (ltb f.decimals (length s)
+    ∷ is_whole f.digits (take (point_at f.decimals s) s)
     ∷ eqb (get_or s (point_at f.decimals s) 0) 46
     ∷ all_digits (drop (point_at f.decimals s + 1) s)
     ∷ []))
@@ -124,8 +132,12 @@ unfoldable pub all_blank : List ℕ → Bool
 all_blank s = eqb (blanks s) (length s)
 
 -- a form with a width has blanks at the left
+unfoldable pub trimmed_by : Option ℕ → List ℕ → List ℕ
+trimmed_by None s = s
+trimmed_by (Some width) s = drop (blanks s) s
+
 unfoldable pub trimmed : Form → List ℕ → List ℕ
-trimmed f s = cond (eqb f.width 0) s (drop (blanks s) s)
+trimmed f s = trimmed_by f.width s
 
 -- the field is a well-written number of the form, and which
 unfoldable pub is_number : Form → List ℕ → Bool

@@ -8,13 +8,13 @@ ghost use Rattle.digits.specs.Signed.{signed_of, figure_signed};
 // How a number stands in its field.
 #[derive(Clone, Copy, PartialEq, Eq, Debug)]
 pub struct Form {
-    // So many digits before the point; 0 stands for as many as there are, with no spare zero.
-    pub digits: usize,
+    // So many digits before the point, or as many as there are, with no spare zero.
+    pub digits: Option<usize>,
     pub decimals: usize,
     // Whether a "-" may stand first.
     pub signed: bool,
-    // The number stands right in so many bytes; 0 stands for a field that is as long as its number.
-    pub width: usize,
+    // The number stands right in so many bytes, or its field is as long as it is.
+    pub width: Option<usize>,
 }
 
 // A number with its sign. With decimals its size counts the last of them.
@@ -23,6 +23,9 @@ pub struct Figure {
     pub negative: bool,
     pub size: u64,
 }
+
+// Above every range: a number that is more is read as this.
+pub const CAP: u64 = 1_000_000_000_000_000_000;
 
 // The most decimals of a form.
 pub const MOST_DECIMALS: usize = 9;

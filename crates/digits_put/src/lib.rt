@@ -1,11 +1,9 @@
 // Puts bytes, blanks and digits into a run.
 #![tactic(auto)]
 
-ghost use Rattle.std.specs.Prelude.{◌+◌, ◌≤◌, ◌<◌, [], ◌∷◌, length, replicate};
+ghost use Rattle.std.specs.Prelude.{◌≡◌, ◌+◌, ◌/◌, ◌%◌, ◌^◌, ◌≤◌, ◌<◌, true, [], ◌∷◌, length, replicate};
 ghost use Rattle.digits.specs.Digits.{fixed};
 ghost use Rattle.digits.specs.Written.{Written};
-
-pub mod tail;
 
 // Writes one byte.
 pub fn put_byte(dst: &mut [u8], at: usize, b: u8) -> usize
@@ -36,15 +34,30 @@ pub fn put_blanks(dst: &mut [u8], at: usize, k: usize) -> usize
     next
 }
 
-// Writes the last k digits of n.
-pub fn put_fixed(dst: &mut [u8], at: usize, k: usize, n: u64) -> usize
-    requires { at + k ≤ length dst.old }
-    ensures { Written dst.old at (fixed k n) dst.new result }
+// The last digit of a number as a byte, and the number before it. A number of 32 bits is divided faster than one of 64.
+fn split_last<const SMALL: bool>(m: u64) -> (u64, u8)
+    requires { SMALL ≡ true → m < 4_294_967_296 }
+    ensures { (result.0 ≡ m / 10) × (result.1 ≡ 48 + m % 10) }
+{
+    if SMALL {
+        let m = m as u32;
+        return (u64::from(m / 10), b'0' + (m % 10) as u8);
+    }
+    (m / 10, b'0' + (m % 10) as u8)
+}
+
+// Fills a run with the last digits of n, and gives what is left of n before them.
+pub fn put_last<const SMALL: bool>(digits: &mut [u8], n: u64) -> u64
+    requires { SMALL ≡ true → n < 4_294_967_296 }
+    ensures bytes { digits.new ≡ fixed (length digits.old) n }
+    ensures left { result ≡ n / 10 ^ length digits.old }
 {
     let mut m = n;
-    for i in (0..k).rev() {
-        dst[at + i] = b'0' + (m % 10) as u8;
-        m /= 10;
+    // By place: of what `iter_mut().rev()` writes nothing is known behind the loop (the library says it of `iter_mut` alone).
+    for i in (0..digits.len()).rev() {
+        let (rest, digit) = split_last::<SMALL>(m);
+        digits[i] = digit;
+        m = rest;
     }
-    at + k
+    m
 }

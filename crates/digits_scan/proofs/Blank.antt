@@ -5,7 +5,7 @@ use Rattle.std.specs.List.{position_or_len}
 use Prim.Native.Nat.compare
 use Rattle.std.proofs.lemmas.Bool.Decides.{nat_tests}
 use Rattle.digits.specs.Digits.{blanks, all_blank}
-use Rattle.digits.proofs.Read.{digit_yes, digit_low, digit_high, shaped_none, shaped_one, shaped_first, shaped_count}
+use Rattle.digits.proofs.Read.{digit_yes, digit_low, digit_high, shaped_none, shaped_one, shaped_first}
 
 -- byte by byte
 blank_first : (b : ℕ) (r : List ℕ) → all_blank (b ∷ r) ≡ eqb b 32 && all_blank r
@@ -44,6 +44,6 @@ blanks_within (b ∷ r) = by_byte (eqb b 32) (blanks r) (length r) (blanks_withi
     by_byte true n m h = omega arith
     by_byte false n m h = omega arith
 
-pub ruleset shapes = (nat_tests, shaped_none, shaped_one, shaped_first, shaped_count)
+pub ruleset shapes = (nat_tests, shaped_none, shaped_one, shaped_first)
 
 pub ruleset digit_tests = (nat_tests, digit_yes, digit_low, digit_high)

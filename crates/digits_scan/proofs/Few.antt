@@ -22,7 +22,7 @@ no_digit b e = by_test (is_digit b) e
     by_test false e = refl
 
 -- digits that are too few to meet the cap: nor does what stands before them
-pub low_before : (before n : ℕ) → (before + 1) * 10 ^ n ≤ cap → before ≤ cap
+low_before : (before n : ℕ) → (before + 1) * 10 ^ n ≤ cap → before ≤ cap
 low_before before n h =
     let one : 1 * (before + 1) ≤ 10 ^ n * (before + 1) = mul-le-mul_right (before + 1) (power_positive n) in
     omega (arith, one, h)
@@ -33,8 +33,12 @@ pub record Reads (capping : Bool) (s : List ℕ) (before i a : ℕ) : Type 0 whe
   pub room : capping ≡ false → (a + 1) * 10 ^ (length s - i) ≤ cap
 
 module _ (capping : Bool) (s : List ℕ) (before : ℕ) where
-  pub reads_start : before ≤ cap → (capping ≡ false → (before + 1) * 10 ^ length s ≤ cap) → Reads capping s before 0 before
-  reads_start h few = record { read = read_start s before h; room = λ e. rw sub-zero (few e) }
+  pub reads_start : (capping ≡ true → before ≤ cap) → (capping ≡ false → (before + 1) * 10 ^ length s ≤ cap) → Reads capping s before 0 before
+  reads_start low few = record { read = read_start s before (within capping low few); room = λ e. rw sub-zero (few e) }
+    where
+      within : (b : Bool) → (b ≡ true → before ≤ cap) → (b ≡ false → (before + 1) * 10 ^ length s ≤ cap) → before ≤ cap
+      within true low few = low refl
+      within false low few = low_before before (length s) (few refl)
 
   module _ (i a : ℕ) (t : Reads capping s before i a) (more : i < length s) (d : ℕ) (low : d ≤ 9) (digit : is_digit (get_or s i 0) ≡ true) (is : d ≡ get_or s i 0 - 48) where
     next : (w : ℕ) → w ≡ capped (a * 10 + d) → ReadTo s before (i + 1) w

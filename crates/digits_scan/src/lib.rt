@@ -4,8 +4,7 @@
 ghost use Rattle.std.specs.Prelude.{◌≡◌, ◌+◌, ◌-◌, ◌*◌, ◌^◌, ◌<◌, ◌≤◌, true, false, length, cond, Some, None};
 ghost use Rattle.digits.specs.Digits.{cap, capped, is_digit, is_shaped, blanks, all_blank, read_on};
 
-// Above every range: what a number that is more is read as.
-const CAP: u64 = 1_000_000_000_000_000_000;
+use digits::CAP;
 
 // The value of a digit.
 #[tactic(auto, using(crate::proofs::Blank::digit_tests))]
@@ -28,8 +27,8 @@ fn next_size(a: u64, digit: u64) -> u64
 }
 
 // The digits of s, read on after the number before. Where they may be so many that the number meets the cap, each step looks at it.
-fn read_digits<const CAPPED: bool>(s: &[u8], before: u64) -> Option<u64>
-    requires low { before ≤ cap }
+pub fn read_digits<const CAPPED: bool>(s: &[u8], before: u64) -> Option<u64>
+    requires low { CAPPED ≡ true → before ≤ cap }
     requires few { CAPPED ≡ false → (before + 1) * 10 ^ length s.now ≤ cap }
     ensures { result ≡ read_on before s.now }
 {
@@ -45,31 +44,15 @@ fn read_digits<const CAPPED: bool>(s: &[u8], before: u64) -> Option<u64>
     Some(a)
 }
 
-// The digits of s, read on after the number before; any count of them.
-pub fn read_on(s: &[u8], before: u64) -> Option<u64>
-    requires { before ≤ cap }
-    ensures { result ≡ read_on before s.now }
-{
-    read_digits::<true>(s, before)
-}
-
-// The same of digits that are too few to meet the cap.
-pub fn read_few(s: &[u8], before: u64) -> Option<u64>
-    requires { (before + 1) * 10 ^ length s.now ≤ cap }
-    ensures { result ≡ read_on before s.now }
-{
-    read_digits::<false>(s, before)
-}
-
-// Whether there are so many digits, or for 0 some and no spare zero.
+// Whether there are so many digits, or some and no spare zero.
 #[tactic(auto, using(crate::proofs::Blank::shapes), unfolding(digits::specs::Digits::is_shaped))]
-pub fn is_shaped(digits: usize, s: &[u8]) -> bool
+pub fn is_shaped(digits: Option<usize>, s: &[u8]) -> bool
     ensures { result ≡ is_shaped digits s.now }
 {
-    if digits != 0 {
-        return s.len() == digits;
+    match digits {
+        Some(digits) => s.len() == digits,
+        None => s.len() == 1 || 1 < s.len() && s[0] != b'0',
     }
-    s.len() == 1 || 1 < s.len() && s[0] != b'0'
 }
 
 // How many blanks stand first.

@@ -1,9 +1,9 @@
 // Writes a number's field, by its form.
 #![tactic(auto)]
 
-ghost use Rattle.std.specs.Prelude.{◌≡◌, ◌+◌, ◌≤◌, ◌<◌, ◌^◌, length};
+ghost use Rattle.std.specs.Prelude.{◌≡◌, ◌+◌, ◌-◌, ◌≤◌, ◌<◌, ◌^◌, true, length, unwrap_or};
 ghost use Rattle.digits.specs.Digits.{tens, whole_text, plain_text, signed_text, number_text};
-ghost use Rattle.digits.specs.Written.{Written};
+ghost use Rattle.digits.specs.Written.{put, Written};
 
 use digits::{Figure, Form};
 
@@ -11,10 +11,7 @@ use digits::{Figure, Form};
 fn more_digits(n: u64) -> usize
     ensures { (result ≡ tens n) × (result ≤ 19) }
 {
-    if n == 0 {
-        return 0;
-    }
-    n.ilog10() as usize
+    n.checked_ilog10().unwrap_or(0) as usize
 }
 
 // 10 ^ k.
@@ -26,18 +23,18 @@ fn power(k: usize) -> u64
 }
 
 // How many digits stand before the point.
-fn whole_size(digits: usize, n: u64) -> usize
+fn whole_size(digits: Option<usize>, n: u64) -> usize
     ensures { result ≡ length (whole_text digits n) }
 {
-    if digits == 0 {
-        return more_digits(n) + 1;
+    match digits {
+        Some(digits) => digits,
+        None => more_digits(n) + 1,
     }
-    digits
 }
 
 // How many bytes the number takes, without its sign and its blanks.
 fn plain_size(form: Form, n: u64) -> usize
-    requires { (form.decimals ≤ 9) × (form.digits ≤ 20) }
+    requires { (form.decimals ≤ 9) × (unwrap_or form.digits 0 ≤ 20) }
     ensures { (result ≡ length (plain_text form n)) × (result ≤ 40) }
 {
     let k = form.decimals;
@@ -49,7 +46,7 @@ fn plain_size(form: Form, n: u64) -> usize
 
 // How many bytes the number takes, without its blanks.
 fn signed_size(form: Form, z: Figure) -> usize
-    requires { (form.decimals ≤ 9) × (form.digits ≤ 20) }
+    requires { (form.decimals ≤ 9) × (unwrap_or form.digits 0 ≤ 20) }
     ensures { (result ≡ length (signed_text form z)) × (result ≤ 41) }
 {
     plain_size(form, z.size) + usize::from(z.negative)
@@ -57,56 +54,83 @@ fn signed_size(form: Form, z: Figure) -> usize
 
 // How many bytes the field takes.
 pub fn number_size(form: Form, z: Figure) -> usize
-    requires { (form.decimals ≤ 9) × (form.digits ≤ 20) }
+    requires { (form.decimals ≤ 9) × (unwrap_or form.digits 0 ≤ 20) }
     ensures { result ≡ length (number_text form z) }
 {
-    signed_size(form, z).max(form.width)
+    signed_size(form, z).max(form.width.unwrap_or(0))
 }
 
-// Writes the digits before the point.
-fn put_whole(dst: &mut [u8], at: usize, digits: usize, n: u64) -> usize
-    requires { at + length (whole_text digits n) ≤ length dst.old }
-    ensures { Written dst.old at (whole_text digits n) dst.new result }
+// Writes the digits of n before the point so that they end before a place, and says where they start.
+fn put_whole<const SMALL: bool>(
+    field: &mut [u8],
+    end: usize,
+    digits: Option<usize>,
+    n: u64,
+) -> usize
+    requires room { (length (whole_text digits n) ≤ end) × (end ≤ length field.old) }
+    requires small { SMALL ≡ true → n < 4_294_967_296 }
+    ensures { Written field.old result (whole_text digits n) field.new end }
 {
-    let k = whole_size(digits, n);
-    digits_put::put_fixed(dst, at, k, n)
+    let start = end - whole_size(digits, n);
+    digits_put::put_last::<SMALL>(&mut field[start..end], n);
+    start
 }
 
-// Writes the number without its sign.
-fn put_plain(dst: &mut [u8], at: usize, form: Form, n: u64) -> usize
-    requires decimals_bound { form.decimals ≤ 9 }
-    requires n_in_bounds { at + length (plain_text form n) ≤ length dst.old }
-    ensures { Written dst.old at (plain_text form n) dst.new result }
+// Writes the number without its sign at the end of a field, and says where it starts.
+fn put_plain<const SMALL: bool>(field: &mut [u8], form: Form, n: u64) -> usize
+    requires room { length (plain_text form n) ≤ length field.old }
+    requires small { SMALL ≡ true → n < 4_294_967_296 }
+    ensures { Written field.old result (plain_text form n) field.new (length field.old) }
 {
+    let end = field.len();
     let k = form.decimals;
     if k == 0 {
-        return put_whole(dst, at, form.digits, n);
+        return put_whole::<SMALL>(field, end, form.digits, n);
     }
-    let p = put_whole(dst, at, form.digits, n / power(k));
-    let q = digits_put::put_byte(dst, p, b'.');
-    digits_put::put_fixed(dst, q, k, n)
+    let point = end - (k + 1);
+    let whole = digits_put::put_last::<SMALL>(&mut field[point + 1..], n);
+    field[point] = b'.';
+    put_whole::<SMALL>(field, point, form.digits, whole)
 }
 
-// Writes the number with its sign.
-fn put_signed(dst: &mut [u8], at: usize, form: Form, z: Figure) -> usize
-    requires decimals_bound { form.decimals ≤ 9 }
-    requires z_in_bounds { at + length (signed_text form z) ≤ length dst.old }
-    ensures { Written dst.old at (signed_text form z) dst.new result }
+// The same, quick where the number has 32 bits, as almost all have.
+fn put_size(field: &mut [u8], form: Form, n: u64) -> usize
+    requires { length (plain_text form n) ≤ length field.old }
+    ensures { Written field.old result (plain_text form n) field.new (length field.old) }
 {
-    if z.negative {
-        let p = digits_put::put_byte(dst, at, b'-');
-        return put_plain(dst, p, form, z.size);
+    if n <= u64::from(u32::MAX) {
+        return put_plain::<true>(field, form, n);
     }
-    put_plain(dst, at, form, z.size)
+    put_plain::<false>(field, form, n)
 }
 
-// Writes the number right in its field.
+// Writes the number with its sign at the end of a field; what stands before it stays.
+pub fn put_signed(field: &mut [u8], form: Form, z: Figure)
+    requires { length (signed_text form z) ≤ length field.old }
+    ensures { field.new ≡ put field.old (length field.old - length (signed_text form z)) (signed_text form z) }
+{
+    let start = put_size(field, form, z.size);
+    if z.negative {
+        field[start - 1] = b'-';
+    }
+}
+
+// Writes the number right in its field, which is as long as its text.
+fn put_right(field: &mut [u8], form: Form, z: Figure)
+    requires { length field.old ≡ length (number_text form z) }
+    ensures { field.new ≡ number_text form z }
+{
+    field.fill(b' ');
+    put_signed(field, form, z);
+}
+
+// Writes the number's field into its place, and gives the place behind it.
 pub fn put_number(dst: &mut [u8], at: usize, form: Form, z: Figure) -> usize
-    requires decimals_bound { (form.decimals ≤ 9) × (form.digits ≤ 20) }
+    requires decimals_bound { (form.decimals ≤ 9) × (unwrap_or form.digits 0 ≤ 20) }
     requires z_in_bounds { at + length (number_text form z) ≤ length dst.old }
     ensures { Written dst.old at (number_text form z) dst.new result }
 {
-    let k = number_size(form, z) - signed_size(form, z);
-    let p = digits_put::put_blanks(dst, at, k);
-    put_signed(dst, p, form, z)
+    let end = at + number_size(form, z);
+    put_right(&mut dst[at..end], form, z);
+    end
 }

@@ -104,8 +104,8 @@ fn call_of(row: &[u64]) -> Option<Call>
             seller: row[4] as usize,
             buyer: row[5] as usize,
         })),
-        3 => Some(Call::Order(rules::creation(row[1] as usize, row[2]))),
-        4 => Some(Call::Order(rules::redemption(row[1] as usize, row[2]))),
+        3 => Some(Call::Order(rules::Kind::Creation.ask(row[1] as usize, row[2]))),
+        4 => Some(Call::Order(rules::Kind::Redemption.ask(row[1] as usize, row[2]))),
         5 => Some(Call::Value),
         _ => None,
     }

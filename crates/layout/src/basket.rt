@@ -6,20 +6,6 @@ ghost use Rattle.layout.specs.Components.{blank, component_at, places_of};
 use crate::{COMPONENT_WIDTH, Component};
 use units::{Money, Rate};
 
-// The component that stands where a day has none.
-pub fn blank_component() -> Component
-    ensures { result ≡ blank }
-{
-    Component {
-        code: 0,
-        quantity: 0,
-        flag: 0,
-        premium: Rate(0),
-        discount: Rate(0),
-        amount: Money(0),
-    }
-}
-
 // The i-th component of a run.
 #[tactic(auto, unfolding(crate::specs::Components::component_at))]
 pub fn component_at(run: &[u64], i: usize) -> Component
@@ -31,9 +17,9 @@ pub fn component_at(run: &[u64], i: usize) -> Component
         code: run[at],
         quantity: run[at + 1],
         flag: run[at + 2],
-        premium: Rate::new(run[at + 3]),
-        discount: Rate::new(run[at + 4]),
-        amount: Money::new(run[at + 5]),
+        premium: Rate(run[at + 3]),
+        discount: Rate(run[at + 4]),
+        amount: Money(run[at + 5]),
     }
 }
 

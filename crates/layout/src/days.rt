@@ -74,6 +74,13 @@ impl<'a> DayView<'a> {
         DayView { head, basket }
     }
 
+    // Its head.
+    pub fn head(&self) -> DayHead
+        ensures { result ≡ record { accounts = self.now.accounts; count = self.now.count; fund = self.now.fund } }
+    {
+        self.head
+    }
+
     pub fn accounts(&self) -> usize
         ensures { result ≡ self.now.accounts }
     {

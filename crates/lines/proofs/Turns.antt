@@ -1,15 +1,17 @@
 -- What the code's loops and chains of tests say: of a line's length byte by byte, and of two words and of a test at each byte.
-use Rattle.std.proofs.Common.{◌≡◌, refl, sym, ◌∙◌, ℕ, suc, ◌+◌, ◌≤◌, ◌<◌, Bool, true, false, ◌&&◌, eqb, List, [], ◌∷◌, ◌++◌, length, get_or, drop, drop_of_length-le, add-one, arith, drop-cons, zip}
+use Rattle.std.proofs.Common.{◌≡◌, refl, sym, ap, ap₂, ◌∙◌, ℕ, zero, suc, ◌+◌, ◌≤◌, ◌<◌, zero-le, zero-add, Bool, true, false, ◌&&◌, eqb, eq-eqb, eqb-true, lt-ltb, le-ltb, List, [], ◌∷◌, ◌++◌, map, length, length-take, get_or, take, drop, drop_of_length-le, add-one, arith, drop-cons, Option, Some, None, MatchOption, ◌↔◌}
+use Rattle.std.proofs.lemmas.Bool.Decides.{nat_tests}
+use Rattle.std.specs.Char.{to_ascii_lowercase}
 use Rattle.std.specs.List.{list_all}
 use Rattle.std.specs.Cmp.Lexicographic.{pointwise}
 use native.Mathlib.Nat.{add-zero}
-use mathlib.Core.Bool.{and-true, and_assoc}
+use mathlib.Core.Bool.{and-true, and_assoc, and-eq-true_iff, false≢true}
 use lib.Seq.{get_or-drop}
-use Rattle.sequences.proofs.Every.{false_of}
-use Rattle.lines.specs.Lines.{end_at, len_after, line_len, same_by, all_bytes}
-use Rattle.lines.proofs.Laws.{same_length}
+use Rattle.sequences.specs.Every.{inside}
+use Rattle.lines.specs.Lines.{end_at, len_after, line_len, ended, first_line, lower, same_by, same_in_any_case, all_bytes}
+use Rattle.lines.proofs.Laws.{line_room}
 
--- `line_len`: no 0D 0A stands before i.
+-- A search for a line's end: no 0D 0A stands before i.
 
 module _ (s : List ℕ) (i : ℕ) (h : i < length s) where
   line_at : line_len (drop i s) ≡ len_after (end_at s i) (line_len (drop (i + 1) s))
@@ -18,15 +20,47 @@ module _ (s : List ℕ) (i : ℕ) (h : i < length s) where
       let next : get_or (drop (suc i) s) 0 0 ≡ get_or s (suc i) 0 = get_or-drop (suc i) s 0 0 ∙ rw add-zero in
       rw (drop-cons s i 0, next, add-one)
 
-  pub line_ends : end_at s i ≡ true → line_len (drop i s) ≡ 0
+  line_ends : end_at s i ≡ true → line_len (drop i s) ≡ 0
   line_ends e = line_at ∙ rw e
 
-  pub line_goes_on : end_at s i ≡ false → line_len (drop i s) ≡ line_len (drop (i + 1) s) + 1
+  line_goes_on : end_at s i ≡ false → line_len (drop i s) ≡ line_len (drop (i + 1) s) + 1
   line_goes_on e = line_at ∙ rw e
 
-pub no_line : (s : List ℕ) (i : ℕ) → length s ≤ i → line_len (drop i s) ≡ 0
+no_line : (s : List ℕ) (i : ℕ) → length s ≤ i → line_len (drop i s) ≡ 0
 unfolding line_len
 no_line s i h = rw (drop_of_length-le s h)
+
+passed : (s : List ℕ) (i : ℕ) → i ≤ length s → ((k : ℕ) → k < i → end_at s k ≡ false) → line_len s ≡ i + line_len (drop i s)
+passed s zero h none = sym (zero-add (line_len s))
+passed s (suc i) h none =
+    let before = passed s i (omega arith) (λ k l. none k (omega arith)) in
+    let here : line_len (drop i s) ≡ line_len (drop (suc i) s) + 1 =
+    line_goes_on s i h (none i (omega arith)) ∙ ap (λ (k : ℕ). line_len (drop k s) + 1) (add-one i)
+    in
+    omega (arith, before, here)
+
+-- what the search finds is the line's length, and where it finds none no line ends
+pub end_found : (s : List ℕ) (r : Option ℕ)
+    → MatchOption r ((k : ℕ) → 0 ≤ k → k < length s → end_at s k ≡ false)
+    (λ i. (0 ≤ i) × (i < length s) × (end_at s i ≡ true) × ((k : ℕ) → 0 ≤ k → k < i → end_at s k ≡ false))
+    → MatchOption r (ended s ≡ false) (λ n. (n ≡ line_len s) × (n < length s))
+unfolding ended
+end_found s None h =
+    let all = passed s (length s) (omega arith) (λ k l. h k zero-le l) in
+    le-ltb (line_len s) (length s) (omega (arith, all))
+end_found s (Some i) h =
+    let before = passed s i (omega (arith, h.1)) (λ k l. h.3 k zero-le l) in
+    (omega (arith, before, line_ends s i h.1 h.2), h.1)
+
+-- a line of n bytes that ends, as the part of a text that it is
+pub line_part : (s : List ℕ) (n : ℕ) → n ≡ line_len s → n < length s
+    → ((ended s ≡ true) × (take n s ≡ first_line s)) × (length (take n s) + 2 ≤ length s)
+unfolding ended first_line
+line_part s n e h =
+    let short : line_len s < length s = omega (arith, e) in (
+      (lt-ltb (line_len s) (length s) short, ap (λ (k : ℕ). take k s) e),
+      omega (arith, line_room s short, length-take n s),
+    )
 
 -- Two words, which are the same after f.
 
@@ -38,15 +72,35 @@ module _ (f : ℕ → ℕ) where
   same_points (x ∷ a) [] = refl
   same_points (x ∷ a) (y ∷ b) = rw (same_points a b)
 
-  pub same_pairs : (a b : List ℕ) → length a ≡ length b → list_all (λ (p : ℕ × ℕ). eqb (f p.0) (f p.1)) (zip a b) ≡ same_by f a b
+  -- they have the same letters after f
+  same_mapped : (a b : List ℕ) → (same_by f a b ≡ true) ↔ (map f a ≡ map f b)
   unfolding same_by
-  same_pairs [] [] e = refl
-  same_pairs [] (y ∷ b) e = absurd (omega arith)
-  same_pairs (x ∷ a) [] e = absurd (omega arith)
-  same_pairs (x ∷ a) (y ∷ b) e = rw (same_pairs a b (omega arith))
+  same_mapped [] [] = (λ e. refl, λ e. refl)
+  same_mapped [] (y ∷ b) = (λ e. absurd (false≢true e), λ e. absurd (omega (arith, ap length e)))
+  same_mapped (x ∷ a) [] = (λ e. absurd (false≢true e), λ e. absurd (omega (arith, ap length e)))
+  same_mapped (x ∷ a) (y ∷ b) =
+      let more = same_mapped a b in (
+        λ e. let p = (and-eq-true_iff (eqb (f x) (f y)) (same_by f a b)).0 e in
+            ap₂ (λ (h : ℕ) (t : List ℕ). h ∷ t) (eqb-true (f x) (f y) p.0) (more.0 p.1),
+        λ e. (and-eq-true_iff (eqb (f x) (f y)) (same_by f a b)).1
+            (eq-eqb (f x) (f y) (ap (λ (l : List ℕ). get_or l 0 0) e), more.1 (ap (drop 1) e)),
+      )
 
-  pub same_long : (a b : List ℕ) → (length a ≡ length b → ⊥) → false ≡ same_by f a b
-  same_long a b h = sym (false_of (same_by f a b) (λ e. h (same_length f a b e)))
+-- lower case as the library has it
+lower_is : (b : ℕ) → to_ascii_lowercase b ≡ lower b
+unfolding lower inside
+lower_is b = grind (arith, nat_tests)
+
+pub same_letters : (a b : List ℕ) (t : Bool) → ((t ≡ true) ↔ (map to_ascii_lowercase a ≡ map to_ascii_lowercase b)) → t ≡ same_in_any_case a b
+unfolding same_in_any_case
+same_letters a b t h =
+    let m = same_mapped to_ascii_lowercase a b in
+    by_test t (same_by to_ascii_lowercase a b) (λ e. m.1 (h.0 e)) (λ e. h.1 (m.0 e)) ∙ ap (λ (f : ℕ → ℕ). same_by f a b) (λ i b. lower_is b i)
+  where
+    by_test : (t u : Bool) → (t ≡ true → u ≡ true) → (u ≡ true → t ≡ true) → t ≡ u
+    by_test true u f g = sym (f refl)
+    by_test false true f g = g refl
+    by_test false false f g = refl
 
 -- A test at each byte.
 

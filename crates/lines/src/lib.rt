@@ -1,8 +1,8 @@
 // Lines of a text, words compared in any case, and bytes that a name may have.
 #![tactic(auto)]
 
-ghost use Rattle.std.specs.Prelude.{◌≡◌, true, ◌≤◌, ◌<◌, length};
-ghost use Rattle.lines.specs.Lines.{end_at, line_len, other_byte, lower, same, same_in_any_case, is_named, name_byte, letter_byte, all_bytes};
+ghost use Rattle.std.specs.Prelude.{◌≡◌, ◌+◌, true, false, ◌≤◌, ◌<◌, length, MatchOption, ⊤};
+ghost use Rattle.lines.specs.Lines.{end_at, line_len, ended, first_line, other_byte, same, same_in_any_case, is_named, name_byte, letter_byte, all_bytes};
 
 // Whether 0D 0A stands at i.
 #[tactic(auto, using(std::proofs::lemmas::Bool::Decides::nat_tests), unfolding(crate::specs::Lines::end_at))]
@@ -13,16 +13,20 @@ fn end_at(s: &[u8], i: usize) -> bool
     s[i] == b'\r' && i + 1 < s.len() && s[i + 1] == b'\n'
 }
 
-// How many bytes stand before the first 0D 0A; all of them where there is none.
-pub fn line_len(s: &[u8]) -> usize
-    ensures { (result ≡ line_len s.now) × (result ≤ length s.now) }
+// Where the first 0D 0A stands.
+fn end_of(s: &[u8]) -> Option<usize>
+    ensures { MatchOption result (ended s.now ≡ false) (λ n. (n ≡ line_len s.now) × (n < length s.now)) }
 {
-    for i in 0..s.len() {
-        if end_at(s, i) {
-            return i;
-        }
-    }
-    s.len()
+    (0..s.len()).find(|i| end_at(s, *i))
+}
+
+// The first line of s without its end, where it has one.
+pub fn first_line(s: &[u8]) -> Option<&[u8]>
+    ensures line { MatchOption result (ended s.now ≡ false) (λ l. (ended s.now ≡ true) × (l.now ≡ first_line s.now)) }
+    ensures room { MatchOption result ⊤ (λ l. length l.now + 2 ≤ length s.now) }
+{
+    let n = end_of(s)?;
+    Some(&s[..n])
 }
 
 // Whether no byte is 0D. There is no way out before the end, so that many bytes are tested at once.
@@ -34,19 +38,20 @@ fn has_no_return(s: &[u8]) -> bool
 
 // Whether 0D 0A stands behind n bytes, none of which is 0D.
 fn is_plain_line(s: &[u8], n: usize) -> bool
-    ensures { result ≡ true → (line_len s.now ≡ n) × (n ≤ length s.now) }
+    ensures { result ≡ true → (line_len s.now ≡ n) × (n < length s.now) }
 {
     n < s.len() && end_at(s, n) && has_no_return(&s[..n])
 }
 
-// The same as `line_len`, quick where the line has n bytes.
-pub fn likely_len(s: &[u8], n: usize) -> usize
-    ensures { (result ≡ line_len s.now) × (result ≤ length s.now) }
+// The same as `first_line`, quick where the line has n bytes.
+pub fn likely_line(s: &[u8], n: usize) -> Option<&[u8]>
+    ensures line { MatchOption result (ended s.now ≡ false) (λ l. (ended s.now ≡ true) × (l.now ≡ first_line s.now)) }
+    ensures room { MatchOption result ⊤ (λ l. length l.now + 2 ≤ length s.now) }
 {
     if is_plain_line(s, n) {
-        return n;
+        return Some(&s[..n]);
     }
-    line_len(s)
+    first_line(s)
 }
 
 // Whether the two are the same bytes.
@@ -56,25 +61,11 @@ pub fn same_bytes(a: &[u8], b: &[u8]) -> bool
     a == b
 }
 
-// A letter in lower case.
-#[tactic(auto, using(std::proofs::lemmas::Bool::Decides::nat_tests), unfolding(crate::specs::Lines::lower, sequences::specs::Every::inside))]
-fn lower_byte(b: u8) -> u8
-    ensures { result ≡ lower b }
-{
-    match b {
-        b'A'..=b'Z' => b + 32,
-        _ => b,
-    }
-}
-
 // Whether the two are the same but for the case of letters.
 fn same_name(a: &[u8], b: &[u8]) -> bool
     ensures { result ≡ same_in_any_case a.now b.now }
 {
-    a.len() == b.len()
-        && a.iter()
-            .zip(b)
-            .all(|(x, y)| lower_byte(*x) == lower_byte(*y))
+    a.eq_ignore_ascii_case(b)
 }
 
 // Whether the line is this name in any case, "=" and a value.
@@ -103,7 +94,7 @@ pub fn is_name(s: &[u8]) -> bool
 fn letter_byte(b: u8) -> bool
     ensures { result ≡ letter_byte b }
 {
-    matches!(b, b'0'..=b'9' | b'A'..=b'Z' | b'a'..=b'z')
+    b.is_ascii_alphanumeric()
 }
 
 // Whether every byte is a letter or a digit.

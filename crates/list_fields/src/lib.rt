@@ -34,7 +34,7 @@ pub fn fields_of(figures: [Figure; MOST_FIELDS]) -> ListFields
     let fund = Fund {
         first_code: figures[list_rules::CREATION_CODE].size - 1,
         basket_size: figures[list_rules::BASKET_SIZE].size,
-        max_cash_ratio: Rate::new(figures[list_rules::CASH_RATIO].size),
+        max_cash_ratio: Rate(figures[list_rules::CASH_RATIO].size),
         switch: figures[list_rules::SWITCH].size,
         estimated_cash: digits::signed_of(figures[list_rules::ESTIMATED_CASH]),
         limits: limits_of(figures),

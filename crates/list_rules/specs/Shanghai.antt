@@ -1,5 +1,5 @@
 -- The Shanghai form of the text: its table of columns, its table of fields, and which is which.
-use Rattle.std.specs.Prelude.{ℕ, Bool, true, false, List, [], ◌∷◌}
+use Rattle.std.specs.Prelude.{ℕ, Bool, true, false, List, [], ◌∷◌, Option, Some, None}
 use Rattle.flags.specs.Table.{flag_table, rate_used, amount_used}
 use Rattle.digits.specs.declared.Form.{Form}
 use Rattle.lines.specs.Words.{bytes}
@@ -12,26 +12,26 @@ use Rattle.text_rules.specs.declared.ValueKind.{ValueKind}
 use Rattle.text_rules.specs.declared.ValueKind.TheVariants.{Any, Date, ZeroOrOne}
 
 -- ---- the columns of a component line
-abbrev column : ℕ → ℕ → ℕ → Use → Column
+abbrev column : ℕ → Option ℕ → ℕ → Use → Column
 column width digits decimals used = record { width = width; digits = digits; decimals = decimals; used = used }
 
--- width, digits (0: as many as there are), decimals, and when it is used
+-- width, digits, or as many as there are, decimals, and when it is used
 unfoldable pub shanghai_columns : List Column
 shanghai_columns =
     -- code
-    column 6 6 0 Always
+    column 6 (Some 6) 0 Always
     -- name
-    ∷ column 8 0 0 Text
+    ∷ column 8 None 0 Text
     -- quantity
-    ∷ column 8 0 0 Always
+    ∷ column 8 None 0 Always
     -- flag
-    ∷ column 1 1 0 Always
+    ∷ column 1 (Some 1) 0 Always
     -- premium
-    ∷ column 7 0 5 (ByFlag rate_used)
+    ∷ column 7 None 5 (ByFlag rate_used)
     -- discount
-    ∷ column 7 0 5 (ByFlag rate_used)
+    ∷ column 7 None 5 (ByFlag rate_used)
     -- amount
-    ∷ column 12 0 3 (ByFlag amount_used)
+    ∷ column 12 None 3 (ByFlag amount_used)
     ∷ []
 
 -- which is which
@@ -61,31 +61,31 @@ abbrev pub name_width : ℕ
 name_width = 8
 
 -- ---- the fields of the head
-abbrev form : ℕ → ℕ → Bool → Form
-form digits decimals signed = record { digits = digits; decimals = decimals; signed = signed; width = 0 }
+abbrev form : Option ℕ → ℕ → Bool → Form
+form digits decimals signed = record { digits = digits; decimals = decimals; signed = signed; width = None }
 
 abbrev field : List ℕ → Form → ValueKind → Field
 field name f kind = record { name = name; form = f; kind = kind }
 
 -- a whole number, so many digits, money with two decimals, and the same with a sign
 abbrev whole : Form
-whole = form 0 0 false
+whole = form None 0 false
 
 abbrev fixed_digits : ℕ → Form
-fixed_digits digits = form digits 0 false
+fixed_digits digits = form (Some digits) 0 false
 
 abbrev money : Form
-money = form 0 2 false
+money = form None 2 false
 
 abbrev signed_money : Form
-signed_money = form 0 2 true
+signed_money = form None 2 true
 
 -- name, form and kind
 unfoldable pub shanghai_fields : List Field
 shanghai_fields =
     field (bytes "Fundid1") (fixed_digits 6) Any
     ∷ field (bytes "CreationRedemptionUnit") whole Any
-    ∷ field (bytes "MaxCashRatio") (form 0 5 false) Any
+    ∷ field (bytes "MaxCashRatio") (form None 5 false) Any
     ∷ field (bytes "Publish") whole ZeroOrOne
     ∷ field (bytes "CreationRedemption") whole Any
     ∷ field (bytes "Recordnum") whole Any
@@ -94,7 +94,7 @@ shanghai_fields =
     ∷ field (bytes "PreTradingDay") (fixed_digits date_digits) Date
     ∷ field (bytes "CashComponent") signed_money Any
     ∷ field (bytes "NAVperCU") money Any
-    ∷ field (bytes "NAV") (form 0 4 false) Any
+    ∷ field (bytes "NAV") (form None 4 false) Any
     ∷ field (bytes "CreationLimit") whole Any
     ∷ field (bytes "RedemptionLimit") whole Any
     ∷ field (bytes "CreationLimitPerUser") whole Any

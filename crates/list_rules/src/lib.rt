@@ -50,49 +50,49 @@ const COLUMNS: [Column; COLUMN_COUNT] = [
     // Code.
     Column {
         width: 6,
-        digits: 6,
+        digits: Some(6),
         decimals: 0,
         used: Use::Always,
     },
     // Name.
     Column {
         width: NAME_WIDTH,
-        digits: 0,
+        digits: None,
         decimals: 0,
         used: Use::Text,
     },
     // Quantity.
     Column {
         width: 8,
-        digits: 0,
+        digits: None,
         decimals: 0,
         used: Use::Always,
     },
     // Flag.
     Column {
         width: 1,
-        digits: 1,
+        digits: Some(1),
         decimals: 0,
         used: Use::Always,
     },
     // Premium.
     Column {
         width: 7,
-        digits: 0,
+        digits: None,
         decimals: 5,
         used: Use::ByFlag(flags::Column::RateUsed as usize),
     },
     // Discount.
     Column {
         width: 7,
-        digits: 0,
+        digits: None,
         decimals: 5,
         used: Use::ByFlag(flags::Column::RateUsed as usize),
     },
     // Amount.
     Column {
         width: 12,
-        digits: 0,
+        digits: None,
         decimals: 3,
         used: Use::ByFlag(flags::Column::AmountUsed as usize),
     },
@@ -132,15 +132,15 @@ pub const LIMITS: usize = 12;
 
 // Their forms: a whole number, a code of six digits, a date, and with decimals a ratio, a unit's value and money.
 const WHOLE: Form = Form {
-    digits: 0,
+    digits: None,
     decimals: 0,
     signed: false,
-    width: 0,
+    width: None,
 };
 
-const CODE: Form = Form { digits: 6, ..WHOLE };
+const CODE: Form = Form { digits: Some(6), ..WHOLE };
 
-const DATE: Form = Form { digits: 8, ..WHOLE };
+const DATE: Form = Form { digits: Some(8), ..WHOLE };
 
 const RATIO: Form = Form {
     decimals: 5,

@@ -24,11 +24,7 @@ fn end_stands(text: &[u8], at: usize) -> bool
     requires { at ≤ length text.now }
     ensures { result ≡ line_stands (λ l. same l end_word) text.now at }
 {
-    let n = lines::line_len(&text[at..]);
-    if text.len() - at <= n {
-        return false;
-    }
-    lines::same_bytes(&text[at..at + n], b"ENDENDEND")
+    lines::first_line(&text[at..]).is_some_and(|line| lines::same_bytes(line, b"ENDENDEND"))
 }
 
 // Refusal 18 behind the head.

@@ -45,19 +45,19 @@ impl Call {
             })),
             (Tag::Value, 0) => Ok(Call::Value),
             (Tag::Create, 5) => Ok(Call::Order(Order::with_room(
-                rules::creation(account, units),
+                rules::Kind::Creation.ask(account, units),
                 item,
             )?)),
             (Tag::Redeem, 5) => Ok(Call::Order(Order::with_room(
-                rules::redemption(account, units),
+                rules::Kind::Redemption.ask(account, units),
                 item,
             )?)),
             (Tag::TestCreate, 5) => Ok(Call::Test(Order::new(
-                rules::creation(account, units),
+                rules::Kind::Creation.ask(account, units),
                 item,
             ))),
             (Tag::TestRedeem, 5) => Ok(Call::Test(Order::new(
-                rules::redemption(account, units),
+                rules::Kind::Redemption.ask(account, units),
                 item,
             ))),
             _ => Err(Fault::BadInput),

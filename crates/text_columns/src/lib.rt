@@ -1,12 +1,13 @@
 // One component line, by a table of columns: its width and bars, and what a column with a number says.
 #![tactic(auto)]
 
-ghost use Rattle.std.specs.Prelude.{◌≡◌, ◌-◌, ◌≤◌, ◌<◌, length};
+ghost use Rattle.std.specs.Prelude.{◌≡◌, ◌-◌, ◌≤◌, length};
 ghost use Rattle.digits.specs.Digits.{all_blank, size_reading};
 ghost use Rattle.text_rules.specs.Columns.{line_width, is_row};
 ghost use Rattle.text_rules.specs.Well.{most_width};
-ghost use Rattle.text_columns.specs.Read.{right_form, number_size, cell_size};
+ghost use Rattle.text_columns.specs.Read.{cell_size};
 
+use digits::Form;
 use text_rules::{BAR, Columns};
 
 // Whether the line has its width and its bars.
@@ -32,58 +33,31 @@ pub fn is_row(columns: &Columns, width: usize, line: &[u8]) -> bool
 pub fn flag_digit(b: u8) -> u64
     ensures { result ≡ b - 48 }
 {
-    u64::from(b.saturating_sub(48))
-}
-
-// A whole number of n digits, or for 0 of as many as there are, right in its column.
-fn read_right(n: usize, s: &[u8]) -> Option<u64>
-    requires { length s.now ≤ most_width }
-    ensures { result ≡ number_size (right_form n 0) s.now }
-{
-    let b = digits_scan::leading_blanks(s);
-    let t = &s[b..];
-    if !digits_scan::is_shaped(n, t) {
-        return None;
-    }
-    digits_scan::read_few(t, 0)
-}
-
-// A number with decimals, right in its column, so that the point stands at a known place.
-#[tactic(auto, using(crate::proofs::Numbers::point_missing))]
-fn read_point(decimals: usize, s: &[u8]) -> Option<u64>
-    requires { (0 < decimals) × (decimals < length s.now) × (length s.now ≤ most_width) }
-    ensures { result ≡ number_size (right_form 0 decimals) s.now }
-{
-    let p = s.len() - (decimals + 1);
-    if s[p] != 46 {
-        return None;
-    }
-    let head = read_right(0, &s[..p])?;
-    digits_scan::read_few(&s[p + 1..], head)
+    u64::from(b.saturating_sub(b'0'))
 }
 
 // 0 for a column of blanks.
 fn read_blanks(s: &[u8]) -> Option<u64>
     ensures { result ≡ size_reading (all_blank s.now) 0 }
 {
-    if digits_scan::is_blank(s) {
-        Some(0)
-    } else {
-        None
-    }
+    digits_scan::is_blank(s).then_some(0)
 }
 
-// The number of a column, with so many digits (0: as many as there are) and decimals; 0 for its blanks where it is not used.
-pub fn read_cell(used: bool, digits: usize, decimals: usize, s: &[u8]) -> Option<u64>
-    requires s_len_bound { length s.now ≤ most_width }
-    requires digits_value { 0 < decimals → (digits ≡ 0) × (decimals < length s.now) }
+// The number of a column, with so many digits, or as many as there are, and so many decimals; 0 for its blanks where it is not used.
+pub fn read_cell(used: bool, digits: Option<usize>, decimals: usize, s: &[u8]) -> Option<u64>
+    requires { length s.now ≤ most_width }
     ensures { result ≡ cell_size used digits decimals s.now }
 {
     if !used {
         return read_blanks(s);
     }
-    if decimals == 0 {
-        return read_right(digits, s);
-    }
-    read_point(decimals, s)
+    let form = Form {
+        digits,
+        decimals,
+        signed: false,
+        width: None,
+    };
+    let b = digits_scan::leading_blanks(s);
+    // A column is too narrow for the cap.
+    digits_reading::read_plain::<false>(form, &s[b..])
 }

@@ -32,14 +32,10 @@ pub fn is_opening(line: &[u8]) -> bool
 pub fn letters(text: &[u8]) -> &[u8]
     ensures { result.now ≡ letters_read text.now }
 {
-    let n = lines::line_len(text);
-    if text.len() <= n {
-        return &text[..0];
+    match lines::first_line(text) {
+        Some(line) if is_opening(line) => &line[text_rules::LETTERS_START..line.len() - 1],
+        _ => &text[..0],
     }
-    if !is_opening(&text[..n]) {
-        return &text[..0];
-    }
-    &text[text_rules::LETTERS_START..n - 1]
 }
 
 // Whether a component line with its end stands at a place.
@@ -48,11 +44,10 @@ fn row_stands(columns: &Columns, width: usize, text: &[u8], at: usize) -> bool
     requires at_in_bounds { at ≤ length text.now }
     ensures { result ≡ line_stands (is_row columns.now) text.now at }
 {
-    let n = lines::likely_len(&text[at..], width);
-    if text.len() - at <= n {
-        return false;
+    match lines::likely_line(&text[at..], width) {
+        Some(line) => text_columns::is_row(columns, width, line),
+        None => false,
     }
-    text_columns::is_row(columns, width, &text[at..at + n])
 }
 
 // How many component lines stand from a place on, before the first line that is none.

@@ -1,6 +1,6 @@
 -- A component line by a table of columns, each followed by "|": its parts (bytes by column) and its cells (numbers by column),
 -- reading and writing.
-use Rattle.std.specs.Prelude.{ℕ, ◌+◌, ◌-◌, Bool, true, false, cond, not, ◌&&◌, List, [], ◌∷◌, ◌++◌, eqb, length, get_or, take, drop, replicate}
+use Rattle.std.specs.Prelude.{ℕ, ◌+◌, ◌-◌, Bool, true, false, cond, not, ◌&&◌, List, [], ◌∷◌, ◌++◌, eqb, length, get_or, take, drop, replicate, Some}
 use Rattle.sequences.specs.Below.{sum_below, all_below, first_below, join_below}
 use Rattle.flags.specs.Table.{entry_in}
 use Rattle.digits.specs.declared.Form.{Form}
@@ -68,7 +68,7 @@ used_by flags flag (ByFlag column) = entry_in flags flag column
 used_by flags flag Text = true
 
 unfoldable pub number_form : Column → Form
-number_form c = record { digits = c.digits; decimals = c.decimals; signed = false; width = c.width }
+number_form c = record { digits = c.digits; decimals = c.decimals; signed = false; width = Some c.width }
 
 -- its characters are as they are to be written
 unfoldable pub is_cell : Content → Column → List ℕ → Bool

@@ -1,6 +1,6 @@
 -- The tables that a form of the text goes by: the columns of a component line and the fields of the head, whose names the code is
 -- lent by reference.
-use Rattle.std.specs.Prelude.{ℕ, Bool, false, List, [], get_or, map}
+use Rattle.std.specs.Prelude.{ℕ, Bool, false, List, [], get_or, map, None}
 use Rattle.digits.specs.declared.Form.{Form}
 use Rattle.text_rules.specs.declared.Use.TheVariants.{Always}
 use Rattle.text_rules.specs.declared.Column.{Column}
@@ -34,10 +34,10 @@ fields_of fs = map field_of fs
 
 -- ---- past the end of a table
 abbrev pub no_column : Column
-no_column = record { width = 0; digits = 0; decimals = 0; used = Always }
+no_column = record { width = 0; digits = None; decimals = 0; used = Always }
 
 abbrev pub no_field : Field
-no_field = record { name = []; form = record { digits = 0; decimals = 0; signed = false; width = 0 }; kind = Any }
+no_field = record { name = []; form = record { digits = None; decimals = 0; signed = false; width = None }; kind = Any }
 
 unfoldable pub column_at : List Column → ℕ → Column
 column_at cs k = get_or cs k no_column

@@ -1,5 +1,5 @@
 -- Well-made tables: what the theorems on a form and its code ask of them. A test that is computed once for each form.
-use Rattle.std.specs.Prelude.{ℕ, ◌+◌, Bool, true, false, ◌&&◌, ◌||◌, List, [], ◌∷◌, leb, ltb, eqb, length}
+use Rattle.std.specs.Prelude.{ℕ, ◌+◌, Bool, true, false, ◌&&◌, ◌||◌, List, [], ◌∷◌, leb, ltb, eqb, length, Option, Some, None, is_none, unwrap_or}
 use Rattle.sequences.specs.Below.{all_below}
 use Rattle.sequences.specs.Every.{every}
 use Rattle.lines.specs.Lines.{other_byte, all_bytes}
@@ -26,13 +26,18 @@ most_digits = 20
 abbrev pub most_fields : ℕ
 most_fields = 24
 
+-- a number of so many digits fills a column of that width, with no decimals
+unfoldable pub digits_fill : Option ℕ → ℕ → ℕ → Bool
+digits_fill None width decimals = true
+digits_fill (Some digits) width decimals = eqb digits width && eqb decimals 0
+
 -- a column is not empty and not too wide; a number of so many digits fills it, and one with decimals has room for its point
 unfoldable pub column_well : Column → Bool
 column_well c =
     every
     (ltb 0 c.width
     ∷ leb c.width most_width
-    ∷ (eqb c.digits 0 || (eqb c.digits c.width && eqb c.decimals 0))
+    ∷ digits_fill c.digits c.width c.decimals
     ∷ (eqb c.decimals 0 || (leb c.decimals most_decimals && ltb (c.decimals + 1) c.width))
     ∷ [])
 
@@ -50,7 +55,7 @@ flag_well cs k =
     every
     (ltb k (length cs)
     ∷ eqb (column_at cs k).width 1
-    ∷ eqb (column_at cs k).digits 1
+    ∷ eqb (unwrap_or (column_at cs k).digits 0) 1
     ∷ is_always (column_at cs k).used
     ∷ [])
 
@@ -58,8 +63,8 @@ flag_well cs k =
 unfoldable pub field_well : Field → Bool
 field_well f =
     every
-    (eqb f.form.width 0
-    ∷ leb f.form.digits most_digits
+    (is_none f.form.width
+    ∷ leb (unwrap_or f.form.digits 0) most_digits
     ∷ leb f.form.decimals most_decimals
     ∷ leb (length f.name) most_line
     ∷ all_bytes other_byte f.name

@@ -38,11 +38,11 @@ impl Use {
     }
 }
 
-// A column of a component line. Its number has so many digits (0: as many as there are) and decimals.
+// A column of a component line. Its number has so many digits, or as many as there are, and so many decimals.
 #[derive(Clone, Copy)]
 pub struct Column {
     pub width: usize,
-    pub digits: usize,
+    pub digits: Option<usize>,
     pub decimals: usize,
     pub used: Use,
 }

@@ -5,6 +5,7 @@ use mathlib.Core.List.{List, [], ◌∷◌}
 use Prim.Native.Nat.{ℕ, ◌+◌, ◌-◌, ◌*◌, ◌≤◌, ◌<◌}
 use native.Mathlib.Nat.{div-one, mod-eq_of_lt}
 use native.Mathlib.Omega.{arith}
+use Rattle.std.specs.Prelude.{Some}
 use lib.Dec.{eqb}
 use lib.ListN.{get_or, drop}
 use borrow.Author.Tests.{le-leb}
@@ -12,8 +13,8 @@ use Rattle.sequences.specs.Every.{inside}
 use Rattle.sequences.proofs.Every.{every_at, inside_facts}
 use Rattle.flags.specs.Table.{entry_in}
 use Rattle.digits.specs.declared.Form.{Form}
-use Rattle.digits.specs.Digits.{plain, fixed, whole_text, plain_text, signed_text, number_text, cap, capped, from, blanks, is_digit, all_digits, is_shaped, is_whole, is_plain, plain_size}
-use Rattle.digits.specs.Digits.{has_minus, is_signed, signed_figure, trimmed, is_number, figure_of}
+use Rattle.digits.specs.Digits.{plain, fixed, whole_text, plain_text, signed_text, blanks_left, number_text, cap, capped, from, blanks, is_digit, all_digits, is_shaped, is_whole, is_plain, plain_size}
+use Rattle.digits.specs.Digits.{has_minus, is_signed, signed_figure, trimmed_by, trimmed, is_number, figure_of}
 use Rattle.digits.specs.Fits.{Fits}
 use Rattle.text_rules.specs.declared.Use.{Use}
 use Rattle.text_rules.specs.declared.Use.TheVariants.{Always, ByFlag, Text}
@@ -41,19 +42,19 @@ content_holds flags flag Text = refl
 -- Columns of one digit.
 
 abbrev pub one_digit : Form
-one_digit = record { digits = 1; decimals = 0; signed = false; width = 1 }
+one_digit = record { digits = Some 1; decimals = 0; signed = false; width = Some 1 }
 
-one_digit_lem : (c : Column) → WellColumn c → c.width ≡ 1 → c.digits ≡ 1 → number_form c ≡ one_digit
+one_digit_lem : (c : Column) → WellColumn c → c.width ≡ 1 → c.digits ≡ Some 1 → number_form c ≡ one_digit
 unfolding number_form
 one_digit_lem c w p q =
-    let r = (w.digits (λ e. omega (arith, q))).1 in
-    λ i. record { digits = q i; decimals = r i; signed = false; width = p i }
+    let r = (w.digits 1 q).1 in
+    λ i. record { digits = q i; decimals = r i; signed = false; width = Some (p i) }
 
 -- the byte that is written for a number that fits
 pub digit_written : (n : ℕ) → Fits one_digit (plain n) → get_or (number_text one_digit (plain n)) 0 0 - 48 ≡ n
-unfolding number_text signed_text plain_text whole_text fixed
+unfolding number_text blanks_left signed_text plain_text whole_text fixed
 digit_written n f =
-    let low : n < 10 = rw (div-one n) at (f.digits (λ e. omega arith)) in
+    let low : n < 10 = rw (div-one n) at (f.digits 1 refl) in
     rw (div-one n, mod-eq_of_lt {n = n} {m = 10} low) (omega arith)
 
 -- the number that a byte says
@@ -70,7 +71,7 @@ digit_cases b false e =
     digit_size b (inside_facts 48 57 b ((and-eq-true_iff (inside 48 57 b) true).0 (every_at _ e 1)).0).1
 
 pub digit_figure : (b : ℕ) → is_number one_digit (b ∷ []) ≡ true → (figure_of one_digit (b ∷ [])).size ≡ b - 48
-unfolding is_number figure_of trimmed blanks
+unfolding is_number figure_of trimmed trimmed_by blanks
 digit_figure b e = digit_cases b (eqb b 32) e
 
 -- The flag's column of a well-made form.

@@ -1,18 +1,18 @@
 -- A column as it is read, by what it has: its number is below the cap, since it is narrow, and it is written again.
 use mathlib.Core.Path.{◌≡◌, refl, sym, ap, ◌∙◌, subst}
-use mathlib.Core.Bool.{Bool, true, false, cond, true≢false}
+use mathlib.Core.Bool.{Bool, true, false, true≢false}
 use mathlib.Core.List.{List, [], ◌∷◌, ◌++◌}
 use Prim.Native.Nat.{ℕ, ◌+◌, ◌-◌, ◌*◌, ◌^◌, ◌≤◌, ◌<◌}
 use native.Mathlib.Nat.{le_refl, pow-le-pow_right}
 use native.Mathlib.Decide.{ℕ_discrete}
 use native.Mathlib.Omega.{arith}
-use lib.Dec.{eqb}
+use Rattle.std.specs.Prelude.{Option, Some, None}
 use lib.ListN.{length, take, drop, replicate, length-append, length-take, length-drop}
 use borrow.Author.Tests.{eq-eqb, ne_eqb}
 use Rattle.sequences.proofs.Every.{every_at}
 use Rattle.digits.specs.declared.Form.{Form}
 use Rattle.digits.specs.declared.Figure.{Figure}
-use Rattle.digits.specs.Digits.{plain, cap, capped, from, blanks, all_digits, point_at, is_plain, plain_size, is_signed, signed_figure, trimmed, is_number, figure_of, number_text}
+use Rattle.digits.specs.Digits.{plain, cap, capped, from, blanks, all_digits, point_at, is_plain, plain_size, is_signed, signed_figure, trimmed_by, trimmed, is_number, figure_of, number_text}
 use Rattle.digits.proofs.Read.{capped_small, whole_facts}
 use Rattle.digits.proofs.Count.{digits-cons, from_below}
 use Rattle.digits.proofs.Sign.{minus_unsigned}
@@ -50,22 +50,22 @@ plain_small f s e h = elim (ℕ_discrete f.decimals 0) [
   | no z ↦
       let p : ℕ = point_at f.decimals s in
       let at = every_at _ (rw (ne_eqb f.decimals 0 z) at e) in
-      let front : all_digits (take p s) ≡ true = (whole_facts f.digits (take p s) (at 0)).1 in
+      let front : all_digits (take p s) ≡ true = (whole_facts f.digits (take p s) (at 1)).1 in
       let size : length (take p s ++ drop (p + 1) s) ≤ most_width =
       omega (arith, length-append (take p s) (drop (p + 1) s), length-take p s, length-drop (p + 1) s) in
       rw (ne_eqb f.decimals 0 z)
       (subst (λ (n : ℕ). capped n < cap) (from-append (take p s) (drop (p + 1) s) 0)
-      (digits_small (take p s ++ drop (p + 1) s) (digits_append (take p s) (drop (p + 1) s) front (at 2)) size))
+      (digits_small (take p s ++ drop (p + 1) s) (digits_append (take p s) (drop (p + 1) s) front (at 3)) size))
 ]
 
 -- without the blanks at the left
 trimmed_short : (f : Form) (s : List ℕ) → length (trimmed f s) ≤ length s
-unfolding trimmed
-trimmed_short f s = case (eqb f.width 0)
+unfolding trimmed trimmed_by
+trimmed_short f s = by_width f.width
   where
-    case : (b : Bool) → length (cond b s (drop (blanks s) s)) ≤ length s
-    case true = le_refl (length s)
-    case false = omega (arith, length-drop (blanks s) s)
+    by_width : (width : Option ℕ) → length (trimmed_by width s) ≤ length s
+    by_width None = le_refl (length s)
+    by_width (Some width) = omega (arith, length-drop (blanks s) s)
 
 number_small : (f : Form) (s : List ℕ) → f.signed ≡ false → length s ≤ most_width → is_number f s ≡ true → (figure_of f s).size < cap
 unfolding is_number figure_of is_signed signed_figure
@@ -96,7 +96,7 @@ module _ (c : Column) (s : List ℕ) where
     unfolding number_form
     number_written e =
         ap (number_text (number_form c)) (plain_is (figure_of (number_form c) s) (no_sign (number_form c) s _ e refl refl))
-        ∙ number_again (number_form c) s e (number_small (number_form c) s refl (omega (arith, well.narrow)) e) (λ _. long)
+        ∙ number_again (number_form c) s e (number_small (number_form c) s refl (omega (arith, well.narrow)) e) (λ w h. long ∙ cc)
 
     pub cell_again : (x : Content) (b : Bool) (n : ℕ) (r : List ℕ) → Holds x b → is_cell x c s ≡ true
         → (b ≡ false → n ≡ cell_of x c s) → (b ≡ true → r ≡ s) → cell_text x c n r ≡ s

@@ -5,6 +5,7 @@ use mathlib.Core.List.{List, [], ◌∷◌, ◌++◌}
 use Prim.Native.Nat.{ℕ, suc, ◌+◌, ◌-◌, ◌≤◌, ◌<◌}
 use native.Mathlib.Nat.{le_of_lt}
 use native.Mathlib.Omega.{arith}
+use Rattle.std.proofs.lemmas.Option.{none-some}
 use lib.ListN.{length, get_or, take, drop, length-append, length-take, length-drop, take-append-drop, drop_of_length-le}
 use lib.Seq.{length-take-le, split_at, get_or-drop, drop_at}
 use borrow.Author.Tests.{eqb-true}
@@ -127,7 +128,7 @@ module _ (t : TextForm) (text : List ℕ) (well : WellForm t) (r : Reads t text)
     field_again k h =
         number_again (field_at t.fields k).form (word_of t.fields text k)
         ((and-eq-true_iff (is_number (field_at t.fields k).form (word_of t.fields text k)) _).0 (r.fields k h)).0 (small k h)
-        (λ w. absurd (w (field_well_lem t.fields well.fields k h).free))
+        (λ w e. absurd (none-some w (sym (field_well_lem t.fields well.fields k h).free ∙ e)))
 
     first_again : written 0 ≡ renamed_line t.fields text 0
     unfolding head_line renamed_line start_of inside

@@ -3,7 +3,6 @@ use mathlib.Core.Path.{◌≡◌, refl, sym, ap}
 use mathlib.Core.Bool.{Bool, true, false, false≢true, true≢false}
 use mathlib.Core.List.{List}
 use Prim.Native.Nat.{ℕ, zero, suc}
-use native.Mathlib.Omega.{arith}
 use lib.ListN.{length, replicate, length-replicate}
 use Rattle.digits.specs.declared.Figure.{Figure}
 use Rattle.digits.specs.Digits.{plain}
@@ -29,7 +28,7 @@ module _ (c : Column) (n : ℕ) (s : List ℕ) where
       → length (cell_text x c n s) ≡ c.width
   unfolding cell_text number_form
   cell_wide words_cell b w h long f = long h
-  cell_wide number_cell b w h long f = number_width (number_form c) (plain n) f (λ e. omega (arith, w.some))
+  cell_wide number_cell b w h long f = number_width (number_form c) (plain n) f c.width refl
   cell_wide blank_cell b w h long f = length-replicate c.width 32
 
   -- it is as it is to be written

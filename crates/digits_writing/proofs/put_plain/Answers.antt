@@ -1,37 +1,43 @@
--- `digits_writing::put_plain` meets its contract: the digits before the point, the point, and the decimals, one behind the other.
-use mathlib.Core.Path.{ap}
-use native.Mathlib.Omega.{arith}
-use lib.ListN.{length}
-use Rattle.digits.proofs.Count.{power_positive}
-use Rattle.digits.proofs.Write.{plain_free, free_put, plain-length, plain-put}
+-- `digits_writing::put_plain` meets its contract: the decimals, the point, and the digits before it, one before the other.
+use Rattle.std.proofs.Common.{ap, length, rules, arith}
+use Rattle.digits.specs.Digits.{whole_text}
+use Rattle.digits.proofs.Write.{plain_free, free_put}
+use Rattle.digits_writing.proofs.Ending.{point_room, whole_left, tail_long, pointed_long, plain_written}
 use Rattle.digits_writing.proofs.put_plain.Goals as goal
 
-pub put_whole-requires : goal.put_whole-requires
-put_whole-requires c = let a = c.args in omega (arith, ap length (plain_free a.form a.n c.if-k-eq0.true))
+pub put_whole-requires-clause-room : goal.put_whole-requires-clause-room
+put_whole-requires-clause-room g c = (omega (arith, c.requires.room, ap length (plain_free c.args.form c.args.n c.if-k-eq0.true)), omega arith)
 
 pub returns-then-k-eq0 : goal.returns-then-k-eq0
-returns-then-k-eq0 c = free_put _ _ c.if-k-eq0.true c.put_whole.ensures
+returns-then-k-eq0 g c = free_put _ _ c.if-k-eq0.true c.put_whole.ensures
 
-pub nonzero_div-n : goal.nonzero_div-n
-nonzero_div-n c = omega (arith, power_positive c.args.form.decimals)
+pub overflow_add-point : goal.overflow_add-point
+overflow_add-point g c = let r = point_room _ _ _ c.if-k-eq0.false c.requires.room in search rules
 
-pub put_whole-p-requires : goal.put_whole-p-requires
-put_whole-p-requires c =
-    let a = c.args in
-    omega (arith, plain-length a.form a.n c.if-k-eq0.false c.power.result c.power.ensures)
+pub overflow_sub-point : goal.overflow_sub-point
+overflow_sub-point g c = (point_room _ _ _ c.if-k-eq0.false c.requires.room).0
 
-pub put_byte-q-requires : goal.put_byte-q-requires
-put_byte-q-requires c =
-    let a = c.args in
-    omega (arith, plain-length a.form a.n c.if-k-eq0.false c.power.result c.power.ensures, c.put_whole-p.ensures.next)
+pub slice_bounds-put_last-count : goal.slice_bounds-put_last-count
+slice_bounds-put_last-count g c = omega (arith, (point_room _ _ _ c.if-k-eq0.false c.requires.room).0)
 
-pub put_fixed-requires : goal.put_fixed-requires
-put_fixed-requires c =
-    let a = c.args in
-    let long = plain-length a.form a.n c.if-k-eq0.false c.power.result c.power.ensures in
-    omega (arith, long, c.put_whole-p.ensures.next, c.put_byte-q.ensures.next)
+pub slice_bounds-put_last-start : goal.slice_bounds-put_last-start
+slice_bounds-put_last-start g c = let r = point_room _ _ _ c.if-k-eq0.false c.requires.room in search rules
+
+pub bounds-field-point : goal.bounds-field-point
+bounds-field-point g c =
+    let r = point_room _ _ _ c.if-k-eq0.false c.requires.room in
+    omega (arith, r, tail_long _ _ _ c.if-k-eq0.false c.requires.room c.put_last-whole.ensures.bytes c.put_last-whole.ensures.left)
+
+pub put_whole-requires-2-clause-room : goal.put_whole-requires-2-clause-room
+put_whole-requires-2-clause-room g c =
+    let l = c.put_last-whole.ensures in
+    let r = point_room _ _ _ c.if-k-eq0.false c.requires.room in
+    let whole = whole_left _ _ _ c.if-k-eq0.false c.requires.room l.bytes l.left in (
+      omega (arith, r, ap (λ k. length (whole_text c.args.form.digits k)) whole),
+      omega (arith, r, pointed_long _ _ _ c.if-k-eq0.false c.requires.room l.bytes l.left),
+    )
 
 pub returns : goal.returns
-returns c =
-    plain-put _ _ c.if-k-eq0.false _ c.power.ensures c.requires.n_in_bounds
-    c.put_whole-p.ensures c.put_byte-q.ensures c.put_fixed.ensures
+returns g c =
+    let l = c.put_last-whole.ensures in
+    plain_written _ _ _ c.if-k-eq0.false c.requires.room l.bytes l.left c.put_whole-2.ensures

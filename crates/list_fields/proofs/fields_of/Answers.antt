@@ -1,5 +1,5 @@
 -- `list_fields::fields_of` meets its contract: it takes the figures in the order of the definition.
-use mathlib.Core.Path.{◌≡◌, ◌∙◌}
+use mathlib.Core.Path.{◌≡◌, refl, ◌∙◌}
 use native.Mathlib.Omega.{arith}
 use lib.ListN.{get_or}
 use mir.Syntax.{w64}
@@ -22,7 +22,7 @@ returns c =
     let first : to_z w64 (of_z w64 c.signed_of.result) ≡ c.signed_of.result = search rules in
     let second : to_z w64 (of_z w64 c.signed_of-2.result) ≡ c.signed_of-2.result = search rules in
     parts_same (fields_from (λ k. get_or c.args.figures k (plain 0)))
-    c.new.ensures
+    refl
     (first ∙ c.signed_of.ensures)
     (second ∙ c.signed_of-2.ensures)
     c.limits_of.ensures

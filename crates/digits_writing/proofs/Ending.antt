@@ -1,0 +1,119 @@
+-- A number that ends a field: its parts are written from the right.
+use Rattle.std.proofs.Common.{◌≡◌, refl, sym, ap, ◌∙◌, ℕ, ◌+◌, ◌-◌, ◌/◌, ◌^◌, ◌≤◌, true, false, Option, List, ◌∷◌, ◌++◌, length, take, drop, set, replicate, length-take, length-drop, length-set, arith}
+use Rattle.std.proofs.Math.ListN.{length-replicate}
+use borrow.Rule.Slice.PartMut.{put_mid}
+use Rattle.digits.specs.declared.Form.{Form}
+use Rattle.digits.specs.declared.Figure.{Figure}
+use Rattle.digits.specs.Digits.{fixed, whole_text, plain_text, signed_text, number_text}
+use Rattle.digits.specs.Written.{put, Written}
+use Rattle.digits.proofs.Put.{put-length, put_front, put-before, written_part}
+use Rattle.digits.proofs.Count.{fixed-length}
+use Rattle.digits.proofs.Write.{whole_is, plain_pointed, plain-length, signed_below, signed_above, number-length, blanks_put, blanks-put}
+
+-- digits before the point
+pub whole_put : (d : List ℕ) (end size : ℕ) (digits : Option ℕ) (n : ℕ) (xs : List ℕ) → size ≡ length (whole_text digits n) → size ≤ end
+    → end ≤ length d → xs ≡ fixed (length (take (end - (end - size)) (drop (end - size) d))) n
+    → Written d (end - size) (whole_text digits n) (put_mid (end - size) (end - (end - size)) d xs) end
+whole_put d end size digits n xs e room fits are =
+    let k : end - (end - size) ≡ size = omega arith in
+    let long : length (take (end - (end - size)) (drop (end - size) d)) ≡ size =
+    omega (arith, length-take (end - (end - size)) (drop (end - size) d), length-drop (end - size) d)
+    in
+    let same : xs ≡ whole_text digits n = are ∙ ap (λ (j : ℕ). fixed j n) (long ∙ e) ∙ whole_is digits n in
+    written_part d (end - size) (end - (end - size)) (whole_text digits n) xs end same (k ∙ e) (omega arith)
+
+-- with decimals: they and the point are written first
+module _ (f : Form) (n : ℕ) (d : List ℕ) (some : f.decimals ≡ 0 → ⊥) (room : length (plain_text f n) ≤ length d) where
+  abbrev point : ℕ
+  point = length d - (f.decimals + 1)
+
+  abbrev whole : ℕ
+  whole = n / 10 ^ f.decimals
+
+  pub point_room : (f.decimals + 1 ≤ length d) × (length (whole_text f.digits whole) ≤ point)
+  point_room = let long = plain-length f n some (10 ^ f.decimals) refl in (omega (arith, long), omega (arith, long))
+
+  -- the place of the decimals, as the code lends it
+  abbrev part : List ℕ
+  part = take (length d - (point + 1)) (drop (point + 1) d)
+
+  module _ {xs : List ℕ} (bytes : xs ≡ fixed (length part) n) {left : ℕ} (leaves : left ≡ n / 10 ^ length part) where
+    part_long : length part ≡ f.decimals
+    part_long = omega (arith, point_room.0, length-take (length d - (point + 1)) (drop (point + 1) d), length-drop (point + 1) d)
+
+    pub whole_left : left ≡ whole
+    whole_left = leaves ∙ ap (λ (k : ℕ). n / 10 ^ k) part_long
+
+    abbrev tail : List ℕ
+    tail = put_mid (point + 1) (length d - (point + 1)) d xs
+
+    tail_is : tail ≡ put d (point + 1) (fixed f.decimals n)
+    tail_is =
+        let k : length d - (point + 1) ≡ length (fixed f.decimals n) = omega (arith, point_room.0, fixed-length f.decimals n) in
+        (written_part d (point + 1) (length d - (point + 1)) (fixed f.decimals n) xs _ (bytes ∙ ap (λ (k : ℕ). fixed k n) part_long) k refl).bytes
+
+    pub tail_long : length tail ≡ length d
+    tail_long = ap length tail_is ∙ put-length d (point + 1) (fixed f.decimals n) (omega (arith, point_room.0, fixed-length f.decimals n))
+
+    pub pointed_long : length (set tail point 46) ≡ length d
+    pointed_long = length-set tail point 46 ∙ tail_long
+
+    pointed_is : set tail point 46 ≡ put d point (46 ∷ fixed f.decimals n)
+    pointed_is =
+        ap (λ (t : List ℕ). set t point 46) tail_is
+        ∙ put-before d point 46 (fixed f.decimals n) (omega (arith, point_room.0, fixed-length f.decimals n))
+
+    pub plain_written : {d' : List ℕ} {r : ℕ} → Written (set tail point 46) r (whole_text f.digits left) d' point
+        → Written d r (plain_text f n) d' (length d)
+    plain_written {d'} {r} w =
+        let xs : List ℕ = whole_text f.digits whole in
+        let ys : List ℕ = 46 ∷ fixed f.decimals n in
+        let long : point ≡ r + length xs = w.next ∙ ap (λ (k : ℕ). r + length (whole_text f.digits k)) whole_left in
+        let all = plain-length f n some (10 ^ f.decimals) refl in
+        record {
+          bytes =
+              w.bytes
+              ∙ ap (λ (k : ℕ). put (set tail point 46) r (whole_text f.digits k)) whole_left
+              ∙ ap (λ (t : List ℕ). put t r xs) (pointed_is ∙ ap (λ (p : ℕ). put d p ys) long)
+              ∙ put_front d r xs ys (omega (arith, long, point_room.0, fixed-length f.decimals n))
+              ∙ ap (put d r) (sym (plain_pointed f n some));
+          next = omega (arith, all, long, point_room.0);
+        }
+
+-- the sign before it
+module _ (f : Form) (z : Figure) (d : List ℕ) (room : length (signed_text f z) ≤ length d) {d' : List ℕ} {r : ℕ} where
+  pub sign_room : z.negative ≡ true → Written d r (plain_text f z.size) d' (length d) → (1 ≤ r) × (length d' ≡ length d)
+  sign_room e w =
+      let one = ap length (signed_below f z e) in
+      (omega (arith, one, w.next), ap length w.bytes ∙ put-length d r (plain_text f z.size) (omega (arith, w.next)))
+
+  pub sign_put : z.negative ≡ true → Written d r (plain_text f z.size) d' (length d)
+      → set d' (r - 1) 45 ≡ put d (length d - length (signed_text f z)) (signed_text f z)
+  sign_put e w =
+      let one = ap length (signed_below f z e) in
+      let some = (sign_room e w).0 in
+      let next : r ≡ r - 1 + 1 = omega arith in
+      let place : r - 1 ≡ length d - length (signed_text f z) = omega (arith, one, w.next) in
+      ap (λ (t : List ℕ). set t (r - 1) 45) (w.bytes ∙ ap (λ (p : ℕ). put d p (plain_text f z.size)) next)
+      ∙ put-before d (r - 1) 45 (plain_text f z.size) (omega (arith, w.next))
+      ∙ ap (put d (r - 1)) (sym (signed_below f z e))
+      ∙ ap (λ (p : ℕ). put d p (signed_text f z)) place
+
+  pub no_sign : z.negative ≡ false → Written d r (plain_text f z.size) d' (length d)
+      → d' ≡ put d (length d - length (signed_text f z)) (signed_text f z)
+  no_sign e w =
+      let same = signed_above f z e in
+      let place : r ≡ length d - length (signed_text f z) = omega (arith, ap length same, w.next) in
+      w.bytes ∙ ap (put d r) (sym same) ∙ ap (λ (p : ℕ). put d p (signed_text f z)) place
+
+-- in a field of blanks
+pub right_put : (f : Form) (z : Figure) {d d' : List ℕ} {w : ℕ} → d ≡ replicate w 32 → w ≡ length (number_text f z)
+    → d' ≡ put d (length d - length (signed_text f z)) (signed_text f z) → d' ≡ number_text f z
+unfolding number_text
+right_put f z {d} {d'} {w} blank long e =
+    let size = number-length f z in
+    let wide : length d ≡ w = ap length blank ∙ length-replicate w 32 in
+    let place : w - length (signed_text f z) ≡ blanks_put f z = omega (arith, long, size) in
+    e
+    ∙ rw (wide, blank) (blanks-put w (signed_text f z) (omega (arith, long, size)))
+    ∙ ap (λ (k : ℕ). replicate k 32 ++ signed_text f z) place
