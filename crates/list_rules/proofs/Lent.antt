@@ -7,12 +7,12 @@ use Rattle.sequences.specs.Every.{every}
 use Rattle.lines.specs.Lines.{other_byte, all_bytes}
 use Rattle.text_rules.specs.Tables.{column_at, field_at}
 use Rattle.text_rules.specs.Columns.{column_width, column_start, line_width}
-use Rattle.text_rules.specs.Well.{column_well, columns_well, is_always, flag_well, field_well, fields_well, form_well}
+use Rattle.text_rules.specs.Well.{digits_fill, column_well, columns_well, is_always, flag_well, field_well, fields_well, form_well}
 use Rattle.text_rules.proofs.Well.{form_facts}
 use Rattle.list_rules.specs.Shanghai.{shanghai, shanghai_columns, shanghai_fields, field_count, flag_column}
 
 pub shanghai_well : form_well shanghai ≡ true
-unfolding form_well every fields_well field_well columns_well column_well flag_well is_always shanghai shanghai_columns shanghai_fields
+unfolding form_well every fields_well field_well columns_well column_well digits_fill flag_well is_always shanghai shanghai_columns shanghai_fields
     column_at field_at all_below all_bytes other_byte line_width column_start column_width sum_below
 shanghai_well = refl
 
