@@ -11,11 +11,6 @@ pub fn print<W: Write>(
     word: &str,
     answer: Result<usize, Refusal>,
 ) -> io::Result<()> {
-    match answer {
-        Ok(count) => writeln!(out, "{word}{}", Row(&[0, 0, count])),
-        Err(why) => {
-            let r = Numbers::from(why);
-            writeln!(out, "{word}{}", Row(&[r.number, r.place, r.value]))
-        }
-    }
+    let r = Numbers::from(answer);
+    writeln!(out, "{word}{}", Row(&[r.number, r.place, r.value]))
 }
