@@ -61,6 +61,7 @@ impl<'a> DayView<'a> {
     }
 
     // Component i.
+    #[tactic(auto, using(crate::proofs::Components::places_at))]
     pub fn component(&self, i: usize) -> Component
         requires { i < most_components }
         ensures { result ≡ get_or self.now.components i blank }
@@ -78,7 +79,6 @@ impl<'a> DayView<'a> {
 }
 
 // The day in a run.
-#[tactic(auto, unfolding(crate::specs::Day::day_head_at))]
 pub fn view_of(run: &[u64]) -> DayView<'_>
     requires { length run.now ≡ day_width }
     ensures { result ≡ day_at run.now }
@@ -102,6 +102,7 @@ fn put_basket(basket: &mut [u64], components: &[u64])
 }
 
 // Stores a day, of its head and its components.
+#[tactic(auto, using(crate::proofs::Stored::day_stored))]
 pub fn put_day(day: &mut [u64], head: DayHead, components: &[u64])
     requires day_len { length day.old ≡ day_width }
     requires components_len_bound { (length components.now ≤ basket_width) × (nat_abs head.fund.estimated_cash ≤ cap) }

@@ -19,6 +19,7 @@ fn capped_size(size: u64) -> u64
 }
 
 // A signed number, of a sign and a size.
+#[tactic(auto, using(digits::proofs::Read::capped_within), unfolding(crate::specs::Fund::signed_at))]
 pub fn signed_at(run: &[u64], at: usize) -> i64
     requires { at + 2 ≤ length run.now }
     ensures { result ≡ signed_at run.now at }
@@ -30,6 +31,7 @@ pub fn signed_at(run: &[u64], at: usize) -> i64
     })
 }
 
+#[tactic(auto, using(crate::proofs::Stored::signed_stored))]
 pub fn put_signed(run: &mut [u64], at: usize, e: i64)
     requires at_in_bounds { at + 2 ≤ length run.old }
     requires e_bound { nat_abs e ≤ cap }
@@ -49,6 +51,7 @@ fn limits_at(run: &[u64], at: usize) -> [u64; LIMITS]
     limits
 }
 
+#[tactic(auto, using(crate::proofs::Stored::limits_stored))]
 fn put_limits(run: &mut [u64], at: usize, limits: [u64; LIMITS])
     requires { at + limit_count ≤ length run.old }
     ensures { run.new ≡ sets run.old at (tabulate (λ k. get_or limits k 0) limit_count) }
@@ -73,6 +76,7 @@ pub fn fund_of(run: &[u64], at: usize) -> Fund
 }
 
 // Stores a fund's numbers from a place on.
+#[tactic(auto, using(crate::proofs::Stored::fund_stored))]
 pub fn put_fund(run: &mut [u64], at: usize, f: Fund)
     requires fund_width_in_bounds { at + fund_width ≤ length run.old }
     requires estimated_cash_bound { nat_abs f.estimated_cash ≤ cap }

@@ -2,12 +2,8 @@
 use Rattle.digits.proofs.Put.{rest_all}
 use Rattle.layout.specs.Places.{basket_from}
 use Rattle.layout.specs.Day.{day_head_at, basket_at}
-use Rattle.layout.proofs.Day.{day_parts, basket-length}
+use Rattle.layout.proofs.Day.{day_parts}
 use Rattle.layout.proofs.days.view_of.Goals as goal
-
-pub new-requires : goal.new-requires
-unfolding basket_at
-new-requires c = rw (rest_all basket_from c.args.run.now) (basket-length c.args.run.now c.requires)
 
 pub returns : goal.returns
 unfolding day_head_at basket_at
