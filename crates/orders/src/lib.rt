@@ -18,7 +18,8 @@ use order_scan::Parties;
 use order_tests::Accepted;
 use rules::{Ask, Counts, Lists, Refusal, Rooms};
 
-// An account's part of the book.
+// An account's part of the book. That the count is within the most is no invariant of a `DayView`: a view reads any run of a day's
+// length, and the sound day of the callers says it.
 fn part_of(book: &[u64], count: usize, a: usize) -> &[u64]
     requires { (count ≤ most_components) × (a * width_of count + width_of count ≤ length book.now) }
     ensures { result.now ≡ stretch_of (width_of count) book.now a }
@@ -48,7 +49,8 @@ fn order_stage(
     order_tests::order_means(day, &parties, prices, ask, rooms)
 }
 
-// The tests of an order alone, with the cash of one that is accepted.
+// The tests of an order alone, with the cash of one that is accepted. That the day is sound stands in both contracts: it is a fact of
+// the day with its book and prices, of which the tests lend the book to read and an order to write, so one struct would need a twin.
 pub fn order_tested(
     day: &DayView,
     book: &[u64],
