@@ -13,7 +13,7 @@ ghost use Rattle.flat_calls.specs.Opening.{flat_given, FlatOutcome};
 ghost use Rattle.flat_calls.specs.Text.{taking, TextRead, part_kept, TextWritten};
 
 use answers::Numbers;
-use list_rules::TextPart;
+use list_rules::{Listing, TextPart};
 use rules::Refusal;
 
 // How many numbers a part of a text takes: its place and its length.
@@ -126,7 +126,12 @@ pub fn write(
     if fields.len() != list_layout::FIELDS_WIDTH {
         return answers::tell(Numbers::from(Refusal::Sizes), place, value);
     }
-    let l = list_layout::fields_at(fields);
-    let answer = list_writing::write(l, run, names, letters, output);
+    let list = Listing {
+        fields: list_layout::fields_at(fields),
+        run,
+        names,
+        letters,
+    };
+    let answer = list_writing::write(&list, output);
     answers::tell(of_list(answer), place, value)
 }
