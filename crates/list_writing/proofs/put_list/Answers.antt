@@ -1,19 +1,15 @@
 -- `list_writing::put_list` meets its contract: head, component lines and ENDENDEND stand one behind the other, and are the text.
-use Rattle.std.proofs.Common.{◌≡◌, sym, subst, ap, ◌∙◌, ℕ, ◌*◌, rules}
-use Rattle.text_rules.specs.declared.Column.{Column}
-use Rattle.text_rules.specs.Tables.{TextForm}
-use Rattle.text_rules.specs.Well.{flag_well}
-use Rattle.text_rules.specs.Columns.{line_numbers, line_words}
+use Rattle.std.proofs.Common.{◌≡◌, ap, ◌∙◌, ℕ, ◌*◌, rules}
 use Rattle.digits.specs.Written.{Written}
 use Rattle.lines.specs.Lines.{line_text}
 use Rattle.text_rules.specs.Columns.{line_pitch}
-use Rattle.list_rules.specs.Shanghai.{shanghai_columns, shanghai_lines}
+use Rattle.list_rules.specs.Shanghai.{shanghai_columns}
 use Rattle.list_rules.specs.Writing.{listed}
 use Rattle.list_rules.proofs.Lent.{shanghai_flag_well}
 use Rattle.list_trip.proofs.WrittenPassing.{passing}
 use Rattle.list_writing_tests.proofs.Heads.{head_of, head_lent}
 use Rattle.list_writing_tests.proofs.Sizes.{our_columns}
-use Rattle.list_writing.proofs.Lines.{lines_of, run_long, names_long, lines_lent, fit_lent}
+use Rattle.list_writing.proofs.Lines.{run_long, names_long, lines_lent, fit_lent}
 use Rattle.list_writing.proofs.Sizes.{head_room, lines_room, part_long, end_room, text-put}
 use Rattle.list_writing.proofs.put_list.Goals as goal
 
