@@ -35,7 +35,21 @@ impl<'a> TryFrom<&'a Item> for Given<'a> {
     // Cash is of one of two signs, and of a size that an amount can have.
     fn try_from(item: &'a Item) -> Result<Given<'a>, Fault> {
         let (head, body) = split(&item.numbers, HEAD)?;
-        let [row, accounts, count, _, _, _, _, 0 | 1, size, .., components, book, prices] = head
+        let [
+            row,
+            accounts,
+            count,
+            _,
+            _,
+            _,
+            _,
+            0 | 1,
+            size,
+            ..,
+            components,
+            book,
+            prices,
+        ] = head
         else {
             return Err(Fault::BadInput);
         };
