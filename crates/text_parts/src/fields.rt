@@ -17,20 +17,8 @@ fn signed(sign: u64, size: u64) -> i64 {
 
 // As the library takes them from a run, but with cash of any size.
 pub fn of_numbers(numbers: &[u64; WIDTH]) -> ListFields {
-    let [
-        _,
-        _,
-        _,
-        _,
-        estimated_sign,
-        estimated_size,
-        ..,
-        sign,
-        size,
-        _,
-        _,
-        _,
-    ] = *numbers;
+    let [_, _, _, _, estimated_sign, estimated_size, ..] = *numbers;
+    let [.., sign, size, _, _, _] = *numbers;
     let mut fields = list_layout::fields_at(numbers);
     fields.fund.estimated_cash = signed(estimated_sign, estimated_size);
     fields.cash_component = signed(sign, size);
