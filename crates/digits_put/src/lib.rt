@@ -1,8 +1,8 @@
 // Puts bytes, blanks and digits into a run.
 #![tactic(auto)]
 
-ghost use Rattle.std.specs.Prelude.{◌≡◌, ◌+◌, ◌/◌, ◌%◌, ◌^◌, ◌≤◌, ◌<◌, true, [], ◌∷◌, length, replicate};
-ghost use Rattle.digits.specs.Digits.{fixed};
+ghost use Rattle.std.specs.Prelude.{◌≡◌, ◌+◌, ◌/◌, ◌%◌, ◌^◌, ◌≤◌, ◌<◌, true, suc, [], ◌∷◌, length, replicate};
+ghost use Rattle.digits.specs.Digits.{fixed, tens, decimal};
 ghost use Rattle.digits.specs.Written.{Written};
 
 // Writes one byte.
@@ -60,4 +60,22 @@ pub fn put_last<const SMALL: bool>(digits: &mut [u8], n: u64) -> u64
         m = rest;
     }
     m
+}
+
+// Puts n with as many digits as it has before a place, and says where they start.
+pub fn put_all<const SMALL: bool>(dst: &mut [u8], end: usize, n: u64) -> usize
+    requires room { (suc (tens n) ≤ end) × (end ≤ length dst.old) }
+    requires small { SMALL ≡ true → n < 4_294_967_296 }
+    ensures { Written dst.old result (decimal n) dst.new end }
+{
+    let mut m = n;
+    for i in (0..end).rev() {
+        let (rest, digit) = split_last::<SMALL>(m);
+        dst[i] = digit;
+        if rest == 0 {
+            return i;
+        }
+        m = rest;
+    }
+    0
 }

@@ -71,9 +71,14 @@ fn put_whole<const SMALL: bool>(
     requires small { SMALL ≡ true → n < 4_294_967_296 }
     ensures { Written field.old result (whole_text digits n) field.new end }
 {
-    let start = end - whole_size(digits, n);
-    digits_put::put_last::<SMALL>(&mut field[start..end], n);
-    start
+    match digits {
+        Some(k) => {
+            let start = end - k;
+            digits_put::put_last::<SMALL>(&mut field[start..end], n);
+            start
+        }
+        None => digits_put::put_all::<SMALL>(field, end, n),
+    }
 }
 
 // Writes the number without its sign at the end of a field, and says where it starts.

@@ -10,14 +10,12 @@ use crate::{CASH_AT, Fund, LIMITS, LIMITS_FROM};
 use digits::Figure;
 use units::Rate;
 
-// The most that is read of a signed number's size.
-const MOST_SIZE: u64 = 1_000_000_000_000_000_000;
-
+// What is read of a signed number's size.
 #[tactic(auto, using(std::proofs::lemmas::Bool::Decides::nat_tests), unfolding(digits::specs::Digits::capped))]
 fn capped_size(size: u64) -> u64
     ensures { result ≡ capped size }
 {
-    size.min(MOST_SIZE)
+    size.min(digits::CAP)
 }
 
 // A signed number, of a sign and a size.

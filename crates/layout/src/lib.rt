@@ -11,8 +11,8 @@ mod funds;
 mod results;
 mod stretches;
 
-pub use basket::{component_at, component_of};
-pub use days::{DayView, accounts_of, basket_of, count_of, head_of, put_day, view_of};
+pub use basket::component_at;
+pub use days::{DayView, put_day, view_of};
 pub use funds::{fund_of, put_fund, put_signed, signed_at};
 pub use results::{put_answer, put_record, put_report, record_at};
 pub use stretches::{lots_at, put_lots, width_of};

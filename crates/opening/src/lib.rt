@@ -11,7 +11,7 @@ ghost use Rattle.totals.specs.Totals.{most_rows};
 ghost use Rattle.rules.specs.Opening.{most_of_line, total_fault, lent_sizes_fit, opening_reply, opened_stretch};
 ghost use Rattle.opening.specs.Given.{given_in, Outcome, totals_in, totals_of};
 
-use layout::Fund;
+use layout::{DayHead, Fund};
 use lots::Lots;
 use rules::Refusal;
 use totals::Rows;
@@ -145,12 +145,11 @@ pub fn open(
     opening_answer(&given, book, prices, day)?;
     open_book(book, given.holdings, given.accounts, given.count);
     prices.fill(0);
-    layout::put_day(
-        day,
-        given.accounts,
-        given.count,
-        given.fund,
-        given.components,
-    );
+    let head = DayHead {
+        accounts: given.accounts,
+        count: given.count,
+        fund: given.fund,
+    };
+    layout::put_day(day, head, given.components);
     Ok(())
 }

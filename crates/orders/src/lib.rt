@@ -13,7 +13,7 @@ ghost use Rattle.rules.specs.Kinds.{asked_cash, asked_moves};
 ghost use Rattle.order_tests.specs.Tests.{accepted_reply, means_answer};
 ghost use Rattle.orders.specs.Orders.{asked_answer, answered_lists, Formed};
 
-use layout::{DayHead, DayView};
+use layout::DayView;
 use order_scan::Parties;
 use order_tests::Accepted;
 use rules::{Ask, Counts, Lists, Refusal, Rooms};
@@ -60,12 +60,7 @@ pub fn order_tested(
     ensures answer_value { accepted_reply result ≡ asked_answer day.now book.now prices.now ask rooms }
     ensures cash { IfOk result (λ accepted. accepted.cash ≡ asked_cash day.now (account day.now book.now ask.account) prices.now ask) }
 {
-    let head = DayHead {
-        accounts: day.accounts(),
-        count: day.count(),
-        fund: day.fund(),
-    };
-    order_form::order_form(&head, book, ask)?;
+    order_form::order_form(&day.head(), book, ask)?;
     order_stage(day, book, prices, ask, rooms)
 }
 

@@ -23,6 +23,7 @@ impl Money {
     pub const SPLIT: Money = Money(1_000_000);
 
     // The amount times (100,000 + rate) / 100,000, rounded.
+    #[tactic(auto, unfolding(crate::specs::Units::premium))]
     pub fn with_premium(self, rate: Rate) -> Money
         requires { (self.0 ≤ 20_000_000_000_000_000) × (rate.0 ≤ 100_000) }
         ensures { result.0 ≡ premium self.0 rate.0 }
@@ -31,6 +32,7 @@ impl Money {
     }
 
     // The amount times (100,000 - rate) / 100,000, rounded.
+    #[tactic(auto, unfolding(crate::specs::Units::discount))]
     pub fn with_discount(self, rate: Rate) -> Money
         requires { (self.0 ≤ 20_000_000_000_000_000) × (rate.0 ≤ 100_000) }
         ensures { result.0 ≡ discount self.0 rate.0 }
