@@ -52,7 +52,8 @@ impl<'a> TryFrom<&'a Item> for Said<'a> {
     }
 }
 
-// The day that calls are made on: what they make of it is kept, or they are each made on what it was given as.
+// Whether calls go on from what those before them left, or each is made on the state anew. An earlier item says which, so that a
+// value keeps it: a closure would be a boxed one.
 #[derive(Drop)]
 enum Calls {
     InOrder,
