@@ -11,7 +11,7 @@ ghost use Rattle.list_layout.specs.Run.{fields_width, fields_at, fields_numbers}
 ghost use Rattle.flat_calls.specs.Opening.{flat_given, FlatOutcome};
 ghost use Rattle.flat_calls.specs.Text.{taking, TextRead, part_kept, TextWritten};
 
-use list_rules::TextPart;
+use list_rules::{Listing, TextPart};
 use rules::Refusal;
 
 // How many numbers a part of a text takes: its place and its length.
@@ -101,6 +101,11 @@ pub fn write(
     if fields.len() != list_layout::FIELDS_WIDTH {
         return Err(Refusal::Sizes);
     }
-    let fields = list_layout::fields_at(fields);
-    list_writing::write(fields, run, names, letters, output)
+    let list = Listing {
+        fields: list_layout::fields_at(fields),
+        run,
+        names,
+        letters,
+    };
+    list_writing::write(&list, output)
 }

@@ -24,7 +24,10 @@ fn end_stands(text: &[u8], at: usize) -> bool
     requires { at ≤ length text.now }
     ensures { result ≡ line_stands (λ l. same l end_word) text.now at }
 {
-    lines::first_line(&text[at..]).is_some_and(|line| lines::same_bytes(line, b"ENDENDEND"))
+    match lines::first_line(&text[at..]) {
+        Some(line) => lines::same_bytes(line, b"ENDENDEND"),
+        None => false,
+    }
 }
 
 // Refusal 18 behind the head.

@@ -8,7 +8,7 @@ use Rattle.digits.specs.Written.{Written}
 use Rattle.lines.specs.Lines.{line_text}
 use Rattle.text_rules.specs.Columns.{line_pitch}
 use Rattle.list_rules.specs.Shanghai.{shanghai_columns, shanghai_lines}
-use Rattle.list_rules.specs.Writing.{listing}
+use Rattle.list_rules.specs.Writing.{listed}
 use Rattle.list_rules.proofs.Lent.{shanghai_flag_well}
 use Rattle.list_trip.proofs.WrittenPassing.{passing}
 use Rattle.list_writing_tests.proofs.Heads.{head_of, head_lent}
@@ -20,18 +20,18 @@ use Rattle.list_writing.proofs.put_list.Goals as goal
 pub figures_of-figures-requires : goal.figures_of-figures-requires
 figures_of-figures-requires c =
     let a = c.args in
-    (passing (listing a.fields a.run.now a.names.now a.letters.now) c.requires.passing).ranges
+    (passing (listed a.list.now) c.requires.passing).ranges
 
 pub put_head-p-requires : goal.put_head-p-requires
 put_head-p-requires c =
     let a = c.args in
-    let l = listing a.fields a.run.now a.names.now a.letters.now in
+    let l = listed a.list.now in
     rw (head_lent _ c.field_table.ensures l _ c.figures_of-figures.ensures) (head_room l a.output.now c.requires.room)
 
 pub overflow_mul-q : goal.overflow_mul-q
 overflow_mul-q c =
     let a = c.args in
-    let l = listing a.fields a.run.now a.names.now a.letters.now in
+    let l = listed a.list.now in
     let p = c.requires in
     let headed : Written a.output.now 0 (head_of l) c.put_head-p.new.dst c.put_head-p.result = rw (head_lent _ c.field_table.ensures l _ c.figures_of-figures.ensures) at c.put_head-p.ensures in
     let pitched : c.pitch-pitch.result ≡ line_pitch shanghai_columns = c.pitch-pitch.ensures ∙ ap line_pitch (our_columns c.columns.ensures.value c.line_form-form.ensures) in
@@ -41,7 +41,7 @@ overflow_mul-q c =
 pub overflow_add-q : goal.overflow_add-q
 overflow_add-q c =
     let a = c.args in
-    let l = listing a.fields a.run.now a.names.now a.letters.now in
+    let l = listed a.list.now in
     let p = c.requires in
     let headed : Written a.output.now 0 (head_of l) c.put_head-p.new.dst c.put_head-p.result = rw (head_lent _ c.field_table.ensures l _ c.figures_of-figures.ensures) at c.put_head-p.ensures in
     let pitched : c.pitch-pitch.result ≡ line_pitch shanghai_columns = c.pitch-pitch.ensures ∙ ap line_pitch (our_columns c.columns.ensures.value c.line_form-form.ensures) in
@@ -51,7 +51,7 @@ overflow_add-q c =
 pub slice_bounds-put_rows-end : goal.slice_bounds-put_rows-end
 slice_bounds-put_rows-end c =
     let a = c.args in
-    let l = listing a.fields a.run.now a.names.now a.letters.now in
+    let l = listed a.list.now in
     let p = c.requires in
     let headed : Written a.output.now 0 (head_of l) c.put_head-p.new.dst c.put_head-p.result = rw (head_lent _ c.field_table.ensures l _ c.figures_of-figures.ensures) at c.put_head-p.ensures in
     let pitched : c.pitch-pitch.result ≡ line_pitch shanghai_columns = c.pitch-pitch.ensures ∙ ap line_pitch (our_columns c.columns.ensures.value c.line_form-form.ensures) in
@@ -61,7 +61,7 @@ slice_bounds-put_rows-end c =
 pub put_rows-requires : goal.put_rows-requires
 put_rows-requires c =
     let a = c.args in
-    let l = listing a.fields a.run.now a.names.now a.letters.now in
+    let l = listed a.list.now in
     let p = c.requires in
     let headed : Written a.output.now 0 (head_of l) c.put_head-p.new.dst c.put_head-p.result = rw (head_lent _ c.field_table.ensures l _ c.figures_of-figures.ensures) at c.put_head-p.ensures in
     let pitched : c.pitch-pitch.result ≡ line_pitch shanghai_columns = c.pitch-pitch.ensures ∙ ap line_pitch (our_columns c.columns.ensures.value c.line_form-form.ensures) in
@@ -69,14 +69,14 @@ put_rows-requires c =
     record {
       columns_value = rw e shanghai_flag_well;
       run_len = rw e (run_long l p.passing, names_long l p.passing);
-      rows_len = rw e (part_long l p.passing _ pitched a.output.now p.room headed ∙ ap (λ (n : ℕ). a.fields.count * n) pitched);
+      rows_len = rw e (part_long l p.passing _ pitched a.output.now p.room headed ∙ ap (λ (n : ℕ). a.list.now.fields.count * n) pitched);
       rows_fit = fit_lent _ e l p.passing;
     }
 
 pub put_bytes-requires : goal.put_bytes-requires
 put_bytes-requires c =
     let a = c.args in
-    let l = listing a.fields a.run.now a.names.now a.letters.now in
+    let l = listed a.list.now in
     let p = c.requires in
     let headed : Written a.output.now 0 (head_of l) c.put_head-p.new.dst c.put_head-p.result = rw (head_lent _ c.field_table.ensures l _ c.figures_of-figures.ensures) at c.put_head-p.ensures in
     let pitched : c.pitch-pitch.result ≡ line_pitch shanghai_columns = c.pitch-pitch.ensures ∙ ap line_pitch (our_columns c.columns.ensures.value c.line_form-form.ensures) in
@@ -87,7 +87,7 @@ pub returns : goal.returns
 unfolding line_text
 returns c =
     let a = c.args in
-    let l = listing a.fields a.run.now a.names.now a.letters.now in
+    let l = listed a.list.now in
     let p = c.requires in
     let headed : Written a.output.now 0 (head_of l) c.put_head-p.new.dst c.put_head-p.result = rw (head_lent _ c.field_table.ensures l _ c.figures_of-figures.ensures) at c.put_head-p.ensures in
     let pitched : c.pitch-pitch.result ≡ line_pitch shanghai_columns = c.pitch-pitch.ensures ∙ ap line_pitch (our_columns c.columns.ensures.value c.line_form-form.ensures) in
