@@ -71,6 +71,7 @@ impl ReferenceValue {
 
 // v times k hundred-thousandths, rounded: the product is taken in two halves, so that it fits 64 bits. Most lines of an order have
 // no cash, and 0 needs no division.
+#[tactic(auto, using(crate::proofs::Laws::split, crate::proofs::Laws::rounded_rate), unfolding(crate::specs::Units::rounded))]
 fn scaled(v: u64, k: u64) -> u64
     requires { (v ≤ 20_000_000_000_000_000) × (k ≤ 200_000) }
     ensures { result ≡ rounded (v * k) rate_one }
