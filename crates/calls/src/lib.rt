@@ -34,10 +34,13 @@ pub fn sound_day<'a>(run: &'a [u64], book: &[u64], prices: &[u64]) -> Result<Day
     }
 }
 
-// Whether the day has what every call keeps.
+// The day in a run, where it has what every call keeps.
 #[tactic(auto, using(crate::proofs::Run::blank_not_kept))]
-pub fn is_kept(run: &[u64], book: &[u64], prices: &[u64]) -> bool
-    ensures { result ≡ is_kept (day_at run.now) book.now prices.now }
+pub fn kept_day<'a>(run: &'a [u64], book: &[u64], prices: &[u64]) -> Option<DayView<'a>>
+    ensures { MatchOption result (is_kept (day_at run.now) book.now prices.now ≡ false) (λ day. (day ≡ day_at run.now) × (is_kept (day_at run.now) book.now prices.now ≡ true)) }
 {
-    day_in(run).is_some_and(|day| sound::is_kept(&day, book, prices))
+    match day_in(run) {
+        Some(day) if sound::is_kept(&day, book, prices) => Some(day),
+        _ => None,
+    }
 }

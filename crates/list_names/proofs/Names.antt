@@ -1,18 +1,17 @@
 -- Names: where the one of a component line stands, and the names of a list.
 use Prim.Native.Nat.{ℕ, zero, suc, ◌+◌, ◌-◌, ◌*◌, ◌/◌, ◌≤◌, ◌<◌}
-use mathlib.Core.Path.{◌≡◌, refl, sym, ap, ◌∙◌}
-use mathlib.Core.Bool.{Bool, true, false, not, and-eq-true_iff}
+use mathlib.Core.Path.{◌≡◌, refl, ap, ◌∙◌}
+use mathlib.Core.Bool.{Bool, true, not, and-eq-true_iff}
 use mathlib.Core.List.{List, [], ◌∷◌}
-use native.Mathlib.Nat.{add-sub_cancel_left, suc-mul, le-div_iff_mul-le, div-lt_iff_lt-mul}
+use native.Mathlib.Nat.{add-zero, suc-mul, le-div_iff_mul-le, div-lt_iff_lt-mul}
 use native.Mathlib.Numerals.{add-one}
 use native.Mathlib.Omega.{arith}
 use lib.ListN.{length, take, drop}
 use borrow.Author.Tests.{le-leb, lt-leb}
-use Rattle.std.specs.Prelude.{Some, None}
-use Rattle.sequences.specs.Below.{sum_below, first_below, below}
+use Rattle.std.specs.Prelude.{None}
+use Rattle.sequences.specs.Below.{sum_below, below}
 use Rattle.sequences.specs.Stretch.{stretch_of}
-use Rattle.sequences.proofs.Below.{first_none, first_more, first_end, first_none_below, first_some_below}
-use Rattle.sequences.proofs.Stretch.{part_within}
+use Rattle.sequences.proofs.Below.{first_same, first_end, first_none_below}
 use Rattle.lines.specs.Lines.{name_byte, all_bytes}
 use Rattle.text_rules.specs.declared.Column.{Column}
 use Rattle.text_rules.specs.Tables.{TextForm, column_at}
@@ -20,6 +19,7 @@ use Rattle.text_rules.specs.Columns.{column_width, column_start, line_width, lin
 use Rattle.list_rules.specs.declared.TextPart.{TextPart}
 use Rattle.list_rules.specs.Shanghai.{shanghai_columns, shanghai_lines, name_column, name_width}
 use Rattle.list_rules.specs.Reading.{name_place}
+use Rattle.text_rows.specs.Turns.{words_fault}
 use Rattle.list_rules.specs.Writing.{name_at, name_fault}
 
 -- the columns and the pitch that the code has
@@ -61,37 +61,6 @@ module _ (text first j pitch : ℕ) (some : 0 < pitch) where
 
 -- The names of a list.
 
-pub bad_at : List ℕ → ℕ → Bool
-bad_at names j = not (all_bytes name_byte (name_at names j))
-
-pub bad_first : (names : List ℕ) (n : ℕ) → first_below (bad_at names) n ≡ name_fault names n
-unfolding name_fault bad_at
-bad_first names n = refl
-
-module _ (names : List ℕ) (j : ℕ) where
-  pub part_name : take (j * name_width + name_width - j * name_width) (drop (j * name_width) names) ≡ name_at names j
-  unfolding name_at stretch_of
-  part_name = rw (add-sub_cancel_left (j * name_width) name_width)
-
-  pub bad_here : {b : Bool} → b ≡ all_bytes name_byte (take (j * name_width + name_width - j * name_width) (drop (j * name_width) names)) → not b ≡ bad_at names j
-  unfolding bad_at
-  bad_here e = ap not (e ∙ ap (all_bytes name_byte) part_name)
-
--- the names below j are fine
-module _ (names : List ℕ) where
-  pub names_start : first_below (bad_at names) 0 ≡ 0
-  names_start = first_none (bad_at names)
-
-  module _ (j : ℕ) (v : first_below (bad_at names) j ≡ j) {b : Bool} (e : b ≡ all_bytes name_byte (take (j * name_width + name_width - j * name_width) (drop (j * name_width) names))) where
-    pub names_again : not b ≡ false → first_below (bad_at names) (j + 1) ≡ j + 1
-    names_again f = first_more (bad_at names) j v (sym (bad_here names j e) ∙ f)
-
-    pub names_found : (count : ℕ) → j < count → not b ≡ true → Some j ≡ below count (name_fault names count)
-    names_found count h f = first_some_below (bad_at names) count j h v (sym (bad_here names j e) ∙ f) ∙ ap (below count) (bad_first names count)
-
-  pub names_end : (j count : ℕ) → first_below (bad_at names) j ≡ j → j ≡ count → None ≡ below count (name_fault names count)
-  names_end j count v e = first_none_below (bad_at names) count (rw e at v) ∙ ap (below count) (bad_first names count)
-
 -- where every byte may stand in a name, no name is at fault
 
 all_drop : (p : ℕ → Bool) (n : ℕ) (l : List ℕ) → all_bytes p l ≡ true → all_bytes p (drop n l) ≡ true
@@ -108,11 +77,13 @@ all_take p (suc n) (b ∷ r) e =
     let both = (and-eq-true_iff (p b) (all_bytes p r)).0 e in
     rw both.0 (all_take p n r both.1)
 
-pub names_fine : (names : List ℕ) (count : ℕ) → all_bytes name_byte (take (count * name_width) names) ≡ true → None ≡ below count (name_fault names count)
-unfolding name_fault bad_at name_at stretch_of
+pub names_fine : (names : List ℕ) (count : ℕ) → all_bytes name_byte names ≡ true → None ≡ below count (name_fault names count)
+unfolding name_fault name_at stretch_of
 names_fine names count e =
-    first_none_below (bad_at names) count
-    (first_end (λ j. not (all_bytes name_byte (take name_width (drop (j * name_width) names)))) count
-    (λ j h.
-    ap (λ (l : List ℕ). not (all_bytes name_byte l)) (sym (part_within (j * name_width) name_width (count * name_width) names (omega arith)))
-    ∙ ap not (all_take name_byte name_width (drop (j * name_width) (take (count * name_width) names)) (all_drop name_byte (j * name_width) (take (count * name_width) names) e))))
+    first_none_below _ count
+    (first_end _ count (λ j h. ap not (all_take name_byte name_width (drop (j * name_width) names) (all_drop name_byte (j * name_width) names e))))
+
+-- names are words, one behind the other
+pub names_words : (names : List ℕ) (count : ℕ) → words_fault names name_width 0 name_width count ≡ name_fault names count
+unfolding words_fault name_fault name_at stretch_of
+names_words names count = first_same _ _ count (λ j h. ap (λ (i : ℕ). not (all_bytes name_byte (take name_width (drop i names)))) (add-zero (j * name_width)))

@@ -1,7 +1,7 @@
 // The names of a list text in the Shanghai form: where they stand, and whether they may be written.
 #![tactic(auto)]
 
-ghost use Rattle.std.specs.Prelude.{◌≡◌, ◌+◌, ◌*◌, ◌≤◌, length};
+ghost use Rattle.std.specs.Prelude.{◌≡◌, ◌+◌, ◌/◌, ◌≤◌, length};
 ghost use Rattle.sequences.specs.Below.{below};
 ghost use Rattle.list_rules.specs.Shanghai.{name_width};
 ghost use Rattle.list_rules.specs.Reading.{name_place, name_from};
@@ -40,22 +40,13 @@ pub fn name_from(text: &[u8], first: usize, j: usize) -> &[u8]
     &text[a..e]
 }
 
-// The first of so many names with a byte that no name has. The names are gone through one by one only where there is such a byte.
+// The first of the names with a byte that no name has. They are gone through one by one only where there is such a byte.
 #[tactic(auto, using(crate::proofs::Names::names_fine))]
-pub fn name_fault(names: &[u8], count: usize) -> Option<usize>
-    requires { count * name_width ≤ length names.now }
-    ensures { result ≡ below count (name_fault names.now count) }
+pub fn name_fault(names: &[u8]) -> Option<usize>
+    ensures { result ≡ below (length names.now / name_width) (name_fault names.now (length names.now / name_width)) }
 {
-    let n = count * NAME_WIDTH;
-    let clean = lines::is_name(&names[..n]);
-    if clean {
+    if lines::is_name(names) {
         return None;
     }
-    for j in 0..count {
-        let at = j * NAME_WIDTH;
-        if !lines::is_name(&names[at..at + NAME_WIDTH]) {
-            return Some(j);
-        }
-    }
-    None
+    text_rows::words_fault(names, NAME_WIDTH, 0, NAME_WIDTH)
 }

@@ -1,9 +1,9 @@
 -- The component lines of a text as the code reads them, and what is found in them.
-use Prim.Native.Nat.{ℕ, ◌+◌, ◌-◌, ◌*◌, ◌≤◌, ◌<◌}
+use Prim.Native.Nat.{ℕ, ◌+◌, ◌-◌, ◌*◌, ◌/◌, ◌≤◌, ◌<◌}
 use mathlib.Core.Path.{◌≡◌, refl, ap, ap₂, ◌∙◌}
 use mathlib.Core.Bool.{Bool, true, false, cond}
 use mathlib.Core.List.{List}
-use native.Mathlib.Nat.{add-sub_cancel_left}
+use native.Mathlib.Nat.{add-sub_cancel_left, mul-div_cancel}
 use native.Mathlib.Omega.{arith}
 use lib.Dec.{ltb}
 use lib.ListN.{length, take, drop, length-drop}
@@ -18,7 +18,7 @@ use Rattle.text_rules.specs.Tables.{TextForm}
 use Rattle.text_rules.specs.Columns.{column_start, line_width, line_pitch, flag_of, content_of, wrong_cell, column_fault, cell_read, numbers_read}
 use Rattle.text_rules.specs.Reading.{body_start, row_start, row_count, row_of, wrong_row, column_place}
 use Rattle.text_rows.specs.declared.CellFault.{CellFault}
-use Rattle.text_rows.specs.Rows.{row_in, fault_row, fault_in, numbers_kept}
+use Rattle.text_rows.specs.Rows.{line_count, row_in, fault_row, fault_in, numbers_kept}
 use Rattle.text_rows.proofs.Kept.{row_in_lem}
 use Rattle.list_rules.specs.Shanghai.{shanghai, shanghai_columns, shanghai_lines}
 use Rattle.list_rows.specs.Rows.{rows_of, rows_found, run_kept}
@@ -51,6 +51,14 @@ our_columns form columns e d = d ∙ ap (λ (t : TextForm). t.columns) e
 pub pitch_line : (columns : List Column) → line_pitch columns ≡ line_width columns + 2
 unfolding line_pitch
 pitch_line columns = refl
+
+-- they are as many as the code has
+pub lines_ours : (form : TextForm) → form ≡ shanghai_lines → (part : List ℕ) (count : ℕ) → length part ≡ count * line_pitch shanghai_columns → line_count form part ≡ count
+unfolding line_count line_pitch
+lines_ours form e part count long =
+    ap (λ (t : TextForm). length part / line_pitch t.columns) e
+    ∙ ap (λ (n : ℕ). n / line_pitch shanghai_columns) long
+    ∙ mul-div_cancel count (omega arith)
 
 -- What the code found and kept in these lines.
 module _ (form : TextForm) (e : form ≡ shanghai_lines) (part text : List ℕ) (g : part ≡ rows_of text) (count : ℕ) where

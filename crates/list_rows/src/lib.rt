@@ -25,7 +25,7 @@ pub fn read_rows(text: &[u8], start: usize, count: usize, run: &mut [u64]) -> Op
     let columns = form.columns();
     let pitch = columns.pitch();
     let end = start + count * pitch;
-    let fault = text_rows::read_columns(&form, &text[start..end], count, run)?;
+    let fault = text_rows::read_columns(&form, &text[start..end], run)?;
     Some(RowFault {
         row: fault.row,
         place: start + fault.row * pitch + columns.start(fault.column),

@@ -13,6 +13,7 @@ use Rattle.lines.specs.Lines.{name_byte, all_bytes}
 use Rattle.text_rules.specs.Head.{is_letters}
 use Rattle.text_rules.specs.Writing.{Sheet, sheet_text}
 use Rattle.list_rules.specs.declared.ListFields.{ListFields}
+use Rattle.list_rules.specs.declared.Listing.{Listing as LentListing}
 use Rattle.list_rules.specs.Shanghai.{shanghai, name_width}
 use Rattle.list_rules.specs.Fields.{figure_at, fields_in_range}
 
@@ -25,6 +26,10 @@ pub record Listing : Type 0 where
 
 abbrev pub listing : ListFields → List ℕ → List ℕ → List ℕ → Listing
 listing fields run names letters = record { fields = fields; run = run; names = names; letters = letters }
+
+-- a list that the code is lent has its run, its names and its letters by reference
+abbrev pub listed : LentListing → Listing
+listed l = listing l.fields l.run.now l.names.now l.letters.now
 
 unfoldable pub name_at : List ℕ → ℕ → List ℕ
 name_at names j = stretch_of name_width names j

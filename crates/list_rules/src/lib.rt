@@ -32,6 +32,15 @@ pub struct ListRead {
     pub first_row: usize,
 }
 
+// A list to be written: its fields, its run of components, its names, one behind the other, and the letters of its first line.
+#[derive(Clone, Copy)]
+pub struct Listing<'a> {
+    pub fields: ListFields,
+    pub run: &'a [u64],
+    pub names: &'a [u8],
+    pub letters: &'a [u8],
+}
+
 // A part of a text: where it starts, and how many bytes it has.
 #[derive(Clone, Copy)]
 pub struct TextPart {

@@ -24,11 +24,10 @@ fn end_stands(text: &[u8], at: usize) -> bool
     requires { at ≤ length text.now }
     ensures { result ≡ line_stands (λ l. same l end_word) text.now at }
 {
-    let n = lines::line_len(&text[at..]);
-    if text.len() - at <= n {
-        return false;
+    match lines::first_line(&text[at..]) {
+        Some(line) => lines::same_bytes(line, b"ENDENDEND"),
+        None => false,
     }
-    lines::same_bytes(&text[at..at + n], b"ENDENDEND")
 }
 
 // Refusal 18 behind the head.

@@ -2,12 +2,13 @@
 use mathlib.Core.Path.{◌≡◌, refl}
 use mathlib.Core.Bool.{true, false}
 use mathlib.Core.List.{List}
-use Prim.Native.Nat.{ℕ, ◌+◌, ◌-◌, ◌^◌, ◌≤◌, ◌<◌}
+use Prim.Native.Nat.{ℕ, ◌+◌, ◌-◌, ◌/◌, ◌^◌, ◌≤◌, ◌<◌}
 use native.Mathlib.Nat.{div-one, div-lt_iff_lt-mul, le_of_lt}
 use native.Mathlib.Omega.{arith}
 use lib.IntN.{ℤ, pos, negsuc}
 use lib.ListN.{length, get_or}
 use borrow.Author.Tests.{le-leb, ltb-true, leb-true}
+use Rattle.std.specs.Prelude.{Option, Some, None}
 use Rattle.layout.specs.Places.{most_components}
 use Rattle.fund.specs.Fund.{cash_in_range}
 use Rattle.fund.proofs.Laws.{fund_sound, fund_limits}
@@ -26,7 +27,7 @@ use Rattle.list_rules.specs.Shanghai.{shanghai, shanghai_fields, field_count, li
 use Rattle.list_rules.specs.Fields.{figure_at, fields_in_range}
 use Rattle.list_rules.proofs.Ranges.{fields_sound}
 use Rattle.list_trip.proofs.Tables.{none, both, behind, paired_at}
-use Rattle.list_trip.proofs.WrittenForms.{plain_fits}
+use Rattle.list_trip.proofs.WrittenForms.{some_holds, none_holds, plain_fits}
 
 -- a figure is as a field wants it, and below the cap
 record Says (f : Field) (z : Figure) : Type 0 where
@@ -35,37 +36,37 @@ record Says (f : Field) (z : Figure) : Type 0 where
   small : z.size < cap
 
 -- a field of no width, with no sign
-abbrev unsigned : List ℕ → ℕ → ℕ → ValueKind → Field
+abbrev unsigned : List ℕ → Option ℕ → ℕ → ValueKind → Field
 unsigned name digits decimals kind =
     record {
       name = name;
-      form = record { digits = digits; decimals = decimals; signed = false; width = 0 };
+      form = record { digits = digits; decimals = decimals; signed = false; width = None };
       kind = kind;
     }
 
 -- a number that is not below zero, with as many digits as it has, and with so many
-free_says : {name : List ℕ} (decimals : ℕ) (kind : ValueKind) (n : ℕ) → n < cap → is_kind kind n ≡ true → Says (unsigned name 0 decimals kind) (plain n)
+free_says : {name : List ℕ} (decimals : ℕ) (kind : ValueKind) (n : ℕ) → n < cap → is_kind kind n ≡ true → Says (unsigned name None decimals kind) (plain n)
 free_says decimals kind n h e =
-    record { fits = plain_fits _ n (le_of_lt h) (λ z. absurd (z refl)) (λ z. absurd (z refl)); kind = e; small = h }
+    record { fits = plain_fits _ n (le_of_lt h) (none_holds _) (none_holds _); kind = e; small = h }
 
 fixed_says : {name : List ℕ} (digits : ℕ) (kind : ValueKind) (n : ℕ) → n < cap → n < 10 ^ digits → is_kind kind n ≡ true
-    → Says (unsigned name digits 0 kind) (plain n)
+    → Says (unsigned name (Some digits) 0 kind) (plain n)
 fixed_says digits kind n h l e =
-    record { fits = plain_fits _ n (le_of_lt h) (λ z. rw (div-one n) l) (λ z. absurd (z refl)); kind = e; small = h }
+    record { fits = plain_fits _ n (le_of_lt h) (some_holds (λ (m : ℕ). n / 1 < 10 ^ m) digits (rw (div-one n) l)) (none_holds _); kind = e; small = h }
 
 -- a number that may be anything
-any_says : {name : List ℕ} (decimals n : ℕ) → n < cap → Says (unsigned name 0 decimals Any) (plain n)
+any_says : {name : List ℕ} (decimals n : ℕ) → n < cap → Says (unsigned name None decimals Any) (plain n)
 unfolding is_kind
 any_says decimals n h = free_says decimals Any n h refl
 
 -- a signed amount in its range
 cash_says : {name : List ℕ} (e : ℤ) → cash_in_range e ≡ true
-    → Says (record { name = name; form = record { digits = 0; decimals = 2; signed = true; width = 0 }; kind = Any }) (figure_signed e)
+    → Says (record { name = name; form = record { digits = None; decimals = 2; signed = true; width = None }; kind = Any }) (figure_signed e)
 unfolding cash_in_range figure_signed is_kind
 cash_says (pos n) t =
     let low = leb-true n 9_999_999_999 t in
     record {
-      fits = plain_fits _ n (omega arith) (λ z. absurd (z refl)) (λ z. absurd (z refl));
+      fits = plain_fits _ n (omega arith) (none_holds _) (none_holds _);
       kind = refl;
       small = omega arith;
     }
@@ -76,8 +77,8 @@ cash_says (negsuc n) t =
           record {
             within = omega arith;
             sign = λ e. (refl, omega arith);
-            digits = λ z. absurd (z refl);
-            width = λ z. absurd (z refl);
+            digits = none_holds _;
+            width = none_holds _;
           };
       kind = refl;
       small = omega arith;
@@ -88,7 +89,7 @@ date_low : (d : ℕ) → is_date d ≡ true → d < 10 ^ date_digits
 date_low d e =
     (div-lt_iff_lt-mul {k = 10_000} {x = d} {y = 10_000} (omega arith)).0 (omega (arith, (date_sound d e).year_high))
 
-date_says : {name : List ℕ} (d : ℕ) → is_date d ≡ true → Says (unsigned name date_digits 0 Date) (plain d)
+date_says : {name : List ℕ} (d : ℕ) → is_date d ≡ true → Says (unsigned name (Some date_digits) 0 Date) (plain d)
 unfolding is_kind
 date_says d e = fixed_says date_digits Date d (omega (arith, date_low d e)) (date_low d e) e
 
@@ -96,7 +97,7 @@ date_says d e = fixed_says date_digits Date d (omega (arith, date_low d e)) (dat
 
 module _ (l : ListFields) (fit : fields_in_range l ≡ true) (few : l.count ≤ most_components) where
   -- a limit, for the fields from the first of them on
-  limit_says : {name : List ℕ} (k : ℕ) → k < field_count → Says (unsigned name 0 0 Any) (plain (get_or l.fund.limits (k - limits_field) 0))
+  limit_says : {name : List ℕ} (k : ℕ) → k < field_count → Says (unsigned name None 0 Any) (plain (get_or l.fund.limits (k - limits_field) 0))
   limit_says k h =
       any_says 0 (get_or l.fund.limits (k - limits_field) 0)
       (omega (arith, (fund_limits l.fund (fund_sound l.fund (fields_sound l fit).fund) (k - limits_field) (omega arith)).0))

@@ -1,5 +1,5 @@
 -- A component in its ranges: its numbers, with a name, fit the columns of a line.
-use mathlib.Core.Path.{◌≡◌, refl, sym, ◌∙◌}
+use mathlib.Core.Path.{◌≡◌, refl, sym, ◌∙◌, subst}
 use mathlib.Core.Bool.{Bool, true, false, cond, false≢true}
 use mathlib.Core.List.{List}
 use Prim.Native.Nat.{ℕ, zero, suc, ◌+◌, ◌-◌, ◌*◌, ◌/◌, ◌^◌, ◌≤◌, ◌<◌}
@@ -7,6 +7,7 @@ use native.Mathlib.Nat.{add-zero, mul_comm, div-one, div-lt_iff_lt-mul, le_of_eq
 use native.Mathlib.Omega.{arith}
 use lib.ListN.{length, get_or, length-append}
 use borrow.Author.Tests.{ne_eqb}
+use Rattle.std.specs.Prelude.{Option, Some, None, MatchOption, ⊤}
 use Rattle.sequences.specs.Below.{sum_below, tabulate}
 use Rattle.sequences.specs.Stretch.{stretch_of}
 use Rattle.sequences.proofs.Below.{table_ext}
@@ -19,7 +20,7 @@ use Rattle.layout.specs.Components.{component_at, component_numbers}
 use Rattle.fund.specs.Components.{zero_unless, most_rate}
 use Rattle.fund.proofs.Laws.{ComponentRanges, unused_zero}
 use Rattle.digits.specs.declared.Form.{Form}
-use Rattle.digits.specs.Digits.{plain, cap, whole_text, plain_text, signed_text}
+use Rattle.digits.specs.Digits.{plain, cap, fixed, decimal, whole_text, plain_text, signed_text}
 use Rattle.digits.specs.Fits.{Fits}
 use Rattle.digits.proofs.Count.{fixed-length}
 use Rattle.digits.proofs.Trip.{decimal_short}
@@ -40,37 +41,45 @@ run_stretch run n a e h =
     ∙ rw (add-zero (component_width * a))
 
 -- a column's form
-abbrev form : ℕ → ℕ → ℕ → Form
-form digits decimals width = record { digits = digits; decimals = decimals; signed = false; width = width }
+abbrev form : Option ℕ → ℕ → ℕ → Form
+form digits decimals width = record { digits = digits; decimals = decimals; signed = false; width = Some width }
+
+-- what holds of a bound that is there, and of none
+pub some_holds : (p : ℕ → Type 0) (n : ℕ) → p n → (most : ℕ) → Some n ≡ Some most → p most
+some_holds p n h most e = let same : n ≡ most = cc in subst p same h
+
+pub none_holds : (p : ℕ → Type 0) (most : ℕ) → None ≡ Some most → p most
+none_holds p most e = absurd (subst (λ (x : Option ℕ). MatchOption x ⊤ (λ _. ⊥)) e tt)
 
 -- a number that is not below zero fits by its digits and its width
-pub plain_fits : (f : Form) (n : ℕ) → n ≤ cap → ((f.digits ≡ 0 → ⊥) → n / 10 ^ f.decimals < 10 ^ f.digits)
-    → ((f.width ≡ 0 → ⊥) → length (signed_text f (plain n)) ≤ f.width) → Fits f (plain n)
+pub plain_fits : (f : Form) (n : ℕ) → n ≤ cap → ((most : ℕ) → f.digits ≡ Some most → n / 10 ^ f.decimals < 10 ^ most)
+    → ((most : ℕ) → f.width ≡ Some most → length (signed_text f (plain n)) ≤ most) → Fits f (plain n)
 plain_fits f n h d w = record { within = h; sign = λ e. absurd (false≢true e); digits = d; width = w }
 
 -- so many digits
-fixed_fits : (digits n : ℕ) → n ≤ cap → n < 10 ^ digits → Fits (form digits 0 digits) (plain n)
+fixed_fits : (digits n : ℕ) → n ≤ cap → n < 10 ^ digits → Fits (form (Some digits) 0 digits) (plain n)
 unfolding signed_text plain_text whole_text
 fixed_fits digits n h l =
-    plain_fits (form digits 0 digits) n h (λ z. rw (div-one n) l) (λ z. rw (ne_eqb digits 0 z) (le_of_eq (fixed-length digits n)))
+    plain_fits (form (Some digits) 0 digits) n h (some_holds (λ m. n / 1 < 10 ^ m) digits (rw (div-one n) l))
+    (some_holds (λ m. length (fixed digits n) ≤ m) digits (le_of_eq (fixed-length digits n)))
 
 -- as many digits as n has, and no decimals
-whole_fits : (width n : ℕ) → n ≤ cap → n < 10 ^ width → 1 ≤ width → width ≤ 19 → Fits (form 0 0 width) (plain n)
+whole_fits : (width n : ℕ) → n ≤ cap → n < 10 ^ width → 1 ≤ width → width ≤ 19 → Fits (form None 0 width) (plain n)
 unfolding signed_text plain_text whole_text
 whole_fits zero n h l some most = absurd (omega arith)
-whole_fits (suc d) n h l some most = plain_fits (form 0 0 (suc d)) n h (λ z. absurd (z refl)) (λ z. decimal_short d n l (omega arith))
+whole_fits (suc d) n h l some most = plain_fits (form None 0 (suc d)) n h (none_holds (λ m. n / 1 < 10 ^ m)) (some_holds (λ m. length (decimal n) ≤ m) (suc d) (decimal_short d n l (omega arith)))
 
 -- with decimals
 point_fits : (width decimals n : ℕ) → (decimals ≡ 0 → ⊥) → n ≤ cap → n / 10 ^ decimals < 10 ^ (width - decimals - 1) → decimals + 2 ≤ width → width ≤ 20
-    → Fits (form 0 decimals width) (plain n)
+    → Fits (form None decimals width) (plain n)
 unfolding signed_text plain_text whole_text
 point_fits width decimals n some h l wide most =
     let d = width - decimals - 2 in
     let e : width - decimals - 1 ≡ suc d = omega arith in
-    plain_fits (form 0 decimals width) n h (λ z. absurd (z refl))
-    (λ z.
-    rw (ne_eqb decimals 0 some, length-append)
-    (omega (arith, decimal_short d (n / 10 ^ decimals) (rw e at l) (omega arith), fixed-length decimals n)))
+    plain_fits (form None decimals width) n h (none_holds (λ m. n / 10 ^ decimals < 10 ^ m))
+    (some_holds (λ m. length (signed_text (form None decimals width) (plain n)) ≤ m) width
+    (rw (ne_eqb decimals 0 some, length-append)
+    (omega (arith, decimal_short d (n / 10 ^ decimals) (rw e at l) (omega arith), fixed-length decimals n))))
 
 -- a column that the flag's row of the table says to be used or not
 use_fits : (b : Bool) (c : Column) (n : ℕ) (s : List ℕ) → Fits (number_form c) (plain n) → (b ≡ false → n ≡ 0)

@@ -1,5 +1,5 @@
 -- What writing leaves of the output, and what an accepted answer says of the list.
-use mathlib.Core.Path.{◌≡◌, sym, ap, ◌∙◌}
+use mathlib.Core.Path.{◌≡◌}
 use mathlib.Core.Bool.{true}
 use mathlib.Core.List.{List}
 use Prim.Native.Nat.{ℕ, ◌≤◌}
@@ -10,7 +10,7 @@ use Rattle.sequences.proofs.Checks.{passed_all, passes_all, accepted_passes}
 use Rattle.rules.specs.declared.Refusal.{Refusal}
 use Rattle.rules.proofs.Replies.{is_refused}
 use Rattle.digits.specs.Written.{put}
-use Rattle.std.proofs.Common.{Result, Ok, Err}
+use Rattle.std.proofs.Common.{Ok, Err}
 use Rattle.list_rules.specs.Replies.{list_reply}
 use Rattle.list_rules.specs.Writing.{Listing, list_checks, text_of, write_checks, write_reply, output_after}
 use Rattle.list_writing.specs.Outcome.{WriteOutcome}

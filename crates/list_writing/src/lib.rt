@@ -4,39 +4,39 @@
 ghost use Rattle.std.specs.Prelude.{◌≡◌, true, ◌*◌, ◌≤◌, length};
 ghost use Rattle.sequences.specs.Checks.{passes};
 ghost use Rattle.digits.specs.Written.{put};
-ghost use Rattle.list_rules.specs.Writing.{listing, list_checks, text_of};
+ghost use Rattle.list_rules.specs.Writing.{listed, list_checks, text_of};
 ghost use Rattle.list_writing.specs.Outcome.{WriteOutcome};
 
-use list_rules::ListFields;
+use list_rules::Listing;
 use rules::Refusal;
 
 // Writes the text of a list that no test refuses.
-fn put_list(fields: ListFields, run: &[u64], names: &[u8], letters: &[u8], output: &mut [u8])
-    requires passing { passes (list_checks (listing fields run.now names.now letters.now)) ≡ true }
-    requires room { length (text_of (listing fields run.now names.now letters.now)) ≤ length output.old }
-    ensures { output.new ≡ put output.old 0 (text_of (listing fields run.now names.now letters.now)) }
+fn put_list(list: &Listing, output: &mut [u8])
+    requires passing { passes (list_checks (listed list.now)) ≡ true }
+    requires room { length (text_of (listed list.now)) ≤ length output.old }
+    ensures { output.new ≡ put output.old 0 (text_of (listed list.now)) }
 {
-    let count = fields.count;
-    let figures = list_fields::figures_of(fields);
-    let p = text_head_writing::put_head(&list_rules::field_table(), letters, &figures, output, 0);
+    let count = list.fields.count;
+    let figures = list_fields::figures_of(list.fields);
+    let p = text_head_writing::put_head(
+        &list_rules::field_table(),
+        list.letters,
+        &figures,
+        output,
+        0,
+    );
     let form = list_rules::line_form();
     let pitch = form.columns().pitch();
     let q = p + count * pitch;
-    text_rows_writing::put_rows(&form, run, names, count, &mut output[p..q]);
+    text_rows_writing::put_rows(&form, list.run, list.names, count, &mut output[p..q]);
     digits_put::put_bytes(output, q, b"ENDENDEND\r\n");
 }
 
 // Writes a list at the front of the lent output, and answers how many bytes it takes. A refusal changes nothing.
-pub fn write(
-    fields: ListFields,
-    run: &[u64],
-    names: &[u8],
-    letters: &[u8],
-    output: &mut [u8],
-) -> Result<usize, Refusal>
-    ensures { WriteOutcome (listing fields run.now names.now letters.now) output.old result output.new }
+pub fn write(list: &Listing, output: &mut [u8]) -> Result<usize, Refusal>
+    ensures { WriteOutcome (listed list.now) output.old result output.new }
 {
-    let size = list_writing_tests::write_answer(fields, run, names, letters, output.len())?;
-    put_list(fields, run, names, letters, output);
+    let size = list_writing_tests::write_answer(list, output.len())?;
+    put_list(list, output);
     Ok(size)
 }

@@ -1,13 +1,15 @@
 -- The reply of writing, test by test.
 use mathlib.Core.Path.{◌≡◌, refl, sym, ap, ◌∙◌}
 use mathlib.Core.Bool.{Bool, true, false, not, ◌&&◌}
-use Prim.Native.Nat.{ℕ, ◌*◌, ◌≤◌, min}
+use Prim.Native.Nat.{ℕ, ◌*◌, ◌/◌, ◌≤◌, min}
+use native.Mathlib.Nat.{mul-div_right}
+use native.Mathlib.Omega.{arith}
 use lib.Dec.{ltb}
 use lib.ListN.{length}
 use borrow.Author.Tests.{eqb-true, lt-ltb, le-ltb}
 use Rattle.std.proofs.Common.{Option, Some, None}
 use Rattle.sequences.specs.Below.{below}
-use Rattle.sequences.proofs.Below.{below_some_facts, below_none_fact}
+use Rattle.sequences.proofs.Below.{below-some, below-none, below_some_facts, below_none_fact}
 use Rattle.sequences.specs.Checks.{reply, answering, passes}
 use Rattle.sequences.proofs.Every.{every_at, inside_facts}
 use Rattle.sequences.proofs.Checks.{passes_all, answered_next}
@@ -37,18 +39,52 @@ module _ (l : Listing) where
       let t = every_at _ e in
       record { few = (inside_facts 1 most_components _ (t 0)).1; run_length = eqb-true _ _ (t 1); names-length = eqb-true _ _ (t 2) }
 
-  -- refusal 3's test, by the first place at fault
-  module _ (fault : Option ℕ) (e : fault ≡ below l.fields.count (min
-      (component_fault l.fields.fund.first_code (places_of (component_at l.run) l.fields.count) l.fields.count)
-      (name_fault l.names l.fields.count))) where
-    pub fault_at : (place : ℕ) → fault ≡ Some place → (write_fault l ≡ place) × (ltb (write_fault l) l.fields.count ≡ true)
+  -- the first place at fault, of those found in the numbers and in the names
+  module _ (sized : Sized) (x y : Option ℕ) (e : x ≡ below l.fields.count (component_fault l.fields.fund.first_code (places_of (component_at l.run) l.fields.count) l.fields.count))
+      (f : y ≡ below (length l.names / name_width) (name_fault l.names (length l.names / name_width))) where
+    many : length l.names / name_width ≡ l.fields.count
+    many = ap (λ (n : ℕ). n / name_width) sized.names-length ∙ mul-div_right l.fields.count (omega arith)
+
+    named : y ≡ below l.fields.count (name_fault l.names l.fields.count)
+    named = f ∙ ap (λ (n : ℕ). below n (name_fault l.names n)) many
+
+    pub fault_both : (a b : ℕ) → x ≡ Some a → y ≡ Some b → Some (min a b) ≡ below l.fields.count (write_fault l)
     unfolding write_fault
+    fault_both a b g h =
+        let p = below_some_facts _ _ a (sym g ∙ e) in
+        let q = below_some_facts _ _ b (sym h ∙ named) in
+        rw (p.0, q.0) (sym (below-some l.fields.count (min a b) (omega (arith, p.0, p.1, q.0, q.1))))
+
+    pub fault_numbers : (a : ℕ) → x ≡ Some a → y ≡ None → Some a ≡ below l.fields.count (write_fault l)
+    unfolding write_fault
+    fault_numbers a g h =
+        let p = below_some_facts _ _ a (sym g ∙ e) in
+        let q = below_none_fact _ _ (sym h ∙ named) in
+        let least : min a (name_fault l.names l.fields.count) ≡ a = omega (arith, p.0, p.1, q) in
+        rw (p.0, least) (sym (below-some l.fields.count a (omega (arith, p.0, p.1))))
+
+    pub fault_names : x ≡ None → y ≡ below l.fields.count (write_fault l)
+    unfolding write_fault
+    fault_names g = case y refl
+      where
+        low : l.fields.count ≤ component_fault l.fields.fund.first_code (places_of (component_at l.run) l.fields.count) l.fields.count
+        low = below_none_fact _ _ (sym g ∙ e)
+
+        case : (z : Option ℕ) → y ≡ z → z ≡ below l.fields.count (min (component_fault l.fields.fund.first_code (places_of (component_at l.run) l.fields.count) l.fields.count) (name_fault l.names l.fields.count))
+        case None h = sym (below-none l.fields.count _ (omega (arith, low, below_none_fact _ _ (sym h ∙ named))))
+        case (Some b) h =
+            let q = below_some_facts _ _ b (sym h ∙ named) in
+            let least : min (component_fault l.fields.fund.first_code (places_of (component_at l.run) l.fields.count) l.fields.count) b ≡ b = omega (arith, low, q.0, q.1) in
+            rw (q.0, least) (sym (below-some l.fields.count b (omega (arith, q.0, q.1))))
+
+  -- refusal 3's test, by the first place at fault
+  module _ (fault : Option ℕ) (e : fault ≡ below l.fields.count (write_fault l)) where
+    pub fault_at : (place : ℕ) → fault ≡ Some place → (write_fault l ≡ place) × (ltb (write_fault l) l.fields.count ≡ true)
     fault_at place f =
         let k = below_some_facts _ _ place (sym f ∙ e) in
         (k.0, lt-ltb _ _ k.1)
 
     pub no_fault : fault ≡ None → ltb (write_fault l) l.fields.count ≡ false
-    unfolding write_fault
     no_fault f = le-ltb _ _ (below_none_fact _ _ (sym f ∙ e))
 
   -- refusal 2's test fails

@@ -1,18 +1,16 @@
 // What writing a list answers: its tests, and how many bytes the text takes.
 #![tactic(auto)]
 
-ghost use Rattle.std.specs.Prelude.{◌≡◌, true, ◌*◌, ◌≤◌, min, length};
+ghost use Rattle.std.specs.Prelude.{◌≡◌, true, ◌*◌, ◌≤◌, length};
 ghost use Rattle.sequences.specs.Below.{below};
 ghost use Rattle.sequences.specs.Checks.{passes};
 ghost use Rattle.layout.specs.Places.{most_components, component_width};
-ghost use Rattle.layout.specs.Components.{component_at, places_of};
-ghost use Rattle.fund.specs.Components.{component_fault};
 ghost use Rattle.list_rules.specs.Replies.{list_reply};
 ghost use Rattle.list_rules.specs.Shanghai.{name_width};
-ghost use Rattle.list_rules.specs.Writing.{listing, list_checks, name_fault, text_of, write_reply};
+ghost use Rattle.list_rules.specs.Writing.{listed, list_checks, text_of, write_fault, write_reply};
 ghost use Rattle.list_writing_tests.specs.Lengths.{lengths_fit};
 
-use list_rules::ListFields;
+use list_rules::Listing;
 use rules::Refusal;
 
 // Refusal 1's test. The range comes first, so that no product is too large.
@@ -27,12 +25,12 @@ fn lengths_fit(count: usize, run: usize, names: usize) -> bool
 }
 
 // The first component at fault, by its numbers or by its name.
-fn write_fault(first_code: u64, run: &[u64], names: &[u8], count: usize) -> Option<usize>
-    requires { (count ≤ most_components) × (length run.now ≡ component_width * count) × (length names.now ≡ name_width * count) }
-    ensures { result ≡ below count (min (component_fault first_code (places_of (component_at run.now) count) count) (name_fault names.now count)) }
+fn write_fault(list: &Listing) -> Option<usize>
+    requires { (list.now.fields.count ≤ most_components) × (length list.now.run.now ≡ component_width * list.now.fields.count) × (length list.now.names.now ≡ name_width * list.now.fields.count) }
+    ensures { result ≡ below list.now.fields.count (write_fault (listed list.now)) }
 {
-    let numbers = fund::run_fault(first_code, run, count);
-    let name = list_names::name_fault(names, count);
+    let numbers = fund::run_fault(list.fields.fund.first_code, list.run, list.fields.count);
+    let name = list_names::name_fault(list.names);
     match (numbers, name) {
         (Some(a), Some(b)) => Some(a.min(b)),
         (Some(a), None) => Some(a),
@@ -41,41 +39,34 @@ fn write_fault(first_code: u64, run: &[u64], names: &[u8], count: usize) -> Opti
 }
 
 // How many bytes the text takes.
-fn text_size(fields: ListFields, run: &[u64], names: &[u8], letters: &[u8]) -> usize
-    requires { passes (list_checks (listing fields run.now names.now letters.now)) ≡ true }
-    ensures { result ≡ length (text_of (listing fields run.now names.now letters.now)) }
+fn text_size(list: &Listing) -> usize
+    requires { passes (list_checks (listed list.now)) ≡ true }
+    ensures { result ≡ length (text_of (listed list.now)) }
 {
-    let figures = list_fields::figures_of(fields);
-    let head = text_head_writing::head_size(&list_rules::field_table(), letters, &figures);
+    let figures = list_fields::figures_of(list.fields);
+    let head = text_head_writing::head_size(&list_rules::field_table(), list.letters, &figures);
     let form = list_rules::line_form();
     let pitch = form.columns().pitch();
-    head + (fields.count * pitch + text_rules::END_SIZE)
+    head + (list.fields.count * pitch + text_rules::END_SIZE)
 }
 
 // The answer, which changes nothing.
-pub fn write_answer(
-    fields: ListFields,
-    run: &[u64],
-    names: &[u8],
-    letters: &[u8],
-    room: usize,
-) -> Result<usize, Refusal>
-    ensures { list_reply result ≡ write_reply (listing fields run.now names.now letters.now) room }
+pub fn write_answer(list: &Listing, room: usize) -> Result<usize, Refusal>
+    ensures { list_reply result ≡ write_reply (listed list.now) room }
 {
-    let count = fields.count;
-    if !lengths_fit(count, run.len(), names.len()) {
+    if !lengths_fit(list.fields.count, list.run.len(), list.names.len()) {
         return Err(Refusal::Sizes);
     }
-    if !list_fields::fields_in_range(fields) {
+    if !list_fields::fields_in_range(list.fields) {
         return Err(Refusal::FundField);
     }
-    if !text_lines::is_letters(letters) {
+    if !text_lines::is_letters(list.letters) {
         return Err(Refusal::FundField);
     }
-    if let Some(fault) = write_fault(fields.fund.first_code, run, names, count) {
+    if let Some(fault) = write_fault(list) {
         return Err(Refusal::Component(fault));
     }
-    let size = text_size(fields, run, names, letters);
+    let size = text_size(list);
     if room < size {
         return Err(Refusal::ListTooShort);
     }

@@ -102,8 +102,8 @@ fn with_line(t: Scan, i: usize, line: Line) -> Scan
     }
 }
 
-// The pass over the components.
-fn scan_lines(kind: Kind, day: &DayView, parties: &Parties, prices: &[u64], m: u64) -> Scan
+// An order of m baskets between the two parties.
+pub fn order_scan(kind: Kind, day: &DayView, parties: &Parties, prices: &[u64], m: u64) -> Scan
     requires { Scannable day.now parties.now.account.now parties.now.fund.now prices.now m }
     ensures { result ≡ order_scan kind day.now parties.now.account.now parties.now.fund.now prices.now m }
 {
@@ -120,17 +120,6 @@ fn scan_lines(kind: Kind, day: &DayView, parties: &Parties, prices: &[u64], m: u
         );
     }
     t
-}
-
-// An order of m baskets between the two parties. Each kind has a pass of its own, so that no turn asks for the kind.
-pub fn order_scan(kind: Kind, day: &DayView, parties: &Parties, prices: &[u64], m: u64) -> Scan
-    requires { Scannable day.now parties.now.account.now parties.now.fund.now prices.now m }
-    ensures { result ≡ order_scan kind day.now parties.now.account.now parties.now.fund.now prices.now m }
-{
-    match kind {
-        Kind::Creation => scan_lines(Kind::Creation, day, parties, prices, m),
-        Kind::Redemption => scan_lines(Kind::Redemption, day, parties, prices, m),
-    }
 }
 
 // How many records an amount of cash takes.

@@ -5,7 +5,8 @@
 ghost use Rattle.std.specs.Prelude.{◌≡◌, length};
 ghost use Rattle.layout.specs.Day.{day_at};
 ghost use Rattle.rules.specs.Replies.{order_answer_reply};
-ghost use Rattle.rules.specs.Kinds.{asked_reply, asked_book};
+ghost use Rattle.rules.specs.Lent.{lent_of, rooms_in};
+ghost use Rattle.rules.specs.Kinds.{asked_reply, asked_book, asked_lists};
 ghost use Rattle.order_structs.specs.Made.{rooms_beside, made_records, made_reports};
 ghost use Rattle.order_structs.specs.Settling.{lent_records};
 
@@ -26,8 +27,30 @@ fn records_lent(room: usize) -> usize
     room.min(MOST_RECORDS)
 }
 
-// Creates or redeems units, by the kind of order; the records and the reports to both parties go to the lent lists. The flat run
-// lends no more records than the list has room for.
+// An order with its lists lent one by one. `order` cannot put a part of its run into the struct itself: tried, its proof did not close,
+// as what the call leaves in such a part is not known.
+fn flat_order(
+    day: &[u64],
+    book: &mut [u64],
+    prices: &[u64],
+    ask: Ask,
+    records: &mut [u64],
+    investor: &mut [u64],
+    fund: &mut [u64],
+) -> Result<Counts, Refusal>
+    ensures result_value { order_answer_reply result ≡ asked_reply (day_at day.now) book.old prices.now ask (rooms_in (lent_of records.old investor.old fund.old)) }
+    ensures book { book.new ≡ asked_book (day_at day.now) book.old prices.now ask (rooms_in (lent_of records.old investor.old fund.old)) }
+    ensures lists { lent_of records.new investor.new fund.new ≡ asked_lists (day_at day.now) book.old prices.now ask (lent_of records.old investor.old fund.old) }
+{
+    let mut lists = Lists {
+        records,
+        investor,
+        fund,
+    };
+    order_calls::order(day, book, prices, ask, &mut lists)
+}
+
+// Creates or redeems units, by the kind of order; the records and the reports to both parties go to the lent lists.
 pub fn order(
     day: &[u64],
     book: &mut [u64],
@@ -44,12 +67,8 @@ pub fn order(
 {
     let mut flat = [0u64; FLAT_LENGTH];
     let lent = layout::RECORD_WIDTH * records_lent(list.len());
-    let mut lists = Lists {
-        records: &mut flat[..lent],
-        investor,
-        fund,
-    };
-    let counts = order_calls::order(day, book, prices, ask, &mut lists)?;
+    let run = &mut flat[..lent];
+    let counts = flat_order(day, book, prices, ask, run, investor, fund)?;
     record_writer::fill(list, &flat, counts.records);
     Ok(counts)
 }

@@ -7,18 +7,19 @@ ghost use Rattle.layout.specs.Places.{most_components};
 ghost use Rattle.layout.specs.Book.{width_of, account};
 ghost use Rattle.rules.specs.Replies.{order_answer_reply, if_accepted};
 ghost use Rattle.rules.specs.Sound.{is_sound};
-ghost use Rattle.rules.specs.Orders.{baskets};
 ghost use Rattle.rules.specs.Lent.{rooms_in};
 ghost use Rattle.rules.specs.Lists.{lent_in, left_in};
-ghost use Rattle.rules.specs.Kinds.{asked_cash, asked_moves, with_asked};
+ghost use Rattle.rules.specs.Kinds.{asked_cash, asked_moves};
 ghost use Rattle.order_tests.specs.Tests.{accepted_reply, means_answer};
-ghost use Rattle.orders.specs.Orders.{asked_answer, Formed};
+ghost use Rattle.orders.specs.Orders.{asked_answer, answered_lists, Formed};
 
 use layout::DayView;
+use order_scan::Parties;
 use order_tests::Accepted;
 use rules::{Ask, Counts, Lists, Refusal, Rooms};
 
-// An account's part of the book.
+// An account's part of the book. That the count is within the most is no invariant of a `DayView`: a view reads any run of a day's
+// length, and the sound day of the callers says it.
 fn part_of(book: &[u64], count: usize, a: usize) -> &[u64]
     requires { (count ≤ most_components) × (a * width_of count + width_of count ≤ length book.now) }
     ensures { result.now ≡ stretch_of (width_of count) book.now a }
@@ -29,45 +30,27 @@ fn part_of(book: &[u64], count: usize, a: usize) -> &[u64]
     &book[start..end]
 }
 
-// The third stage of an order of `m` baskets, on the account's part of the book and the fund's.
+// The third stage of an order, on the account's part of the book and the fund's.
 fn order_stage(
     day: &DayView,
     book: &[u64],
     prices: &[u64],
     ask: Ask,
-    m: u64,
     rooms: Rooms,
 ) -> Result<Accepted, Refusal>
-    requires formed { Formed day.now book.now prices.now ask }
-    requires m_value { m ≡ baskets day.now ask.units }
+    requires { Formed day.now book.now prices.now ask }
     ensures answer_value { accepted_reply result ≡ means_answer day.now (account day.now book.now ask.account) (account day.now book.now 0) prices.now ask rooms }
     ensures cash { IfOk result (λ accepted. accepted.cash ≡ asked_cash day.now (account day.now book.now ask.account) prices.now ask) }
 {
     let n = day.count();
-    let stretch = part_of(book, n, ask.account);
+    let account = part_of(book, n, ask.account);
     let fund = part_of(book, n, book::FUND);
-    order_tests::order_means(day, stretch, fund, prices, ask, m, rooms)
+    let parties = Parties { account, fund };
+    order_tests::order_means(day, &parties, prices, ask, rooms)
 }
 
-// The tests of an order of `m` baskets.
-fn tested_in(
-    day: &DayView,
-    book: &[u64],
-    prices: &[u64],
-    ask: Ask,
-    m: u64,
-    rooms: Rooms,
-) -> Result<Accepted, Refusal>
-    requires prices_value { is_sound day.now book.now prices.now ≡ true }
-    requires m_value { m ≡ baskets day.now ask.units }
-    ensures answer_value { accepted_reply result ≡ asked_answer day.now book.now prices.now ask rooms }
-    ensures cash { IfOk result (λ accepted. accepted.cash ≡ asked_cash day.now (account day.now book.now ask.account) prices.now ask) }
-{
-    order_form::order_form(day, book, ask, m)?;
-    order_stage(day, book, prices, ask, m, rooms)
-}
-
-// The tests of an order alone, with the cash of one that is accepted.
+// The tests of an order alone, with the cash of one that is accepted. That the day is sound stands in both contracts: it is a fact of
+// the day with its book and prices, of which the tests lend the book to read and an order to write, so one struct would need a twin.
 pub fn order_tested(
     day: &DayView,
     book: &[u64],
@@ -79,8 +62,8 @@ pub fn order_tested(
     ensures answer_value { accepted_reply result ≡ asked_answer day.now book.now prices.now ask rooms }
     ensures cash { IfOk result (λ accepted. accepted.cash ≡ asked_cash day.now (account day.now book.now ask.account) prices.now ask) }
 {
-    let m = ask.units / day.fund().basket_size;
-    tested_in(day, book, prices, ask, m, rooms)
+    order_form::order_form(&day.head(), book, ask)?;
+    order_stage(day, book, prices, ask, rooms)
 }
 
 // An order: its tests, and where they accept it its records, moves and reports.
@@ -94,10 +77,10 @@ pub fn order(
     requires prices_value { is_sound day.now book.old prices.now ≡ true }
     ensures result_value { order_answer_reply result ≡ asked_answer day.now book.old prices.now ask (rooms_in (lent_in lists.old)) }
     ensures book { book.new ≡ if_accepted (asked_answer day.now book.old prices.now ask (rooms_in (lent_in lists.old))) (asked_moves day.now prices.now ask book.old) book.old }
-    ensures lists { lists.new ≡ left_in lists.old (if_accepted (asked_answer day.now book.old prices.now ask (rooms_in (lent_in lists.old))) (with_asked day.now book.old prices.now ask (lent_in lists.old)) (lent_in lists.old)) }
+    ensures lists { lists.new ≡ left_in lists.old (answered_lists day.now book.old prices.now ask (lent_in lists.old)) }
 {
+    let accepted = order_tested(day, book, prices, ask, lists.rooms())?;
     let m = ask.units / day.fund().basket_size;
-    let accepted = tested_in(day, book, prices, ask, m, lists.rooms())?;
     let cash = accepted.cash;
     let records = &mut *lists.records;
     let investor = &mut *lists.investor;

@@ -6,3 +6,4 @@ pub mod Same
 pub mod Runs
 pub mod Sums
 pub mod Lists
+pub mod Chunks

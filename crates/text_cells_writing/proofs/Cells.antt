@@ -1,55 +1,23 @@
 -- Texts written into a line or a cell: a number among blanks, and a cell with its bar.
 use mathlib.Core.Path.{◌≡◌, refl, sym, ap, ◌∙◌}
 use mathlib.Core.Bool.{Bool, true, false}
-use mathlib.Core.List.{List, [], ◌∷◌, ◌++◌, append_assoc, append-nil}
-use Prim.Native.Nat.{ℕ, suc, ◌+◌, ◌-◌, ◌/◌, ◌^◌, ◌≤◌, ◌<◌}
-use native.Mathlib.Decide.{ℕ_discrete}
+use mathlib.Core.List.{List, [], ◌∷◌, ◌++◌}
+use Prim.Native.Nat.{ℕ, ◌+◌, ◌-◌, ◌≤◌, ◌<◌}
 use native.Mathlib.Omega.{arith}
-use lib.ListN.{length, set, take, drop, replicate, length-set, length-append, length-replicate, replicate-append-replicate, take-append-drop, drop_of_length-le}
-use lib.Seq.{length-take-le, take_at, drop_at, take-append-le, take-take, drop-drop}
-use borrow.Author.Tests.{eq-eqb, ne_eqb}
+use lib.ListN.{length, set, take, drop, replicate, length-append, length-replicate, take-append-drop}
+use lib.Seq.{drop-drop}
 use borrow.Rule.Slice.PartMut.{put_mid}
-use Rattle.digits.specs.Digits.{plain, fixed, tens, decimal, whole_text, plain_text, signed_text, number_text}
+use Rattle.digits.specs.declared.Figure.{Figure}
+use Rattle.digits.specs.Digits.{plain, signed_text, blanks_left, number_text}
 use Rattle.digits.specs.Fits.{Fits}
-use Rattle.digits.specs.Written.{put, Written}
-use Rattle.digits.proofs.Put.{put-before, put-length, growing_again}
-use Rattle.digits.proofs.Count.{fixed-length, decimal-length}
+use Rattle.digits.specs.Written.{put}
+use Rattle.digits.proofs.Put.{put-length, growing_again}
+use Rattle.digits.proofs.Trip.{number_width}
+use Rattle.digits.proofs.Write.{blanks-put}
 use Rattle.text_rules.specs.declared.Column.{Column}
 use Rattle.text_rules.specs.Columns.{number_form}
-use Rattle.text_rules.specs.Well.{most_decimals, most_digits}
 use Rattle.text_rules.proofs.Well.{WellColumn}
 use Rattle.text_cells_writing.specs.Cells.{used_text}
-
--- what is written in front of what was written
-put_front : (d : List ℕ) (at : ℕ) (xs ys : List ℕ) → at + length xs + length ys ≤ length d
-    → put (put d (at + length xs) ys) at xs ≡ put d at (xs ++ ys)
-unfolding put
-put_front d at xs ys h =
-    let front : length (take (at + length xs) d) ≡ at + length xs = length-take-le (at + length xs) d (omega arith) in
-    let rest : List ℕ = ys ++ drop (at + length xs + length ys) d in
-    let start : take at (take (at + length xs) d ++ rest) ≡ take at d =
-    take-append-le at (take (at + length xs) d) rest (omega arith) ∙ take-take at (at + length xs) d (omega arith)
-    in
-    let end : at + length (xs ++ ys) ≡ at + length xs + length ys = rw length-append (omega arith) in
-    rw (start, drop_at (take (at + length xs) d) rest (at + length xs) front, end, append_assoc)
-
-sum_back : (w k : ℕ) → k ≤ w → w ≡ w - k + k
-sum_back w k h = omega arith
-
--- text right in a cell of blanks
-blanks-put : (w : ℕ) (xs : List ℕ) → length xs ≤ w → put (replicate w 32) (w - length xs) xs ≡ replicate (w - length xs) 32 ++ xs
-unfolding put
-blanks-put w xs h =
-    let parts : replicate {A = ℕ} w 32 ≡ replicate (w - length xs) 32 ++ replicate (length xs) 32 =
-    ap (λ (k : ℕ). replicate {A = ℕ} k 32) (sum_back w (length xs) h) ∙ sym (replicate-append-replicate (w - length xs) (length xs) 32)
-    in
-    let front : take (w - length xs) (replicate {A = ℕ} w 32) ≡ replicate (w - length xs) 32 =
-    ap (take (w - length xs)) parts ∙ take_at _ _ (w - length xs) (length-replicate {A = ℕ} (w - length xs) 32)
-    in
-    let none : drop (w - length xs + length xs) (replicate {A = ℕ} w 32) ≡ [] =
-    drop_of_length-le (replicate {A = ℕ} w 32) {i = w - length xs + length xs} (rw length-replicate (omega arith))
-    in
-    rw (front, none) (simp append-nil)
 
 -- a cell of a line with its bar
 module _ (d : List ℕ) (at : ℕ) (xs : List ℕ) (room : at + length xs < length d) where
@@ -72,120 +40,23 @@ module _ (d : List ℕ) (at : ℕ) (xs : List ℕ) (room : at + length xs < leng
       ∙ ap (λ (s : List ℕ). take at d ++ (take (length xs) (drop at d) ++ s)) (sym (drop-drop (length xs) at d))
       ∙ rw (take-append-drop, take-append-drop)
 
--- the point and so many decimals
-abbrev pointed : ℕ → ℕ → List ℕ
-pointed k n = 46 ∷ fixed k n
-
 -- a number fills its cell
 pub number-length : (c : Column) (n : ℕ) → WellColumn c → Fits (number_form c) (plain n) → length (number_text (number_form c) (plain n)) ≡ c.width
-unfolding number_text number_form
-number-length c n well fits =
-    let room : length (signed_text (number_form c) (plain n)) ≤ c.width = fits.width (λ e. omega (arith, well.some)) in
-    length-append (replicate (c.width - length (signed_text (number_form c) (plain n))) 32) (signed_text (number_form c) (plain n))
-    ∙ rw length-replicate (omega arith)
+unfolding number_form
+number-length c n well fits = number_width (number_form c) (plain n) fits c.width refl
 
--- its form has few digits and decimals
-pub form_small : (c : Column) → WellColumn c → (c.decimals ≤ most_decimals) × (c.digits ≤ most_digits)
-form_small c well = (
-  elim (ℕ_discrete c.decimals 0) [
-    | yes e ↦ omega (arith, e)
-    | no h ↦ (well.point h).0
-  ],
-  elim (ℕ_discrete c.digits 0) [
-    | yes e ↦ omega (arith, e)
-    | no h ↦ omega (arith, (well.digits h).0, well.narrow)
-  ],
-)
-
--- what fills a run is all of it
-filled : (d xs : List ℕ) → length xs ≡ length d → put d 0 xs ≡ xs
-unfolding put
-filled d xs h = rw (drop_of_length-le d {i = 0 + length xs} (omega arith)) (simp append-nil)
-
--- ---- a number in its cell d, which holds only blanks
-module _ (c : Column) (n : ℕ) (well : WellColumn c) (fits : Fits (number_form c) (plain n)) {d : List ℕ} (blank : d ≡ replicate c.width 32) where
-  pub cell-length : length d ≡ c.width
-  cell-length = rw blank (length-replicate {A = ℕ} c.width 32)
-
-  pub number_room : 0 + length (number_text (number_form c) (plain n)) ≤ length d
-  number_room = omega (arith, number-length c n well fits, cell-length)
-
-  pub number_put : {d' : List ℕ} {e : ℕ} → Written d 0 (number_text (number_form c) (plain n)) d' e → d' ≡ number_text (number_form c) (plain n)
-  number_put w = w.bytes ∙ filled d _ (number-length c n well fits ∙ sym cell-length)
-
-  text_room : length (signed_text (number_form c) (plain n)) ≤ c.width
+-- it has room at the end of its cell d, which holds only blanks, and is right in it
+module _ (c : Column) (n : ℕ) (fits : Fits (number_form c) (plain n)) {d : List ℕ} (blank : d ≡ replicate c.width 32) where
+  pub number_room : {z : Figure} → z ≡ plain n → length (signed_text (number_form c) z) ≤ length d
   unfolding number_form
-  text_room = fits.width (λ e. omega (arith, well.some))
+  number_room e = rw e (omega (arith, fits.width c.width refl, ap length blank, length-replicate {A = ℕ} c.width 32))
 
-  text-put : {xs : List ℕ} {p : ℕ} → signed_text (number_form c) (plain n) ≡ xs → p ≡ c.width - length xs → put d p xs ≡ number_text (number_form c) (plain n)
-  unfolding number_text number_form
-  text-put {xs} {p} e h =
-      rw (blank, h, e) (blanks-put c.width xs (omega (arith, text_room, ap length e)))
-
-  -- so many digits, which fill it
-  digits_text : (c.digits ≡ 0 → ⊥) → signed_text (number_form c) (plain n) ≡ fixed c.width n
-  unfolding number_form signed_text plain_text whole_text
-  digits_text h =
-      let f = well.digits h in
-      rw (eq-eqb c.decimals 0 f.1, ne_eqb c.digits 0 h, f.0)
-
-  pub digits-put : (c.digits ≡ 0 → ⊥) → {d' : List ℕ} → d' ≡ put d (c.width - c.width) (fixed c.width n) → d' ≡ number_text (number_form c) (plain n)
-  digits-put h e = e ∙ text-put (digits_text h) (omega (arith, fixed-length c.width n))
-
-  -- as many digits as there are
-  module _ (free : c.digits ≡ 0) where
-    whole_text_lem : c.decimals ≡ 0 → signed_text (number_form c) (plain n) ≡ decimal n
-    unfolding number_form signed_text plain_text whole_text
-    whole_text_lem h = rw (eq-eqb c.decimals 0 h, eq-eqb c.digits 0 free)
-
-    pub whole_room : c.decimals ≡ 0 → suc (tens n) ≤ c.width
-    whole_room h = omega (arith, text_room, ap length (whole_text_lem h), decimal-length n)
-
-    pub whole-put : c.decimals ≡ 0 → {d' : List ℕ} → d' ≡ put d (c.width - suc (tens n)) (decimal n) → d' ≡ number_text (number_form c) (plain n)
-    whole-put h e = e ∙ text-put (whole_text_lem h) (omega (arith, decimal-length n))
-
-    -- with decimals, m before the point
-    module _ (some : c.decimals ≡ 0 → ⊥) {m : ℕ} (left : m ≡ n / 10 ^ c.decimals) where
-      pointed_text : signed_text (number_form c) (plain n) ≡ decimal m ++ pointed c.decimals n
-      unfolding number_form signed_text plain_text whole_text
-      pointed_text = rw (ne_eqb c.decimals 0 some, eq-eqb c.digits 0 free, left)
-
-      pointed-length : length (decimal m ++ pointed c.decimals n) ≡ suc (tens m) + (c.decimals + 1)
-      pointed-length = length-append (decimal m) (pointed c.decimals n) ∙ omega (arith, decimal-length m, fixed-length c.decimals n)
-
-      pub point_room : suc (tens m) ≤ c.width - (c.decimals + 1)
-      point_room = omega (arith, text_room, ap length pointed_text, pointed-length)
-
-      module _ {d' : List ℕ} (tail : d' ≡ put d (c.width - c.decimals) (fixed c.decimals n)) where
-        pub tail_length : length d' ≡ c.width
-        tail_length =
-            rw tail (put-length d (c.width - c.decimals) (fixed c.decimals n) (omega (arith, cell-length, fixed-length c.decimals n, point_room)))
-            ∙ cell-length
-
-        point_put : set d' (c.width - (c.decimals + 1)) 46 ≡ put d (c.width - (c.decimals + 1)) (pointed c.decimals n)
-        point_put =
-            let p : ℕ = c.width - (c.decimals + 1) in
-            let e : c.width - c.decimals ≡ c.width - (c.decimals + 1) + 1 = omega (arith, point_room) in
-            rw (tail, e) (put-before d p 46 (fixed c.decimals n) (omega (arith, cell-length, fixed-length c.decimals n)))
-
-        pub pointed-put : {d'' : List ℕ} → d'' ≡ put (set d' (c.width - (c.decimals + 1)) 46) (c.width - (c.decimals + 1) - suc (tens m)) (decimal m)
-            → d'' ≡ number_text (number_form c) (plain n)
-        pointed-put e =
-            let at : ℕ = c.width - (c.decimals + 1) - suc (tens m) in
-            let p : c.width - (c.decimals + 1) ≡ c.width - (c.decimals + 1) - suc (tens m) + length (decimal m) = omega (arith, point_room, decimal-length m) in
-            e
-            ∙ ap (λ (x : List ℕ). put x at (decimal m)) (point_put ∙ ap (λ (i : ℕ). put d i (pointed c.decimals n)) p)
-            ∙ put_front d at (decimal m) (pointed c.decimals n) (omega (arith, cell-length, point_room, decimal-length m, fixed-length c.decimals n))
-            ∙ text-put pointed_text (omega (arith, pointed-length))
-
-        pub same_cell : {d'' : List ℕ} → d'' ≡ put (set d' (c.width - (c.decimals + 1)) 46) (c.width - (c.decimals + 1) - suc (tens m)) (decimal m)
-            → length d'' ≡ length d
-        same_cell e =
-            let long = length-set d' (c.width - (c.decimals + 1)) 46 in
-            let same : length (put (set d' (c.width - (c.decimals + 1)) 46) (c.width - (c.decimals + 1) - suc (tens m)) (decimal m)) ≡ length (set d' (c.width - (c.decimals + 1)) 46) =
-            put-length _ _ (decimal m) (omega (arith, tail_length, decimal-length m, point_room))
-            in
-            omega (arith, ap length e, tail_length, cell-length)
+  pub number_put : {z : Figure} → z ≡ plain n → {d' : List ℕ}
+      → d' ≡ put d (length d - length (signed_text (number_form c) z)) (signed_text (number_form c) z) → d' ≡ number_text (number_form c) (plain n)
+  unfolding number_form number_text blanks_left
+  number_put is e =
+      let wide : length d ≡ c.width = ap length blank ∙ length-replicate {A = ℕ} c.width 32 in
+      e ∙ rw (is, wide, blank) (blanks-put c.width (signed_text (number_form c) (plain n)) (fits.width c.width refl))
 
 -- with its bar
 pub used-length : (c : Column) (n : ℕ) → WellColumn c → (used : Bool) → (used ≡ true → Fits (number_form c) (plain n)) → length (used_text used c n) ≡ c.width + 1

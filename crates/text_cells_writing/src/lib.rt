@@ -12,52 +12,19 @@ ghost use Rattle.text_cells_writing.specs.Cells.{used_text};
 use digits::{Figure, Form};
 use text_rules::Column;
 
-// Numbers below it have 32 bits, and almost all are: they are written from the right, the others by their form.
-const SMALL: u64 = 4_294_967_296;
-
-// Writes a small number into its cell, which holds only blanks.
-fn put_small(cell: &mut [u8], column: Column, n: u32)
-    requires column_value { (column_well column ≡ true) × (cell.old ≡ replicate column.width 32) }
-    requires fits { Fits (number_form column) (plain n) }
-    ensures { cell.new ≡ number_text (number_form column) (plain n) }
-{
-    let width = column.width;
-    if column.digits.is_some() {
-        digits_put::tail::put_last(cell, width, width, n);
-        return;
-    }
-    let decimals = column.decimals;
-    if decimals == 0 {
-        digits_put::tail::put_whole(cell, width, n);
-        return;
-    }
-    let left = digits_put::tail::put_last(cell, width, decimals, n);
-    let point = width - (decimals + 1);
-    cell[point] = 46;
-    digits_put::tail::put_whole(cell, point, left);
-}
-
 // Writes a number into its cell, which holds only blanks.
 fn put_number(cell: &mut [u8], column: Column, n: u64)
     requires column_value { (column_well column ≡ true) × (cell.old ≡ replicate column.width 32) }
     requires fits { Fits (number_form column) (plain n) }
     ensures { cell.new ≡ number_text (number_form column) (plain n) }
 {
-    if n < SMALL {
-        put_small(cell, column, n as u32);
-        return;
-    }
     let form = Form {
         digits: column.digits,
         decimals: column.decimals,
         signed: false,
         width: Some(column.width),
     };
-    let z = Figure {
-        negative: false,
-        size: n,
-    };
-    digits_writing::put_number(cell, 0, form, z);
+    digits_writing::put_signed(cell, form, Figure::from(n));
 }
 
 // Writes a number into its place in a line, where the column is used, and the bar behind it.
@@ -90,6 +57,5 @@ pub fn put_end(line: &mut [u8], at: usize)
     requires { at + 2 ≤ length line.old }
     ensures { line.new ≡ put line.old at (13 ∷ 10 ∷ []) }
 {
-    let e = digits_put::put_byte(line, at, 13);
-    digits_put::put_byte(line, e, 10);
+    digits_put::put_bytes(line, at, b"\r\n");
 }

@@ -1,36 +1,39 @@
 -- The fields of the head: the first at fault as the code goes from line to line, and the figures before it.
-use mathlib.Core.Bool.{Bool, true, false, cond, not}
+use mathlib.Core.Bool.{Bool, true, false, cond, not, true≢false}
 use mathlib.Core.List.{List}
 use mathlib.Core.Path.{◌≡◌, refl, sym, ap, subst, subst⁻¹, ◌∙◌}
 use Prim.Native.Nat.{ℕ, suc, ◌+◌, ◌-◌, ◌≤◌, ◌<◌}
 use native.Mathlib.Decide.{ℕ_discrete, dec_lt}
-use native.Mathlib.Nat.{add_assoc}
 use native.Mathlib.Numerals.{add-one}
 use native.Mathlib.Omega.{arith}
 use lib.Dec.{ltb}
 use lib.ListN.{length, get_or, take, drop, set, replicate, length-drop, length-set, length-replicate, get_or-replicate}
-use lib.Seq.{drop-drop, get_or-set_same, get_or-set_other}
-use borrow.Author.Tests.{ne_eqb, not-false, ltb-true, lt-ltb, le-ltb, le-leb}
-use Rattle.std.proofs.Common.{Option, Some, None, Result, Ok, Err}
-use Rattle.std.specs.Prelude.{MatchOption, MatchResult, ⊤}
-use Rattle.std.specs.Option.{ok_or}
+use lib.Seq.{get_or-set_same, get_or-set_other}
+use borrow.Author.Tests.{ne_eqb, not-false, lt-ltb, le-ltb, le-leb}
+use Rattle.std.proofs.Common.{Option, Some, None, Ok, Err}
+use Rattle.std.specs.Prelude.{MatchOption, ⊤}
+use Rattle.std.specs.Option.{IsSome}
 use Rattle.sequences.specs.Below.{first_below}
 use Rattle.sequences.proofs.Below.{first_none, first_more, first_here, first_all, table_ext}
 use Rattle.digits.specs.Digits.{figure_of, plain}
 use Rattle.digits.specs.declared.Figure.{Figure}
-use Rattle.lines.proofs.Laws.{line-le, line_room, first-length, named_long, part_len, part_next}
-use Rattle.lines.specs.Lines.{is_named, line_len, ended, first_line, next_at}
+use Rattle.lines.proofs.Laws.{first-length, named_long}
+use Rattle.lines.specs.Lines.{is_named, ended, first_line, next_at}
 use Rattle.text_rules.specs.declared.Field.{Field as LentField}
 use Rattle.text_rules.specs.Tables.{Field, field_of, field_at}
 use Rattle.text_rules.specs.Head.{head_lines, field_name, is_field, is_head_line}
 use Rattle.text_rules.specs.Reading.{start_of, line_of, line_stands, wrong_line, field_start, word_of, figure_read, wrong_field}
-use Rattle.text_rules.specs.Well.{most_decimals, most_fields, fields_well}
-use Rattle.text_rules.proofs.Well.{field_well_lem, fields_few}
-use Rattle.text_lines.proofs.Standing.{stands_facts}
-use Rattle.text_lines.proofs.Opening.{drop-front}
+use Rattle.text_rules.specs.Well.{most_fields, fields_well}
+use Rattle.text_rules.proofs.Well.{fields_few}
+use Rattle.text_lines.proofs.Standing.{rest_is, stands_facts}
 use Rattle.text_head.specs.declared.WrongField.{WrongField}
 use Rattle.text_head.specs.Head.{field_reading, figures_found, fields_found}
 use Rattle.text_head.proofs.Shape.{wrong_at}
+
+-- a line that cannot be missing
+pub some_line : {A B : Type 0} (P : A → Type 0) → (B → ⊥) → (r : Option A) → MatchOption r B P → IsSome r
+some_line P n None h = absurd (n h)
+some_line P n (Some x) h = refl
 
 -- ---- a field that says something, and one that does not
 module _ (f : Field) (s : List ℕ) where
@@ -69,10 +72,6 @@ module _ (fs : List Field) (made : fields_well fs ≡ true) (text : List ℕ) (w
   unfolding wrong_line wrong_at
   all_stand k l = not-false _ (first_all (wrong_at fs text) (head_lines fs) well k l)
 
-  line_ended : (k : ℕ) → k < head_lines fs → line_len (drop (start_of text k) text) < length (drop (start_of text k) text)
-  unfolding ended
-  line_ended k l = ltb-true _ _ (stands_facts (is_head_line fs k) text (start_of text k) (all_stand k l)).0
-
   line_named : (k : ℕ) → k < length fs → is_named (field_name fs k) (line_of text (start_of text (suc k))) ≡ true
   unfolding is_head_line head_lines
   line_named k l =
@@ -80,13 +79,26 @@ module _ (fs : List Field) (made : fields_well fs ≡ true) (text : List ℕ) (w
       rw (ne_eqb (suc k) 0 (λ z. omega arith), le-leb (suc k) (length fs) (omega arith), back) at
       (stands_facts (is_head_line fs (suc k)) text (start_of text (suc k)) (all_stand (suc k) (omega arith))).1
 
-  pub fielded_start : (n : ℕ) → n ≡ line_len text → Fielded fs text (replicate most_fields (plain 0)) (n + 2) 0
+  -- the first line has its end, and so have those of the fields
+  line_ended : (k : ℕ) → k < head_lines fs → ended (drop (start_of text k) text) ≡ true
+  line_ended k l = (stands_facts (is_head_line fs k) text (start_of text k) (all_stand k l)).0
+
+  pub first_ended : ended text ≡ false → ⊥
+  unfolding start_of head_lines
+  first_ended f = true≢false (sym (line_ended 0 (omega arith)) ∙ f)
+
+  pub next_ended : (figures : List Figure) (at k : ℕ) → Fielded fs text figures at k → k < length fs → ended (take (length text - at) (drop at text)) ≡ false → ⊥
+  unfolding head_lines
+  next_ended figures at k v l f =
+      true≢false
+      (sym (line_ended (suc k) (omega arith)) ∙ ap (λ (i : ℕ). ended (drop i text)) (sym v.place) ∙ ap ended (sym (rest_is text at)) ∙ f)
+
+  pub fielded_start : (line : List ℕ) → line ≡ first_line text → length line + 2 ≤ length text → Fielded fs text (replicate most_fields (plain 0)) (length line + 2) 0
   unfolding start_of next_at head_lines
-  fielded_start n e =
-      let r : line_len text + 2 ≤ length text = line_room text (line_ended 0 (omega arith)) in
+  fielded_start line e r =
       record {
-        place = omega arith;
-        within = omega arith;
+        place = omega (arith, ap length e, first-length text);
+        within = r;
         none = first_none (fault_at fs text);
         size = length-replicate most_fields (plain 0);
         said = λ i h. get_or-replicate most_fields i (plain 0) (plain 0) h ∙ ap (λ (b : Bool). cond b (figure_read fs text i) (plain 0)) (sym (le-ltb i 0 (omega arith)));
@@ -100,10 +112,6 @@ module _ (fs : List Field) (made : fields_well fs ≡ true) (text : List ℕ) (w
       (λ i l. v.said i l ∙ ap (λ (n : ℕ). cond (ltb i n) (figure_read fs text i) (plain 0)) (sym e))
 
   module _ (figures : List Figure) (at k : ℕ) (v : Fielded fs text figures at k) (low : k < length fs) (f : LentField) (is : field_of f ≡ field_at fs k) where
-    pub decimals_few : f.form.decimals ≤ most_decimals
-    unfolding field_of
-    decimals_few = subst⁻¹ (λ (x : Field). x.form.decimals ≤ most_decimals) is (field_well_lem fs made k low).decimals
-
     room_more : k < most_fields
     room_more = omega (arith, fields_few fs made)
 
@@ -111,38 +119,31 @@ module _ (fs : List Field) (made : fields_well fs ≡ true) (text : List ℕ) (w
     unfolding field_name field_of
     name_is = ap (λ (x : Field). length x.name) (sym is)
 
-    module _ (n : ℕ) (len : n ≡ line_len (take (length text - at) (drop at text))) where
-      -- the line is longer than its name, and lies within the text with its end
-      pub fielded_room : (length f.name.now + 1 ≤ n) × (at + (n + 2) ≤ length text)
-      unfolding line_of head_lines
-      fielded_room =
-          let e : n ≡ line_len (drop at text) = part_len text at n len in
-          let p : drop (start_of text (suc k)) text ≡ drop at text = ap (λ (i : ℕ). drop i text) (sym v.place) in
-          let named = named_long (field_name fs k) (first_line (drop (start_of text (suc k)) text)) (line_named k low) in
-          let line = first-length (drop (start_of text (suc k)) text) in
-          let some = line_room (drop (start_of text (suc k)) text) (line_ended (suc k) (omega arith)) in
-          let rest : length (drop at text) ≡ length text - at = length-drop at text in
-          (omega (arith, ap line_len p, name_is), omega (arith, ap line_len p, ap length p, v.within))
+    module _ (line : List ℕ) (here : line ≡ first_line (take (length text - at) (drop at text))) where
+      line_here : line ≡ first_line (drop at text)
+      line_here = here ∙ ap first_line (rest_is text at)
 
-      abbrev value : ℕ
-      value = at + (length f.name.now + 1)
+      line_is : line ≡ line_of text (start_of text (suc k))
+      unfolding line_of
+      line_is = line_here ∙ ap (λ (i : ℕ). first_line (drop i text)) v.place
+
+      -- the line is longer than its name
+      pub fielded_room : length f.name.now + 1 ≤ length line
+      fielded_room = omega (arith, named_long (field_name fs k) (line_of text (start_of text (suc k))) (line_named k low), ap length line_is, name_is)
+
+      abbrev start : ℕ
+      start = length f.name.now + 1
 
       abbrev stops : WrongField
-      stops = record { field = k; place = value }
+      stops = record { field = k; place = at + start; figures = figures }
 
       -- the part that the code reads is the field's word
       abbrev part : List ℕ
-      part = take (at + n - value) (drop value text)
+      part = take (length line - start) (drop start line)
 
       word_is : part ≡ word_of fs text k
-      unfolding word_of line_of first_line
-      word_is =
-          let g : n ≡ line_len (drop at text) = part_len text at n len in
-          let r = fielded_room in
-          let l : ℕ = length f.name.now in
-          let e : at + n - (at + (l + 1)) ≡ n - (l + 1) = omega arith in
-          let w : n ≤ length (drop at text) = omega (arith, line-le (drop at text)) in
-          rw (name_is, ← v.place, ← g, drop-front (l + 1) n (drop at text) w r.0, drop-drop (l + 1) at text, e)
+      unfolding word_of
+      word_is = rest_is line start ∙ ap (λ (n : ℕ). drop (n + 1) line) (sym name_is) ∙ ap (drop (length (field_name fs k) + 1)) line_is
 
       fault_is : (b : Bool) → is_field (field_at fs k) part ≡ b → fault_at fs text k ≡ not b
       unfolding fault_at
@@ -152,58 +153,44 @@ module _ (fs : List Field) (made : fields_well fs ≡ true) (text : List ℕ) (w
       unfolding figure_read
       figure_is = ap (figure_of (field_at fs k).form) (sym word_is)
 
-      says : (x : Option Figure) → x ≡ field_reading (field_of f) part → x ≡ field_reading (field_at fs k) part
-      says x h = h ∙ ap (λ (y : Field). field_reading y part) is
-
-      fielded_ill : (x : Option Figure) → x ≡ field_reading (field_of f) part → x ≡ None → Err stops ≡ fields_found fs text
-      unfolding wrong_field fault_at field_start fields_found
-      fielded_ill x h i =
-          let w : fault_at fs text k ≡ true = fault_is false (says_none (field_at fs k) part (sym (says x h) ∙ i)) in
-          let e : wrong_field fs text ≡ k = first_here (fault_at fs text) (length fs) k low v.none w in
-          rw (e, lt-ltb k (length fs) low, name_is, ← v.place)
-
-      fielded_again : (x : Option Figure) → x ≡ field_reading (field_of f) part → (z : Figure) → x ≡ Some z
-          → Fielded fs text (set figures k z) (at + n + 2) (k + 1)
-      unfolding start_of
-      fielded_again x h z i =
-          let p = says_some (field_at fs k) part z (sym (says x h) ∙ i) in
-          let w : fault_at fs text k ≡ false = fault_is true p.0 in
-          record {
-            place = add_assoc at n 2 ∙ part_next text at n len ∙ rw (add-one, ← v.place);
-            within = omega (arith, fielded_room.1);
-            none = first_more (fault_at fs text) k v.none w;
-            size = length-set figures k z ∙ v.size;
-            said = more (figure_is ∙ p.1);
-          }
-        where
-          more : figure_read fs text k ≡ z → (i : ℕ) → i < most_fields
-              → get_or (set figures k z) i (plain 0) ≡ cond (ltb i (k + 1)) (figure_read fs text i) (plain 0)
-          more e i g =
-              elim (ℕ_discrete i k) [
-                | yes q ↦ subst⁻¹ (λ (j : ℕ). get_or (set figures k z) j (plain 0) ≡ cond (ltb j (k + 1)) (figure_read fs text j) (plain 0)) q
-                    (get_or-set_same figures k z (plain 0) (omega (arith, v.size, room_more)) ∙ rw (lt-ltb k (k + 1) (omega arith)) (sym e))
-                | no q ↦ get_or-set_other figures k i z (plain 0) q ∙ v.said i g
-                    ∙ elim (dec_lt i k) [
-                      | yes l ↦ rw (lt-ltb i k l, lt-ltb i (k + 1) (omega arith))
-                      | no l ↦ rw (le-ltb i k (omega arith), le-ltb i (k + 1) (omega arith))
-                    ]
-              ]
-
       -- by what the code makes of it
-      module _ (x : Option Figure) (h : x ≡ field_reading (field_of f) part) (r : Result Figure WrongField) (e : r ≡ ok_or x stops) where
-        pub fielded_off : (p : WrongField) → r ≡ Err p → Err p ≡ fields_found fs text
-        fielded_off p g = case x refl (sym e ∙ g)
-          where
-            case : (y : Option Figure) → x ≡ y → ok_or y stops ≡ Err p → Err p ≡ fields_found fs text
-            case None i q = let same : stops ≡ p = cc in subst (λ (w : WrongField). Err w ≡ fields_found fs text) same (fielded_ill x h i)
-            case (Some z) i q = absurd (subst (λ (y : Result Figure WrongField). MatchResult y (λ _. ⊤) (λ _. ⊥)) q tt)
+      module _ (x : Option Figure) (h : x ≡ field_reading (field_of f) part) where
+        says : x ≡ field_reading (field_at fs k) part
+        says = h ∙ ap (λ (y : Field). field_reading y part) is
 
-        pub fielded_on : (z : Figure) → r ≡ Ok z → Fielded fs text (set figures k z) (at + n + 2) (k + 1)
-        fielded_on z g = case x refl (sym e ∙ g)
+        pub fielded_off : x ≡ None → Err stops ≡ fields_found fs text
+        unfolding wrong_field fault_at field_start fields_found
+        fielded_off i =
+            let w : fault_at fs text k ≡ true = fault_is false (says_none (field_at fs k) part (sym says ∙ i)) in
+            let e : wrong_field fs text ≡ k = first_here (fault_at fs text) (length fs) k low v.none w in
+            rw (← kept_are figures at k v e, e, lt-ltb k (length fs) low, name_is, ← v.place)
+
+        pub fielded_on : (z : Figure) → x ≡ Some z → length line + 2 ≤ length (take (length text - at) (drop at text)) → Fielded fs text (set figures k z) (at + (length line + 2)) (k + 1)
+        unfolding start_of next_at
+        fielded_on z i room =
+            let p = says_some (field_at fs k) part z (sym says ∙ i) in
+            let w : fault_at fs text k ≡ false = fault_is true p.0 in
+            let next : at + (length line + 2) ≡ next_at text at = ap (λ (n : ℕ). at + (n + 2)) (ap length line_here ∙ first-length (drop at text)) in
+            record {
+              place = next ∙ rw (add-one, ← v.place);
+              within = omega (arith, room, ap length (rest_is text at), length-drop at text, v.within);
+              none = first_more (fault_at fs text) k v.none w;
+              size = length-set figures k z ∙ v.size;
+              said = more (figure_is ∙ p.1);
+            }
           where
-            case : (y : Option Figure) → x ≡ y → ok_or y stops ≡ Ok z → Fielded fs text (set figures k z) (at + n + 2) (k + 1)
-            case None i q = absurd (subst (λ (y : Result Figure WrongField). MatchResult y (λ _. ⊥) (λ _. ⊤)) q tt)
-            case (Some w) i q = let same : w ≡ z = cc in fielded_again x h z (i ∙ ap Some same)
+            more : figure_read fs text k ≡ z → (i : ℕ) → i < most_fields
+                → get_or (set figures k z) i (plain 0) ≡ cond (ltb i (k + 1)) (figure_read fs text i) (plain 0)
+            more e i g =
+                elim (ℕ_discrete i k) [
+                  | yes q ↦ subst⁻¹ (λ (j : ℕ). get_or (set figures k z) j (plain 0) ≡ cond (ltb j (k + 1)) (figure_read fs text j) (plain 0)) q
+                      (get_or-set_same figures k z (plain 0) (omega (arith, v.size, room_more)) ∙ rw (lt-ltb k (k + 1) (omega arith)) (sym e))
+                  | no q ↦ get_or-set_other figures k i z (plain 0) q ∙ v.said i g
+                      ∙ elim (dec_lt i k) [
+                        | yes l ↦ rw (lt-ltb i k l, lt-ltb i (k + 1) (omega arith))
+                        | no l ↦ rw (le-ltb i k (omega arith), le-ltb i (k + 1) (omega arith))
+                      ]
+                ]
 
   pub fielded_end : (figures : List Figure) (at k : ℕ) → Fielded fs text figures at k → k ≡ length fs
       → Ok (record { place = at; figures = figures }) ≡ fields_found fs text

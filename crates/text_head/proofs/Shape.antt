@@ -7,7 +7,7 @@ use native.Mathlib.Numerals.{add-one}
 use native.Mathlib.Omega.{arith}
 use lib.ListN.{length, get_or, drop, length-drop}
 use borrow.Author.Tests.{ne_eqb, le-leb, lt-leb, lt-ltb, le-ltb, ltb-true}
-use Rattle.std.proofs.Common.{Result, Ok, Err}
+use Rattle.std.proofs.Common.{Result, Ok, Err, None}
 use Rattle.std.specs.Prelude.{MatchResult, ⊤}
 use Rattle.sequences.specs.Below.{first_below}
 use Rattle.sequences.proofs.Below.{first_none, first_more, first_here}
@@ -30,7 +30,7 @@ head_first fs l = refl
 
 -- what a list of fields has past its end
 abbrev pub past : LentField
-past = record { name = record { ref_ptr = (0, 0); now = [] }; form = record { digits = 0; decimals = 0; signed = false; width = 0 }; kind = Any }
+past = record { name = record { ref_ptr = (0, 0); now = [] }; form = record { digits = None; decimals = 0; signed = false; width = None }; kind = Any }
 
 module _ (table : List LentField) (fs : List Field) (e : fields_of table ≡ fs) where
   pub lent_is : (i : ℕ) (d : LentField) → i < length table → field_of (get_or table i d) ≡ field_at fs i

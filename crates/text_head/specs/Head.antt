@@ -30,9 +30,9 @@ shape_found fs text =
 unfoldable pub figures_found : List Field → List ℕ → List Figure
 figures_found fs text = tabulate (λ k. cond (ltb k (wrong_field fs text)) (figure_read fs text k) (plain 0)) most_fields
 
--- the figures of all fields and the place of TAGTAG, or the first wrong field and the place of its value
+-- the figures of all fields and the place of TAGTAG, or the first wrong field, the place of its value and the figures before it
 unfoldable pub fields_found : List Field → List ℕ → Result HeadFields WrongField
 fields_found fs text =
     cond (ltb (wrong_field fs text) (length fs))
-    (Err (record { field = wrong_field fs text; place = field_start fs text (wrong_field fs text) }))
+    (Err (record { field = wrong_field fs text; place = field_start fs text (wrong_field fs text); figures = figures_found fs text }))
     (Ok (record { place = start_of text (suc (length fs)); figures = figures_found fs text }))

@@ -6,7 +6,6 @@ ghost use Rattle.std.specs.Fn.{FnOnceReturnsAt};
 ghost use Rattle.text_rules.specs.Tables.{field_of};
 ghost use Rattle.text_rules.specs.Head.{head_lines, is_kind};
 ghost use Rattle.text_rules.specs.Reading.{wrong_line};
-ghost use Rattle.text_rules.specs.Well.{most_decimals};
 ghost use Rattle.text_head.specs.Head.{field_reading, line_passed, shape_found, fields_found};
 
 use digits::Figure;
@@ -19,11 +18,12 @@ pub struct WrongLine {
     pub place: usize,
 }
 
-// The first wrong field of the head, counted from 0, and the place of its value.
+// The first wrong field of the head, counted from 0, the place of its value, and the figures of the fields before it.
 #[derive(Clone, Copy, PartialEq, Eq, Debug)]
 pub struct WrongField {
     pub field: usize,
     pub place: usize,
+    pub figures: [Figure; MOST_FIELDS],
 }
 
 // The figures of all fields, and the place of TAGTAG behind them.
@@ -48,7 +48,6 @@ fn is_kind(kind: ValueKind, v: u64) -> bool
 // What a field says.
 #[tactic(auto, unfolding(crate::specs::Head::field_reading, text_rules::specs::Tables::field_of, text_rules::specs::Head::is_field))]
 fn read_field(field: &Field, s: &[u8]) -> Option<Figure>
-    requires { field.now.form.decimals ≤ most_decimals }
     ensures { result ≡ field_reading (field_of field.now) s.now }
 {
     let z = digits_reading::read_number(field.form, s)?;
@@ -68,14 +67,15 @@ fn pass_line<F: FnOnce(&[u8]) -> bool>(
         → ((l : List ℕ) → (b : Bool) → FnOnceReturnsAt F.FnOnce test l b → b ≡ said l)
         → result ≡ line_passed said text.now k at }
 {
-    let n = lines::line_len(&text[at..]);
-    if text.len() - at <= n {
-        return Err(WrongLine { line: k, place: at });
+    let wrong = WrongLine { line: k, place: at };
+    let Some(line) = lines::first_line(&text[at..]) else {
+        return Err(wrong);
+    };
+    if test(line) {
+        Ok(at + (line.len() + 2))
+    } else {
+        Err(wrong)
     }
-    if !test(&text[at..at + n]) {
-        return Err(WrongLine { line: k, place: at });
-    }
-    Ok(at + (n + 2))
 }
 
 // Refusal 18 in the head: the place behind it, or its first wrong line.
@@ -96,22 +96,26 @@ pub fn head_shape(fields: &Fields, text: &[u8]) -> Result<usize, WrongLine>
     )
 }
 
-// Refusal 19 in the head, where its lines stand: the figures, or the first wrong field.
+// Refusal 19 in the head, where its lines stand: the figures, or the first wrong field. Each line is there, as `head_shape` has found.
 pub fn head_fields(fields: &Fields, text: &[u8]) -> Result<HeadFields, WrongField>
     requires { wrong_line fields.now text.now ≡ head_lines fields.now }
     ensures { result ≡ fields_found fields.now text.now }
 {
     let table = fields.table();
-    let mut figures = [Figure {
-        negative: false,
-        size: 0,
-    }; MOST_FIELDS];
-    let mut at = lines::line_len(text) + 2;
+    let mut figures = [Figure::from(0u64); MOST_FIELDS];
+    let mut at = lines::first_line(text).unwrap().len() + 2;
     for (k, field) in table.iter().enumerate() {
-        let end = at + lines::line_len(&text[at..]);
-        let place = at + (field.name.len() + 1);
-        figures[k] = read_field(field, &text[place..end]).ok_or(WrongField { field: k, place })?;
-        at = end + 2;
+        let line = lines::first_line(&text[at..]).unwrap();
+        let start = field.name.len() + 1;
+        let Some(figure) = read_field(field, &line[start..]) else {
+            return Err(WrongField {
+                field: k,
+                place: at + start,
+                figures,
+            });
+        };
+        figures[k] = figure;
+        at += line.len() + 2;
     }
     Ok(HeadFields { place: at, figures })
 }

@@ -7,10 +7,11 @@ use native.Mathlib.Decide.{ℕ_discrete}
 use native.Mathlib.Omega.{arith}
 use lib.ListN.{length, get_or, length-append}
 use borrow.Author.Tests.{ne_eqb, le-leb, lt-leb}
+use Rattle.std.specs.Prelude.{None, unwrap_or}
 use Rattle.sequences.proofs.Below.{join-none, join_more}
 use Rattle.sequences.proofs.Runs.{join_grows}
-use Rattle.digits.proofs.Write.{whole_short, plain_free, plain-length, signed_below, signed_above, number-length}
-use Rattle.digits.specs.Digits.{plain, plain_text, signed_text, number_text}
+use Rattle.digits.proofs.Write.{whole_short, plain_free, plain-length, signed_below, signed_above}
+use Rattle.digits.specs.Digits.{plain, plain_text, signed_text, number_text, blanks_left}
 use Rattle.digits.specs.declared.Figure.{Figure}
 use Rattle.digits.specs.declared.Form.{Form}
 use Rattle.lines.proofs.Laws.{length-line_text}
@@ -25,25 +26,29 @@ use Rattle.text_head.proofs.Shape.{lent_is, fields_many}
 use Rattle.text_head_writing.specs.Lines.{array_figure, whole_head, most_head_line, most_head}
 
 -- ---- how long a number is
-plain_short : (f : Form) (n : ℕ) → f.decimals ≤ most_decimals → f.digits ≤ most_digits → length (plain_text f n) ≤ 30
+plain_short : (f : Form) (n : ℕ) → f.decimals ≤ most_decimals → unwrap_or f.digits 0 ≤ most_digits → length (plain_text f n) ≤ 30
 plain_short f n l m =
     elim (ℕ_discrete f.decimals 0) [
       | yes e ↦ omega (arith, ap length (plain_free f n e), whole_short f.digits n m)
       | no h ↦ omega (arith, plain-length f n h (10 ^ f.decimals) refl, whole_short f.digits (n / 10 ^ f.decimals) m)
     ]
 
-signed_short : (f : Form) (z : Figure) (b : Bool) → z.negative ≡ b → f.decimals ≤ most_decimals → f.digits ≤ most_digits
+signed_short : (f : Form) (z : Figure) (b : Bool) → z.negative ≡ b → f.decimals ≤ most_decimals → unwrap_or f.digits 0 ≤ most_digits
     → length (signed_text f z) ≤ 31
 signed_short f z true e l m = omega (arith, ap length (signed_below f z e), plain_short f z.size l m)
 signed_short f z false e l m = omega (arith, ap length (signed_above f z e), plain_short f z.size l m)
 
-number_short : (f : Form) (z : Figure) → f.width ≡ 0 → f.decimals ≤ most_decimals → f.digits ≤ most_digits → length (number_text f z) ≤ 31
-number_short f z e l m = omega (arith, number-length f z, signed_short f z z.negative refl l m)
+number_free : (f : Form) (z : Figure) → f.width ≡ None → number_text f z ≡ signed_text f z
+unfolding number_text blanks_left
+number_free f z e = rw e refl
+
+number_short : (f : Form) (z : Figure) → f.width ≡ None → f.decimals ≤ most_decimals → unwrap_or f.digits 0 ≤ most_digits → length (number_text f z) ≤ 31
+number_short f z e l m = omega (arith, ap length (number_free f z e), signed_short f z z.negative refl l m)
 
 -- ---- the line of a field
 module _ (f : Field) (z : Figure) (well : field_well f ≡ true) where
   -- how its number may be written
-  pub number_made : (f.form.decimals ≤ most_decimals) × (f.form.digits ≤ most_digits)
+  pub number_made : (f.form.decimals ≤ most_decimals) × (unwrap_or f.form.digits 0 ≤ most_digits)
   number_made = let w = field_facts f well in (w.decimals, w.digits)
 
   pub field_size : length (line_text (field_line f z)) ≡ length f.name + (length (number_text f.form z) + 3)

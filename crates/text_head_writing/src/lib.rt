@@ -51,7 +51,7 @@ fn put_field(field: &Field, z: Figure, dst: &mut [u8], at: usize) -> usize
     ensures { Written dst.old at (line_text (field_line (field_of field.now) z)) dst.new result }
 {
     let p = digits_put::put_bytes(dst, at, field.name);
-    let q = digits_put::put_byte(dst, p, 61);
+    let q = digits_put::put_byte(dst, p, b'=');
     let r = digits_writing::put_number(dst, q, field.form, z);
     digits_put::put_bytes(dst, r, b"\r\n")
 }

@@ -5,13 +5,11 @@ use mathlib.Core.Path.{◌≡◌, sym, ap, ◌∙◌}
 use Prim.Native.Nat.{ℕ, ◌-◌, ◌≤◌, ◌<◌}
 use native.Mathlib.Omega.{arith}
 use lib.Dec.{eqb}
-use lib.ListN.{length, get_or, take, drop, length-take, length-drop, take-append-drop}
-use lib.Seq.{length-take-le, take-take, take_at, drop-append-le}
-use borrow.Author.Tests.{lt-ltb, le-ltb}
+use lib.ListN.{length, get_or, take, drop, length-take}
 use Rattle.sequences.specs.Every.{every}
 use Rattle.sequences.proofs.Every.{every_at, inside-true, inside_facts, false_of}
 use Rattle.lines.proofs.Answers.{inside_low, inside_high}
-use Rattle.lines.specs.Lines.{same, letter_byte, all_bytes, line_len, ended, first_line}
+use Rattle.lines.specs.Lines.{same, letter_byte, all_bytes, ended, first_line}
 use Rattle.text_rules.specs.Head.{is_letters, letters_of, is_opening, opening_word, most_letters, letters_start, beside_letters, shortest_opening}
 use Rattle.text_rules.specs.Reading.{line_of, line_stands, letters_read}
 use Rattle.text_lines.proofs.Standing.{stands_not, stands_as}
@@ -53,7 +51,7 @@ module _ (l : List ℕ) where
   opening_other e = rw e
 
   -- the part that the code passes on
-  opening_part : take (length l - 1 - letters_start) (drop letters_start l) ≡ letters_of l
+  pub opening_part : take (length l - 1 - letters_start) (drop letters_start l) ≡ letters_of l
   unfolding letters_of
   opening_part = let e : length l - 1 - letters_start ≡ length l - beside_letters = omega arith in rw e
 
@@ -68,39 +66,21 @@ module _ (l : List ℕ) where
 
 pub ruleset opening_cases = (opening_short, opening_other, opening_bare, opening_last)
 
--- the rest of a part
-pub drop-front : (a n : ℕ) (s : List ℕ) → n ≤ length s → a ≤ n → drop a (take n s) ≡ take (n - a) (drop a s)
-drop-front a n s h l =
-    let e : length (take n s) ≡ n = length-take-le n s h in
-    let f : length (drop a (take n s)) ≡ n - a = length-drop a (take n s) ∙ omega arith in
-    sym (take_at (drop a (take n s)) (drop n s) (n - a) f)
-    ∙ ap (take (n - a)) (sym (drop-append-le a (take n s) (drop n s) (omega arith)) ∙ ap (drop a) (take-append-drop n s))
-
 -- ---- the letters that a text says
-module _ (text : List ℕ) (n : ℕ) (len : n ≡ line_len text) where
-  pub letters_open : length text ≤ n → [] ≡ letters_read text
-  unfolding letters_read ended
-  letters_open h = rw (stands_not is_opening text 0 (le-ltb (line_len text) (length text) (omega arith)))
+module _ (text : List ℕ) where
+  pub letters_open : ended text ≡ false → [] ≡ letters_read text
+  unfolding letters_read
+  letters_open h = rw (stands_not is_opening text 0 h)
 
-  module _ (h : n < length text) where
-    stands_first : line_stands is_opening text 0 ≡ is_opening (take n text)
-    unfolding line_of first_line ended
-    stands_first =
-        stands_as is_opening text 0 (lt-ltb (line_len text) (length text) (omega arith))
-        ∙ ap (λ (k : ℕ). is_opening (take k text)) (sym len)
+  module _ (h : ended text ≡ true) {line : List ℕ} (is : line ≡ first_line text) where
+    stands_first : line_stands is_opening text 0 ≡ is_opening line
+    unfolding line_of
+    stands_first = stands_as is_opening text 0 h ∙ ap is_opening (sym is)
 
-    pub letters_other : is_opening (take n text) ≡ false → [] ≡ letters_read text
+    pub letters_other : is_opening line ≡ false → [] ≡ letters_read text
     unfolding letters_read
     letters_other e = rw (stands_first, e)
 
-    -- the line has 6 bytes and more
-    pub letters_room : is_opening (take n text) ≡ true → shortest_opening ≤ n
-    letters_room e = omega (arith, opening_room (take n text) e, length-take n text)
-
-    pub letters_part : is_opening (take n text) ≡ true → take (n - 1 - letters_start) (drop letters_start text) ≡ letters_read text
-    unfolding letters_read letters_of line_of first_line
-    letters_part e =
-        let r : shortest_opening ≤ n = letters_room e in
-        let m : n - 1 - letters_start ≡ n - beside_letters = omega arith in
-        rw (stands_first, e, ← len, length-take-le n text (omega arith), drop-front letters_start n text (omega arith) (omega arith), m)
-        (sym (take-take (n - beside_letters) (n - letters_start) (drop letters_start text) (omega arith)))
+    pub letters_part : is_opening line ≡ true → take (length line - 1 - letters_start) (drop letters_start line) ≡ letters_read text
+    unfolding letters_read line_of
+    letters_part e = rw (stands_first, e, ← is) (opening_part line)

@@ -3,15 +3,16 @@ use Prim.Native.Nat.{ℕ, ◌+◌, ◌-◌, ◌*◌, ◌/◌, ◌≤◌, ◌<◌
 use mathlib.Core.Path.{◌≡◌, refl, sym, ap, ◌∙◌}
 use mathlib.Core.Bool.{Bool, true, false, not, and-eq-true_iff}
 use mathlib.Core.List.{List}
-use native.Mathlib.Nat.{suc-mul, zero-mul, mul-le-mul_right, le-div_iff_mul-le}
+use native.Mathlib.Nat.{suc-mul, zero-mul, mul-le-mul_right, le-div_iff_mul-le, le_of_eq}
 use native.Mathlib.Numerals.{add-one}
 use native.Mathlib.Omega.{arith}
 use lib.ListN.{length, take, drop, length-drop}
 use borrow.Author.Tests.{ltb-true, eqb-true}
 use Rattle.sequences.specs.Below.{first_below}
 use Rattle.sequences.proofs.Below.{first_none, first_more, first_here}
-use Rattle.lines.specs.Lines.{line_len, ended, first_line}
-use Rattle.lines.proofs.Laws.{first-length, line_room, part_ended, part_open, part_first}
+use Rattle.std.proofs.lemmas.List.{take_all}
+use Rattle.lines.specs.Lines.{ended, first_line}
+use Rattle.lines.proofs.Laws.{first-length, line_room}
 use Rattle.text_rules.specs.declared.Column.{Column}
 use Rattle.text_rules.specs.Columns.{line_width, line_pitch, is_row}
 use Rattle.text_rules.specs.Reading.{line_of, line_stands, rows_from}
@@ -31,15 +32,20 @@ module _ (test : List ℕ → Bool) (text : List ℕ) (at : ℕ) where
   unfolding line_stands
   stands_facts e = (and-eq-true_iff (ended (drop at text)) (test (line_of text at))).0 e
 
--- What the code's tests say of a line at a place, n its length.
+-- What the code says of a line at a place.
 
-module _ (test : List ℕ → Bool) (text : List ℕ) (at n : ℕ) (e : n ≡ line_len (take (length text - at) (drop at text))) where
-  pub stands_open : length text - at ≤ n → false ≡ line_stands test text at
-  stands_open h = sym (stands_not test text at (part_open text at n e h))
+-- the text from there on, as the code has it
+pub rest_is : (text : List ℕ) (at : ℕ) → take (length text - at) (drop at text) ≡ drop at text
+rest_is text at = take_all (length text - at) (drop at text) (le_of_eq (length-drop at text))
 
-  pub stands_ended : n < length text - at → {b : Bool} → b ≡ test (take (at + n - at) (drop at text)) → b ≡ line_stands test text at
+module _ (test : List ℕ → Bool) (text : List ℕ) (at : ℕ) where
+  pub stands_none : ended (take (length text - at) (drop at text)) ≡ false → false ≡ line_stands test text at
+  stands_none h = sym (stands_not test text at (ap ended (sym (rest_is text at)) ∙ h))
+
+  pub stands_some : ended (take (length text - at) (drop at text)) ≡ true → {line : List ℕ} → line ≡ first_line (take (length text - at) (drop at text))
+      → {b : Bool} → b ≡ test line → b ≡ line_stands test text at
   unfolding line_of
-  stands_ended h f = f ∙ ap test (part_first text at n e) ∙ sym (stands_as test text at (part_ended text at n e h))
+  stands_some h e f = f ∙ ap test (e ∙ ap first_line (rest_is text at)) ∙ sym (stands_as test text at (ap ended (sym (rest_is text at)) ∙ h))
 
 -- Lines of one width, one behind the other.
 

@@ -13,7 +13,7 @@ use text_rules::Columns;
 pub fn is_letters(s: &[u8]) -> bool
     ensures { result ≡ is_letters s.now }
 {
-    1 <= s.len() && s.len() <= text_rules::MOST_LETTERS && lines::is_letters(s)
+    (1..=text_rules::MOST_LETTERS).contains(&s.len()) && lines::is_letters(s)
 }
 
 // Whether the line is "[ETF", letters and "]".
@@ -25,21 +25,17 @@ pub fn is_opening(line: &[u8]) -> bool
     text_rules::SHORTEST_OPENING <= n
         && lines::same_bytes(&line[..text_rules::LETTERS_START], b"[ETF")
         && is_letters(&line[text_rules::LETTERS_START..n - 1])
-        && line[n - 1] == 93
+        && line[n - 1] == b']'
 }
 
 // The letters of a text's first line, as that part of it; an empty part where the line is another.
 pub fn letters(text: &[u8]) -> &[u8]
     ensures { result.now ≡ letters_read text.now }
 {
-    let n = lines::line_len(text);
-    if text.len() <= n {
-        return &text[..0];
+    match lines::first_line(text) {
+        Some(line) if is_opening(line) => &line[text_rules::LETTERS_START..line.len() - 1],
+        _ => &text[..0],
     }
-    if !is_opening(&text[..n]) {
-        return &text[..0];
-    }
-    &text[text_rules::LETTERS_START..n - 1]
 }
 
 // Whether a component line with its end stands at a place.
@@ -48,11 +44,10 @@ fn row_stands(columns: &Columns, width: usize, text: &[u8], at: usize) -> bool
     requires at_in_bounds { at ≤ length text.now }
     ensures { result ≡ line_stands (is_row columns.now) text.now at }
 {
-    let n = lines::likely_len(&text[at..], width);
-    if text.len() - at <= n {
-        return false;
+    match lines::likely_line(&text[at..], width) {
+        Some(line) => text_columns::is_row(columns, width, line),
+        None => false,
     }
-    text_columns::is_row(columns, width, &text[at..at + n])
 }
 
 // How many component lines stand from a place on, before the first line that is none.

@@ -1,28 +1,30 @@
 -- The turns of the loops that read component lines.
-use Prim.Native.Nat.{ℕ, zero, suc, ◌+◌, ◌-◌, ◌*◌, ◌≤◌, ◌<◌}
-use mathlib.Core.Path.{◌≡◌, refl, sym, ap, ◌∙◌, subst}
+use Prim.Native.Nat.{ℕ, zero, suc, ◌+◌, ◌-◌, ◌*◌, ◌/◌, ◌≤◌, ◌<◌}
+use mathlib.Core.Path.{◌≡◌, refl, sym, ap, ap₂, ◌∙◌, subst}
 use mathlib.Core.Bool.{Bool, true, false, cond, not}
 use mathlib.Core.List.{List}
-use native.Mathlib.Nat.{le_refl, le_antisymm, mul-le-mul_left, mul-le-mul_right}
+use native.Mathlib.Nat.{le_refl, le_antisymm, mul-le-mul_left, mul-le-mul_right, le-div_iff_mul-le, mul-div_cancel}
 use native.Mathlib.Numerals.{add-one}
 use native.Mathlib.Omega.{arith}
 use lib.ListN.{length, get_or, take, drop, set, length-set}
+use lib.Seq.{length-take-le, drop-drop}
 use Rattle.std.specs.Prelude.{Option, Some, None}
 use Rattle.sequences.specs.Below.{first_below, below}
+use Rattle.sequences.proofs.Stretch.{part_within}
 use Rattle.sequences.proofs.Below.{sum_none, sum_more, sum_grows, cond_le, first-le, first_none, first_more, first_here, first_same, below-some, below-none, below_some_facts, below_none_fact, first_none_below, first_some_below}
 use Rattle.lines.specs.Lines.{name_byte, all_bytes}
 use Rattle.text_rules.specs.declared.Column.{Column}
 use Rattle.text_rules.specs.declared.Taken.{Taken}
 use Rattle.text_rules.specs.Tables.{TextForm, column_at}
-use Rattle.text_rules.specs.Columns.{column_start, column_width, line_width, line_pitch, holds_text, is_text, used_by, numbers_before, line_numbers, taken_before, cell_read}
+use Rattle.text_rules.specs.Columns.{column_start, column_width, line_width, line_pitch, holds_text, is_text, used_by, wrong_cell, numbers_before, line_numbers, taken_before, cell_read}
 use Rattle.text_rules.specs.Well.{most_line, columns_well}
 use Rattle.text_rules.proofs.Tables.{start_next, end_line}
 use Rattle.text_rules.proofs.Well.{WellColumn, column_well_lem, line_short}
 use Rattle.text_rules.proofs.Placed.{bytes_of, numbers_of}
 use Rattle.text_columns.specs.Read.{cell_size}
 use Rattle.text_rows.specs.declared.CellFault.{CellFault}
-use Rattle.text_rows.specs.Rows.{row_in, fault_in, lines_before, column_kept, numbers_kept}
-use Rattle.text_rows.specs.Turns.{words_fault, cells_fault, column_stored, LinesHere}
+use Rattle.text_rows.specs.Rows.{line_count, row_in, fault_in, lines_before, column_kept, numbers_kept}
+use Rattle.text_rows.specs.Turns.{words_fault, cells_fault, column_stored}
 use Rattle.text_lines.proofs.Standing.{lines_room, pitch_line}
 use Rattle.text_rows.proofs.Lines.{part_is, words_wrong, reading_at, reading_none, reading_some, cell_in}
 use Rattle.text_rows.proofs.Faults.{wrong_at, cells_first, lines_none, lines_more, lines-le, fault_before, fault_first, fault_same, fault_here, fault_found}
@@ -61,30 +63,35 @@ module _ (cs : List Column) where
   unfolding line_numbers line_width
   numbers_few well = omega (arith, numbers_start well (length cs) (le_refl (length cs)), pitch_line cs)
 
--- `read_words_column`: the words of the lines below j are no fault.
+-- `words_fault`: the words of the lines below j are no fault.
 
-module _ (rows : List ℕ) (pitch from width count : ℕ) where
+module _ (rows : List ℕ) (pitch from width : ℕ) where
   pub words_at : ℕ → Bool
   words_at j = not (all_bytes name_byte (take width (drop (j * pitch + from) rows)))
 
-  pub words_room : (j : ℕ) → j < count → count * pitch ≤ length rows → j * pitch + pitch ≤ length rows
-  words_room j h r = omega (arith, lines_room j count pitch h)
-
-  module _ (j : ℕ) (v : first_below words_at j ≡ j) {b : Bool} (e : b ≡ all_bytes name_byte (take (j * pitch + from + width - (j * pitch + from)) (drop (j * pitch + from) rows))) where
+  module _ (room : from + width ≤ pitch) (j : ℕ) (v : first_below words_at j ≡ j) {line : List ℕ} (is : line ≡ take pitch (drop (j * pitch) rows))
+      {b : Bool} (e : b ≡ all_bytes name_byte (take (from + width - from) (drop from line))) where
     words_here : not b ≡ words_at j
     unfolding words_at
-    words_here = ap not (e ∙ ap (all_bytes name_byte) (part_is rows (j * pitch + from) width))
+    words_here =
+        ap not
+        (e
+        ∙ ap (all_bytes name_byte)
+        (part_is line from width
+        ∙ ap (λ (l : List ℕ). take width (drop from l)) is
+        ∙ part_within from width pitch (drop (j * pitch) rows) room
+        ∙ ap (take width) (drop-drop from (j * pitch) rows)))
 
-    pub words_again : not b ≡ false → first_below words_at (j + 1) ≡ j + 1
-    words_again f = first_more words_at j v (sym words_here ∙ f)
+    pub words_again : b ≡ true → {n : ℕ} → n ≡ j + 1 → first_below words_at n ≡ n
+    words_again f g = rw g (first_more words_at j v (sym words_here ∙ ap not f))
 
-    pub words_found : j < count → not b ≡ true → Some j ≡ below count (words_fault rows pitch from width count)
+    pub words_found : (count : ℕ) → j < count → b ≡ false → {i : ℕ} → i ≡ j → Some i ≡ below count (words_fault rows pitch from width count)
     unfolding words_fault words_at
-    words_found h f = first_some_below words_at count j h v (sym words_here ∙ f)
+    words_found count h f g = rw g (first_some_below words_at count j h v (sym words_here ∙ ap not f))
 
-  pub words_end : (j : ℕ) → first_below words_at j ≡ j → j ≡ count → None ≡ below count (words_fault rows pitch from width count)
+  pub words_end : (count j : ℕ) → first_below words_at j ≡ j → j ≡ count → None ≡ below count (words_fault rows pitch from width count)
   unfolding words_fault words_at
-  words_end j v e = first_none_below words_at count (rw e at v)
+  words_end count j v e = first_none_below words_at count (rw e at v)
 
 -- `read_numbers_column`: column k of the lines below j is no fault, and its numbers are stored.
 
@@ -129,57 +136,66 @@ module _ (t : TextForm) (rows : List ℕ) (k : ℕ) (run : List ℕ) where
         let e : cells_fault t rows k count ≡ count = cells_first t rows k count ∙ (rw q at v.none) in
         (sym (ap (below count) e ∙ below-none count count (le_refl count)), v.kept ∙ ap (λ (n : ℕ). column_kept t rows k n run) (q ∙ sym e))
 
--- what the code reads of column k in line j
-pub record TurnRoom (rows : List ℕ) (pitch stride at place start width j : ℕ) : Type 0 where
-  pub flag : j * pitch + start < length rows
-  pub cell : j * pitch + at + width ≤ length rows
-  pub next : j * pitch + pitch ≤ length rows
-  pub slot : j * stride + place ≤ length rows
+pub pitch_some : (cs : List Column) → 0 < line_pitch cs
+pitch_some cs = omega (arith, pitch_line cs)
 
-module _ (t : TextForm) (rows : List ℕ) (k count : ℕ) {taken line : Taken} (lines : LinesHere t k taken line rows count) where
+-- what a whole line and the columns before column k take
+pub record Known (t : TextForm) (k : ℕ) (line taken : Taken) : Type 0 where
+  pub well : columns_well t.columns ≡ true
+  pub there : k < length t.columns
+  pub whole : line ≡ taken_before t.columns (length t.columns)
+  pub before : taken ≡ taken_before t.columns k
+
+pub known : (t : TextForm) (k : ℕ) → columns_well t.columns ≡ true → k < length t.columns → {cs : List Column} → cs ≡ t.columns → {line taken : Taken}
+    → line ≡ taken_before cs (length cs) → taken ≡ taken_before cs k → Known t k line taken
+known t k well there mine whole before =
+    record {
+      well = well;
+      there = there;
+      whole = whole ∙ ap (λ (c : List Column). taken_before c (length c)) mine;
+      before = before ∙ ap (λ (c : List Column). taken_before c k) mine;
+    }
+
+module _ (t : TextForm) (k : ℕ) {line taken : Taken} (v : Known t k line taken) where
   pub pitched : line.bytes + 2 ≡ line_pitch t.columns
   unfolding line_width
-  pitched = ap (λ (n : ℕ). n + 2) (bytes_of t.columns (length t.columns) lines.whole) ∙ sym (pitch_line t.columns)
+  pitched = ap (λ (n : ℕ). n + 2) (bytes_of t.columns (length t.columns) v.whole) ∙ sym (pitch_line t.columns)
 
   pub pitch_low : line.bytes + 2 ≤ most_line + 2
-  pitch_low = omega (arith, pitched, pitch_line t.columns, line_short t.columns lines.well)
+  pitch_low = omega (arith, pitched, pitch_line t.columns, line_short t.columns v.well)
 
   pub strides : line.numbers ≡ line_numbers t.columns
   unfolding line_numbers
-  strides = numbers_of t.columns (length t.columns) lines.whole
+  strides = numbers_of t.columns (length t.columns) v.whole
 
   pub placed : taken.numbers ≡ numbers_before t.columns k
-  placed = numbers_of t.columns k lines.before
+  placed = numbers_of t.columns k v.before
 
-  -- the lines and the words of a column of text
-  pub cell_room : {c : Column} → c ≡ column_at t.columns k → taken.bytes + c.width ≤ line.bytes + 2
+  -- the cell within its line, and its number's place in the run, which is no further than the line's in the text
+  pub cell_room : {c : Column} → c ≡ column_at t.columns k → taken.bytes + c.width ≤ line_pitch t.columns
   unfolding column_width
-  cell_room e = omega (arith, ap (λ (c : Column). c.width) e, bytes_of t.columns k lines.before, pitched, pitch_line t.columns, end_line t.columns k lines.there)
+  cell_room e = omega (arith, ap (λ (c : Column). c.width) e, bytes_of t.columns k v.before, pitched, pitch_line t.columns, end_line t.columns k v.there)
 
-  pub lines_within : count * (line.bytes + 2) ≤ length rows
-  lines_within = rw pitched lines.room
+  pub slot_room : (j : ℕ) {n : ℕ} → j * line_pitch t.columns + line_pitch t.columns ≤ n → j * line.numbers + taken.numbers ≤ n
+  slot_room j h =
+      let few : line.numbers + line.numbers ≤ line_pitch t.columns = rw strides (numbers_few t.columns v.well) in
+      let less : line.numbers ≤ line_pitch t.columns = omega arith in
+      let place : taken.numbers ≤ line.numbers = omega (arith, placed, strides, numbers_line t.columns k (omega (arith, v.there))) in
+      omega (arith, h, less, place, mul-le-mul_left j less)
 
-  module _ (flag : t.flag_at < length t.columns) {start : Taken} (flagged : start ≡ taken_before t.columns t.flag_at) (j : ℕ) {c : Column} (e : c ≡ column_at t.columns k) where
-    pub turn_room : j < count → TurnRoom rows (line.bytes + 2) line.numbers taken.bytes taken.numbers start.bytes c.width j
-    turn_room h =
-        let next : j * (line.bytes + 2) + (line.bytes + 2) ≤ length rows = omega (arith, lines_room j count (line.bytes + 2) h, lines_within) in
-        let few : line.numbers + line.numbers ≤ line.bytes + 2 = rw (strides, pitched) (numbers_few t.columns lines.well) in
-        let less : line.numbers ≤ line.bytes + 2 = omega arith in
-        let place : taken.numbers ≤ line.numbers = omega (arith, placed, strides, numbers_line t.columns k (omega (arith, lines.there))) in
-        record {
-          flag = omega (arith, next, bytes_of t.columns t.flag_at flagged, pitched, pitch_line t.columns, end_line t.columns t.flag_at flag);
-          cell = omega (arith, next, cell_room e);
-          next = next;
-          slot = omega (arith, next, less, place, mul-le-mul_left j less);
-        }
+  module _ (flag : t.flag_at < length t.columns) {start : Taken} (flagged : start ≡ taken_before t.columns t.flag_at) where
+    pub flag_room : start.bytes < line_pitch t.columns
+    flag_room = omega (arith, bytes_of t.columns t.flag_at flagged, pitched, pitch_line t.columns, end_line t.columns t.flag_at flag)
 
-    module _ (words : holds_text t.columns k ≡ false) {flags : List (List Bool)} (table : flags ≡ t.flags)
-        {digit : ℕ} (here : digit ≡ get_or rows (j * (line.bytes + 2) + start.bytes) 0 - 48) {used : Bool} (by : used ≡ used_by flags digit c.used) {size : Option ℕ}
-        (reads : size ≡ cell_size used c.digits c.decimals (take (j * (line.bytes + 2) + taken.bytes + c.width - (j * (line.bytes + 2) + taken.bytes)) (drop (j * (line.bytes + 2) + taken.bytes) rows))) where
+    -- what is read of the j-th line, by the code's own line
+    module _ (rows : List ℕ) (j : ℕ) {row : List ℕ} (is : row ≡ take (line_pitch t.columns) (drop (j * line_pitch t.columns) rows))
+        {c : Column} (e : c ≡ column_at t.columns k) (words : holds_text t.columns k ≡ false) {flags : List (List Bool)} (table : flags ≡ t.flags)
+        {digit : ℕ} (here : digit ≡ get_or row start.bytes 0 - 48) {used : Bool} (by : used ≡ used_by flags digit c.used) {size : Option ℕ}
+        (reads : size ≡ cell_size used c.digits c.decimals (take (taken.bytes + c.width - taken.bytes) (drop taken.bytes row))) where
       reads_cell : size ≡ reading_at t (row_in t.columns rows j) k
       reads_cell =
-          cell_in t rows k j lines.well lines.there words flag
-          (ap (λ (x : ℕ). j * x) pitched) (bytes_of t.columns k lines.before) (bytes_of t.columns t.flag_at flagged) here {used = used} (rw (← table, ← e) by) (rw (← e) reads)
+          cell_in t rows k j v.well v.there words flag is (bytes_of t.columns k v.before) (bytes_of t.columns t.flag_at flagged) here {used = used}
+          (rw (← table, ← e) by) (rw (← e) reads)
 
       pub cell_none : size ≡ None → wrong_at t rows k j ≡ true
       unfolding wrong_at
@@ -206,18 +222,28 @@ pub column_holds : (t : TextForm) (k : ℕ) {c : Column} → c ≡ column_at t.c
 unfolding holds_text
 column_holds t k e f g = sym (f ∙ ap (λ (c : Column). is_text c.used) e) ∙ g
 
+-- the words of a column within a line
+pub words_room : (t : TextForm) (k : ℕ) → k < length t.columns → {cs : List Column} → cs ≡ t.columns → {pitch start : ℕ} → pitch ≡ line_pitch cs → start ≡ column_start cs k
+    → {c : Column} → c ≡ column_at t.columns k → (0 < pitch) × (start + c.width ≤ pitch)
+unfolding column_width
+words_room t k there mine p s e =
+    let pitch = p ∙ ap line_pitch mine in
+    let start = s ∙ ap (λ (cs : List Column). column_start cs k) mine in (
+      omega (arith, pitch, pitch_some t.columns),
+      omega (arith, ap (λ (c : Column). c.width) e, start, pitch, pitch_line t.columns, end_line t.columns k there),
+    )
+
 module _ (t : TextForm) (rows : List ℕ) (k count : ℕ) where
   -- what is answered, and what the run has then
   abbrev pub ColumnRead : List ℕ → List ℕ → Option ℕ → Type 0
   ColumnRead run run' r = (r ≡ below count (cells_fault t rows k count)) × (run' ≡ column_stored t rows k (cells_fault t rows k count) run)
 
-  pub column_words : {taken line : Taken} → LinesHere t k taken line rows count → holds_text t.columns k ≡ true → {c : Column} → c ≡ column_at t.columns k
-      → {r : Option ℕ} → r ≡ below count (words_fault rows (line.bytes + 2) taken.bytes c.width count) → (run : List ℕ) → ColumnRead run run r
+  pub column_words : k < length t.columns → holds_text t.columns k ≡ true → {c : Column} → c ≡ column_at t.columns k
+      → {pitch start : ℕ} → pitch ≡ line_pitch t.columns → start ≡ column_start t.columns k
+      → {r : Option ℕ} → r ≡ below count (words_fault rows pitch start c.width count) → (run : List ℕ) → ColumnRead run run r
   unfolding column_stored column_width
-  column_words lines text e f run = (
-    f
-        ∙ ap (below count)
-        (words_cells t rows k count lines.there text (pitched t rows k count lines) (bytes_of t.columns k lines.before) (ap (λ (c : Column). c.width) e)),
+  column_words there text e p s f run = (
+    f ∙ ap (below count) (words_cells t rows k count there text p s (ap (λ (c : Column). c.width) e)),
     rw text,
   )
 
@@ -228,11 +254,48 @@ module _ (t : TextForm) (rows : List ℕ) (k count : ℕ) where
 
 -- `read_columns`: the columns before k are read.
 
-pub record ColumnsRead (t : TextForm) (rows : List ℕ) (count : ℕ) (run run' : List ℕ) (taken : Taken) (row : ℕ) (fault : Option CellFault) (k : ℕ) : Type 0 where
-  pub before : taken ≡ taken_before t.columns k
+pub record ColumnsRead (t : TextForm) (rows : List ℕ) (count : ℕ) (run run' : List ℕ) (row : ℕ) (fault : Option CellFault) (k : ℕ) : Type 0 where
   pub line : row ≡ lines_before t rows count k
   pub said : fault ≡ fault_before t rows count k
   pub kept : run' ≡ numbers_kept t rows count k run
+
+-- so many lines at the front are a run of lines themselves
+module _ (t : TextForm) (rows : List ℕ) (row : ℕ) (room : row * line_pitch t.columns ≤ length rows) where
+  abbrev front : List ℕ
+  front = take (row * line_pitch t.columns) rows
+
+  pub front_count : line_count t front ≡ row
+  unfolding line_count line_pitch
+  front_count = ap (λ (n : ℕ). n / line_pitch t.columns) (length-take-le (row * line_pitch t.columns) rows room) ∙ mul-div_cancel row (omega arith)
+
+  front_row : (j : ℕ) → j < row → row_in t.columns front j ≡ row_in t.columns rows j
+  unfolding row_in
+  front_row j h = part_within (j * line_pitch t.columns) (line_width t.columns) (row * line_pitch t.columns) rows (omega (arith, lines_room j row (line_pitch t.columns) h, pitch_line t.columns))
+
+  pub front_fault : (k : ℕ) → cells_fault t front k row ≡ cells_fault t rows k row
+  unfolding cells_fault
+  front_fault k = first_same _ _ row (λ j h. ap (λ (l : List ℕ). wrong_cell t l k) (front_row j h))
+
+  front_kept : (k n : ℕ) (run : List ℕ) → n ≤ row → column_kept t front k n run ≡ column_kept t rows k n run
+  unfolding column_kept
+  front_kept k zero run h = refl
+  front_kept k (suc n) run h =
+      ap₂ (λ (l : List ℕ) (x : ℕ). set l (n * line_numbers t.columns + numbers_before t.columns k) x) (front_kept k n run (omega arith)) (ap (λ (l : List ℕ). cell_read t l k) (front_row n h))
+
+  front_stored : (k n : ℕ) (run : List ℕ) → n ≤ row → column_stored t front k n run ≡ column_stored t rows k n run
+  unfolding column_stored
+  front_stored k n run h = ap (cond (holds_text t.columns k) run) (front_kept k n run h)
+
+  -- what is read of a column of them
+  pub front_read : (k : ℕ) {r : Option ℕ} → r ≡ below (line_count t front) (cells_fault t front k (line_count t front)) → (run : List ℕ) {run' : List ℕ}
+      → run' ≡ column_stored t front k (cells_fault t front k (line_count t front)) run → ColumnRead t rows k row run run' r
+  front_read k e run f = (
+    e ∙ rw front_count (ap (below row) (front_fault k)),
+    f
+        ∙ ap (λ (n : ℕ). column_stored t front k (cells_fault t front k n) run) front_count
+        ∙ ap (λ (n : ℕ). column_stored t front k n run) (front_fault k)
+        ∙ front_stored k (cells_fault t rows k row) run (rw cells_first (first-le (wrong_at t rows k) row)),
+  )
 
 module _ (t : TextForm) (rows : List ℕ) (count : ℕ) (run : List ℕ) where
   run_more : (k : ℕ) → numbers_kept t rows count (suc k) run
@@ -240,26 +303,20 @@ module _ (t : TextForm) (rows : List ℕ) (count : ℕ) (run : List ℕ) where
   unfolding numbers_kept
   run_more k = refl
 
-  pub columns_start : {taken : Taken} → taken ≡ taken_before t.columns 0 → ColumnsRead t rows count run run taken count None 0
+  pub columns_start : {row : ℕ} → row ≡ count → ColumnsRead t rows count run run row None 0
   unfolding numbers_kept
-  columns_start e = record { before = e; line = sym (lines_none t rows count); said = fault_first t rows count; kept = refl }
+  columns_start e = record { line = e ∙ sym (lines_none t rows count); said = fault_first t rows count; kept = refl }
 
-  module _ (run' : List ℕ) (taken : Taken) (row : ℕ) (fault : Option CellFault) (k : ℕ) (v : ColumnsRead t rows count run run' taken row fault k) where
-    -- what `read_column` asks
-    pub columns_lines : columns_well t.columns ≡ true → k < length t.columns → {line : Taken} → line ≡ taken_before t.columns (length t.columns) → length rows ≡ count * line_pitch t.columns → LinesHere t k taken line rows row
-    columns_lines well h w long =
-        record {
-          well = well;
-          there = h;
-          before = v.before;
-          whole = w;
-          room = subst (λ (n : ℕ). row * line_pitch t.columns ≤ n) (sym long) (mul-le-mul_right (line_pitch t.columns) few);
-        }
-      where
-        few : row ≤ count
-        few = subst (λ (n : ℕ). n ≤ count) (sym v.line) (lines-le t rows count k)
+  module _ (run' : List ℕ) (row : ℕ) (fault : Option CellFault) (k : ℕ) (v : ColumnsRead t rows count run run' row fault k) where
+    -- the lines that are read are there
+    pub columns_room : count ≡ line_count t rows → row * line_pitch t.columns ≤ length rows
+    unfolding line_count line_pitch
+    columns_room e =
+        let few : row ≤ count = subst (λ (n : ℕ). n ≤ count) (sym v.line) (lines-le t rows count k) in
+        let most : count * line_pitch t.columns ≤ length rows = (le-div_iff_mul-le {k = line_pitch t.columns} {x = count} {y = length rows} (omega arith)).0 (omega (arith, e)) in
+        omega (arith, most, mul-le-mul_right (line_pitch t.columns) few)
 
-    module _ {taken' : Taken} (past : taken' ≡ taken_before t.columns (k + 1)) {run'' : List ℕ} (stored : run'' ≡ column_stored t rows k (cells_fault t rows k row) run') where
+    module _ {run'' : List ℕ} (stored : run'' ≡ column_stored t rows k (cells_fault t rows k row) run') where
       next_line : cells_fault t rows k row ≡ lines_before t rows count (suc k)
       next_line = ap (cells_fault t rows k) v.line ∙ cells_first t rows k _ ∙ sym (lines_more t rows count k)
 
@@ -267,25 +324,23 @@ module _ (t : TextForm) (rows : List ℕ) (count : ℕ) (run : List ℕ) where
       unfolding column_stored
       more_kept = stored ∙ rw (next_line, v.kept) (sym (ap (λ (x : ℕ). numbers_kept t rows count x run) (add-one k) ∙ run_more k))
 
-      pub columns_fine : None ≡ below row (cells_fault t rows k row) → ColumnsRead t rows count run run'' taken' row fault (k + 1)
+      pub columns_fine : None ≡ below row (cells_fault t rows k row) → ColumnsRead t rows count run run'' row fault (k + 1)
       columns_fine e =
           let high : row ≤ cells_fault t rows k row = below_none_fact row (cells_fault t rows k row) e in
           let low : cells_fault t rows k row ≤ row = rw cells_first (first-le (wrong_at t rows k) row) in
           let same : lines_before t rows count (suc k) ≡ lines_before t rows count k = sym next_line ∙ le_antisymm low high ∙ v.line in
           record {
-            before = past;
             line = v.line ∙ sym same ∙ ap (lines_before t rows count) (sym (add-one k));
             said = v.said ∙ sym (fault_same t rows count k same) ∙ ap (fault_before t rows count) (sym (add-one k));
             kept = more_kept;
           }
 
-      pub columns_wrong : {j : ℕ} → Some j ≡ below row (cells_fault t rows k row) → ColumnsRead t rows count run run'' taken' j (Some (record { row = j; column = k })) (k + 1)
+      pub columns_wrong : {j : ℕ} → Some j ≡ below row (cells_fault t rows k row) → ColumnsRead t rows count run run'' j (Some (record { row = j; column = k })) (k + 1)
       columns_wrong {j} e =
           let p = below_some_facts row (cells_fault t rows k row) j e in
           let here : lines_before t rows count (suc k) ≡ j = sym next_line ∙ p.0 in
           let less : lines_before t rows count (suc k) < lines_before t rows count k = omega (arith, here, p, v.line) in
           record {
-            before = past;
             line = sym here ∙ ap (lines_before t rows count) (sym (add-one k));
             said = rw (← here) (fault_here t rows count k less) ∙ ap (fault_before t rows count) (sym (add-one k));
             kept = more_kept;

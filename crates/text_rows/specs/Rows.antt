@@ -1,10 +1,14 @@
 -- The component lines of a text as a run of bytes of their own, and what reading them column by column finds and keeps.
-use Rattle.std.specs.Prelude.{ℕ, zero, suc, ◌+◌, ◌*◌, cond, List, ltb, length, take, drop, set, Option, Some, None}
+use Rattle.std.specs.Prelude.{ℕ, zero, suc, ◌+◌, ◌*◌, ◌/◌, cond, List, ltb, length, take, drop, set, Option, Some, None}
 use Rattle.sequences.specs.Below.{first_below}
 use Rattle.text_rules.specs.declared.Column.{Column}
 use Rattle.text_rules.specs.Tables.{TextForm}
 use Rattle.text_rules.specs.Columns.{line_width, line_pitch, line_numbers, numbers_before, holds_text, wrong_cell, column_fault, cell_read}
 use Rattle.text_rows.specs.declared.CellFault.{CellFault}
+
+-- how many lines they are
+unfoldable pub line_count : TextForm → List ℕ → ℕ
+line_count t rows = length rows / line_pitch t.columns
 
 -- the j-th of the lines
 unfoldable pub row_in : List Column → List ℕ → ℕ → List ℕ

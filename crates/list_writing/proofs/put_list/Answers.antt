@@ -1,37 +1,33 @@
 -- `list_writing::put_list` meets its contract: head, component lines and ENDENDEND stand one behind the other, and are the text.
-use Rattle.std.proofs.Common.{◌≡◌, sym, subst, ap, ◌∙◌, ℕ, ◌*◌, rules}
-use Rattle.text_rules.specs.declared.Column.{Column}
-use Rattle.text_rules.specs.Tables.{TextForm}
-use Rattle.text_rules.specs.Well.{flag_well}
-use Rattle.text_rules.specs.Columns.{line_numbers, line_words}
+use Rattle.std.proofs.Common.{◌≡◌, ap, ◌∙◌, ℕ, ◌*◌, rules}
 use Rattle.digits.specs.Written.{Written}
 use Rattle.lines.specs.Lines.{line_text}
 use Rattle.text_rules.specs.Columns.{line_pitch}
-use Rattle.list_rules.specs.Shanghai.{shanghai_columns, shanghai_lines}
-use Rattle.list_rules.specs.Writing.{listing}
+use Rattle.list_rules.specs.Shanghai.{shanghai_columns}
+use Rattle.list_rules.specs.Writing.{listed}
 use Rattle.list_rules.proofs.Lent.{shanghai_flag_well}
 use Rattle.list_trip.proofs.WrittenPassing.{passing}
 use Rattle.list_writing_tests.proofs.Heads.{head_of, head_lent}
 use Rattle.list_writing_tests.proofs.Sizes.{our_columns}
-use Rattle.list_writing.proofs.Lines.{lines_of, run_long, names_long, lines_lent, fit_lent}
+use Rattle.list_writing.proofs.Lines.{run_long, names_long, lines_lent, fit_lent}
 use Rattle.list_writing.proofs.Sizes.{head_room, lines_room, part_long, end_room, text-put}
 use Rattle.list_writing.proofs.put_list.Goals as goal
 
 pub figures_of-figures-requires : goal.figures_of-figures-requires
 figures_of-figures-requires c =
     let a = c.args in
-    (passing (listing a.fields a.run.now a.names.now a.letters.now) c.requires.passing).ranges
+    (passing (listed a.list.now) c.requires.passing).ranges
 
 pub put_head-p-requires : goal.put_head-p-requires
 put_head-p-requires c =
     let a = c.args in
-    let l = listing a.fields a.run.now a.names.now a.letters.now in
+    let l = listed a.list.now in
     rw (head_lent _ c.field_table.ensures l _ c.figures_of-figures.ensures) (head_room l a.output.now c.requires.room)
 
 pub overflow_mul-q : goal.overflow_mul-q
 overflow_mul-q c =
     let a = c.args in
-    let l = listing a.fields a.run.now a.names.now a.letters.now in
+    let l = listed a.list.now in
     let p = c.requires in
     let headed : Written a.output.now 0 (head_of l) c.put_head-p.new.dst c.put_head-p.result = rw (head_lent _ c.field_table.ensures l _ c.figures_of-figures.ensures) at c.put_head-p.ensures in
     let pitched : c.pitch-pitch.result ≡ line_pitch shanghai_columns = c.pitch-pitch.ensures ∙ ap line_pitch (our_columns c.columns.ensures.value c.line_form-form.ensures) in
@@ -41,7 +37,7 @@ overflow_mul-q c =
 pub overflow_add-q : goal.overflow_add-q
 overflow_add-q c =
     let a = c.args in
-    let l = listing a.fields a.run.now a.names.now a.letters.now in
+    let l = listed a.list.now in
     let p = c.requires in
     let headed : Written a.output.now 0 (head_of l) c.put_head-p.new.dst c.put_head-p.result = rw (head_lent _ c.field_table.ensures l _ c.figures_of-figures.ensures) at c.put_head-p.ensures in
     let pitched : c.pitch-pitch.result ≡ line_pitch shanghai_columns = c.pitch-pitch.ensures ∙ ap line_pitch (our_columns c.columns.ensures.value c.line_form-form.ensures) in
@@ -51,7 +47,7 @@ overflow_add-q c =
 pub slice_bounds-put_rows-end : goal.slice_bounds-put_rows-end
 slice_bounds-put_rows-end c =
     let a = c.args in
-    let l = listing a.fields a.run.now a.names.now a.letters.now in
+    let l = listed a.list.now in
     let p = c.requires in
     let headed : Written a.output.now 0 (head_of l) c.put_head-p.new.dst c.put_head-p.result = rw (head_lent _ c.field_table.ensures l _ c.figures_of-figures.ensures) at c.put_head-p.ensures in
     let pitched : c.pitch-pitch.result ≡ line_pitch shanghai_columns = c.pitch-pitch.ensures ∙ ap line_pitch (our_columns c.columns.ensures.value c.line_form-form.ensures) in
@@ -61,7 +57,7 @@ slice_bounds-put_rows-end c =
 pub put_rows-requires : goal.put_rows-requires
 put_rows-requires c =
     let a = c.args in
-    let l = listing a.fields a.run.now a.names.now a.letters.now in
+    let l = listed a.list.now in
     let p = c.requires in
     let headed : Written a.output.now 0 (head_of l) c.put_head-p.new.dst c.put_head-p.result = rw (head_lent _ c.field_table.ensures l _ c.figures_of-figures.ensures) at c.put_head-p.ensures in
     let pitched : c.pitch-pitch.result ≡ line_pitch shanghai_columns = c.pitch-pitch.ensures ∙ ap line_pitch (our_columns c.columns.ensures.value c.line_form-form.ensures) in
@@ -69,14 +65,14 @@ put_rows-requires c =
     record {
       columns_value = rw e shanghai_flag_well;
       run_len = rw e (run_long l p.passing, names_long l p.passing);
-      rows_len = rw e (part_long l p.passing _ pitched a.output.now p.room headed ∙ ap (λ (n : ℕ). a.fields.count * n) pitched);
+      rows_len = rw e (part_long l p.passing _ pitched a.output.now p.room headed ∙ ap (λ (n : ℕ). a.list.now.fields.count * n) pitched);
       rows_fit = fit_lent _ e l p.passing;
     }
 
 pub put_bytes-requires : goal.put_bytes-requires
 put_bytes-requires c =
     let a = c.args in
-    let l = listing a.fields a.run.now a.names.now a.letters.now in
+    let l = listed a.list.now in
     let p = c.requires in
     let headed : Written a.output.now 0 (head_of l) c.put_head-p.new.dst c.put_head-p.result = rw (head_lent _ c.field_table.ensures l _ c.figures_of-figures.ensures) at c.put_head-p.ensures in
     let pitched : c.pitch-pitch.result ≡ line_pitch shanghai_columns = c.pitch-pitch.ensures ∙ ap line_pitch (our_columns c.columns.ensures.value c.line_form-form.ensures) in
@@ -87,7 +83,7 @@ pub returns : goal.returns
 unfolding line_text
 returns c =
     let a = c.args in
-    let l = listing a.fields a.run.now a.names.now a.letters.now in
+    let l = listed a.list.now in
     let p = c.requires in
     let headed : Written a.output.now 0 (head_of l) c.put_head-p.new.dst c.put_head-p.result = rw (head_lent _ c.field_table.ensures l _ c.figures_of-figures.ensures) at c.put_head-p.ensures in
     let pitched : c.pitch-pitch.result ≡ line_pitch shanghai_columns = c.pitch-pitch.ensures ∙ ap line_pitch (our_columns c.columns.ensures.value c.line_form-form.ensures) in

@@ -1,7 +1,5 @@
--- `text_cells_writing::put_end` meets its contract: two writes, one behind the other.
-use native.Mathlib.Omega.{arith}
-use Rattle.digits.proofs.Put.{written_then}
+-- `text_cells_writing::put_end` meets its contract: its two bytes are written.
 use Rattle.text_cells_writing.proofs.put_end.Goals as goal
 
 pub returns : goal.returns
-returns c = (written_then c.put_byte-e.ensures c.put_byte.ensures (omega arith)).bytes
+returns c = c.put_bytes.ensures.bytes

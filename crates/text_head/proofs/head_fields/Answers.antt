@@ -5,35 +5,42 @@ use native.Mathlib.Omega.{arith}
 use Rattle.std.proofs.Common.{rules, length}
 use Rattle.text_rules.proofs.Well.{fields_few}
 use Rattle.text_head.proofs.Shape.{past, lent_is, fields_many}
-use Rattle.text_head.proofs.Fields.{decimals_few, fielded_start, fielded_room, fielded_off, fielded_on, fielded_end}
+use Rattle.text_head.proofs.Fields.{some_line, first_ended, next_ended, fielded_start, fielded_room, fielded_off, fielded_on, fielded_end}
 use Rattle.text_head.proofs.head_fields.Goals as goal
 
-pub loop-k-init : goal.loop-k-init
-loop-k-init c = fielded_start _ c.table-table.ensures.well _ c.requires _ c.line_len-at.ensures.0
+pub unwrap-requires : goal.unwrap-requires
+unwrap-requires c = some_line _ (first_ended _ c.table-table.ensures.well _ c.requires) _ c.first_line.ensures.line
 
-pub read_field-requires : goal.read_field-requires
-read_field-requires c =
+pub loop-k-init : goal.loop-k-init
+loop-k-init c =
+    let line = rw c.unwrap.ensures at c.first_line.ensures.line in
+    rw c.from-figures.ensures (fielded_start _ c.table-table.ensures.well _ c.requires _ line.1 (rw c.unwrap.ensures at c.first_line.ensures.room))
+
+pub unwrap-line-requires : goal.unwrap-line-requires
+unwrap-line-requires c =
     let low : c.loop-k.k < length c.args.fields.now = omega (arith, fields_many _ _ c.table-table.ensures.value, c.loop-k-test.true) in
-    decimals_few _ c.table-table.ensures.well _ c.requires _ _ _ c.loop-k.invariant low _ (lent_is _ _ c.table-table.ensures.value _ _ c.loop-k-test.true)
+    some_line _ (next_ended _ c.table-table.ensures.well _ c.requires _ _ _ c.loop-k.invariant low) _ c.first_line-in-loop-k.ensures.line
 
 pub slice_bounds-read_field-count : goal.slice_bounds-read_field-count
 slice_bounds-read_field-count c =
     let low : c.loop-k.k < length c.args.fields.now = omega (arith, fields_many _ _ c.table-table.ensures.value, c.loop-k-test.true) in
-    let r = fielded_room _ c.table-table.ensures.well _ c.requires _ _ _ c.loop-k.invariant low _ (lent_is _ _ c.table-table.ensures.value _ past c.loop-k-test.true) _ c.line_len.ensures.0 in
+    let line = rw c.unwrap-line.ensures at c.first_line-in-loop-k.ensures.line in
+    let r = fielded_room _ c.table-table.ensures.well _ c.requires _ _ _ c.loop-k.invariant low _ (lent_is _ _ c.table-table.ensures.value _ past c.loop-k-test.true) _ line.1 in
     search rules
 
 pub slice_bounds-read_field-start : goal.slice_bounds-read_field-start
 slice_bounds-read_field-start c =
     let low : c.loop-k.k < length c.args.fields.now = omega (arith, fields_many _ _ c.table-table.ensures.value, c.loop-k-test.true) in
-    let r = fielded_room _ c.table-table.ensures.well _ c.requires _ _ _ c.loop-k.invariant low _ (lent_is _ _ c.table-table.ensures.value _ past c.loop-k-test.true) _ c.line_len.ensures.0 in
+    let line = rw c.unwrap-line.ensures at c.first_line-in-loop-k.ensures.line in
+    let r = fielded_room _ c.table-table.ensures.well _ c.requires _ _ _ c.loop-k.invariant low _ (lent_is _ _ c.table-table.ensures.value _ past c.loop-k-test.true) _ line.1 in
     search rules
 
-pub returns-in_err-figures : goal.returns-in_err-figures
-returns-in_err-figures c =
+pub returns-in_default : goal.returns-in_default
+returns-in_default c =
     let low : c.loop-k.k < length c.args.fields.now = omega (arith, fields_many _ _ c.table-table.ensures.value, c.loop-k-test.true) in
-    let h = fielded_off _ c.table-table.ensures.well _ c.requires _ _ _ c.loop-k.invariant low _ (lent_is _ _ c.table-table.ensures.value _ _ c.loop-k-test.true)
-    _ c.line_len.ensures.0 _ c.read_field.ensures _ c.ok_or.ensures.value _ c.in_err-figures.was in
-    search rules
+    let line = rw c.unwrap-line.ensures at c.first_line-in-loop-k.ensures.line in
+    fielded_off _ c.table-table.ensures.well _ c.requires _ _ _ c.loop-k.invariant low _ (lent_is _ _ c.table-table.ensures.value _ _ c.loop-k-test.true) _ line.1
+    _ c.read_field.ensures c.in_default.is
 
 pub bounds-figures-k : goal.bounds-figures-k
 bounds-figures-k c =
@@ -42,8 +49,10 @@ bounds-figures-k c =
 pub loop-k-preserved : goal.loop-k-preserved
 loop-k-preserved c =
     let low : c.loop-k.k < length c.args.fields.now = omega (arith, fields_many _ _ c.table-table.ensures.value, c.loop-k-test.true) in
-    fielded_on _ c.table-table.ensures.well _ c.requires _ _ _ c.loop-k.invariant low _ (lent_is _ _ c.table-table.ensures.value _ _ c.loop-k-test.true)
-    _ c.line_len.ensures.0 _ c.read_field.ensures _ c.ok_or.ensures.value _ c.in_ok-figures.was
+    let line = rw c.unwrap-line.ensures at c.first_line-in-loop-k.ensures.line in
+    let room = rw c.unwrap-line.ensures at c.first_line-in-loop-k.ensures.room in
+    fielded_on _ c.table-table.ensures.well _ c.requires _ _ _ c.loop-k.invariant low _ (lent_is _ _ c.table-table.ensures.value _ _ c.loop-k-test.true) _ line.1
+    _ c.read_field.ensures _ c.in-Some.is room
 
 pub returns : goal.returns
 returns c =

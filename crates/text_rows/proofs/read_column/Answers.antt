@@ -1,23 +1,22 @@
 -- `text_rows::read_column` meets its contract: the column's use says whether words or numbers are read.
-use native.Mathlib.Omega.{arith}
-use Rattle.text_rows.proofs.Turns.{pitch_low, cell_room, lines_within, column_holds, column_words, column_numbers}
+use mathlib.Core.Path.{refl}
+use Rattle.text_rows.specs.Rows.{line_count}
+use Rattle.text_rows.proofs.Turns.{words_room, pitch_some, column_holds, column_words, column_numbers}
 use Rattle.text_rows.proofs.read_column.Goals as goal
 
-pub overflow_add-line : goal.overflow_add-line
-overflow_add-line c = omega (arith, pitch_low _ _ _ _ c.requires)
-
-pub read_words_column-requires : goal.read_words_column-requires
-read_words_column-requires c = (cell_room _ _ _ _ c.requires c.column-column.ensures, lines_within _ _ _ _ c.requires)
+pub words_fault-requires : goal.words_fault-requires
+words_fault-requires c = words_room c.args.form.now _ c.requires c.columns-columns.ensures.value c.pitch.ensures c.start.ensures.value c.column-column.ensures
 
 pub returns-then-is_text : goal.returns-then-is_text
+unfolding line_count
 returns-then-is_text c =
     let text = column_holds c.args.form.now _ c.column-column.ensures c.is_text.ensures c.if-is_text.true in
-    let h = column_words _ _ _ _ c.requires text c.column-column.ensures c.read_words_column.ensures _ in
+    let h = column_words c.args.form.now _ _ _ c.requires text c.column-column.ensures refl (rw c.columns-columns.ensures.value at c.start.ensures.value)
+    (rw (c.pitch.ensures, c.columns-columns.ensures.value) at c.words_fault.ensures) _ in
     record { value = h.0; run_after = h.1 }
 
 pub read_numbers_column-requires : goal.read_numbers_column-requires
-read_numbers_column-requires c =
-    record { lines_here = c.requires; numbers = column_holds c.args.form.now _ c.column-column.ensures c.is_text.ensures c.if-is_text.false }
+read_numbers_column-requires c = (c.requires, column_holds c.args.form.now _ c.column-column.ensures c.is_text.ensures c.if-is_text.false)
 
 pub returns : goal.returns
 returns c =
