@@ -1,4 +1,5 @@
-// The paper's units of count, each a type of its own, and the roundings between them.
+// The paper's units of count, each a type of its own, and the roundings between them. The ranges that roundings ask are asked of the
+// numbers: a sound day says them all at once, and a type for each would be made and opened again at each call.
 #![tactic(auto)]
 
 ghost use Rattle.std.specs.Prelude.{◌≡◌, ◌+◌, ◌*◌, ◌≤◌, ◌<◌, ◌^◌};
