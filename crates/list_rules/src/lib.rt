@@ -147,9 +147,15 @@ const WHOLE: Form = Form {
     width: None,
 };
 
-const CODE: Form = Form { digits: Some(6), ..WHOLE };
+const CODE: Form = Form {
+    digits: Some(6),
+    ..WHOLE
+};
 
-const DATE: Form = Form { digits: Some(8), ..WHOLE };
+const DATE: Form = Form {
+    digits: Some(8),
+    ..WHOLE
+};
 
 const RATIO: Form = Form {
     decimals: 5,
