@@ -4,13 +4,14 @@
 
 ghost use Rattle.std.specs.Prelude.{◌≡◌};
 ghost use Rattle.sequences.specs.Checks.{reply};
+ghost use Rattle.layout.specs.Answers.{reply_in};
 ghost use Rattle.rules.specs.Replies.{refusal_reply, answer_reply, order_answer_reply, value_answer_reply};
-ghost use Rattle.answers.specs.Numbers.{reply_of, Told, ToldOrder};
+ghost use Rattle.answers.specs.Numbers.{reply_of, count_answer_reply, Told, ToldOrder};
 
 use rules::{Counts, Refusal};
 use units::ReferenceValue;
 
-#[derive(Clone, Copy, PartialEq, Eq, Debug)]
+#[derive(Clone, Copy, Default, PartialEq, Eq, Debug)]
 pub struct Numbers {
     pub number: u64,
     pub place: u64,
@@ -25,8 +26,7 @@ fn refused_at(number: u64, place: usize) -> Numbers
     Numbers {
         number,
         place: place as u64,
-        value: 0,
-        reports: 0,
+        ..Numbers::default()
     }
 }
 
@@ -35,10 +35,8 @@ fn accepted(value: u64) -> Numbers
     ensures { reply_of result ≡ reply 0 0 value }
 {
     Numbers {
-        number: 0,
-        place: 0,
         value,
-        reports: 0,
+        ..Numbers::default()
     }
 }
 
@@ -88,10 +86,8 @@ impl From<Result<Counts, Refusal>> for Numbers {
     fn from(answer: Result<Counts, Refusal>) -> Numbers {
         match answer {
             Ok(counts) => Numbers {
-                number: 0,
-                place: 0,
-                value: counts.records as u64,
                 reports: counts.reports as u64,
+                ..accepted(counts.records as u64)
             },
             Err(why) => Numbers::from(why),
         }
@@ -106,6 +102,32 @@ impl From<Result<ReferenceValue, Refusal>> for Numbers {
             Ok(value) => accepted(value.0),
             Err(why) => Numbers::from(why),
         }
+    }
+}
+
+// The answer of a call that tells a count: of components that are read, or of bytes that are written.
+impl From<Result<usize, Refusal>> for Numbers {
+    ghost from_gives = { λ answer numbers. reply_of numbers ≡ count_answer_reply answer };
+
+    fn from(answer: Result<usize, Refusal>) -> Numbers {
+        match answer {
+            Ok(count) => accepted(count as u64),
+            Err(why) => Numbers::from(why),
+        }
+    }
+}
+
+// The numbers in the order in which they are stored.
+impl From<Numbers> for [u64; layout::ANSWER_WIDTH] {
+    ghost from_gives = { λ numbers array. reply_in array ≡ reply_of numbers };
+
+    fn from(numbers: Numbers) -> [u64; layout::ANSWER_WIDTH] {
+        [
+            numbers.number,
+            numbers.place,
+            numbers.value,
+            numbers.reports,
+        ]
     }
 }
 

@@ -21,7 +21,7 @@ ghost use Rattle.flat_calls.specs.Opening.{flat_given, FlatOutcome};
 ghost use Rattle.flat_calls.specs.Text.{taking, TextRead, part_kept, TextWritten};
 
 use answers::Numbers;
-use rules::Trade;
+use rules::{Lists, Trade};
 use units::Money;
 
 // Opens a day: the book, the prices and the day are filled.
@@ -125,7 +125,12 @@ pub extern "C" fn roffelaine_create(
     ensures book { book.new ≡ created_book (day_at day.now) book.old prices.now account units (rooms_in (lent_of records.old investor.old fund.old)) }
     ensures lists { lent_of records.new investor.new fund.new ≡ created_lists (day_at day.now) book.old prices.now account units (lent_of records.old investor.old fund.old) }
 {
-    let answer = day::create(day, book, prices, account, units, records, investor, fund);
+    let mut lists = Lists {
+        records,
+        investor,
+        fund,
+    };
+    let answer = day::create(day, book, prices, account, units, &mut lists);
     answers::tell_order(Numbers::from(answer), place, value, reports)
 }
 
@@ -148,7 +153,12 @@ pub extern "C" fn roffelaine_redeem(
     ensures book { book.new ≡ redeemed_book (day_at day.now) book.old prices.now account units (rooms_in (lent_of records.old investor.old fund.old)) }
     ensures lists { lent_of records.new investor.new fund.new ≡ redeemed_lists (day_at day.now) book.old prices.now account units (lent_of records.old investor.old fund.old) }
 {
-    let answer = day::redeem(day, book, prices, account, units, records, investor, fund);
+    let mut lists = Lists {
+        records,
+        investor,
+        fund,
+    };
+    let answer = day::redeem(day, book, prices, account, units, &mut lists);
     answers::tell_order(Numbers::from(answer), place, value, reports)
 }
 
@@ -169,7 +179,8 @@ pub extern "C" fn roffelaine_creation_test(
 ) -> u64
     ensures { ToldOrder (creation_reply (day_at day.now) book.now prices.now account units (rooms_of records investor fund)) result place.new value.new reports.new }
 {
-    let answer = day::creation_test(day, book, prices, account, units, records, investor, fund);
+    let rooms = rules::rooms_of(records, investor, fund);
+    let answer = day::creation_test(day, book, prices, account, units, rooms);
     answers::tell_order(Numbers::from(answer), place, value, reports)
 }
 
@@ -190,7 +201,8 @@ pub extern "C" fn roffelaine_redemption_test(
 ) -> u64
     ensures { ToldOrder (redemption_reply (day_at day.now) book.now prices.now account units (rooms_of records investor fund)) result place.new value.new reports.new }
 {
-    let answer = day::redemption_test(day, book, prices, account, units, records, investor, fund);
+    let rooms = rules::rooms_of(records, investor, fund);
+    let answer = day::redemption_test(day, book, prices, account, units, rooms);
     answers::tell_order(Numbers::from(answer), place, value, reports)
 }
 

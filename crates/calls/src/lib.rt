@@ -1,88 +1,46 @@
-// The calls on a day that is known to be sound or is to be tested: 5 where it is not sound, and else the core's answer.
-// `known` says that the day is sound, so that a list of calls tests it once.
+// Refusal 5: a call looks at its day first. A run of another length than a day's is the blank day, which is not sound.
 #![tactic(auto)]
 
-ghost use Rattle.std.specs.Prelude.{◌≡◌, true, false, OnOk, IfErr};
-ghost use Rattle.layout.specs.Day.{day_at};
+ghost use Rattle.std.specs.Prelude.{◌≡◌, true, false, MatchOption, OnOk, IfOk, IfErr};
+ghost use Rattle.layout.specs.Day.{blank_day, day_at};
 ghost use Rattle.rules.specs.declared.Refusal.TheVariants.{UnsoundDay};
-ghost use Rattle.rules.specs.Replies.{answer_reply, value_answer_reply};
-ghost use Rattle.rules.specs.Price.{price_reply, priced_prices};
-ghost use Rattle.rules.specs.Trade.{trade_reply, traded_book};
-ghost use Rattle.rules.specs.Value.{value_reply};
 ghost use Rattle.rules.specs.Sound.{is_sound, is_kept};
 
-use rules::{Refusal, Trade};
-use units::ReferenceValue;
+use layout::DayView;
+use rules::Refusal;
 
-// Refusal 5's test. A run of another length than a day's is the blank day, which is not sound.
-pub fn is_sound(day: &[u64], book: &[u64], prices: &[u64]) -> bool
-    ensures { result ≡ is_sound (day_at day.now) book.now prices.now }
+// The day in a run, where the run has a day's length.
+#[tactic(auto, using(layout::proofs::Day::day_none))]
+fn day_in(run: &[u64]) -> Option<DayView<'_>>
+    ensures { MatchOption result (day_at run.now ≡ blank_day) (λ day. day ≡ day_at run.now) }
 {
-    day.len() == layout::DAY_WIDTH && sound::is_sound(&layout::view_of(day), book, prices)
-}
-
-// Whether the day has what every call keeps.
-pub fn is_kept(day: &[u64], book: &[u64], prices: &[u64]) -> bool
-    ensures { result ≡ is_kept (day_at day.now) book.now prices.now }
-{
-    day.len() == layout::DAY_WIDTH && sound::is_kept(&layout::view_of(day), book, prices)
-}
-
-// Refusal 5 where the day is not sound. It is tested where it is not known.
-pub fn sound_day(known: bool, day: &[u64], book: &[u64], prices: &[u64]) -> Result<(), Refusal>
-    requires { known ≡ true → is_sound (day_at day.now) book.now prices.now ≡ true }
-    ensures ok { OnOk result (is_sound (day_at day.now) book.now prices.now ≡ true) }
-    ensures err { IfErr result (λ why. (why ≡ UnsoundDay) × (is_sound (day_at day.now) book.now prices.now ≡ false)) }
-{
-    if known || is_sound(day, book, prices) {
-        return Ok(());
+    if run.len() == layout::DAY_WIDTH {
+        Some(layout::view_of(run))
+    } else {
+        None
     }
-    Err(Refusal::UnsoundDay)
 }
 
-// Sets a component's price.
-pub fn price(
-    known: bool,
-    day: &[u64],
-    book: &[u64],
-    prices: &mut [u64],
-    line: usize,
-    price: u64,
-) -> Result<(), Refusal>
-    requires { known ≡ true → is_sound (day_at day.now) book.now prices.old ≡ true }
-    ensures result_value { answer_reply result ≡ price_reply (day_at day.now) book.now prices.old line price }
-    ensures prices { prices.new ≡ priced_prices (day_at day.now) book.now prices.old line price }
+// The day in a run, where it is sound; else refusal 5.
+#[tactic(auto, using(crate::proofs::Run::blank_unsound))]
+pub fn sound_day<'a>(run: &'a [u64], book: &[u64], prices: &[u64]) -> Result<DayView<'a>, Refusal>
+    ensures ok { IfOk result (λ day. day ≡ day_at run.now) }
+    ensures sound { OnOk result (is_sound (day_at run.now) book.now prices.now ≡ true) }
+    ensures err { IfErr result (λ why. (why ≡ UnsoundDay) × (is_sound (day_at run.now) book.now prices.now ≡ false)) }
 {
-    sound_day(known, day, book, prices)?;
-    trades::set_price(layout::count_of(day), prices, line, price)
+    match day_in(run) {
+        Some(day) if sound::is_sound(&day, book, prices) => Ok(day),
+        _ => Err(Refusal::UnsoundDay),
+    }
 }
 
-// Trades a quantity of a line at a price.
-pub fn trade(
-    known: bool,
-    day: &[u64],
-    book: &mut [u64],
-    prices: &[u64],
-    trade: Trade,
-) -> Result<(), Refusal>
-    requires { known ≡ true → is_sound (day_at day.now) book.old prices.now ≡ true }
-    ensures result_value { answer_reply result ≡ trade_reply (day_at day.now) book.old prices.now trade.line trade.quantity trade.price.0 trade.seller trade.buyer }
-    ensures book { book.new ≡ traded_book (day_at day.now) book.old prices.now trade.line trade.quantity trade.price.0 trade.seller trade.buyer }
+// The day in a run, where it has what every call keeps.
+#[tactic(auto, using(crate::proofs::Run::blank_not_kept))]
+pub fn kept_day<'a>(run: &'a [u64], book: &[u64], prices: &[u64]) -> Option<DayView<'a>>
+    ensures { MatchOption result (is_kept (day_at run.now) book.now prices.now ≡ false) (λ day. (day ≡ day_at run.now) × (is_kept (day_at run.now) book.now prices.now ≡ true)) }
 {
-    sound_day(known, day, book, prices)?;
-    trades::trade(layout::accounts_of(day), layout::count_of(day), book, trade)
-}
-
-// The reference value at this moment.
-pub fn reference_value(
-    known: bool,
-    day: &[u64],
-    book: &[u64],
-    prices: &[u64],
-) -> Result<ReferenceValue, Refusal>
-    requires { known ≡ true → is_sound (day_at day.now) book.now prices.now ≡ true }
-    ensures { value_answer_reply result ≡ value_reply (day_at day.now) book.now prices.now }
-{
-    sound_day(known, day, book, prices)?;
-    value::reference_value(&layout::view_of(day), prices)
+    match day_in(run) {
+        Some(day) if sound::is_kept(&day, book, prices) => Some(day),
+        _ => None,
+    }
 }

@@ -4,7 +4,8 @@
 
 ghost use Rattle.std.specs.Prelude.{◌≡◌};
 ghost use Rattle.layout.specs.Day.{day_at};
-ghost use Rattle.rules.specs.Lent.{lent_of, rooms_of, rooms_in};
+ghost use Rattle.rules.specs.Lent.{rooms_in};
+ghost use Rattle.rules.specs.Lists.{lent_in, left_in};
 ghost use Rattle.rules.specs.Replies.{answer_reply, order_answer_reply, value_answer_reply};
 ghost use Rattle.rules.specs.Price.{price_reply, priced_prices};
 ghost use Rattle.rules.specs.Trade.{trade_reply, traded_book};
@@ -14,7 +15,8 @@ ghost use Rattle.rules.specs.Redemption.{redemption_reply, redeemed_book, redeem
 ghost use Rattle.opening.specs.Given.{given, Outcome};
 
 use layout::Fund;
-use rules::{Counts, Refusal, Trade};
+use opening::Given;
+use rules::{Counts, Lists, Refusal, Rooms, Trade};
 use units::ReferenceValue;
 
 // Opens a day: the book, the prices and the day are filled.
@@ -30,12 +32,18 @@ pub fn open(
 ) -> Result<(), Refusal>
     ensures { Outcome (given accounts count fund components.now holdings.now book.old prices.old day.old) result book.new prices.new day.new }
 {
-    opening::open(
-        accounts, count, fund, components, holdings, book, prices, day,
-    )
+    let given = Given {
+        accounts,
+        count,
+        fund,
+        components,
+        holdings,
+    };
+    opening::open(given, book, prices, day)
 }
 
 // Sets a component's price.
+#[tactic(auto, using(calls::proofs::Laws::price_five, calls::proofs::Laws::prices_five, calls::proofs::Laws::price_own, calls::proofs::Laws::prices_own, calls::proofs::Laws::prices_long))]
 pub fn price(
     day: &[u64],
     book: &[u64],
@@ -46,92 +54,112 @@ pub fn price(
     ensures result_value { answer_reply result ≡ price_reply (day_at day.now) book.now prices.old line price }
     ensures prices { prices.new ≡ priced_prices (day_at day.now) book.now prices.old line price }
 {
-    calls::price(false, day, book, prices, line, price)
+    let day = calls::sound_day(day, book, prices)?;
+    trades::set_price(day.count(), prices, line, price)
 }
 
 // Trades a quantity of a line at a price.
+#[tactic(auto, using(calls::proofs::Laws::trade_five, calls::proofs::Laws::traded_five, calls::proofs::Laws::trade_own, calls::proofs::Laws::traded_own, calls::proofs::Laws::book_fits))]
 pub fn trade(day: &[u64], book: &mut [u64], prices: &[u64], trade: Trade) -> Result<(), Refusal>
     ensures result_value { answer_reply result ≡ trade_reply (day_at day.now) book.old prices.now trade.line trade.quantity trade.price.0 trade.seller trade.buyer }
     ensures book { book.new ≡ traded_book (day_at day.now) book.old prices.now trade.line trade.quantity trade.price.0 trade.seller trade.buyer }
 {
-    calls::trade(false, day, book, prices, trade)
+    let day = calls::sound_day(day, book, prices)?;
+    trades::trade(day.accounts(), day.count(), book, trade)
 }
 
 // The reference value at this moment.
+#[tactic(auto, using(calls::proofs::Laws::value_five, calls::proofs::Laws::value_own, calls::proofs::Laws::priceable))]
 pub fn reference_value(day: &[u64], book: &[u64], prices: &[u64]) -> Result<ReferenceValue, Refusal>
     ensures { value_answer_reply result ≡ value_reply (day_at day.now) book.now prices.now }
 {
-    calls::reference_value(false, day, book, prices)
+    value::reference_value(&calls::sound_day(day, book, prices)?, prices)
 }
 
 // Creates units for an account; the records and the reports to both parties go to the lent lists.
+#[tactic(auto, using(rules::proofs::Asked::creation_asked, rules::proofs::Asked::created_book_lem, rules::proofs::Asked::created_lists_lem))]
 pub fn create(
     day: &[u64],
     book: &mut [u64],
     prices: &[u64],
     account: usize,
     units: u64,
-    records: &mut [u64],
-    investor: &mut [u64],
-    fund: &mut [u64],
+    lists: &mut Lists,
 ) -> Result<Counts, Refusal>
-    ensures result_value { order_answer_reply result ≡ creation_reply (day_at day.now) book.old prices.now account units (rooms_in (lent_of records.old investor.old fund.old)) }
-    ensures book { book.new ≡ created_book (day_at day.now) book.old prices.now account units (rooms_in (lent_of records.old investor.old fund.old)) }
-    ensures lists { lent_of records.new investor.new fund.new ≡ created_lists (day_at day.now) book.old prices.now account units (lent_of records.old investor.old fund.old) }
+    ensures result_value { order_answer_reply result ≡ creation_reply (day_at day.now) book.old prices.now account units (rooms_in (lent_in lists.old)) }
+    ensures book { book.new ≡ created_book (day_at day.now) book.old prices.now account units (rooms_in (lent_in lists.old)) }
+    ensures lists { lists.new ≡ left_in lists.old (created_lists (day_at day.now) book.old prices.now account units (lent_in lists.old)) }
 {
-    let ask = rules::creation(account, units);
-    order_calls::order(false, day, book, prices, ask, records, investor, fund)
+    order_calls::order(
+        day,
+        book,
+        prices,
+        rules::Kind::Creation.ask(account, units),
+        lists,
+    )
 }
 
 // Redeems units of an account; the records and the reports to both parties go to the lent lists.
+#[tactic(auto, using(rules::proofs::Asked::redemption_asked, rules::proofs::Asked::redeemed_book_lem, rules::proofs::Asked::redeemed_lists_lem))]
 pub fn redeem(
     day: &[u64],
     book: &mut [u64],
     prices: &[u64],
     account: usize,
     units: u64,
-    records: &mut [u64],
-    investor: &mut [u64],
-    fund: &mut [u64],
+    lists: &mut Lists,
 ) -> Result<Counts, Refusal>
-    ensures result_value { order_answer_reply result ≡ redemption_reply (day_at day.now) book.old prices.now account units (rooms_in (lent_of records.old investor.old fund.old)) }
-    ensures book { book.new ≡ redeemed_book (day_at day.now) book.old prices.now account units (rooms_in (lent_of records.old investor.old fund.old)) }
-    ensures lists { lent_of records.new investor.new fund.new ≡ redeemed_lists (day_at day.now) book.old prices.now account units (lent_of records.old investor.old fund.old) }
+    ensures result_value { order_answer_reply result ≡ redemption_reply (day_at day.now) book.old prices.now account units (rooms_in (lent_in lists.old)) }
+    ensures book { book.new ≡ redeemed_book (day_at day.now) book.old prices.now account units (rooms_in (lent_in lists.old)) }
+    ensures lists { lists.new ≡ left_in lists.old (redeemed_lists (day_at day.now) book.old prices.now account units (lent_in lists.old)) }
 {
-    let ask = rules::redemption(account, units);
-    order_calls::order(false, day, book, prices, ask, records, investor, fund)
+    order_calls::order(
+        day,
+        book,
+        prices,
+        rules::Kind::Redemption.ask(account, units),
+        lists,
+    )
 }
 
-// The tests of a creation alone, with the lengths of the lists: the answer that the creation would give.
+// The tests of a creation alone, with the rooms of the lists: the answer that the creation would give.
+#[tactic(auto, using(rules::proofs::Asked::creation_asked))]
 pub fn creation_test(
     day: &[u64],
     book: &[u64],
     prices: &[u64],
     account: usize,
     units: u64,
-    records: usize,
-    investor: usize,
-    fund: usize,
+    rooms: Rooms,
 ) -> Result<Counts, Refusal>
-    ensures { order_answer_reply result ≡ creation_reply (day_at day.now) book.now prices.now account units (rooms_of records investor fund) }
+    ensures { order_answer_reply result ≡ creation_reply (day_at day.now) book.now prices.now account units rooms }
 {
-    let ask = rules::creation(account, units);
-    tests_alone::order_test(day, book, prices, ask, records, investor, fund)
+    order_calls::order_test(
+        day,
+        book,
+        prices,
+        rules::Kind::Creation.ask(account, units),
+        rooms,
+    )
 }
 
 // The tests of a redemption alone.
+#[tactic(auto, using(rules::proofs::Asked::redemption_asked))]
 pub fn redemption_test(
     day: &[u64],
     book: &[u64],
     prices: &[u64],
     account: usize,
     units: u64,
-    records: usize,
-    investor: usize,
-    fund: usize,
+    rooms: Rooms,
 ) -> Result<Counts, Refusal>
-    ensures { order_answer_reply result ≡ redemption_reply (day_at day.now) book.now prices.now account units (rooms_of records investor fund) }
+    ensures { order_answer_reply result ≡ redemption_reply (day_at day.now) book.now prices.now account units rooms }
 {
-    let ask = rules::redemption(account, units);
-    tests_alone::order_test(day, book, prices, ask, records, investor, fund)
+    order_calls::order_test(
+        day,
+        book,
+        prices,
+        rules::Kind::Redemption.ask(account, units),
+        rooms,
+    )
 }

@@ -1,14 +1,10 @@
-// A reply, the paper's number, place, value and count of reports, as it is printed.
+// Replies as they are printed.
 use answers::Numbers;
-use std::fmt;
-use std::fmt::Display;
+use program_io::rows::Row;
+use std::io;
+use std::io::Write;
 
-#[derive(Drop)]
-pub struct Reply(pub Numbers);
-
-impl Display for Reply {
-    fn fmt<W: fmt::Write>(&self, f: &mut fmt::Formatter<W>) -> fmt::Result {
-        let r = self.0;
-        write!(f, "{} {} {} {}", r.number, r.place, r.value, r.reports)
-    }
+// A word and a reply, the paper's number, place, value and count of reports, on a line.
+pub fn print<W: Write>(out: &mut W, word: &str, r: Numbers) -> io::Result<()> {
+    writeln!(out, "{word}{}", Row(&[r.number, r.place, r.value, r.reports]))
 }

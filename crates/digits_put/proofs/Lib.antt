@@ -1,1 +1,2 @@
 pub mod Last
+pub mod Whole

@@ -1,9 +1,11 @@
 // Puts bytes, blanks and digits into a run.
 #![tactic(auto)]
 
-ghost use Rattle.std.specs.Prelude.{◌≡◌, ◌+◌, ◌/◌, ◌^◌, ◌≤◌, ◌<◌, [], ◌∷◌, length, replicate};
-ghost use Rattle.digits.specs.Digits.{fixed};
+ghost use Rattle.std.specs.Prelude.{◌≡◌, ◌+◌, ◌/◌, ◌%◌, ◌^◌, ◌≤◌, ◌<◌, true, suc, [], ◌∷◌, length, replicate};
+ghost use Rattle.digits.specs.Digits.{fixed, tens, decimal};
 ghost use Rattle.digits.specs.Written.{Written};
+
+// Each gives the place behind what it writes, where the next one writes: a slice behind it would have to be lent anew for each.
 
 // Writes one byte.
 pub fn put_byte(dst: &mut [u8], at: usize, b: u8) -> usize
@@ -34,16 +36,49 @@ pub fn put_blanks(dst: &mut [u8], at: usize, k: usize) -> usize
     next
 }
 
+// The last digit of a number as a byte, and the number before it. A number of 32 bits is divided faster than one of 64.
+fn split_last<const SMALL: bool>(m: u64) -> (u64, u8)
+    requires { SMALL ≡ true → m < 4_294_967_296 }
+    ensures { (result.0 ≡ m / 10) × (result.1 ≡ 48 + m % 10) }
+{
+    if SMALL {
+        let m = m as u32;
+        return (u64::from(m / 10), b'0' + (m % 10) as u8);
+    }
+    (m / 10, b'0' + (m % 10) as u8)
+}
+
 // Fills a run with the last digits of n, and gives what is left of n before them.
-pub fn put_last(digits: &mut [u8], n: u64) -> u64
+pub fn put_last<const SMALL: bool>(digits: &mut [u8], n: u64) -> u64
+    requires { SMALL ≡ true → n < 4_294_967_296 }
     ensures bytes { digits.new ≡ fixed (length digits.old) n }
     ensures left { result ≡ n / 10 ^ length digits.old }
 {
     let mut m = n;
-    // By place: of what `iter_mut().rev()` writes nothing is known behind the loop (tried: the library's adapters of `iter_mut` say none).
+    // By place: of what `iter_mut().rev()` writes nothing is known behind the loop (the library says it of `iter_mut` alone).
     for i in (0..digits.len()).rev() {
-        digits[i] = b'0' + (m % 10) as u8;
-        m /= 10;
+        let (rest, digit) = split_last::<SMALL>(m);
+        digits[i] = digit;
+        m = rest;
     }
     m
+}
+
+// Puts n with as many digits as it has before a place, and says where they start.
+pub fn put_all<const SMALL: bool>(dst: &mut [u8], end: usize, n: u64) -> usize
+    requires room { (suc (tens n) ≤ end) × (end ≤ length dst.old) }
+    requires small { SMALL ≡ true → n < 4_294_967_296 }
+    ensures { Written dst.old result (decimal n) dst.new end }
+{
+    let mut m = n;
+    for i in (0..end).rev() {
+        let (rest, digit) = split_last::<SMALL>(m);
+        dst[i] = digit;
+        if rest == 0 {
+            return i;
+        }
+        m = rest;
+    }
+    // Not reached: the last digit had room.
+    0
 }

@@ -1,26 +1,43 @@
 -- A number that ends a field: its parts are written from the right.
-use Rattle.std.proofs.Common.{◌≡◌, refl, sym, ap, ◌∙◌, ℕ, ◌+◌, ◌-◌, ◌/◌, ◌^◌, ◌≤◌, true, false, Option, List, ◌∷◌, ◌++◌, length, take, drop, set, replicate, length-take, length-drop, length-set, arith}
+use Rattle.std.proofs.Common.{Option, Some, None, ◌≡◌, refl, sym, ap, ◌∙◌, ℕ, suc, ◌+◌, ◌-◌, ◌/◌, ◌^◌, ◌≤◌, true, false, List, ◌∷◌, ◌++◌, length, take, drop, set, replicate, length-take, length-drop, length-set, arith}
 use Rattle.std.proofs.Math.ListN.{length-replicate}
 use borrow.Rule.Slice.PartMut.{put_mid}
 use Rattle.digits.specs.declared.Form.{Form}
 use Rattle.digits.specs.declared.Figure.{Figure}
-use Rattle.digits.specs.Digits.{fixed, whole_text, plain_text, signed_text, number_text}
+use Rattle.digits.specs.Digits.{fixed, tens, decimal, whole_text, plain_text, signed_text, number_text}
 use Rattle.digits.specs.Written.{put, Written}
 use Rattle.digits.proofs.Put.{put-length, put_front, put-before, written_part}
-use Rattle.digits.proofs.Count.{fixed-length}
-use Rattle.digits.proofs.Write.{whole_is, plain_pointed, plain-length, signed_below, signed_above, number-length, blanks_put, blanks-put}
+use Rattle.digits.proofs.Count.{fixed-length, decimal-length}
+use Rattle.digits.proofs.Write.{plain_pointed, plain-length, signed_below, signed_above, number-length, blanks_put, blanks-put}
 
--- digits before the point
-pub whole_put : (d : List ℕ) (end size : ℕ) (digits : Option ℕ) (n : ℕ) (xs : List ℕ) → size ≡ length (whole_text digits n) → size ≤ end
-    → end ≤ length d → xs ≡ fixed (length (take (end - (end - size)) (drop (end - size) d))) n
-    → Written d (end - size) (whole_text digits n) (put_mid (end - size) (end - (end - size)) d xs) end
-whole_put d end size digits n xs e room fits are =
-    let k : end - (end - size) ≡ size = omega arith in
-    let long : length (take (end - (end - size)) (drop (end - size) d)) ≡ size =
-    omega (arith, length-take (end - (end - size)) (drop (end - size) d), length-drop (end - size) d)
-    in
-    let same : xs ≡ whole_text digits n = are ∙ ap (λ (j : ℕ). fixed j n) (long ∙ e) ∙ whole_is digits n in
-    written_part d (end - size) (end - (end - size)) (whole_text digits n) xs end same (k ∙ e) (omega arith)
+-- digits before the point: so many
+module _ (d : List ℕ) (end size n : ℕ) {digits : Option ℕ} (are : digits ≡ Some size) (room : length (whole_text digits n) ≤ end) where
+  pub fixed_room : size ≤ end
+  unfolding whole_text
+  fixed_room = omega (arith, ap (λ (o : Option ℕ). length (whole_text o n)) are, fixed-length size n)
+
+  pub fixed_put : end ≤ length d → {xs : List ℕ} → xs ≡ fixed (length (take (end - (end - size)) (drop (end - size) d))) n
+      → Written d (end - size) (whole_text digits n) (put_mid (end - size) (end - (end - size)) d xs) end
+  unfolding whole_text
+  fixed_put fits {xs} bytes =
+      let r = fixed_room in
+      let k : end - (end - size) ≡ size = omega arith in
+      let long : length (take (end - (end - size)) (drop (end - size) d)) ≡ size =
+      omega (arith, length-take (end - (end - size)) (drop (end - size) d), length-drop (end - size) d)
+      in
+      let same : xs ≡ whole_text digits n = bytes ∙ ap (λ (j : ℕ). fixed j n) long ∙ ap (λ (o : Option ℕ). whole_text o n) (sym are) in
+      let wide : size ≡ length (whole_text digits n) = sym (ap (λ (o : Option ℕ). length (whole_text o n)) are ∙ fixed-length size n) in
+      written_part d (end - size) (end - (end - size)) (whole_text digits n) xs end same (k ∙ wide) (omega arith)
+
+-- and as many as the number has
+module _ (end n : ℕ) {digits : Option ℕ} (are : digits ≡ None) where
+  pub all_room : length (whole_text digits n) ≤ end → suc (tens n) ≤ end
+  unfolding whole_text
+  all_room room = omega (arith, ap (λ (o : Option ℕ). length (whole_text o n)) are, decimal-length n)
+
+  pub all_put : {d d' : List ℕ} {r : ℕ} → Written d r (decimal n) d' end → Written d r (whole_text digits n) d' end
+  unfolding whole_text
+  all_put w = rw are w
 
 -- with decimals: they and the point are written first
 module _ (f : Form) (n : ℕ) (d : List ℕ) (some : f.decimals ≡ 0 → ⊥) (room : length (plain_text f n) ≤ length d) where

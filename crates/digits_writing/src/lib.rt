@@ -1,7 +1,7 @@
 // Writes a number's field, by its form.
 #![tactic(auto)]
 
-ghost use Rattle.std.specs.Prelude.{◌≡◌, ◌+◌, ◌-◌, ◌≤◌, ◌^◌, length, unwrap_or};
+ghost use Rattle.std.specs.Prelude.{◌≡◌, ◌+◌, ◌-◌, ◌≤◌, ◌<◌, ◌^◌, true, length, unwrap_or};
 ghost use Rattle.digits.specs.Digits.{tens, whole_text, plain_text, signed_text, number_text};
 ghost use Rattle.digits.specs.Written.{put, Written};
 
@@ -60,30 +60,53 @@ pub fn number_size(form: Form, z: Figure) -> usize
     signed_size(form, z).max(form.width.unwrap_or(0))
 }
 
-// Writes the digits before the point so that they end before a place, and says where they start.
-fn put_whole(field: &mut [u8], end: usize, digits: Option<usize>, n: u64) -> usize
-    requires { (length (whole_text digits n) ≤ end) × (end ≤ length field.old) }
+// Writes the digits of n before the point so that they end before a place, and says where they start.
+fn put_whole<const SMALL: bool>(
+    field: &mut [u8],
+    end: usize,
+    digits: Option<usize>,
+    n: u64,
+) -> usize
+    requires room { (length (whole_text digits n) ≤ end) × (end ≤ length field.old) }
+    requires small { SMALL ≡ true → n < 4_294_967_296 }
     ensures { Written field.old result (whole_text digits n) field.new end }
 {
-    let start = end - whole_size(digits, n);
-    digits_put::put_last(&mut field[start..end], n);
-    start
+    match digits {
+        Some(k) => {
+            let start = end - k;
+            digits_put::put_last::<SMALL>(&mut field[start..end], n);
+            start
+        }
+        None => digits_put::put_all::<SMALL>(field, end, n),
+    }
 }
 
 // Writes the number without its sign at the end of a field, and says where it starts.
-fn put_plain(field: &mut [u8], form: Form, n: u64) -> usize
-    requires { length (plain_text form n) ≤ length field.old }
+fn put_plain<const SMALL: bool>(field: &mut [u8], form: Form, n: u64) -> usize
+    requires room { length (plain_text form n) ≤ length field.old }
+    requires small { SMALL ≡ true → n < 4_294_967_296 }
     ensures { Written field.old result (plain_text form n) field.new (length field.old) }
 {
     let end = field.len();
     let k = form.decimals;
     if k == 0 {
-        return put_whole(field, end, form.digits, n);
+        return put_whole::<SMALL>(field, end, form.digits, n);
     }
     let point = end - (k + 1);
-    let whole = digits_put::put_last(&mut field[point + 1..], n);
+    let whole = digits_put::put_last::<SMALL>(&mut field[point + 1..], n);
     field[point] = b'.';
-    put_whole(field, point, form.digits, whole)
+    put_whole::<SMALL>(field, point, form.digits, whole)
+}
+
+// The same, quick where the number has 32 bits, as almost all have.
+fn put_size(field: &mut [u8], form: Form, n: u64) -> usize
+    requires { length (plain_text form n) ≤ length field.old }
+    ensures { Written field.old result (plain_text form n) field.new (length field.old) }
+{
+    if n <= u64::from(u32::MAX) {
+        return put_plain::<true>(field, form, n);
+    }
+    put_plain::<false>(field, form, n)
 }
 
 // Writes the number with its sign at the end of a field; what stands before it stays.
@@ -91,7 +114,7 @@ pub fn put_signed(field: &mut [u8], form: Form, z: Figure)
     requires { length (signed_text form z) ≤ length field.old }
     ensures { field.new ≡ put field.old (length field.old - length (signed_text form z)) (signed_text form z) }
 {
-    let start = put_plain(field, form, z.size);
+    let start = put_size(field, form, z.size);
     if z.negative {
         field[start - 1] = b'-';
     }

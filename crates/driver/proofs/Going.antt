@@ -1,87 +1,102 @@
 -- The loop over the rows: what is done and what is to come, the kept property, and the lengths.
 use mathlib.Core.Path.{◌≡◌, refl, sym, ap, subst, ◌∙◌}
-use mathlib.Core.Bool.{Bool, true}
-use mathlib.Core.List.{List}
-use Prim.Native.Nat.{ℕ, suc, ◌-◌, ◌≤◌, ◌<◌}
+use mathlib.Core.Bool.{true}
+use mathlib.Core.List.{List, ◌++◌}
+use Prim.Native.Nat.{ℕ, suc, ◌+◌, ◌-◌, ◌*◌, ◌<◌, ◌≤◌}
 use native.Mathlib.Omega.{arith}
-use lib.ListN.{length}
+use native.Mathlib.Nat.{suc-mul}
+use lib.ListN.{length, take, drop, length-append, length-drop, length-set}
+use lib.Seq.{drop-drop, take-append_seam, drop-append_seam}
+use Rattle.std.specs.Prelude.{Option, Some, None, IfSome}
 use Rattle.sequences.specs.Checks.{Reply}
+use Rattle.sequences.specs.Stretch.{stretch_of}
+use Rattle.layout.specs.Places.{row_width, answer_width}
+use Rattle.layout.specs.Day.{Day}
+use Rattle.layout.specs.Answers.{put_reply}
 use Rattle.rules.specs.Sound.{is_sound, is_kept}
 use Rattle.rules.proofs.SoundDay.{kept_facts, sound-true}
 use Rattle.balance.proofs.Theorems.{KeptState, kept_step}
-use Rattle.driver_rows.specs.Rows.{Row, call, none, row_at, Work, lent_to, row_reply, row_leaves}
-use Rattle.layout.specs.Answers.{put_reply}
-use Rattle.driver.specs.Batch.{Batch, row_done, run_from}
+use Rattle.driver_rows.specs.declared.Work.{Work as Runs}
+use Rattle.driver_rows.specs.Lent.{state_in, work_in, left_work}
+use Rattle.driver_rows.specs.Rows.{Row, call, none, row_of, row_at, Spans, Work, lent_to, row_reply, row_leaves}
+use Rattle.driver.proofs.Days.{row_day, left_of}
+use Rattle.driver.specs.Batch.{Batch, batch_in, row_done, run_from, rows_in}
 
--- a row whose answer and work are the definitions' is done
-pub row_is_done : (w left : Work) (row : Row) (r : Reply) (answers put : List ℕ) (i : ℕ) → r ≡ row_reply w row → left ≡ row_leaves w row → put ≡ put_reply answers i r
-    → record { work = left; answers = put } ≡ row_done (record { work = w; answers = answers }) row i
-row_is_done w left row r answers put i e f g = rw (g, e, f) refl
-
--- a row keeps the kept property
+-- A row keeps the kept property.
 pub row_keeps : (w : Work) (row : Row) → KeptState w.state → KeptState (row_leaves w row).state
 unfolding row_leaves
 row_keeps w (call c ps) k = kept_step w.state c (lent_to w ps) k
 row_keeps w none k = k
 
--- the lengths of all that is lent
-pub record SameLengths (b c : Batch) : Type 0 where
-  pub book : length b.work.state.book ≡ length c.work.state.book
-  pub prices : length b.work.state.prices ≡ length c.work.state.prices
-  pub records : length b.work.runs.records ≡ length c.work.runs.records
-  pub investor : length b.work.runs.investor ≡ length c.work.runs.investor
-  pub fund : length b.work.runs.fund ≡ length c.work.runs.fund
-  pub answers : length b.answers ≡ length c.answers
+-- The first chunk of what is left of the rows is the i-th row, and the rest stands behind it.
+module _ (width : ℕ) (rows rest x rest' : List ℕ) (i : ℕ) (left : rest ≡ drop (i * width) rows) (cut : rest ≡ x ++ rest') (full : length x ≡ width) where
+  chunk_is : x ≡ stretch_of width rows i
+  unfolding stretch_of
+  chunk_is = sym (take-append_seam x rest') ∙ rw (full, ← cut, left) refl
 
--- b, after the first i of n rows on b₀
-pub record Going (known : Bool) (rows : List ℕ) (n : ℕ) (b₀ : Batch) (i : ℕ) (b : Batch) : Type 0 where
-  pub within : i ≤ n
-  pub rest : run_from rows i (n - i) b ≡ run_from rows 0 n b₀
-  pub kept : known ≡ true → KeptState b.work.state
-  pub lengths : SameLengths b b₀
+  chunk_behind : rest' ≡ drop (suc i * width) rows
+  chunk_behind = sym (drop-append_seam x rest') ∙ rw (full, ← cut, left, drop-drop) (ap (λ (n : ℕ). drop n rows) (rw suc-mul (omega arith)))
 
-abbrev KnownKept : Bool → Batch → Type 0
-KnownKept known b = known ≡ true → is_kept b.work.state.day b.work.state.book b.work.state.prices ≡ true
+  chunk_lengths : width + length rest' ≡ length rows - i * width
+  chunk_lengths =
+      let both : length x + length rest' ≡ length rows - i * width = rw (← length-append, ← cut, left, length-drop) refl in
+      rw full at both
 
-pub going_starts : (known : Bool) (rows : List ℕ) (n : ℕ) (b : Batch) → KnownKept known b → Going known rows n b 0 b
-going_starts known rows n b k =
-    let all_left : n - 0 ≡ n = omega arith in
-    record {
-      within = omega arith;
-      rest = ap (λ (m : ℕ). run_from rows 0 m b) all_left;
-      kept = λ e. kept_facts _ _ _ (k e);
-      lengths = record { book = refl; prices = refl; records = refl; investor = refl; fund = refl; answers = refl };
-    }
+module _ (kept : Option Day) (d : Day) (rows : List ℕ) (w₀ : Runs) (a₀ : List ℕ) where
+  abbrev b₀ : Batch
+  b₀ = batch_in d w₀ a₀
 
-module _ {known : Bool} {rows : List ℕ} {n : ℕ} {b₀ : Batch} {i : ℕ} {b : Batch} (g : Going known rows n b₀ i b) where
-  pub going_sound : known ≡ true → is_sound b.work.state.day b.work.state.book b.work.state.prices ≡ true
-  going_sound e = sound-true _ _ _ (g.kept e).sound
+  -- Such runs and answers after the first i rows, with so much of the rows left.
+  pub record Going (i : ℕ) (rest : List ℕ) (w : Runs) (a : List ℕ) : Type 0 where
+    pub behind : rest ≡ drop (i * row_width) rows
+    pub within : i ≤ rows_in rows
+    pub done : run_from rows i (rows_in rows - i) (batch_in d w a) ≡ run_from rows 0 (rows_in rows) b₀
+    pub same : w ≡ left_work w₀ (work_in d w)
+    pub still : (e : Day) → kept ≡ Some e → (e ≡ d) × KeptState (state_in d w)
+    pub answers : length a ≡ length a₀
 
-  pub going_on : (left : Batch) (j : ℕ) → i < n → j ≡ suc i → left ≡ row_done b (row_at rows i) i → SameLengths left b → Going known rows n b₀ j left
-  unfolding run_from
-  going_on left j h q e same =
-      let one_less : suc (n - j) ≡ n - i = omega arith in
+  pub going_starts : IfSome kept (λ e. (e ≡ d) × (is_kept d w₀.book.now w₀.prices.now ≡ true)) → Going 0 rows w₀ a₀
+  going_starts known =
       record {
+        behind = refl;
         within = omega arith;
-        rest =
-            ap (λ (k : ℕ). run_from rows k (n - j) left) q
-            ∙ ap (run_from rows (suc i) (n - j)) e
-            ∙ ap (λ (k : ℕ). run_from rows i k b) one_less
-            ∙ g.rest;
-        kept = λ k. subst (λ (c : Batch). KeptState c.work.state) (sym e) (row_keeps b.work (row_at rows i) (g.kept k));
-        lengths =
-            record {
-              book = same.book ∙ g.lengths.book;
-              prices = same.prices ∙ g.lengths.prices;
-              records = same.records ∙ g.lengths.records;
-              investor = same.investor ∙ g.lengths.investor;
-              fund = same.fund ∙ g.lengths.fund;
-              answers = same.answers ∙ g.lengths.answers;
-            };
+        done = ap (λ (n : ℕ). run_from rows 0 n b₀) (omega arith);
+        same = refl;
+        still = λ e is. let k = rw is at known in (k.0, kept_facts _ _ _ k.1);
+        answers = refl;
       }
 
-  pub going_done : n ≤ i → b ≡ run_from rows 0 n b₀
-  unfolding run_from
-  going_done h =
-      let none_left : n - i ≡ 0 = omega arith in
-      ap (λ (k : ℕ). run_from rows i k b) (sym none_left) ∙ g.rest
+  module _ (i : ℕ) (rest : List ℕ) (w : Runs) (a : List ℕ) (g : Going i rest w a) where
+    pub going_sound : (e : Day) → kept ≡ Some e → is_sound e w.book.now w.prices.now ≡ true
+    going_sound e is = rw (g.still e is).0 (sound-true _ _ _ (g.still e is).1.sound)
+
+    module _ (x rest' : List ℕ) (cut : rest ≡ x ++ rest') (full : length x ≡ row_width) where
+      pub going_inside : i < rows_in rows
+      going_inside = omega (arith, chunk_lengths row_width rows rest x rest' i g.behind cut full)
+
+      pub going_on : (w' : Runs) (a' : List ℕ) (r : Reply) (j : ℕ) → j ≡ i + 1 → w' ≡ left_work w (row_leaves (work_in d w) (row_of x)) → r ≡ row_reply (work_in d w) (row_of x)
+          → a' ≡ put_reply a i r → Going j rest' w' a'
+      unfolding run_from put_reply
+      going_on w' a' r j q e f p =
+          let inside : i < rows_in rows = going_inside in
+          let row : x ≡ stretch_of row_width rows i = chunk_is row_width rows rest x rest' i g.behind cut full in
+          let next : j ≡ suc i = omega (arith, q) in
+          let one_less : suc (rows_in rows - suc i) ≡ rows_in rows - i = omega arith in
+          let works : work_in d w' ≡ row_leaves (work_in d w) (row_of x) = rw e (left_of d w (row_leaves (work_in d w) (row_of x)) (row_day (work_in d w) (row_of x))) in
+          let batch : batch_in d w' a' ≡ row_done (batch_in d w a) (row_at rows i) i = rw (works, p, f, ← row) refl in
+          rw next (record {
+            behind = chunk_behind row_width rows rest x rest' i g.behind cut full;
+            within = omega arith;
+            done = ap (run_from rows (suc i) (rows_in rows - suc i)) batch ∙ ap (λ (n : ℕ). run_from rows i n (batch_in d w a)) one_less ∙ g.done;
+            same = e ∙ ap (λ (v : Runs). left_work v (row_leaves (work_in d w) (row_of x))) g.same ∙ ap (left_work w₀) (sym works);
+            still = λ z is. ((g.still z is).0, subst (λ (v : Work). KeptState v.state) (sym works) (row_keeps (work_in d w) (row_of x) (g.still z is).1));
+            answers = rw (p, length-set, length-set, length-set, length-set) g.answers;
+          })
+
+    module _ (none_left : length rest < row_width) where
+      pub going_done : batch_in d w a ≡ run_from rows 0 (rows_in rows) b₀
+      unfolding run_from
+      going_done =
+          let behind : length rest ≡ length rows - i * row_width = rw (g.behind, length-drop) refl in
+          let all : rows_in rows - i ≡ 0 = omega (arith, behind, none_left) in
+          ap (λ (n : ℕ). run_from rows i n (batch_in d w a)) (sym all) ∙ g.done

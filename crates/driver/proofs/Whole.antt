@@ -9,8 +9,12 @@ use Rattle.balance.specs.Calls.{State, Event, Happened}
 use Rattle.balance.specs.Balanced.{opened, Balanced}
 use Rattle.balance.proofs.Joined.{happened_joined}
 use Rattle.balance.proofs.Whole.{demand_3}
+use Rattle.layout.specs.Day.{Day}
+use Rattle.driver_rows.specs.declared.Work.{Work as Runs}
+use Rattle.driver_rows.specs.Lent.{state_in, work_in, left_work}
 use Rattle.driver_rows.specs.Rows.{Row, call, none, row_at, Work, row_reply, row_leaves}
-use Rattle.driver.specs.Batch.{Batch, row_done, run_from, with_event, events_from, rows_in, fits, ran, events_of, reply_from, events_past, answers_from, answers_of, Demand3}
+use Rattle.driver.proofs.Days.{ran_day, left_of}
+use Rattle.driver.specs.Batch.{Batch, batch_in, row_done, run_from, with_event, events_from, rows_in, fits, ran, events_of, reply_from, events_past, answers_from, answers_of, Demand3}
 
 -- a row's event, and then those of the rest
 row_happened : (w : Work) (row : Row) (es : List Event) (t : State) → Happened (row_leaves w row).state es t → Happened w.state (with_event w row es) t
@@ -70,6 +74,9 @@ run_answers rows b = go (fits rows b)
     go false = refl
 
 -- the driver's contract from what it leaves
-pub run_meets : (rows : List ℕ) (b left : Batch) → left ≡ ran rows b → Demand3 b.work.state (events_of rows b) left.work.state
-run_meets rows b left e =
-    all_balanced _ _ _ (subst (λ (c : Batch). Happened b.work.state (events_of rows b) c.work.state) (sym e) (run_happened rows b))
+pub run_meets : (d : Day) (rows : List ℕ) (w left : Runs) (answers : List ℕ) → left ≡ left_work w (ran rows (batch_in d w answers)).work
+    → Demand3 (state_in d w) (events_of rows (batch_in d w answers)) (state_in d left)
+run_meets d rows w left answers e =
+    let b = batch_in d w answers in
+    let leaves : work_in d left ≡ (ran rows b).work = rw e (left_of d w (ran rows b).work (ran_day rows b)) in
+    all_balanced _ _ _ (subst (λ (v : Work). Happened (state_in d w) (events_of rows b) v.state) (sym leaves) (run_happened rows b))

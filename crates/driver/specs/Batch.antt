@@ -8,6 +8,8 @@ use Rattle.rules.specs.Opening.{Opening, opening_reply}
 use Rattle.balance.specs.Calls.{State, Event, Happened}
 use Rattle.balance.specs.Balanced.{opened, Balanced}
 use Rattle.rules.specs.Lent.{Lent}
+use Rattle.driver_rows.specs.declared.Work.{Work as Runs}
+use Rattle.driver_rows.specs.Lent.{work_in}
 use Rattle.driver_rows.specs.Rows.{Row, call, none, row_at, Work, work_of, lent_to, result_of, row_reply, row_leaves}
 use Rattle.layout.specs.Answers.{put_reply}
 
@@ -18,6 +20,10 @@ pub record Batch : Type 0 where
 
 abbrev pub batch_of : Day → List ℕ → List ℕ → Lent → List ℕ → Batch
 batch_of d book prices runs answers = record { work = work_of d book prices runs; answers = answers }
+
+-- the same, where the work is lent as a struct
+abbrev pub batch_in : Day → Runs → List ℕ → Batch
+batch_in d w answers = record { work = work_in d w; answers = answers }
 
 -- one row: the work that it leaves, and its answer in its place
 abbrev pub row_done : Batch → Row → ℕ → Batch

@@ -1,9 +1,11 @@
 -- The part of a lent run that a row names.
 use mathlib.Core.Path.{◌≡◌, refl}
 use mathlib.Core.Bool.{Bool, true, false, cond}
+use mathlib.Core.List.{List}
 use Prim.Native.Nat.{ℕ, ◌+◌}
 use lib.Dec.{leb}
-use Rattle.driver_rows.specs.Rows.{span, span_within}
+use Rattle.std.proofs.lemmas.List.{take-append-drop}
+use Rattle.driver_rows.specs.Rows.{Span, span, span_within, lent_in, back_in}
 
 -- a call that is lent no list names the empty part
 pub none_within : (run : ℕ) → span_within run (span 0 0) ≡ span 0 0
@@ -13,3 +15,7 @@ none_within run = go (leb (0 + 0) run)
     go : (b : Bool) → cond b (span 0 0) (span 0 0) ≡ span 0 0
     go true = refl
     go false = refl
+
+-- a run with its own part in its place is the run
+pub own_back : (run : List ℕ) (p : Span) → back_in run p (lent_in run p) ≡ run
+own_back run p = rw (take-append-drop, take-append-drop)

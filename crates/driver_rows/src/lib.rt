@@ -1,17 +1,34 @@
 // One row of the driver: the call that it names, made.
 #![tactic(auto)]
 
-ghost use Rattle.std.specs.Prelude.{◌≡◌, true, ◌+◌, ◌≤◌, ◌<◌, length};
+ghost use Rattle.std.specs.Prelude.{◌≡◌, true, ◌+◌, ◌≤◌, ◌<◌, length, Some, OnOk, IfOk, IfErr, MatchOption, false};
 ghost use Rattle.layout.specs.Places.{row_width};
-ghost use Rattle.layout.specs.Day.{day_at};
-ghost use Rattle.rules.specs.Sound.{is_sound};
-ghost use Rattle.rules.specs.Lent.{lent_of};
+ghost use Rattle.layout.specs.Day.{Day, day_at};
+ghost use Rattle.rules.specs.declared.Refusal.TheVariants.{UnsoundDay};
+ghost use Rattle.rules.specs.Sound.{is_sound, is_kept};
+ghost use Rattle.rules.specs.Lent.{lent_of, rooms_in};
+ghost use Rattle.rules.specs.Replies.{order_answer_reply, value_answer_reply};
+ghost use Rattle.rules.specs.Value.{value_reply};
+ghost use Rattle.rules.specs.Kinds.{asked_reply, asked_book, asked_lists};
 ghost use Rattle.answers.specs.Numbers.{reply_of};
 ghost use Rattle.driver_rows.specs.Rows.{call, call_named, span, spans_in, span_within, row_of, result_of, row_reply, row_leaves, order_of, work_of};
+ghost use Rattle.driver_rows.specs.Lent.{work_in, left_work};
 
 use answers::Numbers;
-use rules::{Ask, Refusal, Trade};
-use units::Money;
+use layout::DayView;
+use rules::{Ask, Counts, Lists, Refusal, Trade};
+use std::ops::Range;
+use units::{Money, ReferenceValue};
+
+// What the calls of a list work on.
+#[derive(Drop)]
+pub struct Work<'a> {
+    pub book: &'a mut [u64],
+    pub prices: &'a mut [u64],
+    pub records: &'a mut [u64],
+    pub investor: &'a mut [u64],
+    pub fund: &'a mut [u64],
+}
 
 // The call that a row names.
 #[derive(Clone, Copy)]
@@ -22,16 +39,9 @@ enum Call {
     Value,
 }
 
-// A part of a run, from `start` to before `end`.
-#[derive(Clone, Copy)]
-struct Part {
-    start: usize,
-    end: usize,
-}
-
 // The part that is lent: the empty one at the front, where the part named lies outside the run.
 #[tactic(auto, unfolding(crate::specs::Rows::span_within))]
-fn part_in(run: usize, start: u64, size: u64) -> Part
+fn part_in(run: usize, start: u64, size: u64) -> Range<usize>
     ensures start_value { result.start ≡ (span_within run (span start size)).start }
     ensures end { result.end ≡ result.start + (span_within run (span start size)).size }
     ensures within { result.end ≤ run }
@@ -39,18 +49,38 @@ fn part_in(run: usize, start: u64, size: u64) -> Part
     let start = start as usize;
     let size = size as usize;
     if start > run || size > run - start {
-        return Part { start: 0, end: 0 };
+        return 0..0;
     }
-    Part {
-        start,
-        end: start + size,
-    }
+    start..start + size
+}
+
+// An order on a sound day, with its lists as runs: a part of a run keeps its tie to the run as an argument, and not in a struct.
+#[tactic(auto, using(order_calls::proofs::Laws::order_own, order_calls::proofs::Laws::leaves_own))]
+fn order_in(
+    day: &DayView,
+    book: &mut [u64],
+    prices: &[u64],
+    ask: Ask,
+    records: &mut [u64],
+    investor: &mut [u64],
+    fund: &mut [u64],
+) -> Result<Counts, Refusal>
+    requires { is_sound day.now book.old prices.now ≡ true }
+    ensures result_value { order_answer_reply result ≡ asked_reply day.now book.old prices.now ask (rooms_in (lent_of records.old investor.old fund.old)) }
+    ensures book { book.new ≡ asked_book day.now book.old prices.now ask (rooms_in (lent_of records.old investor.old fund.old)) }
+    ensures lists { lent_of records.new investor.new fund.new ≡ asked_lists day.now book.old prices.now ask (lent_of records.old investor.old fund.old) }
+{
+    let mut lists = Lists {
+        records,
+        investor,
+        fund,
+    };
+    orders::order(day, book, prices, ask, &mut lists)
 }
 
 // An order whose lists are parts of the three runs, as its row names them.
 fn order_row(
-    known: bool,
-    day: &[u64],
+    day: &DayView,
     book: &mut [u64],
     prices: &[u64],
     records: &mut [u64],
@@ -59,29 +89,22 @@ fn order_row(
     ask: Ask,
     row: &[u64],
 ) -> Numbers
-    requires prices_value { known ≡ true → is_sound (day_at day.now) book.old prices.now ≡ true }
+    requires prices_value { is_sound day.now book.old prices.now ≡ true }
     requires row_len { length row.now ≡ row_width }
-    ensures result_value { reply_of result ≡ (result_of (work_of (day_at day.now) book.old prices.now (lent_of records.old investor.old fund.old)) (order_of ask) (spans_in row.now)).reply }
-    ensures left { work_of (day_at day.now) book.new prices.now (lent_of records.new investor.new fund.new) ≡ row_leaves (work_of (day_at day.now) book.old prices.now (lent_of records.old investor.old fund.old)) (call (order_of ask) (spans_in row.now)) }
+    ensures result_value { reply_of result ≡ (result_of (work_of day.now book.old prices.now (lent_of records.old investor.old fund.old)) (order_of ask) (spans_in row.now)).reply }
+    ensures left { work_of day.now book.new prices.now (lent_of records.new investor.new fund.new) ≡ row_leaves (work_of day.now book.old prices.now (lent_of records.old investor.old fund.old)) (call (order_of ask) (spans_in row.now)) }
 {
     let r = part_in(records.len(), row[3], row[4]);
     let i = part_in(investor.len(), row[5], row[6]);
     let f = part_in(fund.len(), row[7], row[8]);
-    let r_start = r.start;
-    let r_end = r.end;
-    let i_start = i.start;
-    let i_end = i.end;
-    let f_start = f.start;
-    let f_end = f.end;
-    let answer = order_calls::order(
-        known,
+    let answer = order_in(
         day,
         book,
         prices,
         ask,
-        &mut records[r_start..r_end],
-        &mut investor[i_start..i_end],
-        &mut fund[f_start..f_end],
+        &mut records[r],
+        &mut investor[i],
+        &mut fund[f],
     );
     Numbers::from(answer)
 }
@@ -104,38 +127,95 @@ fn call_of(row: &[u64]) -> Option<Call>
             seller: row[4] as usize,
             buyer: row[5] as usize,
         })),
-        3 => Some(Call::Order(rules::creation(row[1] as usize, row[2]))),
-        4 => Some(Call::Order(rules::redemption(row[1] as usize, row[2]))),
+        3 => Some(Call::Order(rules::Kind::Creation.ask(row[1] as usize, row[2]))),
+        4 => Some(Call::Order(rules::Kind::Redemption.ask(row[1] as usize, row[2]))),
         5 => Some(Call::Value),
         _ => None,
     }
 }
 
-// The call that a row names; 1 where it names none.
-pub fn row_call(
-    known: bool,
-    day: &[u64],
-    book: &mut [u64],
-    prices: &mut [u64],
-    records: &mut [u64],
-    investor: &mut [u64],
-    fund: &mut [u64],
-    row: &[u64],
-) -> Numbers
-    requires prices_value { known ≡ true → is_sound (day_at day.now) book.old prices.old ≡ true }
+// The call that a row names, made on a sound day.
+fn make(day: &DayView, work: &mut Work, call: Call, row: &[u64]) -> Numbers
+    requires sound { is_sound day.now work.old.book.now work.old.prices.now ≡ true }
     requires row_len { length row.now ≡ row_width }
-    ensures result_value { reply_of result ≡ row_reply (work_of (day_at day.now) book.old prices.old (lent_of records.old investor.old fund.old)) (row_of row.now) }
-    ensures left { work_of (day_at day.now) book.new prices.new (lent_of records.new investor.new fund.new) ≡ row_leaves (work_of (day_at day.now) book.old prices.old (lent_of records.old investor.old fund.old)) (row_of row.now) }
+    ensures result_value { reply_of result ≡ row_reply (work_in day.now work.old) (call_named row.now (Some call)) }
+    ensures left { work.new ≡ left_work work.old (row_leaves (work_in day.now work.old) (call_named row.now (Some call))) }
+{
+    match call {
+        Call::Price { line, price } => {
+            Numbers::from(trades::set_price(day.count(), work.prices, line, price))
+        }
+        Call::Trade(trade) => {
+            Numbers::from(trades::trade(day.accounts(), day.count(), work.book, trade))
+        }
+        Call::Order(ask) => {
+            let prices = &mut *work.prices;
+            order_row(
+                day,
+                work.book,
+                prices,
+                work.records,
+                work.investor,
+                work.fund,
+                ask,
+                row,
+            )
+        }
+        Call::Value => Numbers::from(work.reference_value(day)),
+    }
+}
+
+impl<'a> Work<'a> {
+    // The reference value on a sound day.
+    #[tactic(auto, using(calls::proofs::Laws::priceable, calls::proofs::Laws::value_own))]
+    fn reference_value(&self, day: &DayView) -> Result<ReferenceValue, Refusal>
+        requires { is_sound day.now self.now.book.now self.now.prices.now ≡ true }
+        ensures { value_answer_reply result ≡ value_reply day.now self.now.book.now self.now.prices.now }
+    {
+        value::reference_value(day, self.prices)
+    }
+
+    // The day in a run, where it is sound with the book and the prices; else refusal 5.
+    fn sound_day<'b>(&self, run: &'b [u64]) -> Result<DayView<'b>, Refusal>
+        ensures ok { IfOk result (λ day. day ≡ day_at run.now) }
+        ensures sound { OnOk result (is_sound (day_at run.now) self.now.book.now self.now.prices.now ≡ true) }
+        ensures err { IfErr result (λ why. (why ≡ UnsoundDay) × (is_sound (day_at run.now) self.now.book.now self.now.prices.now ≡ false)) }
+    {
+        calls::sound_day(run, self.book, self.prices)
+    }
+
+    // The day in a run, where it has with them what every call keeps.
+    pub fn kept_day<'b>(&self, run: &'b [u64]) -> Option<DayView<'b>>
+        ensures { MatchOption result (is_kept (day_at run.now) self.now.book.now self.now.prices.now ≡ false) (λ day. (day ≡ day_at run.now) × (is_kept (day_at run.now) self.now.book.now self.now.prices.now ≡ true)) }
+    {
+        calls::kept_day(run, self.book, self.prices)
+    }
+}
+
+// The call that a row names, on a sound day; 1 where it names none.
+pub fn sound_row(day: &DayView, work: &mut Work, row: &[u64]) -> Numbers
+    requires sound { is_sound day.now work.old.book.now work.old.prices.now ≡ true }
+    requires row_len { length row.now ≡ row_width }
+    ensures result_value { reply_of result ≡ row_reply (work_in day.now work.old) (row_of row.now) }
+    ensures left { work.new ≡ left_work work.old (row_leaves (work_in day.now work.old) (row_of row.now)) }
+{
+    match call_of(row) {
+        Some(call) => make(day, work, call, row),
+        None => Numbers::from(Refusal::Sizes),
+    }
+}
+
+// The call that a row names, on any day: 5 where it is not sound, and 1 where the row names none.
+pub fn row_call(run: &[u64], work: &mut Work, row: &[u64]) -> Numbers
+    requires row_len { length row.now ≡ row_width }
+    ensures result_value { reply_of result ≡ row_reply (work_in (day_at run.now) work.old) (row_of row.now) }
+    ensures left { work.new ≡ left_work work.old (row_leaves (work_in (day_at run.now) work.old) (row_of row.now)) }
 {
     let Some(call) = call_of(row) else {
         return Numbers::from(Refusal::Sizes);
     };
-    match call {
-        Call::Price { line, price } => {
-            Numbers::from(calls::price(known, day, book, prices, line, price))
-        }
-        Call::Trade(trade) => Numbers::from(calls::trade(known, day, book, prices, trade)),
-        Call::Order(ask) => order_row(known, day, book, prices, records, investor, fund, ask, row),
-        Call::Value => Numbers::from(calls::reference_value(known, day, book, prices)),
+    match work.sound_day(run) {
+        Ok(day) => make(&day, work, call, row),
+        Err(why) => Numbers::from(why),
     }
 }

@@ -1,10 +1,9 @@
-// Opening and the list text with the fund and the fields as runs of numbers: refusal 1 where they have not their width. A call
-// returns the refusal's number, 0 where it is accepted, and puts its place and its value where the caller points.
+// Opening and the list text with the fund and the fields as runs of numbers: refusal 1 where they have not their width.
 #![tactic(auto)]
 
 ghost use Rattle.std.specs.Prelude.{◌≡◌, cond, eqb, nat_abs, length, ◌/◌, ◌≤◌};
 ghost use Rattle.digits.specs.Digits.{cap};
-ghost use Rattle.answers.specs.Numbers.{reply_of};
+ghost use Rattle.rules.specs.Replies.{answer_reply};
 ghost use Rattle.list_rules.specs.Replies.{list_reply};
 ghost use Rattle.list_rules.specs.Reading.{name_place, letters_place};
 ghost use Rattle.list_rules.specs.Writing.{listing};
@@ -12,7 +11,6 @@ ghost use Rattle.list_layout.specs.Run.{fields_width, fields_at, fields_numbers}
 ghost use Rattle.flat_calls.specs.Opening.{flat_given, FlatOutcome};
 ghost use Rattle.flat_calls.specs.Text.{taking, TextRead, part_kept, TextWritten};
 
-use answers::Numbers;
 use list_rules::{Listing, TextPart};
 use rules::Refusal;
 
@@ -29,56 +27,35 @@ pub fn open(
     book: &mut [u64],
     prices: &mut [u64],
     day: &mut [u64],
-    place: &mut u64,
-    value: &mut u64,
-) -> u64
-    ensures { FlatOutcome fund.now (flat_given accounts count fund.now components.now holdings.now book.old prices.old day.old) result place.new value.new book.new prices.new day.new }
+) -> Result<(), Refusal>
+    ensures { FlatOutcome fund.now (flat_given accounts count fund.now components.now holdings.now book.old prices.old day.old) (answer_reply result).number (answer_reply result).place (answer_reply result).value book.new prices.new day.new }
 {
     if fund.len() != layout::FUND_WIDTH {
-        return answers::tell(Numbers::from(Refusal::Sizes), place, value);
+        return Err(Refusal::Sizes);
     }
-    let f = layout::fund_of(fund, 0);
-    let answer = day::open(accounts, count, f, components, holdings, book, prices, day);
-    answers::tell(Numbers::from(answer), place, value)
+    let fund = layout::fund_of(fund, 0);
+    day::open(
+        accounts, count, fund, components, holdings, book, prices, day,
+    )
 }
 
-// The answer of reading and writing as the paper's three numbers, with the count that an accepted call tells.
-fn of_list(answer: Result<usize, Refusal>) -> Numbers
-    ensures { reply_of result ≡ list_reply answer }
-{
-    match answer {
-        Ok(count) => Numbers {
-            number: 0,
-            place: 0,
-            value: count as u64,
-            reports: 0,
-        },
-        Err(why) => Numbers::from(why),
-    }
-}
-
-// Reads a list text: its fields, its components at the front of the lent run, and where its first component line starts.
+// Reads a list text: its fields, its components at the front of the lent run, and where its first component line starts. An
+// accepted reading tells the count of components.
 pub fn read(
     text: &[u8],
     run: &mut [u64],
     fields: &mut [u64],
     first_row: &mut u64,
-    place: &mut u64,
-    value: &mut u64,
-) -> u64
-    ensures { TextRead text.now (taking run.old fields.old first_row.old) result place.new value.new (taking run.new fields.new first_row.new) }
+) -> Result<usize, Refusal>
+    ensures { TextRead text.now (taking run.old fields.old first_row.old) (list_reply result).number (list_reply result).place (list_reply result).value (taking run.new fields.new first_row.new) }
 {
     if fields.len() != list_layout::FIELDS_WIDTH {
-        return answers::tell(Numbers::from(Refusal::Sizes), place, value);
+        return Err(Refusal::Sizes);
     }
-    match list_reading::read(text, run) {
-        Ok(read) => {
-            list_layout::put_fields(fields, read.fields);
-            *first_row = read.first_row as u64;
-            answers::tell(of_list(Ok(read.fields.count)), place, value)
-        }
-        Err(why) => answers::tell(of_list(Err(why)), place, value),
-    }
+    let read = list_reading::read(text, run)?;
+    list_layout::put_fields(fields, read.fields);
+    *first_row = read.first_row as u64;
+    Ok(read.fields.count)
 }
 
 // Stores a part's place and length at the front of a run that has room for both, and hands back the length.
@@ -111,20 +88,18 @@ pub fn letters(text: &[u8], part: &mut [u64]) -> u64
     keep_part(part, found)
 }
 
-// Writes a list at the front of the lent output.
+// Writes a list at the front of the lent output. An accepted writing tells the count of bytes.
 pub fn write(
     fields: &[u64],
     run: &[u64],
     names: &[u8],
     letters: &[u8],
     output: &mut [u8],
-    place: &mut u64,
-    value: &mut u64,
-) -> u64
-    ensures { TextWritten fields.now (listing (fields_at fields.now) run.now names.now letters.now) output.old result place.new value.new output.new }
+) -> Result<usize, Refusal>
+    ensures { TextWritten fields.now (listing (fields_at fields.now) run.now names.now letters.now) output.old (list_reply result).number (list_reply result).place (list_reply result).value output.new }
 {
     if fields.len() != list_layout::FIELDS_WIDTH {
-        return answers::tell(Numbers::from(Refusal::Sizes), place, value);
+        return Err(Refusal::Sizes);
     }
     let list = Listing {
         fields: list_layout::fields_at(fields),
@@ -132,6 +107,5 @@ pub fn write(
         names,
         letters,
     };
-    let answer = list_writing::write(&list, output);
-    answers::tell(of_list(answer), place, value)
+    list_writing::write(&list, output)
 }

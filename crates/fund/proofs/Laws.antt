@@ -3,16 +3,17 @@ use mathlib.Core.Path.{◌≡◌, refl, sym, ap, ◌∙◌, subst}
 use mathlib.Core.Bool.{Bool, true, false, not, ◌||◌, false≢true, true≢false}
 use mathlib.Core.List.{List, [], ◌∷◌}
 use mathlib.Core.Logic.{◌⊎◌, ⊎_elim, inl, inr}
-use Prim.Native.Nat.{ℕ, zero, suc, ◌+◌, ◌-◌, ◌%◌, ◌≤◌, ◌<◌}
+use Rattle.std.specs.Prelude.{Some, None}
+use Prim.Native.Nat.{ℕ, zero, suc, ◌+◌, ◌%◌, ◌≤◌, ◌<◌}
 use native.Mathlib.Nat.{not-suc-le-zero, eq-or-lt_of_le, le_of_suc-le-suc}
 use native.Mathlib.Numerals.{add-one}
 use native.Mathlib.Decide.{dec_lt}
 use native.Mathlib.Omega.{arith}
-use lib.Dec.{ltb, eqb}
+use lib.Dec.{ltb}
 use lib.IntN.{ℤ, pos, negsuc, nat_abs}
 use lib.Signed.{mag}
 use lib.ListN.{length, get_or, get_or-eq_default}
-use borrow.Author.Tests.{le-ltb, leb-true, ltb-true, eqb-true, ne_eqb, not-false}
+use borrow.Author.Tests.{le-ltb, leb-true, ltb-true, eqb-true, not-false}
 use Rattle.sequences.specs.Every.{every}
 use Rattle.sequences.proofs.Below.{all_at, first_all}
 use Rattle.sequences.proofs.Every.{every_at, false_of, inside_facts}
@@ -23,7 +24,7 @@ use Rattle.layout.specs.declared.Fund.{Fund}
 use Rattle.layout.specs.declared.Component.{Component}
 use Rattle.fund.specs.Fund.{ceiling, cash_in_range, limit_in_range, limits_in_range, fund_in_range}
 use Rattle.layout.specs.Components.{blank}
-use Rattle.fund.specs.Components.{outside_group, zero_unless, used_within, most_rate, most_amount, component_in_range, fits, fault_at, component_fault}
+use Rattle.fund.specs.Components.{outside_group, zero_unless, used_within, most_rate, most_amount, component_in_range, above_code, fits, code_before, fault_at, component_fault}
 
 -- Estimated cash.
 
@@ -138,39 +139,26 @@ module _ (g : ℕ) (c : Component) where
 
 -- The components.
 
--- the code before the i-th; 0 before the first
-unfoldable pub code_before : List Component → ℕ → ℕ
-code_before cs zero = 0
-code_before cs (suc i) = (get_or cs i blank).code
-
-pub before_none : (cs : List Component) → code_before cs 0 ≡ 0
+pub before_none : (cs : List Component) → code_before cs 0 ≡ None
 unfolding code_before
 before_none cs = refl
 
-pub before_more : (cs : List Component) (i : ℕ) → code_before cs (i + 1) ≡ (get_or cs i blank).code
+pub before_more : (cs : List Component) (i : ℕ) → code_before cs (i + 1) ≡ Some (get_or cs i blank).code
 unfolding code_before
 before_more cs i = rw (add-one, code_before)
 
-back_one : (i : ℕ) → suc i - 1 ≡ i
-back_one i = omega arith
-
--- a component is at fault where it does not fit its place
-pub fault_fits : (g : ℕ) (cs : List Component) (i : ℕ) → fault_at g cs i ≡ not (fits g i (code_before cs i) (get_or cs i blank))
-unfolding fault_at fits code_before
-fault_fits g cs zero = refl
-fault_fits g cs (suc i) = rw (back_one i)
-
 -- the two tests of the i-th component
 abbrev place : ℕ → List Component → ℕ → List Bool
-place g cs i = component_in_range g (get_or cs i blank) ∷ (eqb i 0 || ltb (get_or cs (i - 1) blank).code (get_or cs i blank).code) ∷ []
+place g cs i = component_in_range g (get_or cs i blank) ∷ above_code (code_before cs i) (get_or cs i blank).code ∷ []
 
 -- behind the last place the components are at fault: the code there is above none
 pub fault_past : (g : ℕ) (cs : List Component) (i : ℕ) → 0 < i → length cs ≤ i → fault_at g cs i ≡ true
-unfolding fault_at fits
-fault_past g cs i later past =
-    let end : get_or cs i blank ≡ blank = get_or-eq_default cs blank past in
-    let low : (eqb i 0 || ltb (get_or cs (i - 1) blank).code (get_or cs i blank).code) ≡ false = simp (ne_eqb i 0 (λ e. omega arith), end, le-ltb (get_or cs (i - 1) blank).code 0 (omega arith)) in
-    ap not (false_of (every (place g cs i)) (λ e. false≢true (sym low ∙ every_at (place g cs i) e 1)))
+unfolding fault_at fits above_code code_before
+fault_past g cs zero later past = absurd (omega arith)
+fault_past g cs (suc i) later past =
+    let end : get_or cs (suc i) blank ≡ blank = get_or-eq_default cs blank past in
+    let low : ltb (get_or cs i blank).code (get_or cs (suc i) blank).code ≡ false = simp (end, le-ltb (get_or cs i blank).code 0 (omega arith)) in
+    ap not (false_of (every (place g cs (suc i))) (λ e. false≢true (sym low ∙ every_at (place g cs (suc i)) e 1)))
 
 module _ (g : ℕ) (cs : List Component) (n : ℕ) (none : component_fault g cs n ≡ n) where
   fine : (k : ℕ) → k < n → every (place g cs k) ≡ true
@@ -191,7 +179,8 @@ module _ (g : ℕ) (cs : List Component) (n : ℕ) (none : component_fault g cs 
       case (no l) = omega arith
 
   next_above : (j : ℕ) → suc j < n → (get_or cs j blank).code < (get_or cs (suc j) blank).code
-  next_above j l = ltb-true _ _ (simp (back_one j, ne_eqb (suc j) 0 (λ e. omega arith)) at (every_at _ (fine (suc j) l) 1))
+  unfolding above_code code_before
+  next_above j l = ltb-true _ _ (every_at _ (fine (suc j) l) 1)
 
   -- and the codes rise strictly
   pub codes_rise : (i j : ℕ) → i < j → j < n → (get_or cs i blank).code < (get_or cs j blank).code

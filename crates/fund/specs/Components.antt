@@ -1,5 +1,5 @@
 -- The components and refusal 3: a component out of range, order or flag use, with its place.
-use Rattle.std.specs.Prelude.{ℕ, ◌+◌, ◌-◌, Bool, not, ◌||◌, List, [], ◌∷◌, leb, ltb, eqb, get_or}
+use Rattle.std.specs.Prelude.{ℕ, zero, suc, ◌+◌, Bool, true, not, ◌||◌, Option, Some, None, List, [], ◌∷◌, leb, ltb, eqb, get_or}
 use Rattle.sequences.specs.Below.{first_below}
 use Rattle.sequences.specs.Every.{every}
 use Rattle.flags.specs.Table.{entry, rate_used, amount_used}
@@ -38,14 +38,23 @@ component_in_range g c =
     ∷ used_within most_amount (entry c.flag amount_used) c.amount.0
     ∷ [])
 
--- the component c as the i-th, behind one with the code previous: in its ranges and, unless it is the first, above
--- that code (codes rise strictly)
-unfoldable pub fits : ℕ → ℕ → ℕ → Component → Bool
-fits g i previous c = every (component_in_range g c ∷ (eqb i 0 || ltb previous c.code) ∷ [])
+-- above the code before it, where there is one
+unfoldable pub above_code : Option ℕ → ℕ → Bool
+above_code None code = true
+above_code (Some previous) code = ltb previous code
+
+-- the component c behind one with the code previous: in its ranges and, unless it is the first, above that code (codes rise strictly)
+unfoldable pub fits : ℕ → Option ℕ → Component → Bool
+fits g previous c = every (component_in_range g c ∷ above_code previous c.code ∷ [])
+
+-- the code before the i-th; none before the first
+unfoldable pub code_before : List Component → ℕ → Option ℕ
+code_before cs zero = None
+code_before cs (suc i) = Some (get_or cs i blank).code
 
 -- refusal 3 at the i-th component
 unfoldable pub fault_at : ℕ → List Component → ℕ → Bool
-fault_at g cs i = not (fits g i (get_or cs (i - 1) blank).code (get_or cs i blank))
+fault_at g cs i = not (fits g (code_before cs i) (get_or cs i blank))
 
 -- the first component at fault of the first n, n where there is none
 unfoldable pub component_fault : ℕ → List Component → ℕ → ℕ

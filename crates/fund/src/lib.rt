@@ -9,6 +9,7 @@ ghost use Rattle.layout.specs.Components.{component_at, places_of};
 ghost use Rattle.fund.specs.Components.{outside_group, zero_unless, used_within, component_in_range, fits, component_fault};
 
 use layout::{Component, Fund};
+use units::Rate;
 
 // The most that a limit, and fund-wide created or redeemed units, may be.
 pub const CEILING: u64 = 999_999_999_999;
@@ -35,7 +36,7 @@ impl Limit {
 pub fn cash_in_range(e: i64) -> bool
     ensures { result ≡ cash_in_range e }
 {
-    -999_999_999 <= e && e <= 9_999_999_999
+    (-999_999_999..=9_999_999_999).contains(&e)
 }
 
 #[tactic(auto, using(std::proofs::lemmas::Bool::Decides::nat_tests), unfolding(crate::specs::Fund::limit_in_range, sequences::specs::Every::every))]
@@ -60,9 +61,8 @@ pub fn fund_in_range(f: Fund) -> bool
 {
     let size = f.basket_size;
     f.first_code <= 999_994
-        && 1 <= size
-        && size <= 99_999_999
-        && f.max_cash_ratio.0 <= 100_000
+        && (1..=99_999_999).contains(&size)
+        && f.max_cash_ratio <= Rate::ONE
         && f.switch <= 3
         && cash_in_range(f.estimated_cash)
         && limits_in_range(size, f.limits)
@@ -81,7 +81,7 @@ fn zero_unless(used: bool, x: u64) -> bool
     used || x == 0
 }
 
-// A rate or an amount: at most so much, and 0 where the flag does not use it.
+// A rate or an amount, by its number, so that one test serves both: at most so much, and 0 where the flag does not use it.
 #[tactic(auto, using(std::proofs::lemmas::Bool::Decides::nat_tests), unfolding(crate::specs::Components::used_within, sequences::specs::Every::every))]
 fn used_within(most: u64, used: bool, x: u64) -> bool
     ensures { result ≡ used_within most used x }
@@ -94,7 +94,7 @@ fn used_within(most: u64, used: bool, x: u64) -> bool
 pub fn outside_group(first_code: u64, code: u64) -> bool
     ensures { result ≡ outside_group first_code code }
 {
-    code < first_code || 5 < code - first_code
+    !matches!(code.checked_sub(first_code), Some(0..=5))
 }
 
 // A component's own ranges and flag use.
@@ -107,32 +107,33 @@ pub fn component_in_range(first_code: u64, c: Component) -> bool
     c.code <= 999_999
         && outside_group(first_code, c.code)
         && c.quantity <= 99_999_999
-        && c.flag < 5
+        && c.flag < flags::FLAGS as u64
         && used_within(MOST_RATE, rate_used, c.premium.0)
         && used_within(MOST_RATE, rate_used, c.discount.0)
         && used_within(MOST_AMOUNT, amount_used, c.amount.0)
 }
 
-// Whether the i-th component is in its ranges and above the previous code.
-#[tactic(auto, using(std::proofs::lemmas::Bool::Decides::nat_tests), unfolding(crate::specs::Components::fits, sequences::specs::Every::every))]
-fn component_fits(first_code: u64, i: usize, previous: u64, c: Component) -> bool
-    ensures { result ≡ fits first_code i previous c }
+// Whether a component is in its ranges and above the code before it, where there is one.
+#[tactic(auto, using(std::proofs::lemmas::Bool::Decides::nat_tests), unfolding(crate::specs::Components::fits, crate::specs::Components::above_code, sequences::specs::Every::every))]
+fn component_fits(first_code: u64, previous: Option<u64>, c: Component) -> bool
+    ensures { result ≡ fits first_code previous c }
 {
-    component_in_range(first_code, c) && (i == 0 || previous < c.code)
+    component_in_range(first_code, c) && previous.is_none_or(|code| code < c.code)
 }
 
-// Refusal 3's test: the first component at fault of a run's first `count`.
+// Refusal 3's test: the first component at fault of a run's first `count`, by place, since the place is handed back. The count stands
+// beside the run: a day's basket has room for all components, and its count says how many it has.
 pub fn run_fault(first_code: u64, run: &[u64], count: usize) -> Option<usize>
     requires { (count ≤ most_components) × (component_width * count ≤ length run.now) }
     ensures { result ≡ below count (component_fault first_code (places_of (component_at run.now) count) count) }
 {
-    let mut previous: u64 = 0;
+    let mut previous = None;
     for i in 0..count {
         let c = layout::component_at(run, i);
-        if !component_fits(first_code, i, previous, c) {
+        if !component_fits(first_code, previous, c) {
             return Some(i);
         }
-        previous = c.code;
+        previous = Some(c.code);
     }
     None
 }

@@ -2,7 +2,7 @@
 use mathlib.Core.Path.{◌≡◌, refl, sym, ap, ◌∙◌}
 use mathlib.Core.Bool.{Bool, true, false, cond}
 use mathlib.Core.List.{List, [], ◌∷◌, ◌++◌, append-nil}
-use Prim.Native.Nat.{ℕ, suc, ◌+◌, ◌-◌, ◌≤◌}
+use Prim.Native.Nat.{ℕ, suc, ◌+◌, ◌-◌, ◌*◌, ◌≤◌}
 use native.Mathlib.Nat.{le_of_eq}
 use native.Mathlib.Numerals.{add-one}
 use native.Mathlib.Omega.{arith}
@@ -18,16 +18,22 @@ use Rattle.sequences.proofs.Below.{table_length, table_ext}
 use Rattle.sequences.proofs.Runs.{sets_append, sets_front}
 use Rattle.digits.specs.Signed.{figure_signed}
 use Rattle.layout.specs.declared.Fund.{Fund}
-use Rattle.layout.specs.Places.{basket_width, limit_count, cash_place, limits_from, fund_width, fund_from, basket_from, day_width}
+use Rattle.layout.specs.Places.{basket_width, limit_count, cash_place, limits_from, fund_width, fund_from, basket_from, day_width, answer_width}
+use Rattle.layout.specs.Answers.{put_reply, reply_in}
 use Rattle.layout.specs.Fund.{signed_numbers, fund_numbers}
 use Rattle.layout.specs.Day.{day_numbers}
 
--- The limits, in the place of a part of a run.
+-- Numbers in the place of a part of a run.
+pub numbers_stored : (run : List ℕ) (at n : ℕ) (part numbers : List ℕ) → n ≡ length numbers → at + length numbers ≤ length run
+    → part ≡ numbers → put_mid at n run part ≡ sets run at numbers
+numbers_stored run at n part numbers size h e = rw (e, size, drop-drop) (sym (sets-eq numbers run at h ∙ rw append_assoc))
+
+-- The limits.
 pub limits_stored : (run limits : List ℕ) (at n : ℕ) (part : List ℕ) → length limits ≡ limit_count → n ≡ limit_count → at + limit_count ≤ length run
     → part ≡ limits → put_mid at n run part ≡ sets run at (tabulate (λ k. get_or limits k 0) limit_count)
 limits_stored run limits at n part long size h e =
     let same : limits ≡ tabulate (λ k. get_or limits k 0) limit_count = table_ext (λ k. get_or limits k 0) limit_count 0 limits long (λ k l. refl) in
-    rw (e, size, drop-drop) (sym (ap (sets run at) (sym same) ∙ sets-eq limits run at (rw long h) ∙ rw (long, append_assoc)))
+    numbers_stored run at n part limits (omega arith) (omega arith) e ∙ ap (sets run at) same
 
 -- A signed number.
 
@@ -95,3 +101,19 @@ module _ (accounts count : ℕ) (f : Fund) (components : List ℕ) (small : leng
       let past : drop (length r - basket_from) (drop basket_from r) ≡ [] = drop_of_length-le (drop basket_from r) (le_of_eq (length-drop basket_from r)) in
       rw (past, append-nil cs, q, rest)
       (ap (λ (t : List ℕ). t ++ (components ++ replicate (basket_width - length components) 0)) (ap (take basket_from) front ∙ take_at head (drop (length head) run) basket_from head-length))
+
+-- An answer.
+
+four_are : (l : List ℕ) → length l ≡ 4 → l ≡ get_or l 0 0 ∷ get_or l 1 0 ∷ get_or l 2 0 ∷ get_or l 3 0 ∷ []
+unfolding tabulate
+four_are l e = table_ext (λ k. get_or l k 0) answer_width 0 l e (λ k h. refl)
+
+-- its four numbers are what it says
+pub reply_stored : (answers : List ℕ) (i : ℕ) (numbers : List ℕ) → length numbers ≡ answer_width
+    → sets answers (answer_width * i) numbers ≡ put_reply answers i (reply_in numbers)
+unfolding put_reply
+reply_stored answers i numbers e =
+    let at = answer_width * i in
+    let two : at + 2 ≡ suc (suc at) = omega arith in
+    let three : at + 3 ≡ suc (suc (suc at)) = omega arith in
+    ap (sets answers at) (four_are numbers e) ∙ rw (two, three, add-one at)

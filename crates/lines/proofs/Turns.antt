@@ -1,8 +1,8 @@
 -- What the code's loops and chains of tests say: of a line's length byte by byte, and of two words and of a test at each byte.
-use Rattle.std.proofs.Common.{◌≡◌, refl, sym, ap, ap₂, ◌∙◌, ℕ, zero, suc, ◌+◌, ◌≤◌, ◌<◌, zero-le, zero-add, Bool, true, false, ◌&&◌, eqb, eq-eqb, eqb-true, lt-ltb, le-ltb, List, [], ◌∷◌, ◌++◌, map, length, length-take, get_or, take, drop, drop_of_length-le, add-one, arith, drop-cons, Option, Some, None, MatchOption, ◌↔◌}
+use Rattle.std.proofs.Common.{◌≡◌, refl, sym, ap, ap₂, ◌∙◌, ℕ, zero, suc, ◌+◌, ◌≤◌, ◌<◌, zero-le, zero-add, Bool, true, false, not, ◌&&◌, ◌||◌, eqb, eq-eqb, eqb-true, lt-ltb, le-ltb, List, [], ◌∷◌, ◌++◌, map, length, length-take, get_or, take, drop, drop_of_length-le, add-one, arith, drop-cons, Option, Some, None, MatchOption, ◌↔◌}
 use Rattle.std.proofs.lemmas.Bool.Decides.{nat_tests}
 use Rattle.std.specs.Char.{to_ascii_lowercase}
-use Rattle.std.specs.List.{list_all}
+use Rattle.std.specs.List.{list_all, list_any}
 use Rattle.std.specs.Cmp.Lexicographic.{pointwise}
 use native.Mathlib.Nat.{add-zero}
 use mathlib.Core.Bool.{and-true, and_assoc, and-eq-true_iff, false≢true}
@@ -114,3 +114,13 @@ module _ (p : ℕ → Bool) where
   unfolding all_bytes
   all_more [] b = and-true (p b)
   all_more (x ∷ s) b = rw (all_more s b) (sym (and_assoc (p x) _ _))
+
+-- a search for a byte finds none where every byte is another
+pub none_found : (x : ℕ) (s : List ℕ) → not (list_any (λ b. eqb b x) s) ≡ all_bytes (λ b. not (eqb b x)) s
+unfolding all_bytes
+none_found x [] = refl
+none_found x (b ∷ r) = by_byte _ _ (eqb b x) (none_found x r)
+  where
+    by_byte : (more rest t : Bool) → not more ≡ rest → not (t || more) ≡ not t && rest
+    by_byte more rest true e = refl
+    by_byte more rest false e = e

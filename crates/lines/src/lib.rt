@@ -29,11 +29,11 @@ pub fn first_line(s: &[u8]) -> Option<&[u8]>
     Some(&s[..n])
 }
 
-// Whether no byte is 0D. There is no way out before the end, so that many bytes are tested at once.
+// Whether no byte is 0D. The library's search looks at many bytes at once.
 fn has_no_return(s: &[u8]) -> bool
     ensures { result ≡ all_bytes other_byte s.now }
 {
-    s.iter().fold(true, |good, b| good & (*b != b'\r'))
+    !s.contains(&b'\r')
 }
 
 // Whether 0D 0A stands behind n bytes, none of which is 0D.
@@ -83,7 +83,7 @@ fn name_byte(b: u8) -> bool
     !matches!(b, b'|' | b'\r' | b'\n')
 }
 
-// Whether every byte may stand in a component's name.
+// Whether every byte may stand in a component's name. By `fold`, with one branch for a name: 50 instructions for 8 bytes, by `all` 107.
 pub fn is_name(s: &[u8]) -> bool
     ensures { result ≡ all_bytes name_byte s.now }
 {

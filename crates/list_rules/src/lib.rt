@@ -37,7 +37,7 @@ impl Default for ListFields {
         let fund = Fund {
             first_code: 0,
             basket_size: 0,
-            max_cash_ratio: Rate::new(0),
+            max_cash_ratio: Rate(0),
             switch: 0,
             estimated_cash: 0,
             limits: [0; layout::LIMITS],

@@ -1,4 +1,5 @@
-// The three lots of one line of one account. Each move gives the lots back.
+// The three lots of one line of one account. Each move gives the lots back. There is a function for each move, since a field cannot
+// be a parameter, and a lot by number or as an enum would need a match where now a field is named.
 #![tactic(auto)]
 
 ghost use Rattle.std.specs.Prelude.{◌≡◌, ◌+◌, ◌≤◌, ◌<◌, ◌^◌};
@@ -33,15 +34,9 @@ impl Lots {
         requires { q ≤ sellable self }
         ensures { result ≡ sell_of self q }
     {
-        if q <= self.got {
-            return Lots {
-                got: self.got - q,
-                ..self
-            };
-        }
         Lots {
-            old: self.old - (q - self.got),
-            got: 0,
+            old: self.old - q.saturating_sub(self.got),
+            got: self.got.saturating_sub(q),
             ..self
         }
     }
@@ -51,15 +46,9 @@ impl Lots {
         requires { q ≤ handable self }
         ensures { result ≡ hand_in_of self q }
     {
-        if q <= self.bought {
-            return Lots {
-                bought: self.bought - q,
-                ..self
-            };
-        }
         Lots {
-            old: self.old - (q - self.bought),
-            bought: 0,
+            old: self.old - q.saturating_sub(self.bought),
+            bought: self.bought.saturating_sub(q),
             ..self
         }
     }

@@ -1,18 +1,28 @@
 -- The tests of refusal 4 on the totals of the holdings as far as 2^62.
-use mathlib.Core.Path.{◌≡◌, sym, ap, ◌∙◌}
+use mathlib.Core.Path.{◌≡◌, refl, sym, ap, ◌∙◌}
 use mathlib.Core.List.{List}
-use Prim.Native.Nat.{ℕ, ◌+◌, ◌*◌, ◌<◌, min}
+use Prim.Native.Nat.{ℕ, suc, ◌+◌, ◌*◌, ◌<◌, min}
 use native.Mathlib.Decide.{dec_lt}
 use native.Mathlib.Omega.{arith}
+use native.Mathlib.Numerals.{add-one}
+use mathlib.Core.Bool.{Bool, true, false, not, cond, ◌||◌}
 use lib.Dec.{ltb}
-use lib.ListN.{get_or}
-use borrow.Author.Tests.{lt-ltb, le-ltb, ltb-true}
+use lib.ListN.{length, get_or}
+use borrow.Author.Tests.{lt-ltb, le-ltb, ltb-true, eq-eqb, ne_eqb, not-true, not-false}
+use native.Mathlib.Nat.{eq-or-lt_of_le}
+use mathlib.Core.Logic.{⊎_elim}
+use Rattle.std.specs.List.{position_or_len}
+use Rattle.std.proofs.lemmas.List.Sums.{prefix_len-le-length, prefix_len_passes, prefix_len_stops}
 use Rattle.sequences.specs.Stretch.{over, stretch_of}
-use Rattle.sequences.proofs.Below.{first_same, sum_same}
+use Rattle.std.specs.Prelude.{Option, Some, None}
+use Rattle.std.specs.Bool.{then_some}
+use Rattle.std.specs.Option.{option_or}
+use Rattle.sequences.specs.Below.{below, first_below}
+use Rattle.sequences.proofs.Below.{first_same, first_end, first_here, sum_same, below-some, below-none}
 use Rattle.sequences.proofs.Every.{same_test}
 use Rattle.sequences.proofs.Stretch.{stretch_at}
 use Rattle.totals.specs.Totals.{top, place_at, total, capped_total}
-use Rattle.totals.proofs.Rows.{capped_is}
+use Rattle.totals.proofs.Sums.{capped_is}
 use Rattle.rules.specs.Opening.{cash_opened, held_opened, most_of_line, most_cash, over_at, total_fault}
 use Rattle.opening.specs.Given.{totals_in, totals_of}
 
@@ -53,3 +63,57 @@ module _ (accounts n : ℕ) (holdings t : List ℕ) (sums : (k : ℕ) → k < n 
   pub fault_same : total_fault n (totals_in t (get_or holdings (n + 1) 0)) ≡ total_fault n (totals_of accounts n holdings)
   unfolding total_fault
   fault_same = first_same _ _ (n + 2) over_same
+
+-- Searches that go on: of what is found below n and of the place n.
+
+go_on : (n k : ℕ) (p q : Bool) → ltb k n ≡ p → option_or (cond p (Some k) None) (then_some q n) ≡ below (suc n) (cond p k (cond q n (suc n)))
+go_on n k true q e = sym (below-some (suc n) k (omega (arith, ltb-true k n e)))
+go_on n k false true e = sym (below-some (suc n) n (omega arith))
+go_on n k false false e = sym (below-none (suc n) (suc n) (omega arith))
+
+below_on : (f : ℕ → Bool) (n : ℕ) → option_or (below n (first_below f n)) (then_some (f n) n) ≡ below (n + 1) (first_below f (n + 1))
+unfolding first_below
+below_on f n = rw (add-one, first_below) (go_on n (first_below f n) _ (f n) refl)
+
+-- what a search of a list finds
+pub position_below : (test : ℕ → Bool) (xs : List ℕ) → below (length xs) (position_or_len test xs) ≡ below (length xs) (first_below (λ k. test (get_or xs k 0)) (length xs))
+position_below test xs = ap (below (length xs)) (sym (⊎_elim (λ e. first_end f (length xs) (rw e at before) ∙ sym e) (λ l. first_here f (length xs) m l (first_end f m before) (stops l)) (eq-or-lt_of_le (prefix_len-le-length p xs))))
+  where
+    f : ℕ → Bool
+    f k = test (get_or xs k 0)
+
+    p : ℕ → Bool
+    p x = not (test x)
+
+    m : ℕ
+    m = position_or_len test xs
+
+    before : (k : ℕ) → k < m → f k ≡ false
+    before k h = not-true _ (prefix_len_passes p xs k 0 h)
+
+    stops : m < length xs → f m ≡ true
+    stops l = not-false _ (prefix_len_stops p xs 0 l)
+
+-- the lines, then the unit and cash
+module _ (n : ℕ) (t : List ℕ) (units : ℕ) where
+  abbrev pub is_over : ℕ → Bool
+  is_over = over_at n (totals_in t units)
+
+  pub over_line : (i : ℕ) → i < n → is_over i ≡ ltb most_of_line (get_or t (1 + i) 0)
+  unfolding over_at
+  over_line i h = rw (lt-ltb i n h)
+
+  pub over_unit : is_over n ≡ (ltb most_of_line (get_or t (n + 1) 0) || ltb 0 units)
+  unfolding over_at
+  over_unit = let e : 1 + n ≡ n + 1 = omega arith in rw (le-ltb n n (omega arith), eq-eqb n n refl, e)
+
+  over_cash : is_over (n + 1) ≡ ltb most_cash (get_or t 0 0)
+  unfolding over_at
+  over_cash = rw (le-ltb (n + 1) n (omega arith), ne_eqb (n + 1) n (λ q. omega (arith, q)))
+
+  pub first_of_all : (line : Option ℕ) (unit : Bool) → line ≡ below n (first_below is_over n) → unit ≡ is_over n
+      → option_or (option_or line (then_some unit n)) (then_some (ltb most_cash (get_or t 0 0)) (n + 1)) ≡ below (n + 2) (total_fault n (totals_in t units))
+  unfolding total_fault
+  first_of_all line unit e f =
+      let two : n + 1 + 1 ≡ n + 2 = omega arith in
+      rw (e, f, ← over_cash, below_on is_over n) (below_on is_over (n + 1) ∙ ap (λ (m : ℕ). below m (first_below is_over m)) two)

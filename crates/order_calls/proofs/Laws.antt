@@ -21,10 +21,13 @@ module _ (d : Day) (b ps : List ℕ) (unsound : is_sound d b ps ≡ false) where
   unfolding asked_reply
   order_five ask rooms = five d b ps unsound (asked_checks d b ps ask rooms) _
 
-  pub stays_five : (ask : Ask) (lent : Lent)
-      → (reply 5 0 0 ≡ asked_reply d b ps ask (rooms_in lent)) × ((b ≡ asked_book d b ps ask (rooms_in lent)) × (lent ≡ asked_lists d b ps ask lent))
-  unfolding asked_book asked_lists
-  stays_five ask lent = let e = order_five ask (rooms_in lent) in (e, (leaves_before _ _ UnsoundDay _ e, leaves_before _ _ UnsoundDay _ e))
+  pub book_five : (ask : Ask) (rooms : Rooms) → b ≡ asked_book d b ps ask rooms
+  unfolding asked_book
+  book_five ask rooms = leaves_before _ _ UnsoundDay _ (order_five ask rooms)
+
+  pub lists_five : (ask : Ask) (lent : Lent) → lent ≡ asked_lists d b ps ask lent
+  unfolding asked_lists
+  lists_five ask lent = leaves_before _ _ UnsoundDay _ (order_five ask (rooms_in lent))
 
 module _ (d : Day) (b ps : List ℕ) (sound : is_sound d b ps ≡ true) where
   pub order_own : (ask : Ask) (rooms : Rooms) → asked_answer d b ps ask rooms ≡ asked_reply d b ps ask rooms

@@ -2,21 +2,21 @@
 use mathlib.Core.Path.{◌≡◌, refl, ap}
 use mathlib.Core.Bool.{Bool, true, false, ◌&&◌}
 use mathlib.Core.List.{List, [], ◌∷◌}
-use Prim.Native.Nat.{ℕ, ◌+◌, ◌-◌, ◌*◌, ◌/◌, ◌%◌, ◌≤◌, ◌<◌}
+use Prim.Native.Nat.{ℕ, ◌+◌, ◌-◌, ◌*◌, ◌/◌, ◌%◌, ◌≤◌, ◌<◌, ◌^◌}
 use native.Mathlib.Nat.{div-add-mod, mul-le-mul}
 use native.Mathlib.Omega.{arith}
-use lib.Dec.{eqb}
+use lib.Dec.{leb, eqb}
 use lib.ListN.{length}
 use borrow.Author.Tests.{eqb-true}
-use Rattle.sequences.specs.Checks.{reply, answering, answered}
 use Rattle.sequences.specs.Every.{every, inside}
 use Rattle.sequences.specs.Stretch.{over}
 use Rattle.sequences.proofs.Below.{sum_none, sum_more, sum_grows, sum_part}
 use Rattle.sequences.proofs.Every.{every_at, inside_facts}
 use Rattle.sequences.proofs.Stretch.{within}
-use Rattle.fund.specs.Fund.{ceiling}
+use Rattle.fund.specs.Fund.{ceiling, cumulative_limit, cumulative_limit_each, net_limit, net_limit_each}
 use Rattle.fund.proofs.Laws.{fund_sound}
-use Rattle.layout.specs.Day.{Day}
+use Rattle.layout.specs.declared.DayHead.{DayHead}
+use Rattle.layout.specs.Day.{Day, day_of}
 use Rattle.layout.specs.Book.{width_of, width, account, head_at, head_total, counter}
 use Rattle.rules.specs.declared.Kind.{Kind}
 use Rattle.rules.specs.declared.Kind.TheVariants.{Creation, Redemption}
@@ -25,7 +25,7 @@ use Rattle.rules.specs.Trade.{is_investor}
 use Rattle.rules.specs.Orders.{most_baskets, baskets, whole_baskets, form_checks, switch_allows, number_of, count_of, fund_count, within_limits, permission_checks}
 use Rattle.rules.proofs.SoundDay.{SoundDay}
 use Rattle.order_form.specs.declared.Counts.{Counts}
-use Rattle.order_form.specs.Form.{all_counts, own_counts, within_both, all_held, own_held, order_form, Countable}
+use Rattle.order_form.specs.Form.{all_counts, own_counts, within_both, order_form, Countable}
 
 -- a number of the head of the accounts below an index, summed
 unfoldable pub heads_below : Day → List ℕ → ℕ → ℕ → ℕ
@@ -100,8 +100,15 @@ module _ (d : Day) (b : List ℕ) (q : Countable d b) where
   unfolding own_counts count_of
   own_most kind a own e h = omega (arith, ap (λ (x : Counts). x.made) e, head_part d b (counter (number_of kind)) a h, sum_most kind)
 
+  -- with an order's units they fit
+  pub all_fits : (kind : Kind) (units : ℕ) (all : Counts) → all ≡ all_counts d b kind → units ≤ 1_999_999_980 → all.made + units < 2 ^ 64
+  all_fits kind units all e h = omega (arith, all_most kind all e)
+
+  pub own_fits : (kind : Kind) (a units : ℕ) (own : Counts) → own ≡ own_counts d b a kind → a < d.accounts → units ≤ 1_999_999_980 → own.made + units < 2 ^ 64
+  own_fits kind a units own e l h = omega (arith, own_most kind a own e l)
+
 -- five tests all pass, in the code's order
-sorted : (a b c d e : Bool) → every (a ∷ b ∷ c ∷ d ∷ e ∷ []) ≡ (((a && c) && e) && (b && d))
+sorted : (a b c d e : Bool) → (((a && c) && e) && (b && d)) ≡ every (a ∷ b ∷ c ∷ d ∷ e ∷ [])
 unfolding every
 sorted false b c d e = refl
 sorted true true false d e = refl
@@ -113,36 +120,35 @@ sorted true true true false true = refl
 sorted true true true true false = refl
 sorted true true true true true = refl
 
--- the limits are those of all accounts and of the account
-pub limits_are : (d : Day) (b : List ℕ) (ask : Ask) → within_limits d b ask.kind ask.account ask.units ≡ (all_held d b ask && own_held d b ask)
-unfolding within_limits within_both all_counts own_counts all_held own_held
-limits_are d b ask = sorted _ _ _ _ _
+-- the limits are those of all accounts, with the ceiling, and of the account
+pub limits_are : (d : Day) (b : List ℕ) (ask : Ask) (all own : Counts) → all ≡ all_counts d b ask.kind → own ≡ own_counts d b ask.account ask.kind
+    → (wide under : Bool) → wide ≡ within_both d all ask cumulative_limit net_limit → under ≡ leb (all.made + ask.units) ceiling
+    → ((wide && under) && within_both d own ask cumulative_limit_each net_limit_each) ≡ within_limits d b ask.kind ask.account ask.units
+unfolding within_limits within_both all_counts own_counts
+limits_are d b ask all own ea eo wide under ew eu = rw (ew, eu, ea, eo) (sorted _ _ _ _ _)
 
--- the answers, test by test
-module _ (d : Day) (b : List ℕ) (ask : Ask) where
-  pub no_account : is_investor d.accounts ask.account ≡ false → reply 8 0 0 ≡ answered (order_form d b ask) 0
-  unfolding answering order_form form_checks
-  no_account e = simp e
+-- the tests look at no component
+pub form_of_day : (d : Day) (h : DayHead) (b : List ℕ) (ask : Ask) → h ≡ record { accounts = d.accounts; count = d.count; fund = d.fund }
+    → order_form (day_of h []) b ask ≡ order_form d b ask
+unfolding order_form form_checks permission_checks switch_allows whole_baskets baskets within_limits fund_count count_of head_total
+form_of_day d h b ask e = rw e
 
-  module _ (i : is_investor d.accounts ask.account ≡ true) where
-    pub not_whole : whole_baskets most_baskets d ask.units ≡ false → reply 11 0 0 ≡ answered (order_form d b ask) 0
-    unfolding answering order_form form_checks
-    not_whole e = simp (i, e)
+pub countable_head : (d : Day) (h : DayHead) (b : List ℕ) → h ≡ record { accounts = d.accounts; count = d.count; fund = d.fund } → Countable d b → Countable (day_of h []) b
+unfolding head_total
+countable_head d h b e r =
+    rw e
+    (record {
+      accounts_low = r.accounts_low;
+      accounts_high = r.accounts_high;
+      count_high = r.count_high;
+      size = r.size;
+      basket_low = r.basket_low;
+      basket_high = r.basket_high;
+      created_most = r.created_most;
+      redeemed_most = r.redeemed_most;
+    })
 
-    module _ (w : whole_baskets most_baskets d ask.units ≡ true) where
-      pub switched_off : switch_allows d ask.kind ≡ false → reply 12 0 0 ≡ answered (order_form d b ask) 0
-      unfolding answering order_form form_checks permission_checks
-      switched_off e = simp (i, w, e)
-
-      module _ (s : switch_allows d ask.kind ≡ true) where
-        pub limit_passed : within_limits d b ask.kind ask.account ask.units ≡ false → reply 13 0 0 ≡ answered (order_form d b ask) 0
-        unfolding answering order_form form_checks permission_checks
-        limit_passed e = simp (i, w, s, e)
-
-        pub form_done : within_limits d b ask.kind ask.account ask.units ≡ true → reply 0 0 0 ≡ answered (order_form d b ask) 0
-        unfolding answering order_form form_checks permission_checks
-        form_done e = simp (i, w, s, e)
-
+-- an order that passes 8 is of an account
 pub investor_in : (k a : ℕ) → 2 ≤ k → is_investor k a ≡ true → a < k
 unfolding is_investor
 investor_in k a two e = let p = inside_facts 1 (k - 1) a e in omega arith

@@ -1,10 +1,10 @@
 -- The first two stages of an order, 8 and 11, 12 and 13: the counts that the limits look at, and the tests.
-use Rattle.std.specs.Prelude.{ℕ, ◌+◌, ◌-◌, ◌*◌, ◌≤◌, ◌<◌, ◌≡◌, Bool, ◌&&◌, List, ◌++◌, leb, length}
+use Rattle.std.specs.Prelude.{ℕ, ◌+◌, ◌-◌, ◌*◌, ◌≤◌, ◌<◌, ◌≡◌, Bool, ◌&&◌, List, ◌++◌, length}
 use Rattle.sequences.specs.Checks.{Check}
 use Rattle.layout.specs.Places.{most_components}
 use Rattle.layout.specs.Day.{Day}
 use Rattle.layout.specs.Book.{width, created, redeemed, head_total}
-use Rattle.fund.specs.Fund.{ceiling, cumulative_limit, cumulative_limit_each, net_limit, net_limit_each}
+use Rattle.fund.specs.Fund.{ceiling}
 use Rattle.rules.specs.declared.Kind.{Kind}
 use Rattle.rules.specs.declared.Ask.{Ask}
 use Rattle.rules.specs.Orders.{opposite_kind, limit_for, within_limit, count_of, fund_count, form_checks, permission_checks}
@@ -17,18 +17,10 @@ all_counts d b kind = record { made = fund_count d b kind; reverse = fund_count 
 unfoldable pub own_counts : Day → List ℕ → ℕ → Kind → Counts
 own_counts d b a kind = record { made = count_of d b kind a; reverse = count_of d b (opposite_kind kind) a }
 
--- after so many units more they pass neither the limit on them nor that on their net
-unfoldable pub within_both : Counts → ℕ → ℕ → ℕ → Bool
-within_both c units limit net = within_limit limit (c.made + units) && within_limit net (c.made + units - c.reverse)
-
--- what an order leaves within the limits: all accounts together, with the ceiling, and its own account
-unfoldable pub all_held : Day → List ℕ → Ask → Bool
-all_held d b ask =
-    within_both (all_counts d b ask.kind) ask.units (limit_for d cumulative_limit ask.kind) (limit_for d net_limit ask.kind)
-    && leb ((all_counts d b ask.kind).made + ask.units) ceiling
-
-unfoldable pub own_held : Day → List ℕ → Ask → Bool
-own_held d b ask = within_both (own_counts d b ask.account ask.kind) ask.units (limit_for d cumulative_limit_each ask.kind) (limit_for d net_limit_each ask.kind)
+-- after an order's units they pass neither a limit on them nor one on their net
+unfoldable pub within_both : Day → Counts → Ask → ℕ → ℕ → Bool
+within_both d c ask limit net =
+    within_limit (limit_for d limit ask.kind) (c.made + ask.units) && within_limit (limit_for d net ask.kind) (c.made + ask.units - c.reverse)
 
 -- the tests of both stages
 unfoldable pub order_form : Day → List ℕ → Ask → List Check

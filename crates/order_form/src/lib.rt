@@ -1,47 +1,31 @@
 // The first two stages of an order: account and baskets, then the switch and the limits. They only read.
 #![tactic(auto)]
 
-ghost use Rattle.std.specs.Prelude.{◌≡◌, ◌+◌, ◌/◌, ◌≤◌, ◌<◌, ◌^◌};
+ghost use Rattle.std.specs.Prelude.{[], ◌≡◌, ◌+◌, ◌≤◌, ◌<◌, ◌^◌};
 ghost use Rattle.sequences.specs.Checks.{answered};
 ghost use Rattle.fund.specs.Fund.{limit_number};
+ghost use Rattle.layout.specs.Day.{day_of};
 ghost use Rattle.rules.specs.Orders.{limit_for, within_limits};
 ghost use Rattle.rules.specs.Replies.{answer_reply};
-ghost use Rattle.order_form.specs.Form.{all_counts, own_counts, within_both, all_held, own_held, order_form, Countable};
+ghost use Rattle.order_form.specs.Form.{all_counts, own_counts, within_both, order_form, Countable};
 
 use fund::Limit;
-use layout::DayView;
+use layout::DayHead;
 use rules::{Ask, Kind, Refusal};
 
 // Units of an order's kind, and of the other kind, on this day.
-#[derive(Clone, Copy)]
+#[derive(Clone, Copy, Default)]
 struct Counts {
     made: u64,
     reverse: u64,
 }
 
-// The counts of all accounts together.
-fn counts_of_all(day: &DayView, book: &[u64], kind: Kind) -> Counts
-    requires { Countable day.now book.now }
-    ensures { result ≡ all_counts day.now book.now kind }
-{
-    let w = layout::width_of(day.count());
-    let at = layout::COUNTERS + kind.number();
-    let back = layout::COUNTERS + kind.opposite().number();
-    let mut made: u64 = 0;
-    let mut reverse: u64 = 0;
-    for a in 0..day.accounts() {
-        made += book::head_of(book, w, a, at);
-        reverse += book::head_of(book, w, a, back);
-    }
-    Counts { made, reverse }
-}
-
 // The counts of one account.
-fn counts_of(day: &DayView, book: &[u64], a: usize, kind: Kind) -> Counts
-    requires { Countable day.now book.now × (a < day.now.accounts) }
-    ensures { result ≡ own_counts day.now book.now a kind }
+fn counts_of(head: &DayHead, book: &[u64], a: usize, kind: Kind) -> Counts
+    requires { Countable (day_of head.now []) book.now × (a < head.now.accounts) }
+    ensures { result ≡ own_counts (day_of head.now []) book.now a kind }
 {
-    let w = layout::width_of(day.count());
+    let w = layout::width_of(head.count);
     let at = layout::COUNTERS + kind.number();
     let back = layout::COUNTERS + kind.opposite().number();
     Counts {
@@ -50,78 +34,73 @@ fn counts_of(day: &DayView, book: &[u64], a: usize, kind: Kind) -> Counts
     }
 }
 
+// The counts of all accounts together.
+fn counts_of_all(head: &DayHead, book: &[u64], kind: Kind) -> Counts
+    requires { Countable (day_of head.now []) book.now }
+    ensures { result ≡ all_counts (day_of head.now []) book.now kind }
+{
+    let mut all = Counts::default();
+    for a in 0..head.accounts {
+        let own = counts_of(head, book, a, kind);
+        all.made += own.made;
+        all.reverse += own.reverse;
+    }
+    all
+}
+
 // One of the fund's limits on orders of a kind.
 #[tactic(auto, unfolding(fund::specs::Fund::limit_of))]
-fn limit_of(day: &DayView, limit: Limit, kind: Kind) -> u64
-    ensures { result ≡ limit_for day.now (limit_number limit) kind }
+fn limit_of(head: &DayHead, limit: Limit, kind: Kind) -> u64
+    ensures { result ≡ limit_for (day_of head.now []) (limit_number limit) kind }
 {
-    let limits = day.fund().limits;
-    limits[2 * limit.number() + kind.number()]
+    head.fund.limits[2 * limit.number() + kind.number()]
 }
 
-// Whether the counts after so many units more pass neither the limit on them nor that on their net.
+// Whether the counts after an order's units pass neither a limit on them nor one on their net.
 #[tactic(auto, unfolding(crate::specs::Form::within_both))]
-fn within_both(c: Counts, units: u64, limit: u64, net_limit: u64) -> bool
-    requires { c.made + units < 2 ^ 64 }
-    ensures { result ≡ within_both c units limit net_limit }
+fn within_both(head: &DayHead, c: Counts, ask: Ask, limit: Limit, net_limit: Limit) -> bool
+    requires { c.made + ask.units < 2 ^ 64 }
+    ensures { result ≡ within_both (day_of head.now []) c ask (limit_number limit) (limit_number net_limit) }
 {
-    let after = c.made + units;
-    ranges::within_limit(limit, after)
-        && ranges::within_limit(net_limit, after.saturating_sub(c.reverse))
+    let after = c.made + ask.units;
+    ranges::within_limit(limit_of(head, limit, ask.kind), after)
+        && ranges::within_limit(
+            limit_of(head, net_limit, ask.kind),
+            after.saturating_sub(c.reverse),
+        )
 }
 
-// Whether all accounts together keep the fund's limits, cumulative and net, after an order, and the ceiling.
-#[tactic(auto, unfolding(crate::specs::Form::all_held))]
-fn all_held(day: &DayView, book: &[u64], ask: Ask) -> bool
-    requires countable { Countable day.now book.now }
-    requires units_bound { ask.units ≤ 1_999_999_980 }
-    ensures { result ≡ all_held day.now book.now ask }
-{
-    let all = counts_of_all(day, book, ask.kind);
-    let limit = limit_of(day, Limit::Cumulative, ask.kind);
-    let net_limit = limit_of(day, Limit::Net, ask.kind);
-    within_both(all, ask.units, limit, net_limit) && all.made + ask.units <= fund::CEILING
-}
-
-// Whether its account keeps its own.
-fn own_held(day: &DayView, book: &[u64], ask: Ask) -> bool
-    requires countable { Countable day.now book.now }
-    requires units_bound { (ask.account < day.now.accounts) × (ask.units ≤ 1_999_999_980) }
-    ensures { result ≡ own_held day.now book.now ask }
-{
-    let own = counts_of(day, book, ask.account, ask.kind);
-    let limit = limit_of(day, Limit::CumulativeEach, ask.kind);
-    let net_limit = limit_of(day, Limit::NetEach, ask.kind);
-    within_both(own, ask.units, limit, net_limit)
-}
-
-// Refusal 13's test.
+// Refusal 13's test: the fund's limits and the ceiling for all accounts together, and those for its own account.
 #[tactic(auto, using(crate::proofs::Laws::limits_are))]
-fn limits_held(day: &DayView, book: &[u64], ask: Ask) -> bool
-    requires countable { Countable day.now book.now }
-    requires units_bound { (ask.account < day.now.accounts) × (ask.units ≤ 1_999_999_980) }
-    ensures { result ≡ within_limits day.now book.now ask.kind ask.account ask.units }
+fn limits_held(head: &DayHead, book: &[u64], ask: Ask) -> bool
+    requires countable { Countable (day_of head.now []) book.now }
+    requires units_bound { (ask.account < head.now.accounts) × (ask.units ≤ 1_999_999_980) }
+    ensures { result ≡ within_limits (day_of head.now []) book.now ask.kind ask.account ask.units }
 {
-    all_held(day, book, ask) && own_held(day, book, ask)
+    let all = counts_of_all(head, book, ask.kind);
+    let own = counts_of(head, book, ask.account, ask.kind);
+    within_both(head, all, ask, Limit::Cumulative, Limit::Net)
+        && all.made + ask.units <= fund::CEILING
+        && within_both(head, own, ask, Limit::CumulativeEach, Limit::NetEach)
 }
 
-// The tests 8, 11, 12 and 13 of an order; `m` is how many baskets its units are, with what is left over dropped.
-pub fn order_form(day: &DayView, book: &[u64], ask: Ask, m: u64) -> Result<(), Refusal>
-    requires countable { Countable day.now book.now }
-    requires m_value { m ≡ ask.units / day.now.fund.basket_size }
-    ensures { answer_reply result ≡ answered (order_form day.now book.now ask) 0 }
+// The tests 8, 11, 12 and 13 of an order. They look at no component.
+#[tactic(auto, unfolding(sequences::specs::Checks::answering, crate::specs::Form::order_form, rules::specs::Orders::form_checks, rules::specs::Orders::permission_checks, rules::specs::Orders::whole_baskets, rules::specs::Orders::baskets, rules::specs::Orders::switch_allows))]
+pub fn order_form(head: &DayHead, book: &[u64], ask: Ask) -> Result<(), Refusal>
+    requires { Countable (day_of head.now []) book.now }
+    ensures { answer_reply result ≡ answered (order_form (day_of head.now []) book.now ask) 0 }
 {
-    let fund = day.fund();
-    if !ranges::is_investor(day.accounts(), ask.account) {
+    let size = head.fund.basket_size;
+    if !ranges::is_investor(head.accounts, ask.account) {
         return Err(Refusal::Account);
     }
-    if !ranges::whole_baskets(fund.basket_size, ask.units, m) {
+    if !ranges::whole_baskets(size, ask.units, ask.units / size) {
         return Err(Refusal::NotWholeBaskets);
     }
-    if !ranges::switch_allows(fund.switch, ask.kind) {
+    if !ranges::switch_allows(head.fund.switch, ask.kind) {
         return Err(Refusal::Switch);
     }
-    if !limits_held(day, book, ask) {
+    if !limits_held(head, book, ask) {
         return Err(Refusal::Limit);
     }
     Ok(())

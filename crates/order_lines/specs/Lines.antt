@@ -1,5 +1,5 @@
 -- One component in an order.
-use Rattle.std.specs.Prelude.{true, false, cond, not, [], ◌∷◌, ℕ, ◌-◌, ◌*◌, min, ltb, Option, Some, None}
+use Rattle.std.specs.Prelude.{false, cond, not, [], ◌∷◌, ℕ, ◌-◌, ◌*◌, min, ltb, Option, Some, None}
 use Rattle.std.specs.Bool.{then_some}
 use Rattle.sequences.specs.Every.{every}
 use Rattle.units.specs.declared.Money.{Money}
@@ -7,6 +7,7 @@ use Rattle.units.specs.Units.{premium, discount}
 use Rattle.flags.specs.Table.{entry, stock_moves, shortage_in_cash, shanghai}
 use Rattle.layout.specs.declared.Component.{Component}
 use Rattle.rules.specs.declared.Kind.{Kind}
+use Rattle.rules.specs.declared.CashByMarket.{CashByMarket}
 use Rattle.rules.specs.Kinds.{by_kind}
 use Rattle.order_lines.specs.declared.Line.{Line}
 
@@ -17,6 +18,10 @@ money x = record { 0 = x }
 abbrev pub worth_in : Option Money → ℕ
 worth_in None = 0
 worth_in (Some worth) = worth.0
+
+-- cash for a component, which goes to its market
+abbrev pub in_market : Component → ℕ → CashByMarket
+in_market c cash = record { shanghai = money (cond (entry c.flag shanghai) cash 0); other = money (cond (entry c.flag shanghai) 0 cash) }
 
 -- what an order of m baskets needs of a component
 abbrev pub need_of : Component → ℕ → ℕ
@@ -35,9 +40,8 @@ creation_line c have price m =
     record {
       short = every (entry c.flag stock_moves ∷ not (entry c.flag shortage_in_cash) ∷ ltb have (need_of c m) ∷ []);
       missing = then_some (ltb 0 (missing_of c have m)) (money (worth_of c have price m));
-      cash = money (premium (cond (entry c.flag stock_moves) (worth_of c have price m) (m * c.amount.0)) c.premium.0);
-      shanghai = entry c.flag shanghai;
-      moved = cond (entry c.flag stock_moves) (min (need_of c m) have) 0;
+      cash = in_market c (premium (cond (entry c.flag stock_moves) (worth_of c have price m) (m * c.amount.0)) c.premium.0);
+      moves = ltb 0 (cond (entry c.flag stock_moves) (min (need_of c m) have) 0);
     }
 
 -- a component in a redemption of m baskets, of which the fund has so much
@@ -46,18 +50,13 @@ redemption_line c have m =
     record {
       short = ltb have (cond (entry c.flag stock_moves) (need_of c m) 0);
       missing = None;
-      cash = money (cond (entry c.flag stock_moves) 0 (discount (m * c.amount.0) c.discount.0));
-      shanghai = entry c.flag shanghai;
-      moved = cond (entry c.flag stock_moves) (need_of c m) 0;
+      cash = in_market c (cond (entry c.flag stock_moves) 0 (discount (m * c.amount.0) c.discount.0));
+      moves = ltb 0 (cond (entry c.flag stock_moves) (need_of c m) 0);
     }
 
 -- a component in an order of either kind
 unfoldable pub order_line : Kind → Component → ℕ → ℕ → ℕ → Line
 order_line kind c have price m = by_kind kind (creation_line c have price m) (redemption_line c have m)
-
--- a component whose stock is there in full
-unfoldable pub stock_line : ℕ → Line
-stock_line need = record { short = false; missing = None; cash = money 0; shanghai = true; moved = need }
 
 -- an amount that stands for a component: with the premium on creation, less the discount on redemption
 unfoldable pub amount_due : Kind → Component → ℕ → ℕ
@@ -69,14 +68,6 @@ amount_line kind c m =
     record {
       short = false;
       missing = None;
-      cash = money (amount_due kind c (m * c.amount.0));
-      shanghai = entry c.flag shanghai;
-      moved = 0;
+      cash = in_market c (amount_due kind c (m * c.amount.0));
+      moves = false;
     }
-
--- the cash of one market
-abbrev pub other_of : Line → ℕ
-other_of x = cond x.shanghai 0 x.cash.0
-
-abbrev pub shanghai_of : Line → ℕ
-shanghai_of x = cond x.shanghai x.cash.0 0

@@ -1,145 +1,157 @@
 // What an order makes of one component.
 #![tactic(auto)]
 
-ghost use Rattle.std.specs.Prelude.{cond, not, [], ◌∷◌, ◌≡◌, ◌-◌, ◌≤◌, min, leb, ltb};
-ghost use Rattle.sequences.specs.Every.{every};
-ghost use Rattle.flags.specs.Table.{entry, stock_moves};
+ghost use Rattle.std.specs.Prelude.{true, ◌≡◌, ◌*◌, ◌≤◌};
+ghost use Rattle.flags.specs.Table.{entry, column_number, stock_moves};
+ghost use Rattle.rules.specs.Kinds.{no_cash};
 ghost use Rattle.rules.specs.Sound.{most_price};
 ghost use Rattle.rules.specs.Orders.{most_baskets};
-ghost use Rattle.order_lines.specs.Lines.{creation_line, redemption_line, amount_due, amount_line, order_line};
+ghost use Rattle.order_lines.specs.Lines.{in_market, need_of, creation_line, redemption_line, amount_due, amount_line, order_line};
 ghost use Rattle.order_lines.specs.Ready.{Ranged};
 
+use flags::Column;
 use layout::Component;
-use rules::Kind;
+use rules::{CashByMarket, Kind};
 use units::Money;
 
-// One component in an order of so many baskets.
+// What an order makes of a component.
 #[derive(Clone, Copy)]
 pub struct Line {
+    // Whether there is not enough of it.
     pub short: bool,
     // What missing stock is worth for which cash stands, without the premium.
     pub missing: Option<Money>,
-    pub cash: Money,
-    pub shanghai: bool,
-    pub moved: u64,
+    pub cash: CashByMarket,
+    // Whether stock of it moves, which takes a record.
+    pub moves: bool,
 }
 
-// The first amount where the test passes, and the second where it does not.
-pub fn chosen(test: bool, x: Money, y: Money) -> Money
-    ensures { result ≡ cond test x y }
-{
-    if test { x } else { y }
+// No cash.
+pub const NO_CASH: CashByMarket = CashByMarket {
+    shanghai: Money(0),
+    other: Money(0),
+};
+
+// A component in an order of so many baskets, both in the ranges under which no number of a line wraps.
+#[derive(Clone, Copy)]
+pub struct Part {
+    pub component: Component,
+    pub baskets: u64,
+    pub ghost ranged: { Ranged component },
+    pub ghost few: { baskets ≤ most_baskets },
 }
 
-// Whether a component of which stock moves, with no cash for a shortage, is short.
-#[tactic(auto, unfolding(sequences::specs::Every::every))]
-fn is_short(moves: bool, in_cash: bool, need: u64, have: u64) -> bool
-    ensures { result ≡ every (moves ∷ not in_cash ∷ ltb have need ∷ []) }
-{
-    moves && !in_cash && have < need
-}
-
-// What is missing where cash stands for a shortage.
-fn missing_of(in_cash: bool, need: u64, have: u64) -> u64
-    ensures { result ≡ cond in_cash (need - have) 0 }
-{
-    if in_cash {
-        need.saturating_sub(have)
-    } else {
-        0
+impl Part {
+    // What the order needs of it.
+    fn need(self) -> u64
+        ensures { result ≡ need_of self.component self.baskets }
+    {
+        self.baskets * self.component.quantity
     }
-}
 
-// What moves of a need, at most so much.
-fn moved_of(moves: bool, need: u64, most: u64) -> u64
-    ensures { result ≡ cond moves (min need most) 0 }
-{
-    if moves { need.min(most) } else { 0 }
-}
-
-// A component in a creation of m baskets, for an account that has so much of it to hand in.
-fn creation_line(c: Component, have: u64, price: u64, m: u64) -> Line
-    requires { Ranged c × (m ≤ most_baskets) × (price ≤ most_price) }
-    ensures { result ≡ creation_line c have price m }
-{
-    let need = m * c.quantity;
-    let moves = flags::entry_of(c.flag, flags::Column::StockMoves);
-    let in_cash = flags::entry_of(c.flag, flags::Column::ShortageInCash);
-    let shanghai = flags::entry_of(c.flag, flags::Column::Shanghai);
-    let missing = missing_of(in_cash, need, have);
-    let worth = Money(missing * price);
-    let amount = Money(m * c.amount.0);
-    let cash = chosen(moves, worth, amount).with_premium(c.premium);
-    Line {
-        short: is_short(moves, in_cash, need, have),
-        missing: (0 < missing).then_some(worth),
-        cash,
-        shanghai,
-        moved: moved_of(moves, need, have),
+    // What the flag table has for it in a column.
+    fn entry(self, column: Column) -> bool
+        ensures { result ≡ entry self.component.flag (column_number column) }
+    {
+        flags::entry_of(self.component.flag, column)
     }
-}
 
-// A component in a redemption of m baskets, of which the fund has so much. Stock is delivered in full.
-fn redemption_line(c: Component, have: u64, m: u64) -> Line
-    requires { Ranged c × (m ≤ most_baskets) }
-    ensures { result ≡ redemption_line c have m }
-{
-    let need = m * c.quantity;
-    let moves = flags::entry_of(c.flag, flags::Column::StockMoves);
-    let shanghai = flags::entry_of(c.flag, flags::Column::Shanghai);
-    let moved = moved_of(moves, need, need);
-    let paid = Money(m * c.amount.0).with_discount(c.discount);
-    Line {
-        short: have < moved,
-        missing: None,
-        cash: chosen(moves, Money(0), paid),
-        shanghai,
-        moved,
+    // Cash for it, which goes to its market.
+    fn in_market(self, cash: Money) -> CashByMarket
+        ensures { result ≡ in_market self.component cash.0 }
+    {
+        if self.entry(Column::Shanghai) {
+            CashByMarket {
+                shanghai: cash,
+                ..NO_CASH
+            }
+        } else {
+            CashByMarket {
+                other: cash,
+                ..NO_CASH
+            }
+        }
     }
-}
 
-// An amount that stands for a component: with the premium on creation, less the discount on redemption.
-#[tactic(auto, unfolding(crate::specs::Lines::amount_due))]
-fn amount_due(kind: Kind, c: Component, amount: Money) -> Money
-    requires { Ranged c × (amount.0 ≤ 1_999_999_999_980) }
-    ensures { result.0 ≡ amount_due kind c amount.0 }
-{
-    match kind {
-        Kind::Creation => amount.with_premium(c.premium),
-        Kind::Redemption => amount.with_discount(c.discount),
+    // An amount that stands for it: with the premium on creation, less the discount on redemption.
+    #[tactic(auto, unfolding(crate::specs::Lines::amount_due))]
+    fn amount_due(self, kind: Kind, amount: Money) -> Money
+        requires { amount.0 ≤ 1_999_999_999_980 }
+        ensures { result.0 ≡ amount_due kind self.component amount.0 }
+    {
+        let c = self.component;
+        match kind {
+            Kind::Creation => amount.with_premium(c.premium),
+            Kind::Redemption => amount.with_discount(c.discount),
+        }
     }
-}
 
-// A component of which no stock moves, in an order of m baskets: its amount alone.
-pub fn amount_line(kind: Kind, c: Component, m: u64) -> Line
-    requires { Ranged c × (m ≤ most_baskets) }
-    ensures { result ≡ amount_line kind c m }
-{
-    Line {
-        short: false,
-        missing: None,
-        cash: amount_due(kind, c, Money(m * c.amount.0)),
-        shanghai: flags::entry_of(c.flag, flags::Column::Shanghai),
-        moved: 0,
+    // Its line where no stock of it moves: its amount alone.
+    #[tactic(auto, unfolding(crate::specs::Lines::amount_line))]
+    fn amount_line(self, kind: Kind) -> Line
+        ensures { result ≡ amount_line kind self.component self.baskets }
+    {
+        let amount = Money(self.baskets * self.component.amount.0);
+        Line {
+            short: false,
+            missing: None,
+            cash: self.in_market(self.amount_due(kind, amount)),
+            moves: false,
+        }
     }
-}
 
-// A component in an order of either kind.
-#[tactic(auto, unfolding(crate::specs::Lines::order_line))]
-pub fn order_line(kind: Kind, c: Component, have: u64, price: u64, m: u64) -> Line
-    requires { Ranged c × (m ≤ most_baskets) × (price ≤ most_price) }
-    ensures { result ≡ order_line kind c have price m }
-{
-    match kind {
-        Kind::Creation => creation_line(c, have, price, m),
-        Kind::Redemption => redemption_line(c, have, m),
+    // Its line where stock of it moves in a creation, for an account that has so much of it to hand in.
+    fn creation_line(self, have: u64, price: u64) -> Line
+        requires { (entry self.component.flag stock_moves ≡ true) × (price ≤ most_price) }
+        ensures { result ≡ creation_line self.component have price self.baskets }
+    {
+        let need = self.need();
+        let moves = 0 < need.min(have);
+        if have < need && self.entry(Column::ShortageInCash) {
+            let worth = Money((need - have) * price);
+            let cash = worth.with_premium(self.component.premium);
+            return Line {
+                short: false,
+                missing: Some(worth),
+                cash: self.in_market(cash),
+                moves,
+            };
+        }
+        Line {
+            short: have < need,
+            missing: None,
+            cash: NO_CASH,
+            moves,
+        }
     }
-}
 
-// Whether stock of a component moves and is there in full.
-#[tactic(auto, unfolding(sequences::specs::Every::every))]
-pub fn is_covered(flag: u64, need: u64, have: u64) -> bool
-    ensures { result ≡ every (leb need have ∷ entry flag stock_moves ∷ []) }
-{
-    need <= have && flags::entry_of(flag, flags::Column::StockMoves)
+    // Its line where stock of it moves in a redemption, of which the fund has so much. Stock is delivered in full.
+    #[tactic(auto, using(crate::proofs::Laws::delivered_line))]
+    fn redemption_line(self, have: u64) -> Line
+        requires { entry self.component.flag stock_moves ≡ true }
+        ensures { result ≡ redemption_line self.component have self.baskets }
+    {
+        let delivered = self.need();
+        Line {
+            short: have < delivered,
+            missing: None,
+            cash: NO_CASH,
+            moves: 0 < delivered,
+        }
+    }
+
+    // Its line in an order of either kind.
+    #[tactic(auto, using(crate::proofs::Laws::amount_is), unfolding(crate::specs::Lines::order_line))]
+    pub fn order_line(self, kind: Kind, have: u64, price: u64) -> Line
+        requires { price ≤ most_price }
+        ensures { result ≡ order_line kind self.component have price self.baskets }
+    {
+        if !self.entry(Column::StockMoves) {
+            return self.amount_line(kind);
+        }
+        match kind {
+            Kind::Creation => self.creation_line(have, price),
+            Kind::Redemption => self.redemption_line(have),
+        }
+    }
 }

@@ -6,6 +6,9 @@ use native.Mathlib.Omega.{arith}
 use lib.ListN.{length, length-append}
 use lib.Seq.{sets, length-sets}
 use borrow.Author.Tests.{lt-ltb, le-ltb, eq-eqb, ne_eqb}
+use lib.Dec.{ltb}
+use mathlib.Core.Bool.{Bool, true, false, cond}
+use Rattle.std.specs.Bool.{then_some}
 use Rattle.sequences.specs.Below.{join_below}
 use Rattle.sequences.proofs.Below.{join-none, join_more}
 use Rattle.sequences.proofs.Runs.{sets_append, join_grows}
@@ -23,7 +26,8 @@ use Rattle.layout.specs.Laid.{laid}
 use Rattle.layout.proofs.Laid.{laid_front}
 use Rattle.layout.proofs.Records.{flatten-append, flatten-length}
 use Rattle.rules.specs.Kinds.{moved_by, stock_side, rest_side, records_by}
-use Rattle.order_records.specs.Written.{behind, written, Fits, Wrote, line_record, stock_records, records_after_stock}
+use Rattle.order_records.specs.declared.Out.{Out}
+use Rattle.order_records.specs.Written.{behind, written, Fits, wrote, line_record, stock_records, records_after_stock}
 use Rattle.order_records.specs.Ready.{Writable}
 
 -- Records written.
@@ -44,43 +48,32 @@ unfolding written flatten with_records
 written_first rs list h = laid_front record_numbers record_width (λ r. refl) rs list (omega arith)
 
 -- one record
-pub one_written : (list : List ℕ) (p : ℕ) (r : Record) (new : List ℕ) → new ≡ sets list p (record_numbers r) → Wrote (r ∷ []) p list new (p + record_width)
+pub one_written : (o : Out) (r : Record) → record o { run = record o.run { now = sets o.run.now o.at (record_numbers r) }; at = o.at + record_width } ≡ wrote (r ∷ []) o
 unfolding written flatten laid
-one_written list p r new e = record { list = e; place = omega arith }
+one_written o r = ap (λ (next : ℕ). record o { run = record o.run { now = sets o.run.now o.at (record_numbers r) }; at = next }) (omega arith)
 
-pub wrote_none : (p : ℕ) (list : List ℕ) → Wrote [] p list list p
+-- none, and some behind others
+pub wrote_none : (o : Out) → o ≡ wrote [] o
 unfolding written flatten laid
-wrote_none p list = record { list = refl; place = omega arith }
+wrote_none o = ap (λ (next : ℕ). record o { at = next }) (omega arith)
 
-pub wrote_then : {rs qs : List Record} {p next end : ℕ} {old mid new : List ℕ} → Wrote rs p old mid next → Wrote qs next mid new end → Wrote (rs ++ qs) p old new end
-wrote_then {rs} {qs} {p} {next} {end} {old} {mid} {new} u v =
-    record {
-      list = v.list ∙ rw (u.list, u.place) (written-append rs qs p old);
-      place = v.place ∙ rw (u.place, length-append rs qs) (omega arith);
-    }
+pub wrote-append : (rs qs : List Record) (o : Out) → wrote qs (wrote rs o) ≡ wrote (rs ++ qs) o
+wrote-append rs qs o =
+    let next : behind qs (behind rs o.at) ≡ behind (rs ++ qs) o.at = rw length-append (omega arith) in
+    rw (written-append rs qs o.at o.run.now, next)
 
--- the same records by another text
-pub wrote_as : {rs qs : List Record} {p next : ℕ} {old new : List ℕ} → rs ≡ qs → Wrote rs p old new next → Wrote qs p old new next
-wrote_as e w = rw e at w
-
-pub wrote_one : {r q : Record} {p next : ℕ} {old new : List ℕ} → r ≡ q → Wrote (r ∷ []) p old new next → Wrote (q ∷ []) p old new next
-wrote_one e w = rw e at w
-
-pub wrote_length : {rs : List Record} {p next : ℕ} {old new : List ℕ} → Wrote rs p old new next → length new ≡ length old
-wrote_length {rs} {p} {next} {old} {new} w = ap length w.list ∙ written-length rs p old
+pub wrote_then : (rs qs : List Record) (o : Out) {p q : Out} → p ≡ wrote rs o → q ≡ wrote qs p → q ≡ wrote (rs ++ qs) o
+wrote_then rs qs o u v = v ∙ rw u (wrote-append rs qs o)
 
 -- of records that have room, those in front have, and those behind have once these are written
-pub fits_first : {rs : List Record} (qs : List Record) {p : ℕ} {list : List ℕ} → Fits (rs ++ qs) p list → Fits rs p list
+pub fits_first : {rs : List Record} (qs : List Record) {o : Out} → Fits (rs ++ qs) o → Fits rs o
 fits_first {rs} qs f = record { room = omega (arith, f.room, length-append rs qs) }
 
-pub fits_next : {rs qs : List Record} {p next : ℕ} {old mid : List ℕ} → Wrote rs p old mid next → Fits (rs ++ qs) p old → Fits qs next mid
-fits_next {rs} {qs} w f = record { room = omega (arith, f.room, length-append rs qs, w.place, wrote_length w) }
+pub fits_next : (rs : List Record) {qs : List Record} {o p : Out} → p ≡ wrote rs o → Fits (rs ++ qs) o → Fits qs p
+fits_next rs {qs} {o} w f = rw w (record { room = omega (arith, f.room, length-append rs qs, written-length rs o.at o.run.now) })
 
-pub fits_as : {rs qs : List Record} {p : ℕ} {list : List ℕ} → rs ≡ qs → Fits rs p list → Fits qs p list
+pub fits_as : {rs qs : List Record} {o : Out} → rs ≡ qs → Fits rs o → Fits qs o
 fits_as e f = rw e at f
-
-pub fits_one : {r q : Record} {p : ℕ} {list : List ℕ} → Fits (r ∷ []) p list → Fits (q ∷ []) p list
-fits_one f = record { room = f.room }
 
 -- The records of cash.
 
@@ -99,14 +92,6 @@ cash_two code side c n l = rw (ne_eqb c 0 n, le-ltb c split_size l)
 
 -- The records of stock.
 
-pub line_none : (code side q : ℕ) → q ≡ 0 → line_record code side q ≡ []
-unfolding line_record
-line_none code side q e = rw (le-ltb 0 q (omega arith))
-
-pub line_one : (code side q : ℕ) → (q ≡ 0 → ⊥) → line_record code side q ≡ record_of code side q 0 ∷ []
-unfolding line_record
-line_one code side q n = rw (lt-ltb 0 q (omega arith))
-
 module _ (kind : Kind) (d : Day) (s : List ℕ) (m : ℕ) where
   -- the records of the components below i
   unfoldable pub stock_below : ℕ → List Record
@@ -117,11 +102,16 @@ module _ (kind : Kind) (d : Day) (s : List ℕ) (m : ℕ) where
   stock_none = join-none _
 
   abbrev line : ℕ → List Record
-  line i = line_record (component_of d i).code (stock_side kind) (moved_by kind d s m i)
+  line i = line_record (component_of d i).code (stock_side kind) (then_some (ltb 0 (moved_by kind d s m i)) (moved_by kind d s m i))
 
   line_record_lem : (i : ℕ) → stock_record d (stock_side kind) (moved_by kind d s m) i ≡ line i
-  unfolding stock_record line_record code_of
-  line_record_lem i = refl
+  unfolding stock_record code_of
+  line_record_lem i = go (ltb 0 (moved_by kind d s m i))
+    where
+      go : (b : Bool) → cond b (record_of (component_of d i).code (stock_side kind) (moved_by kind d s m i) 0 ∷ []) []
+          ≡ line_record (component_of d i).code (stock_side kind) (then_some b (moved_by kind d s m i))
+      go true = refl
+      go false = refl
 
   pub stock_more : (i : ℕ) → stock_below (i + 1) ≡ stock_below i ++ line i
   unfolding stock_below
@@ -132,31 +122,30 @@ module _ (kind : Kind) (d : Day) (s : List ℕ) (m : ℕ) where
   stock_all = refl
 
   -- where all of them have room, the i-th line's have behind those below it
-  pub line_room : {i p next : ℕ} {old mid : List ℕ} → i < d.count → Fits (stock_records kind d s m) p old → Wrote (stock_below i) p old mid next
-      → Fits (line i) next mid
+  pub line_room : {i : ℕ} {o p : Out} → i < d.count → Fits (stock_records kind d s m) o → p ≡ wrote (stock_below i) o → Fits (line i) p
   unfolding stock_below stock_records
-  line_room {i} l f w =
+  line_room {i} {o} l f w =
       let grows = join_grows (stock_record d (stock_side kind) (moved_by kind d s m)) d.count (i + 1) (omega arith) in
       let more = simp length-append at (ap length (stock_more i)) in
-      record { room = omega (arith, f.room, w.place, wrote_length w) }
+      rw w (record { room = omega (arith, f.room, written-length (stock_below i) o.at o.run.now) })
 
--- An order's records: the unit, stock, and what is behind it, in a fund with the first code g; `number` is the side's of what is not stock.
+-- An order's records: the unit, stock, and what is behind it, in a fund with the first code g; `side` is that of what is not stock.
 
-module _ {d : Day} {s : List ℕ} {ask : Ask} {m g side number : ℕ} {c : CashByMarket} {unit : Record} {list : List ℕ}
-    (first : g ≡ d.fund.first_code) (of : number ≡ side) (rest : side ≡ rest_side ask.kind) (made : unit ≡ record_of g number ask.units 0) (w : Writable d s ask m c list) where
+module _ {d : Day} {s : List ℕ} {ask : Ask} {m g side : ℕ} {c : CashByMarket} {unit : Record} {list : List ℕ}
+    (first : g ≡ d.fund.first_code) (rest : side ≡ rest_side ask.kind) (made : unit ≡ record_of g side ask.units 0) (w : Writable d s ask m c list) where
   abbrev all : List Record
   all = records_by ask.kind d s ask.units m c
 
   abbrev parts : List Record
-  parts = (unit ∷ []) ++ (stock_records ask.kind d s m ++ records_after_stock g number ask.units c)
+  parts = (unit ∷ []) ++ (stock_records ask.kind d s m ++ records_after_stock g side ask.units c)
 
   parts_are : parts ≡ all
   unfolding records_by order_records stock_records records_after_stock
-  parts_are = rw (made, of, rest, first)
+  parts_are = rw (made, rest, first)
 
-  pub order_fits : Fits parts 0 list
-  order_fits = fits_as (sym parts_are) (record { room = omega (arith, w.room) })
+  pub order_fits : {o : Out} → o.run.now ≡ list → o.at ≡ 0 → Fits parts o
+  order_fits l z = fits_as (sym parts_are) (record { room = omega (arith, w.room, ap length l) })
 
   -- all of them written from the first place on
-  pub order_written : {new : List ℕ} {end : ℕ} → Wrote parts 0 list new end → new ≡ with_records all list
-  order_written u = (wrote_as parts_are u).list ∙ written_first all list (omega (arith, w.room))
+  pub order_written : {o p : Out} → o.run.now ≡ list → o.at ≡ 0 → p ≡ wrote parts o → p.run.now ≡ with_records all list
+  order_written l z e = ap (λ (p : Out). p.run.now) e ∙ rw (parts_are, l, z) (written_first all list (omega (arith, w.room)))

@@ -1,11 +1,12 @@
 -- Records written to a flat run of numbers from a place on.
-use Rattle.std.specs.Prelude.{ℕ, ◌+◌, ◌*◌, ◌≤◌, ◌≡◌, cond, List, [], ◌∷◌, ◌++◌, ltb, length}
+use Rattle.std.specs.Prelude.{ℕ, ◌+◌, ◌*◌, ◌≤◌, List, [], ◌∷◌, ◌++◌, Option, Some, None, length}
 use Rattle.std.proofs.lemmas.List.Edits.{sets}
 use Rattle.sequences.specs.Below.{join_below}
 use Rattle.layout.specs.Day.{Day}
 use Rattle.rules.specs.declared.Kind.{Kind}
 use Rattle.rules.specs.declared.CashByMarket.{CashByMarket}
 use Rattle.layout.specs.declared.Record.{Record}
+use Rattle.order_records.specs.declared.Out.{Out}
 use Rattle.rules.specs.Kinds.{moved_by, stock_side}
 use Rattle.rules.specs.Records.{record_of, cash_records, stock_record, second_unit, shanghai_step, other_step}
 use Rattle.layout.specs.Places.{record_width}
@@ -19,18 +20,18 @@ behind rs p = p + record_width * length rs
 unfoldable pub written : List Record → ℕ → List ℕ → List ℕ
 written rs p list = sets list p (flatten rs)
 
--- they have room there
-pub record Fits (rs : List Record) (p : ℕ) (list : List ℕ) : Type 0 where
-  pub room : behind rs p ≤ length list
+-- they have room in a run from its next free place on
+pub record Fits (rs : List Record) (o : Out) : Type 0 where
+  pub room : behind rs o.at ≤ length o.run.now
 
--- one run became the other as the records rs were written from the place p on; `next` is the first place behind them
-pub record Wrote (rs : List Record) (p : ℕ) (old new : List ℕ) (next : ℕ) : Type 0 where
-  pub list : new ≡ written rs p old
-  pub place : next ≡ behind rs p
+-- the run with them there, and the next free place behind them
+abbrev pub wrote : List Record → Out → Out
+wrote rs o = record o { run = record o.run { now = written rs o.at o.run.now }; at = behind rs o.at }
 
--- the record of a component of which q moves: none where that is 0
-unfoldable pub line_record : ℕ → ℕ → ℕ → List Record
-line_record code side q = cond (ltb 0 q) (record_of code side q 0 ∷ []) []
+-- the record of a component of whose stock so much moves, if any
+abbrev pub line_record : ℕ → ℕ → Option ℕ → List Record
+line_record code side None = []
+line_record code side (Some q) = record_of code side q 0 ∷ []
 
 -- an order's records of stock
 unfoldable pub stock_records : Kind → Day → List ℕ → ℕ → List Record

@@ -2,7 +2,7 @@
 use mathlib.Core.Path.{◌≡◌, refl, sym}
 use mathlib.Core.Bool.{Bool, true, false, ◌||◌, cond}
 use mathlib.Core.List.{List}
-use Prim.Native.Nat.{ℕ, zero, suc, ◌+◌, ◌*◌, ◌≤◌, ◌<◌, zero-le}
+use Prim.Native.Nat.{ℕ, zero, suc, ◌+◌, ◌*◌, ◌≤◌, ◌<◌}
 use native.Mathlib.Nat.{le_refl, le_step, lt-suc_self, add-zero, zero-add, zero-mul}
 use native.Mathlib.Numerals.{add-one}
 use native.Mathlib.Omega.{arith}
@@ -28,8 +28,8 @@ use Rattle.rules.specs.declared.Kind.TheVariants.{Creation, Redemption}
 use Rattle.units.specs.declared.Money.{Money}
 use Rattle.order_lines.specs.declared.Line.{Line}
 use Rattle.order_scan.specs.declared.Scan.{Scan}
-use Rattle.order_lines.specs.Lines.{missing_of, worth_of, creation_line, redemption_line, order_line, other_of, shanghai_of, money, worth_in}
-use Rattle.order_scan.specs.Lines.{held_of, stock_count, with_missing, with_cash, with_line, no_lines}
+use Rattle.order_lines.specs.Lines.{missing_of, worth_of, creation_line, redemption_line, order_line, money, worth_in}
+use Rattle.order_scan.specs.Lines.{held_of, with_missing, with_cash, with_line, no_lines}
 use Rattle.order_scan.specs.Scans.{order_scan}
 use Rattle.order_scan.specs.Ready.{Room}
 use Rattle.order_lines.proofs.Laws.{Small, worth_in-le}
@@ -44,8 +44,8 @@ scan_below f n =
     record {
       short = below n (first_below (λ i. (f i).short) n);
       missing = missing_below (λ i. (f i).missing) n;
-      cash = record { shanghai = money (sum_below (λ i. shanghai_of (f i)) n); other = money (sum_below (λ i. other_of (f i)) n) };
-      stock_records = sum_below (λ i. stock_count (f i).moved) n;
+      cash = record { shanghai = money (sum_below (λ i. (f i).cash.shanghai.0) n); other = money (sum_below (λ i. (f i).cash.other.0) n) };
+      stock_records = sum_below (λ i. cond (f i).moves 1 0) n;
     }
 
 -- the first that passes of i + 1
@@ -94,9 +94,9 @@ module _ (f : ℕ → Line) where
       rw (
         first_none (λ i. (f i).short),
         any_none (λ i. is_some (f i).missing),
-        sum_none (λ i. other_of (f i)),
-        sum_none (λ i. shanghai_of (f i)),
-        sum_none (λ i. stock_count (f i).moved),
+        sum_none (λ i. (f i).cash.other.0),
+        sum_none (λ i. (f i).cash.shanghai.0),
+        sum_none (λ i. cond (f i).moves 1 0),
       )
 
   next : (i : ℕ) → with_line (scan_below f i) i (f i) ≡ scan_below f (i + 1)
@@ -104,9 +104,9 @@ module _ (f : ℕ → Line) where
   next i =
       let short = first_next (λ k. (f k).short) i in
       let missing = missing_next (λ k. (f k).missing) i in
-      let other = sum_more (λ k. other_of (f k)) i in
-      let shanghai = sum_more (λ k. shanghai_of (f k)) i in
-      let records = sum_more (λ k. stock_count (f k).moved) i in
+      let other = sum_more (λ k. (f k).cash.other.0) i in
+      let shanghai = sum_more (λ k. (f k).cash.shanghai.0) i in
+      let records = sum_more (λ k. cond (f k).moves 1 0) i in
       λ j. record {
         short = short j;
         missing = missing j;
@@ -123,14 +123,14 @@ module _ (f : ℕ → Line) where
       let here = all i l in
       let found = worth_in-le (any_below (λ k. is_some (f k).missing) i) _ _ (le_refl (sum_below (λ k. worth_in (f k).missing) i)) in
       let worth = sum_le (λ k. worth_in (f k).missing) i 20_000_000_000_000_000 (λ k q. (all k (omega arith)).worth) in
-      let other = sum_le (λ k. other_of (f k)) i 40_000_000_000_000_000 (λ k q. cond_le (f k).shanghai zero-le (all k (omega arith)).cash) in
-      let inside = sum_le (λ k. shanghai_of (f k)) i 40_000_000_000_000_000 (λ k q. cond_le (f k).shanghai (all k (omega arith)).cash zero-le) in
-      let records = sum_le (λ k. stock_count (f k).moved) i 1 (λ k q. cond_le (ltb 0 (f k).moved) (lit≤ tt) (lit≤ tt)) in
+      let other = sum_le (λ k. (f k).cash.other.0) i 40_000_000_000_000_000 (λ k q. (all k (omega arith)).other) in
+      let inside = sum_le (λ k. (f k).cash.shanghai.0) i 40_000_000_000_000_000 (λ k q. (all k (omega arith)).shanghai) in
+      let records = sum_le (λ k. cond (f k).moves 1 0) i 1 (λ k q. cond_le (f k).moves (lit≤ tt) (lit≤ tt)) in
       record {
         index = omega arith;
         worth = omega (arith, found, here.worth);
-        other = omega (arith, here.cash);
-        shanghai = omega (arith, here.cash);
+        other = omega (arith, here.other);
+        shanghai = omega (arith, here.shanghai);
         records = omega arith;
       }
 

@@ -22,10 +22,10 @@ use Rattle.rules.specs.Kinds.{all_cash, cash_by}
 use Rattle.rules.proofs.SoundDay.{SoundDay}
 use Rattle.rules.proofs.Asked.{either_kind}
 use Rattle.rules.specs.declared.Kind.{Kind}
-use Rattle.order_lines.specs.Lines.{creation_line, redemption_line, missing_of, worth_of}
+use Rattle.order_lines.specs.Lines.{missing_of, worth_of}
 use Rattle.order_lines.specs.Ready.{Ranged}
 use Rattle.order_scan.specs.Ready.{Scannable}
-use Rattle.order_lines.proofs.Laws.{ranged, creation_small, redemption_small}
+use Rattle.order_lines.proofs.Laws.{ranged, creation_cash-le, redemption_cash-le}
 
 module _ (d : Day) (b ps : List ℕ) (s : SoundDay d b ps) (m : ℕ) (few : m ≤ most_baskets) where
   all_ranged : (k : ℕ) → k < d.count → Ranged (component_of d k)
@@ -68,17 +68,17 @@ unfolding other_cash shanghai_cash
 cash-le d f h all = omega (arith, both_markets (column d 4) f d.count, sum_le f d.count 40_000_000_000_000_000 all)
 
 module _ (kind : Kind) (d : Day) (s f ps : List ℕ) (m : ℕ) (r : Scannable d s f ps m) where
-  creation_cash-le : (k : ℕ) → k < d.count → creation_cash d s ps m k ≤ 40_000_000_000_000_000
-  unfolding creation_cash missing_worth missing need column quantity creation_rate creation_amount creation_line worth_of missing_of
-  creation_cash-le k l = (creation_small (component_of d k) m (r.ranges k l) r.baskets (available s k) (price_of ps k) (r.prices k l)).cash
+  created-le : (k : ℕ) → k < d.count → creation_cash d s ps m k ≤ 40_000_000_000_000_000
+  unfolding creation_cash missing_worth missing need column quantity creation_rate creation_amount worth_of missing_of
+  created-le k l = creation_cash-le (component_of d k) m (r.ranges k l) r.baskets (available s k) (price_of ps k) (r.prices k l)
 
-  redemption_cash-le : (k : ℕ) → k < d.count → redemption_cash d m k ≤ 40_000_000_000_000_000
-  unfolding redemption_cash need column quantity redemption_rate redemption_amount redemption_line
-  redemption_cash-le k l = (redemption_small (component_of d k) m (r.ranges k l) r.baskets 0).cash
+  redeemed-le : (k : ℕ) → k < d.count → redemption_cash d m k ≤ 40_000_000_000_000_000
+  unfolding redemption_cash need column quantity redemption_rate redemption_amount
+  redeemed-le k l = redemption_cash-le (component_of d k) m (r.ranges k l) r.baskets
 
   -- the cash fits
   pub cash_fits : all_cash (cash_by kind d s ps m) ≤ 12_000_000_000_000_000_000
   unfolding cash_by
   cash_fits =
       cash-le d _ r.count
-      (either_kind (λ (g : ℕ → ℕ). (k : ℕ) → k < d.count → g k ≤ 40_000_000_000_000_000) (creation_cash d s ps m) (redemption_cash d m) creation_cash-le redemption_cash-le kind)
+      (either_kind (λ (g : ℕ → ℕ). (k : ℕ) → k < d.count → g k ≤ 40_000_000_000_000_000) (creation_cash d s ps m) (redemption_cash d m) created-le redeemed-le kind)

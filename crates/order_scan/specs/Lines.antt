@@ -11,7 +11,7 @@ use Rattle.layout.specs.Book.{lots_at}
 use Rattle.rules.specs.Creation.{available}
 use Rattle.rules.specs.Kinds.{by_kind, no_cash, cash_report_count}
 use Rattle.order_lines.specs.declared.Line.{Line}
-use Rattle.order_lines.specs.Lines.{money, other_of, shanghai_of}
+use Rattle.order_lines.specs.Lines.{money}
 use Rattle.order_scan.specs.declared.Scan.{Scan}
 
 -- what there is of component i: of the account, with the stretch s, to hand in; or the old lot of the fund, with the stretch f
@@ -29,8 +29,8 @@ with_missing (Some x) None = Some x
 with_missing (Some x) (Some y) = Some (money (x.0 + y.0))
 
 -- cash with that of one line more
-unfoldable pub with_cash : CashByMarket → Line → CashByMarket
-with_cash c x = record { shanghai = money (c.shanghai.0 + shanghai_of x); other = money (c.other.0 + other_of x) }
+unfoldable pub with_cash : CashByMarket → CashByMarket → CashByMarket
+with_cash c x = record { shanghai = money (c.shanghai.0 + x.shanghai.0); other = money (c.other.0 + x.other.0) }
 
 -- a scan of i lines with one more
 unfoldable pub with_line : Scan → ℕ → Line → Scan
@@ -38,8 +38,8 @@ with_line t i x =
     record {
       short = option_or t.short (then_some x.short i);
       missing = with_missing t.missing x.missing;
-      cash = with_cash t.cash x;
-      stock_records = t.stock_records + stock_count x.moved;
+      cash = with_cash t.cash x.cash;
+      stock_records = t.stock_records + cond x.moves 1 0;
     }
 
 abbrev pub no_lines : Scan

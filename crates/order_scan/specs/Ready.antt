@@ -16,8 +16,8 @@ use Rattle.order_scan.specs.declared.Scan.{Scan}
 pub record Room (t : Scan) (i : ℕ) (x : Line) : Type 0 where
   pub index : i < most_components
   pub worth : worth_in t.missing + worth_in x.missing ≤ 12_000_000_000_000_000_000
-  pub other : t.cash.other.0 + x.cash.0 ≤ 12_000_000_000_000_000_000
-  pub shanghai : t.cash.shanghai.0 + x.cash.0 ≤ 12_000_000_000_000_000_000
+  pub other : t.cash.other.0 + x.cash.other.0 ≤ 12_000_000_000_000_000_000
+  pub shanghai : t.cash.shanghai.0 + x.cash.shanghai.0 ≤ 12_000_000_000_000_000_000
   pub records : t.stock_records ≤ i
 
 -- an order of m baskets by an account with the stretch s, from or to the fund with the stretch f

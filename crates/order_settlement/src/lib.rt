@@ -7,41 +7,33 @@ ghost use Rattle.layout.specs.Records.{with_records};
 ghost use Rattle.rules.specs.Kinds.{all_cash, records_by, order_moves};
 ghost use Rattle.book.specs.Moved.{stock_moves};
 ghost use Rattle.book.specs.Ready.{StockReady, FundReady, OrderReady};
-ghost use Rattle.order_records.specs.Written.{Fits, Wrote, stock_records};
+ghost use Rattle.order_records.specs.Written.{Fits, wrote, stock_records};
 ghost use Rattle.order_records.specs.Ready.{Writable};
 
 use layout::DayView;
+use order_records::Out;
 use rules::{Ask, CashByMarket};
 use units::Money;
 
-// Moves the stock of every component, and writes its records from the place `from` on. Gives the next free place.
-fn settle_stock(
-    ask: Ask,
-    day: &DayView,
-    book: &mut [u64],
-    m: u64,
-    out: &mut [u64],
-    from: usize,
-) -> usize
+// Moves the stock of every component, and writes its records.
+fn settle_stock(ask: Ask, day: &DayView, book: &mut [u64], m: u64, out: &mut Out)
     requires account_nonzero { (0 < ask.account) × (ask.account * width day.now + width day.now ≤ length book.old) }
     requires stock_ready { StockReady day.now (account day.now book.old ask.account) m }
     requires fund_ready { FundReady ask.kind day.now (account day.now book.old ask.account) (account day.now book.old 0) m }
-    requires fits { Fits (stock_records ask.kind day.now (account day.now book.old ask.account) m) from out.old }
-    ensures wrote { Wrote (stock_records ask.kind day.now (account day.now book.old ask.account) m) from out.old out.new result }
+    requires fits { Fits (stock_records ask.kind day.now (account day.now book.old ask.account) m) out.old }
+    ensures out { out.new ≡ wrote (stock_records ask.kind day.now (account day.now book.old ask.account) m) out.old }
     ensures book { book.new ≡ stock_moves ask.kind day.now ask.account m day.now.count book.old }
 {
     let kind = ask.kind;
     let a = ask.account;
     let count = day.count();
     let w = layout::width_of(count);
-    let side = order_records::stock_side(kind).number();
-    let mut at = from;
+    let side = order_records::stock_side(kind);
     for i in 0..count {
         let c = day.component(i);
-        let q = order_stock::move_line(kind, c, book, w, a, m, i);
-        at = order_records::put_line(out, at, c.code, side, q);
+        let moved = order_stock::move_line(kind, c, book, w, a, m, i);
+        out.put_line(c.code, side, moved);
     }
-    at
 }
 
 // Settles an order in `m` baskets with its cash. The records tell what moves.
@@ -61,10 +53,10 @@ pub fn settle(
     let count = day.count();
     let first_code = day.fund().first_code;
     let units = ask.units;
-    let side = order_records::rest_side(ask.kind).number();
-    let unit = order_records::record_of(first_code, side, units, Money(0));
-    let stock_at = order_records::put_record(list, 0, unit);
-    let cash_at = settle_stock(ask, day, book, m, list, stock_at);
-    order_records::put_after_stock(list, cash_at, first_code, side, units, cash);
+    let side = order_records::rest_side(ask.kind);
+    let mut out = Out { run: list, at: 0 };
+    out.put(order_records::record_of(first_code, side, units, Money(0)));
+    settle_stock(ask, day, book, m, &mut out);
+    out.put_after_stock(first_code, side, units, cash);
     order_units::move_rest(ask.kind, count, book, ask.account, units, cash.total());
 }

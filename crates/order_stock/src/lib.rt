@@ -9,6 +9,7 @@ ghost use Rattle.rules.specs.declared.Kind.TheVariants.{Redemption};
 ghost use Rattle.rules.specs.Kinds.{fund_lots};
 ghost use Rattle.book.specs.Moved.{moved_of, line_moves};
 ghost use Rattle.book.specs.Ready.{LineReady};
+ghost use Rattle.order_stock.specs.Stock.{some_moved};
 
 use layout::Component;
 use lots::Lots;
@@ -16,19 +17,20 @@ use rules::Kind;
 
 // The stock of component `c` that an order of `m` baskets moves, for an account with the lots `x` of it.
 #[tactic(auto, unfolding(book::specs::Moved::moved_of))]
-fn stock_moved(kind: Kind, c: Component, m: u64, x: Lots) -> u64
+fn stock_moved(kind: Kind, c: Component, m: u64, x: Lots) -> Option<u64>
     requires quantity_bound { m * c.quantity < 2 ^ 62 }
     requires x_bound { handable x < 2 ^ 62 }
-    ensures { result ≡ moved_of kind c m x }
+    ensures { result ≡ some_moved (moved_of kind c m x) }
 {
     if !flags::entry_of(c.flag, flags::Column::StockMoves) {
-        return 0;
+        return None;
     }
     let needed = m * c.quantity;
-    match kind {
+    let moved = match kind {
         Kind::Creation => needed.min(x.handable()),
         Kind::Redemption => needed,
-    }
+    };
+    (0 < moved).then_some(moved)
 }
 
 // What an order of which `q` moves makes of the fund's lots.
@@ -53,20 +55,17 @@ pub fn move_line(
     a: usize,
     m: u64,
     line: usize,
-) -> u64
+) -> Option<u64>
     requires { LineReady kind c book.old w a m line }
-    ensures value { result ≡ moved_of kind c m (lots_at (stretch_of w book.old a) line) }
-    ensures book { book.new ≡ line_moves kind w a line result book.old }
+    ensures value { result ≡ some_moved (moved_of kind c m (lots_at (stretch_of w book.old a) line)) }
+    ensures book { book.new ≡ line_moves kind w a line (moved_of kind c m (lots_at (stretch_of w book.old a) line)) book.old }
 {
     let x = book::lots_of(book, w, a, line);
-    let q = stock_moved(kind, c, m, x);
-    if q == 0 {
-        return 0;
-    }
+    let q = stock_moved(kind, c, m, x)?;
     let own = book::account_lots(kind, x, q);
     book::put_lots_of(book, w, a, line, own);
     let f = book::lots_of(book, w, book::FUND, line);
     let fund = fund_lots(kind, f, q);
     book::put_lots_of(book, w, book::FUND, line, fund);
-    q
+    Some(q)
 }

@@ -2,16 +2,16 @@
 // numbers. The order is made into a flat run, and a writer over the list (`record_writer`) takes the records of that run.
 #![tactic(auto)]
 
-ghost use Rattle.std.specs.Prelude.{◌≡◌, ◌*◌, length};
-ghost use Rattle.layout.specs.Places.{record_width};
+ghost use Rattle.std.specs.Prelude.{◌≡◌, length};
 ghost use Rattle.layout.specs.Day.{day_at};
 ghost use Rattle.rules.specs.Replies.{order_answer_reply};
-ghost use Rattle.rules.specs.Kinds.{asked_reply, asked_book};
+ghost use Rattle.rules.specs.Lent.{lent_of, rooms_in};
+ghost use Rattle.rules.specs.Kinds.{asked_reply, asked_book, asked_lists};
 ghost use Rattle.order_structs.specs.Made.{rooms_beside, made_records, made_reports};
-ghost use Rattle.order_structs.specs.Settling.{most_records, lent_records, Settling};
+ghost use Rattle.order_structs.specs.Settling.{lent_records};
 
 use layout::Record;
-use rules::{Ask, Counts, Refusal};
+use rules::{Ask, Counts, Lists, Refusal};
 
 // The most records of an order.
 pub const MOST_RECORDS: usize = rules::MOST_RECORDS;
@@ -21,38 +21,33 @@ const FLAT_LENGTH: usize = layout::RECORD_WIDTH * MOST_RECORDS;
 
 // The fewer of a list's room and the most records of an order.
 #[tactic(auto, unfolding(crate::specs::Settling::lent_records))]
-pub fn records_lent(room: usize) -> usize
+fn records_lent(room: usize) -> usize
     ensures { result ≡ lent_records room }
 {
     room.min(MOST_RECORDS)
 }
 
-// Makes an order into a flat run, of which it lends no more records than the list has room for.
-fn settle(
+// An order with its lists lent one by one. `order` cannot put a part of its run into the struct itself: tried, its proof did not close,
+// as what the call leaves in such a part is not known.
+fn flat_order(
     day: &[u64],
     book: &mut [u64],
     prices: &[u64],
     ask: Ask,
-    room: usize,
-    flat: &mut [u64],
+    records: &mut [u64],
     investor: &mut [u64],
     fund: &mut [u64],
 ) -> Result<Counts, Refusal>
-    requires { length flat.old ≡ record_width * most_records }
-    ensures settling { Settling (day_at day.now) book.old prices.now ask (rooms_beside room investor.old fund.old) result book.new flat.new }
-    ensures reports { (investor.new, fund.new) ≡ made_reports (day_at day.now) book.old prices.now ask (rooms_beside room investor.old fund.old) investor.old fund.old }
+    ensures result_value { order_answer_reply result ≡ asked_reply (day_at day.now) book.old prices.now ask (rooms_in (lent_of records.old investor.old fund.old)) }
+    ensures book { book.new ≡ asked_book (day_at day.now) book.old prices.now ask (rooms_in (lent_of records.old investor.old fund.old)) }
+    ensures lists { lent_of records.new investor.new fund.new ≡ asked_lists (day_at day.now) book.old prices.now ask (lent_of records.old investor.old fund.old) }
 {
-    let lent = layout::RECORD_WIDTH * records_lent(room);
-    order_calls::order(
-        false,
-        day,
-        book,
-        prices,
-        ask,
-        &mut flat[..lent],
+    let mut lists = Lists {
+        records,
         investor,
         fund,
-    )
+    };
+    order_calls::order(day, book, prices, ask, &mut lists)
 }
 
 // Creates or redeems units, by the kind of order; the records and the reports to both parties go to the lent lists.
@@ -65,19 +60,15 @@ pub fn order(
     investor: &mut [u64],
     fund: &mut [u64],
 ) -> Result<Counts, Refusal>
-    ensures { (order_answer_reply result ≡ asked_reply (day_at day.now) book.old prices.now ask (rooms_beside (length list.old) investor.old fund.old)) × (book.new ≡ asked_book (day_at day.now) book.old prices.now ask (rooms_beside (length list.old) investor.old fund.old)) × (list.new ≡ made_records (day_at day.now) book.old prices.now ask (rooms_beside (length list.old) investor.old fund.old) list.old) × ((investor.new, fund.new) ≡ made_reports (day_at day.now) book.old prices.now ask (rooms_beside (length list.old) investor.old fund.old) investor.old fund.old) }
+    ensures result_value { order_answer_reply result ≡ asked_reply (day_at day.now) book.old prices.now ask (rooms_beside (length list.old) investor.old fund.old) }
+    ensures book { book.new ≡ asked_book (day_at day.now) book.old prices.now ask (rooms_beside (length list.old) investor.old fund.old) }
+    ensures list { list.new ≡ made_records (day_at day.now) book.old prices.now ask (rooms_beside (length list.old) investor.old fund.old) list.old }
+    ensures reports { (investor.new, fund.new) ≡ made_reports (day_at day.now) book.old prices.now ask (rooms_beside (length list.old) investor.old fund.old) investor.old fund.old }
 {
     let mut flat = [0u64; FLAT_LENGTH];
-    let counts = settle(
-        day,
-        book,
-        prices,
-        ask,
-        list.len(),
-        &mut flat,
-        investor,
-        fund,
-    )?;
+    let lent = layout::RECORD_WIDTH * records_lent(list.len());
+    let run = &mut flat[..lent];
+    let counts = flat_order(day, book, prices, ask, run, investor, fund)?;
     record_writer::fill(list, &flat, counts.records);
     Ok(counts)
 }

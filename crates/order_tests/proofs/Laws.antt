@@ -4,8 +4,9 @@ use mathlib.Core.Bool.{Bool, true, false, cond, not, ◌&&◌}
 use mathlib.Core.List.{List, ◌∷◌, ◌++◌}
 use Rattle.std.specs.Prelude.{Option, Some, None, Ok, Err}
 use Rattle.std.specs.Bool.{then_some}
-use Prim.Native.Nat.{ℕ, ◌≤◌}
+use Prim.Native.Nat.{ℕ, ◌≤◌, ◌<◌}
 use lib.Dec.{T, ltb}
+use borrow.Author.Tests.{lt-ltb, le-ltb}
 use Rattle.sequences.specs.Checks.{Check, Reply, check, reply, answering, answered}
 use Rattle.sequences.specs.Below.{sum_below, below}
 use Rattle.sequences.proofs.Checks.{numbered}
@@ -14,7 +15,6 @@ use Rattle.units.specs.declared.ReferenceValue.{ReferenceValue}
 use Rattle.units.specs.Units.{ratio_bound}
 use Rattle.layout.specs.Places.{most_components}
 use Rattle.layout.specs.Day.{Day}
-use Rattle.rules.specs.declared.Kind.{Kind}
 use Rattle.rules.specs.declared.Ask.{Ask}
 use Rattle.rules.specs.declared.Refusal.{Refusal}
 use Rattle.layout.specs.Book.{cash, head_at}
@@ -37,7 +37,7 @@ use Rattle.order_scan.proofs.Ready.{cash_fits}
 use Rattle.order_scan.proofs.Counts.{scan_counts_lem, scan_records-le}
 use Rattle.order_shortage.specs.Tests.{fails_at, stock_tests, last_tests, cash_number, cash_place}
 use Rattle.order_shortage.proofs.Laws.{stock_numbered}
-use Rattle.order_tests.specs.Tests.{ratio_tests, money_tests, order_tests, means_answer}
+use Rattle.order_tests.specs.Tests.{ratio_tests, means_answer}
 
 ratio_numbered : (d : Day) (ps : List ℕ) (m : ℕ) (missing : Option Money) → T (numbered (ratio_tests d ps m missing))
 unfolding ratio_tests
@@ -51,43 +51,19 @@ module _ (d : Day) (ps : List ℕ) (m : ℕ) (worth : Money) where
   unfolding value_checks answering ratio_tests
   ratio_no_value why e = rw (refused_facts d ps why e) (rw (refused_facts d ps why e) at e)
 
-  -- the value v is the day's, and r the test on it
-  module _ (v : ReferenceValue) (is : value_answer_reply (Ok v) ≡ answered (value_checks d ps) (reference_value d ps)) (r : Bool)
-      (tested : r ≡ ltb (ratio_bound m d.fund.basket_size v.0 d.fund.max_cash_ratio.0) worth.0) where
-    same : ltb (ratio_bound m d.fund.basket_size (reference_value d ps) d.fund.max_cash_ratio.0) worth.0 ≡ r
-    same = ap (λ (x : ℕ). ltb (ratio_bound m d.fund.basket_size x d.fund.max_cash_ratio.0) worth.0) (sym (worth_facts d ps v is).1) ∙ sym tested
+  -- the value v is the day's, and the bound that it sets
+  module _ (v : ReferenceValue) (is : value_answer_reply (Ok v) ≡ answered (value_checks d ps) (reference_value d ps)) (bound : ℕ)
+      (set : bound ≡ ratio_bound m d.fund.basket_size v.0 d.fund.max_cash_ratio.0) where
+    same : ratio_bound m d.fund.basket_size (reference_value d ps) d.fund.max_cash_ratio.0 ≡ bound
+    same = ap (λ (x : ℕ). ratio_bound m d.fund.basket_size x d.fund.max_cash_ratio.0) (sym (worth_facts d ps v is).1) ∙ sym set
 
-    pub ratio_over : r ≡ true → reply 15 0 0 ≡ answered (ratio_tests d ps m (Some worth)) 0
+    pub ratio_over : bound < worth.0 → reply 15 0 0 ≡ answered (ratio_tests d ps m (Some worth)) 0
     unfolding answering ratio_tests
-    ratio_over e = simp ((worth_facts d ps v is).0, same ∙ e)
+    ratio_over h = simp ((worth_facts d ps v is).0, same, lt-ltb bound worth.0 h)
 
-    pub ratio_within : r ≡ false → reply 0 0 0 ≡ answered (ratio_tests d ps m (Some worth)) 0
+    pub ratio_within : worth.0 ≤ bound → reply 0 0 0 ≡ answered (ratio_tests d ps m (Some worth)) 0
     unfolding answering ratio_tests
-    ratio_within e = simp ((worth_facts d ps v is).0, same ∙ e)
-
--- the stages, from a scan
-module _ (d : Day) (ps : List ℕ) (kind : Kind) (m : ℕ) (t : Scan) (held : ℕ) (rooms : Rooms) where
-  pub ratio_passes : (n due : ℕ) (counts : Counts) → n ≡ d.count → due ≡ all_cash t.cash → counts ≡ scan_counts t → reply 0 0 0 ≡ answered (ratio_tests d ps m t.missing) 0
-      → answering (last_tests (cash_number kind) (cash_place kind n) held due rooms counts) (made_reply counts)
-      ≡ answering (money_tests d ps kind m t held rooms) (made_reply (scan_counts t))
-  unfolding money_tests
-  ratio_passes n due counts en ed ec e = rw (en, ed, ec) (stage_passed (ratio_tests d ps m t.missing) _ _ (ratio_numbered d ps m t.missing) e)
-
-  pub ratio_stops : (why : Refusal) → refusal_reply why ≡ answered (ratio_tests d ps m t.missing) 0
-      → refusal_reply why ≡ answering (money_tests d ps kind m t held rooms) (made_reply (scan_counts t))
-  unfolding money_tests
-  ratio_stops why e = stage_stopped (ratio_tests d ps m t.missing) _ _ why e
-
-  module _ (there units : ℕ) where
-    pub stock_passes : reply 0 0 0 ≡ answered (stock_tests kind there units t.short) 0
-        → answering (money_tests d ps kind m t held rooms) (made_reply (scan_counts t)) ≡ answering (order_tests d ps kind m t there units held rooms) (made_reply (scan_counts t))
-    unfolding order_tests
-    stock_passes e = stage_passed (stock_tests kind there units t.short) _ _ (stock_numbered kind there units t.short) e
-
-    pub stock_stops : (why : Refusal) → refusal_reply why ≡ answered (stock_tests kind there units t.short) 0
-        → refusal_reply why ≡ answering (order_tests d ps kind m t there units held rooms) (made_reply (scan_counts t))
-    unfolding order_tests
-    stock_stops why e = stage_stopped (stock_tests kind there units t.short) _ _ why e
+    ratio_within h = simp ((worth_facts d ps v is).0, same, le-ltb bound worth.0 h)
 
 -- a test at the first place below n, and the tests of what is missing, as the rules write them
 module _ (cs : List Check) (r : Reply) where
@@ -138,19 +114,46 @@ module _ (d : Day) (s f ps : List ℕ) (rooms : Rooms) where
       let first = first_lacking d f (baskets d units) in
       ap (λ (x : Reply). cond (ltb (available s d.count) units) (reply 9 0 0) x) (at_first (last (redemption_of a units)) r d.count first 17))
 
--- and so from a scan t, for m that is the order's count of baskets
-module _ (d : Day) (s f ps : List ℕ) (ask : Ask) (m : ℕ) (t : Scan) (scanned : t ≡ order_scan ask.kind d s f ps m) (whole : m ≡ baskets d ask.units)
-    (r : Scannable d s f ps m) where
-  pub means_done : (rooms : Rooms)
-      → answering (order_tests d ps ask.kind m t (available s d.count) ask.units (head_at (by_kind ask.kind s f) cash) rooms) (made_reply (scan_counts t)) ≡ means_answer d s f ps ask rooms
-  unfolding order_tests money_tests means_answer
-  means_done rooms = rw (scanned, whole, scan_counts_lem d s f ps ask) (tests_are d s f ps rooms _ ask)
+-- and so stage by stage from a scan t, for m that is the order's count of baskets
+module _ (d : Day) (s f ps : List ℕ) (ask : Ask) (m : ℕ) (t : Scan) (rooms : Rooms) (scanned : t ≡ order_scan ask.kind d s f ps m) (whole : m ≡ baskets d ask.units) where
+  abbrev stock : List Check
+  stock = stock_tests ask.kind (available s d.count) ask.units t.short
+
+  abbrev ratio : List Check
+  ratio = ratio_tests d ps m t.missing
+
+  abbrev last_of : ℕ → ℕ → ℕ → Rooms → Counts → List Check
+  last_of n held due rooms counts = last_tests (cash_number ask.kind) (cash_place ask.kind n) held due rooms counts
+
+  abbrev behind : List Check
+  behind = last_of d.count (head_at (by_kind ask.kind s f) cash) (all_cash t.cash) rooms (scan_counts t)
+
+  means_done : answering (stock ++ (ratio ++ behind)) (made_reply (scan_counts t)) ≡ means_answer d s f ps ask rooms
+  unfolding means_answer
+  means_done = rw (scanned, whole, scan_counts_lem d s f ps ask) (tests_are d s f ps rooms _ ask)
+
+  pub stock_stops : (why : Refusal) → refusal_reply why ≡ answered stock 0 → refusal_reply why ≡ means_answer d s f ps ask rooms
+  stock_stops why e = stage_stopped stock _ _ why e ∙ means_done
+
+  module _ (there : reply 0 0 0 ≡ answered stock 0) where
+    pub ratio_stops : (why : Refusal) → refusal_reply why ≡ answered ratio 0 → refusal_reply why ≡ means_answer d s f ps ask rooms
+    ratio_stops why e =
+        stage_stopped ratio behind (made_reply (scan_counts t)) why e ∙ stage_passed stock _ _ (stock_numbered ask.kind (available s d.count) ask.units t.short) there ∙ means_done
+
+    pub means_last : reply 0 0 0 ≡ answered ratio 0 → {n held due : ℕ} {counts : Counts} {x : Reply}
+        → n ≡ d.count → held ≡ head_at (by_kind ask.kind s f) cash → due ≡ all_cash t.cash → counts ≡ scan_counts t
+        → x ≡ answering (last_of n held due rooms counts) (made_reply counts) → x ≡ means_answer d s f ps ask rooms
+    means_last within en eh ed ec e =
+        e
+        ∙ rw (en, eh, ed, ec) (stage_passed ratio behind (made_reply (scan_counts t)) (ratio_numbered d ps m t.missing) within)
+        ∙ stage_passed stock _ _ (stock_numbered ask.kind (available s d.count) ask.units t.short) there
+        ∙ means_done
 
   pub means_cash : t.cash ≡ asked_cash d s ps ask
   unfolding order_scan asked_cash
   means_cash = rw (scanned, whole)
 
   -- and its sums fit
-  pub means_fit : (t.stock_records ≤ most_components) × (all_cash t.cash ≤ 12_000_000_000_000_000_000)
+  pub means_fit : Scannable d s f ps m → (t.stock_records ≤ most_components) × (all_cash t.cash ≤ 12_000_000_000_000_000_000)
   unfolding order_scan
-  means_fit = rw scanned (scan_records-le ask.kind d s f ps m r.count, cash_fits ask.kind d s f ps m r)
+  means_fit r = rw scanned (scan_records-le ask.kind d s f ps m r.count, cash_fits ask.kind d s f ps m r)

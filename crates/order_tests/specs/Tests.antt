@@ -1,20 +1,16 @@
 -- The third stage of an order as the code runs it: from a scan of the basket.
-use Rattle.std.specs.Prelude.{ℕ, not, List, [], ◌∷◌, ◌++◌, Option, Some, None, Result, Ok, Err, ltb}
+use Rattle.std.specs.Prelude.{ℕ, not, List, [], ◌∷◌, Option, Some, None, Result, Ok, Err, ltb}
 use Rattle.sequences.specs.Checks.{Check, check, Reply, answering}
 use Rattle.units.specs.declared.Money.{Money}
 use Rattle.units.specs.Units.{ratio_bound}
 use Rattle.layout.specs.Day.{Day}
 use Rattle.rules.specs.declared.Refusal.{Refusal}
-use Rattle.rules.specs.declared.Kind.{Kind}
 use Rattle.rules.specs.declared.Ask.{Ask}
 use Rattle.rules.specs.declared.Rooms.{Rooms}
 use Rattle.rules.specs.Replies.{refusal_reply, made_reply}
 use Rattle.rules.specs.Value.{reference_value, has_value}
-use Rattle.rules.specs.Kinds.{all_cash, counts_by, asked_means}
-use Rattle.order_scan.specs.declared.Scan.{Scan}
-use Rattle.order_scan.specs.Lines.{scan_counts}
+use Rattle.rules.specs.Kinds.{counts_by, asked_means}
 use Rattle.order_tests.specs.declared.Accepted.{Accepted}
-use Rattle.order_shortage.specs.Tests.{stock_tests, last_tests, cash_number, cash_place}
 
 -- 14 and 15, where stock is missing for which cash stands
 unfoldable pub ratio_tests : Day → List ℕ → ℕ → Option Money → List Check
@@ -23,15 +19,6 @@ ratio_tests d ps m (Some worth) =
     check (not (has_value d ps)) 14 0
     ∷ check (ltb (ratio_bound m d.fund.basket_size (reference_value d ps) d.fund.max_cash_ratio.0) worth.0) 15 0
     ∷ []
-
--- the tests behind those of stock, from a scan t and the cash held; and all of them
-unfoldable pub money_tests : Day → List ℕ → Kind → ℕ → Scan → ℕ → Rooms → List Check
-money_tests d ps kind m t held rooms =
-    ratio_tests d ps m t.missing
-    ++ last_tests (cash_number kind) (cash_place kind d.count) held (all_cash t.cash) rooms (scan_counts t)
-
-unfoldable pub order_tests : Day → List ℕ → Kind → ℕ → Scan → ℕ → ℕ → ℕ → Rooms → List Check
-order_tests d ps kind m t available units held rooms = stock_tests kind available units t.short ++ money_tests d ps kind m t held rooms
 
 -- the answer of the tests as a reply
 abbrev pub accepted_reply : Result Accepted Refusal → Reply

@@ -73,8 +73,8 @@ module _ (d : Day) (b ps : List ℕ) (ask : Ask) (f : Formed d b ps ask) where
   first = omega (arith, sound.own.accounts_low)
 
   -- what the third stage asks, on parts s and t of the book that are the account's stretch and the fund's
-  pub stage_asks : (s t : List ℕ) (m : ℕ) → s ≡ account d b ask.account → t ≡ account d b 0 → m ≡ baskets d ask.units → Scannable d s t ps m
-  stage_asks s t m e g whole = rw (e, g, whole) (scannable d b ps sound (baskets d ask.units) order.baskets_high ask.account order.account_in)
+  pub stage_asks : (s t : List ℕ) → s ≡ account d b ask.account → t ≡ account d b 0 → Scannable d s t ps (baskets d ask.units)
+  stage_asks s t e g = rw (e, g) (scannable d b ps sound (baskets d ask.units) order.baskets_high ask.account order.account_in)
 
   pub prices_ask : Priceable d ps
   prices_ask = priceable d b ps sound

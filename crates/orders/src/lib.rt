@@ -7,15 +7,16 @@ ghost use Rattle.layout.specs.Places.{most_components};
 ghost use Rattle.layout.specs.Book.{width_of, account};
 ghost use Rattle.rules.specs.Replies.{order_answer_reply, if_accepted};
 ghost use Rattle.rules.specs.Sound.{is_sound};
-ghost use Rattle.rules.specs.Orders.{baskets};
-ghost use Rattle.rules.specs.Lent.{lent_of, rooms_in};
-ghost use Rattle.rules.specs.Kinds.{asked_cash, asked_moves, with_asked};
+ghost use Rattle.rules.specs.Lent.{rooms_in};
+ghost use Rattle.rules.specs.Lists.{lent_in, left_in};
+ghost use Rattle.rules.specs.Kinds.{asked_cash, asked_moves};
 ghost use Rattle.order_tests.specs.Tests.{accepted_reply, means_answer};
-ghost use Rattle.orders.specs.Orders.{asked_answer, Formed};
+ghost use Rattle.orders.specs.Orders.{asked_answer, answered_lists, Formed};
 
-use layout::DayView;
+use layout::{DayHead, DayView};
+use order_scan::Parties;
 use order_tests::Accepted;
-use rules::{Ask, Counts, Refusal, Rooms};
+use rules::{Ask, Counts, Lists, Refusal, Rooms};
 
 // An account's part of the book.
 fn part_of(book: &[u64], count: usize, a: usize) -> &[u64]
@@ -28,42 +29,23 @@ fn part_of(book: &[u64], count: usize, a: usize) -> &[u64]
     &book[start..end]
 }
 
-// The third stage of an order of `m` baskets, on the account's part of the book and the fund's.
+// The third stage of an order, on the account's part of the book and the fund's.
 fn order_stage(
     day: &DayView,
     book: &[u64],
     prices: &[u64],
     ask: Ask,
-    m: u64,
     rooms: Rooms,
 ) -> Result<Accepted, Refusal>
-    requires formed { Formed day.now book.now prices.now ask }
-    requires m_value { m ≡ baskets day.now ask.units }
+    requires { Formed day.now book.now prices.now ask }
     ensures answer_value { accepted_reply result ≡ means_answer day.now (account day.now book.now ask.account) (account day.now book.now 0) prices.now ask rooms }
     ensures cash { IfOk result (λ accepted. accepted.cash ≡ asked_cash day.now (account day.now book.now ask.account) prices.now ask) }
 {
     let n = day.count();
-    let stretch = part_of(book, n, ask.account);
+    let account = part_of(book, n, ask.account);
     let fund = part_of(book, n, book::FUND);
-    order_tests::order_means(day, stretch, fund, prices, ask, m, rooms)
-}
-
-// The tests of an order of `m` baskets.
-fn tested_in(
-    day: &DayView,
-    book: &[u64],
-    prices: &[u64],
-    ask: Ask,
-    m: u64,
-    rooms: Rooms,
-) -> Result<Accepted, Refusal>
-    requires prices_value { is_sound day.now book.now prices.now ≡ true }
-    requires m_value { m ≡ baskets day.now ask.units }
-    ensures answer_value { accepted_reply result ≡ asked_answer day.now book.now prices.now ask rooms }
-    ensures cash { IfOk result (λ accepted. accepted.cash ≡ asked_cash day.now (account day.now book.now ask.account) prices.now ask) }
-{
-    order_form::order_form(day, book, ask, m)?;
-    order_stage(day, book, prices, ask, m, rooms)
+    let parties = Parties { account, fund };
+    order_tests::order_means(day, &parties, prices, ask, rooms)
 }
 
 // The tests of an order alone, with the cash of one that is accepted.
@@ -78,8 +60,13 @@ pub fn order_tested(
     ensures answer_value { accepted_reply result ≡ asked_answer day.now book.now prices.now ask rooms }
     ensures cash { IfOk result (λ accepted. accepted.cash ≡ asked_cash day.now (account day.now book.now ask.account) prices.now ask) }
 {
-    let m = ask.units / day.fund().basket_size;
-    tested_in(day, book, prices, ask, m, rooms)
+    let head = DayHead {
+        accounts: day.accounts(),
+        count: day.count(),
+        fund: day.fund(),
+    };
+    order_form::order_form(&head, book, ask)?;
+    order_stage(day, book, prices, ask, rooms)
 }
 
 // An order: its tests, and where they accept it its records, moves and reports.
@@ -88,27 +75,21 @@ pub fn order(
     book: &mut [u64],
     prices: &[u64],
     ask: Ask,
-    records: &mut [u64],
-    investor: &mut [u64],
-    fund: &mut [u64],
+    lists: &mut Lists,
 ) -> Result<Counts, Refusal>
     requires prices_value { is_sound day.now book.old prices.now ≡ true }
-    ensures result_value { order_answer_reply result ≡ asked_answer day.now book.old prices.now ask (rooms_in (lent_of records.old investor.old fund.old)) }
-    ensures book { book.new ≡ if_accepted (asked_answer day.now book.old prices.now ask (rooms_in (lent_of records.old investor.old fund.old))) (asked_moves day.now prices.now ask book.old) book.old }
-    ensures lists { lent_of records.new investor.new fund.new ≡ if_accepted (asked_answer day.now book.old prices.now ask (rooms_in (lent_of records.old investor.old fund.old))) (with_asked day.now book.old prices.now ask (lent_of records.old investor.old fund.old)) (lent_of records.old investor.old fund.old) }
+    ensures result_value { order_answer_reply result ≡ asked_answer day.now book.old prices.now ask (rooms_in (lent_in lists.old)) }
+    ensures book { book.new ≡ if_accepted (asked_answer day.now book.old prices.now ask (rooms_in (lent_in lists.old))) (asked_moves day.now prices.now ask book.old) book.old }
+    ensures lists { lists.new ≡ left_in lists.old (answered_lists day.now book.old prices.now ask (lent_in lists.old)) }
 {
+    let accepted = order_tested(day, book, prices, ask, lists.rooms())?;
     let m = ask.units / day.fund().basket_size;
-    let rooms = rules::rooms_of(records.len(), investor.len(), fund.len());
-    let accepted = tested_in(day, book, prices, ask, m, rooms)?;
     let cash = accepted.cash;
+    let records = &mut *lists.records;
+    let investor = &mut *lists.investor;
+    let fund = &mut *lists.fund;
     order_settlement::settle(ask, day, book, m, cash, records);
-    order_reports::report(
-        ask.kind,
-        accepted.counts.reports,
-        cash,
-        records,
-        investor,
-        fund,
-    );
+    let reports = accepted.counts.reports;
+    order_reports::report(ask.kind, reports, cash, records, investor, fund);
     Ok(accepted.counts)
 }

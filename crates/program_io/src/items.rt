@@ -1,9 +1,11 @@
-// Items of a text: a tag, how many numbers follow, and these. Numbers are unsigned, in base ten, with blanks or line ends between them.
-ghost use Rattle.std.specs.Prelude.{◌≡◌, ◌≤◌, length, slice_index};
-ghost use Rattle.std.specs.Iterator.{at_most};
+// Items of an input: a tag, how many numbers follow, and these. Numbers are unsigned, in base ten, with blanks or line ends between
+// them.
+ghost use Rattle.std.specs.Prelude.{◌≡◌, ◌×◌, length, take, drop, IfOk};
 
 use crate::fault::Fault;
-use std::alloc::{AllocError, Global};
+use std::alloc::Global;
+use std::io;
+use std::io::{BufReader, Bytes, Read};
 
 #[derive(Drop)]
 pub struct Item {
@@ -11,85 +13,81 @@ pub struct Item {
     pub numbers: Vec<u64>,
 }
 
-// The number at a place, 0 behind the last.
-pub fn number_at(numbers: &[u64], i: usize) -> u64
-    ensures { result ≡ slice_index numbers.now i }
+// So many numbers or bytes of a run, and the rest; bad input where there are fewer.
+pub fn split<T>(run: &[T], at: usize) -> Result<(&[T], &[T]), Fault>
+    ensures front { IfOk result (λ parts. parts.0.now ≡ take at run.now) }
+    ensures front_length { IfOk result (λ parts. length parts.0.now ≡ at) }
+    ensures rest { IfOk result (λ parts. parts.1.now ≡ drop at run.now) }
 {
-    numbers.get(i).copied().unwrap_or(0)
+    run.split_at_checked(at).ok_or(Fault::BadInput)
 }
 
-impl Item {
-    pub fn number(&self, i: usize) -> u64
-        ensures { result ≡ slice_index self.now.numbers.items i }
-    {
-        number_at(&self.numbers, i)
-    }
-
-    pub fn size(&self, i: usize) -> usize
-        ensures { result ≡ slice_index self.now.numbers.items i }
-    {
-        self.number(i) as usize
-    }
+fn is_between(b: u8) -> bool {
+    b == b' ' || b == b'\n'
 }
 
-// The number of a word that is digits alone.
-fn number(word: &[u8]) -> Option<u64> {
-    if !word.iter().all(|b| b.is_ascii_digit()) {
-        return None;
-    }
-    str::from_utf8(word).ok()?.parse::<u64>().ok()
+// A number with one digit more; nothing where that is no digit, or the number is past 64 bits.
+fn with_digit(number: u64, b: u8) -> Option<u64> {
+    let digit = char::from(b).to_digit(10)?;
+    number.checked_mul(10)?.checked_add(u64::from(digit))
 }
 
-// The numbers of a text, with nothing for a word that is none.
-pub fn numbers(alloc: Global, text: &[u8]) -> Result<Vec<Option<u64>>, AllocError> {
-    text.split(|b| *b == b' ' || *b == b'\n')
-        .filter(|word| !word.is_empty())
-        .map(|word| number(word))
-        .collect(alloc)
-}
-
-// How many words an item has behind its tag: its length and so many numbers, and no more than there are. Behind a malformed length
-// nothing is left.
-fn width(behind: &[Option<u64>]) -> usize
-    ensures { result ≤ length behind.now }
-{
-    let most = behind.len();
-    match behind.first() {
-        Some(Some(n)) => (*n as usize).saturating_add(1).min(most),
-        _ => most,
-    }
-}
-
-// The item of a tag, and of what stands behind it.
-fn read(alloc: Global, tag: Option<u64>, body: &[Option<u64>]) -> Result<Item, Fault> {
-    let tag = tag.ok_or(Fault::BadInput)?;
-    let (length, words) = body.split_first().ok_or(Fault::BadInput)?;
-    if *length != Some(words.len() as u64) {
-        return Err(Fault::BadInput);
-    }
-    let mut numbers = Vec::with_capacity(alloc, words.len())?;
-    for word in words {
-        numbers.push(word.ok_or(Fault::BadInput)?)?;
-    }
-    Ok(Item { tag, numbers })
-}
-
-// The items of words that are still to be read.
+// The items of an input, each read when it is asked for. Where the input cannot be read it ends.
 #[derive(Drop)]
-pub struct Items<'a> {
-    pub alloc: Global,
-    pub words: &'a [Option<u64>],
+pub struct Items<R: Read + Drop> {
+    alloc: Global,
+    bytes: Bytes<BufReader<R>>,
+    // The most numbers that an item may have.
+    most: usize,
 }
 
-impl<'a> Iterator for Items<'a> {
+impl<R: Read + Drop> Items<R> {
+    pub fn new(alloc: Global, input: R, most: usize) -> io::Result<Items<R>> {
+        let bytes = BufReader::new(alloc, input)?.bytes();
+        Ok(Items { alloc, bytes, most })
+    }
+
+    // The next number, and nothing behind the last.
+    fn next_number(&mut self) -> Result<Option<u64>, Fault> {
+        let mut bytes = self.bytes.by_ref().map_while(Result::ok);
+        let Some(first) = bytes.find(|b| !is_between(*b)) else {
+            return Ok(None);
+        };
+        let number = with_digit(0, first).ok_or(Fault::BadInput)?;
+        let mut rest = bytes.take_while(|b| !is_between(*b));
+        let whole = rest.try_fold(number, with_digit).ok_or(Fault::BadInput)?;
+        Ok(Some(whole))
+    }
+
+    fn number(&mut self) -> Result<u64, Fault> {
+        self.next_number()?.ok_or(Fault::BadInput)
+    }
+
+    // What stands behind a tag.
+    fn numbers(&mut self) -> Result<Vec<u64>, Fault> {
+        let length = self.number()? as usize;
+        if self.most < length {
+            return Err(Fault::BadInput);
+        }
+        let alloc = self.alloc;
+        (0..length).map(|_| self.number()).try_collect(alloc)
+    }
+
+    fn item(&mut self) -> Result<Option<Item>, Fault> {
+        match self.next_number()? {
+            Some(tag) => {
+                let numbers = self.numbers()?;
+                Ok(Some(Item { tag, numbers }))
+            }
+            None => Ok(None),
+        }
+    }
+}
+
+impl<R: Read + Drop> Iterator for Items<R> {
     type Item = Result<Item, Fault>;
 
-    ghost remaining = { λ s. at_most (length s.words.now) };
-
     fn next(&mut self) -> Option<Result<Item, Fault>> {
-        let (tag, behind) = self.words.split_first()?;
-        let (body, rest) = behind.split_at(width(behind));
-        self.words = rest;
-        Some(read(self.alloc, *tag, body))
+        self.item().transpose()
     }
 }

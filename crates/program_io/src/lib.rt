@@ -1,8 +1,8 @@
-// What programs share: items of numbers on standard input, a player that obeys them, marks in lent runs, and rows as they are printed.
+// What programs share: items of numbers, a player that obeys them, marks in lent runs, and what is printed of runs.
 #![tactic(auto)]
 
+pub mod changes;
 pub mod fault;
-pub mod funds;
 pub mod items;
 pub mod marks;
 pub mod player;

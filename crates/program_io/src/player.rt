@@ -1,44 +1,134 @@
-// Plays the items of standard input.
+// Plays the items of an input.
 use crate::fault::Fault;
-use crate::items;
 use crate::items::{Item, Items};
-use std::io;
-use std::io::{BufWriter, Input, Print, Read, Write};
+use std::alloc::Global;
+use std::io::{BufWriter, Read, Write};
 
 pub trait Player {
+    // The most numbers that an item may have.
+    const MOST_NUMBERS: usize;
+
     // Does what an item says, and prints what comes of it.
     fn obey<W: Write>(&mut self, item: &Item, out: &mut W) -> Result<(), Fault>;
 }
 
-// Obeys items to the last, or to the first that is malformed.
-fn obey_all<P: Player, W: Write>(
+// Obeys items to the last, or to the first that is malformed. No input has more of them than are taken.
+fn obey_all<P: Player, R: Read + Drop, W: Write>(
     player: &mut P,
-    items: Items<'_>,
+    items: Items<R>,
     out: &mut W,
 ) -> Result<(), Fault> {
-    for item in items {
+    for item in items.take(usize::MAX) {
         player.obey(&item?, out)?;
     }
     Ok(())
 }
 
-// Plays standard input; what is malformed ends it with a line `bad input`.
-pub fn play<R: Input + Print + AllocGlobal, P: Player>(
-    rt: &R,
+// Plays an input; what is malformed ends it with a line `bad input`. An output that cannot be written ends it too, and that is no
+// fault of the program.
+pub fn play<P: Player, R: Read + Drop, W: Write + Drop>(
+    alloc: Global,
+    input: R,
+    output: W,
     player: &mut P,
 ) -> Result<(), Fault> {
-    let alloc = rt.alloc();
-    let mut text = Vec::new(alloc);
-    rt.reader().read_to_end(&mut text)?;
-    let words = items::numbers(alloc, &text)?;
-    let items = Items {
-        alloc,
-        words: &words,
-    };
-    let mut out = BufWriter::new(alloc, io::writer(rt))?;
-    match obey_all(player, items, &mut out) {
-        Err(Fault::BadInput) => writeln!(out, "{}", Fault::BadInput)?,
-        played => played?,
+    let items = Items::new(alloc, input, P::MOST_NUMBERS)?;
+    let mut out = BufWriter::new(alloc, output)?;
+    let played = obey_all(player, items, &mut out);
+    if let Err(Fault::BadInput) = played {
+        let _ = writeln!(out, "{}", Fault::BadInput);
     }
-    Ok(out.flush()?)
+    let _ = out.flush();
+    match played {
+        Err(fault @ Fault::Memory(_)) => Err(fault),
+        _ => Ok(()),
+    }
+}
+
+#[cfg(test)]
+mod tests {
+    use super::*;
+    use crate::rows::Row;
+    use std::io;
+    use std::io::Error;
+    use std::test::Fail;
+
+    // Prints each item.
+    #[derive(Drop)]
+    struct Echo;
+
+    impl Player for Echo {
+        const MOST_NUMBERS: usize = 3;
+
+        fn obey<W: Write>(&mut self, item: &Item, out: &mut W) -> Result<(), Fault> {
+            Ok(writeln!(out, "{}{}", item.tag, Row(&item.numbers))?)
+        }
+    }
+
+    fn echoed<R: Read + Drop>(alloc: Global, input: R) -> Result<Vec<u8>, Fault> {
+        let mut out = Vec::new(alloc);
+        play(alloc, input, &mut out, &mut Echo)?;
+        Ok(out)
+    }
+
+    // Fails where it is read or written.
+    #[derive(Drop)]
+    struct Broken;
+
+    impl Read for Broken {
+        fn read(&mut self, _: &mut [u8]) -> io::Result<usize> {
+            Err(Error::other("broken"))
+        }
+    }
+
+    impl Write for Broken {
+        fn write(&mut self, _: &[u8]) -> io::Result<usize> {
+            Err(Error::other("broken"))
+        }
+
+        fn flush(&mut self) -> io::Result<()> {
+            Ok(())
+        }
+    }
+
+    #[test]
+    fn reads_items(rt: HostRuntime) -> Result<(), Fail> {
+        for (input, want) in [
+            ("", ""),
+            (" \n\n ", ""),
+            ("9 0", "9\n"),
+            ("\n09  00 \n8 1\n7", "9\n8 7\n"),
+            ("18446744073709551615 0", "18446744073709551615\n"),
+            ("4 3 1 2 3 9 0", "4 1 2 3\n9\n"),
+        ] {
+            let out = echoed(rt.alloc(), input.as_bytes())?;
+            assert_eq!(rt; out.as_slice(), want.as_bytes(), "{input}");
+        }
+        Ok(())
+    }
+
+    #[test]
+    fn ends_at_bad_input(rt: HostRuntime) -> Result<(), Fail> {
+        for input in [
+            "9", "x 0", "9x 0", "9 x", "9 0x", "4 1 x", "+9 0", "-9 0", "9 -0", "9\t0", "9 0\r\n", "9\u{a0}0",
+            "18446744073709551616 0", "9 18446744073709551616", "9 18446744073709551615",
+            "4 4 1 2 3 4", "4 2 1", "4 2",
+        ] {
+            let out = echoed(rt.alloc(), "8 0\n".as_bytes().chain(input.as_bytes()))?;
+            assert_eq!(rt; out.as_slice(), b"8\nbad input\n".as_slice(), "{input}");
+        }
+        Ok(())
+    }
+
+    #[test]
+    fn ends_at_a_broken_input(rt: HostRuntime) -> Result<(), Fail> {
+        let out = echoed(rt.alloc(), "8 0 4 1 2".as_bytes().chain(Broken))?;
+        assert_eq!(rt; out.as_slice(), b"8\n4 2\n".as_slice());
+        Ok(())
+    }
+
+    #[test]
+    fn ends_at_a_broken_output(rt: HostRuntime) -> Result<(), Fail> {
+        Ok(play(rt.alloc(), "8 0".as_bytes(), Broken, &mut Echo)?)
+    }
 }

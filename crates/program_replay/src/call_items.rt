@@ -1,16 +1,17 @@
 // Calls: each is made and its reply printed; what was lent to one that is refused or only reads is compared with what it was.
 use crate::kept::Kept;
 use crate::order_items::Order;
-use crate::tags::Tag;
 use answers::Numbers;
-use day_items::replies::Reply;
+use day_items::replies;
 use day_items::session::Session;
 use program_io::fault::Fault;
 use program_io::items::Item;
-use rules::Trade;
+use rules::{Kind, Refusal, Trade};
 use std::io::Write;
 use units::Money;
 
+// Beside the calls that a row of the driver names, which are its own, an item may name an order's tests alone; and an order here has
+// lists of its own.
 #[derive(Clone, Copy)]
 pub enum Call {
     Price { line: usize, price: u64 },
@@ -20,92 +21,77 @@ pub enum Call {
     Test(Order),
 }
 
-// Prints a reply, behind a word.
-fn print<W: Write>(out: &mut W, word: &str, reply: Numbers) -> Result<Numbers, Fault> {
-    writeln!(out, "{word} {}", Reply(reply))?;
-    Ok(reply)
-}
+impl TryFrom<&Item> for Call {
+    type Error = Fault;
 
-impl Call {
-    // An item has as many numbers as a call of its tag takes.
-    pub fn new(tag: Tag, item: &Item) -> Result<Call, Fault> {
-        let account = item.size(0);
-        let units = item.number(1);
-        match (tag, item.numbers.len()) {
-            (Tag::Price, 2) => Ok(Call::Price {
-                line: item.size(0),
-                price: item.number(1),
+    fn try_from(item: &Item) -> Result<Call, Fault> {
+        match (item.tag, item.numbers.as_slice()) {
+            (4, [line, price]) => Ok(Call::Price {
+                line: *line as usize,
+                price: *price,
             }),
-            (Tag::Trade, 5) => Ok(Call::Trade(Trade {
-                line: item.size(0),
-                quantity: item.number(1),
-                price: Money(item.number(2)),
-                seller: item.size(3),
-                buyer: item.size(4),
+            (5, [line, quantity, price, seller, buyer]) => Ok(Call::Trade(Trade {
+                line: *line as usize,
+                quantity: *quantity,
+                price: Money(*price),
+                seller: *seller as usize,
+                buyer: *buyer as usize,
             })),
-            (Tag::Value, 0) => Ok(Call::Value),
-            (Tag::Create, 5) => Ok(Call::Order(Order::with_room(
-                rules::creation(account, units),
-                item,
-            )?)),
-            (Tag::Redeem, 5) => Ok(Call::Order(Order::with_room(
-                rules::redemption(account, units),
-                item,
-            )?)),
-            (Tag::TestCreate, 5) => Ok(Call::Test(Order::new(
-                rules::creation(account, units),
-                item,
-            ))),
-            (Tag::TestRedeem, 5) => Ok(Call::Test(Order::new(
-                rules::redemption(account, units),
-                item,
-            ))),
+            (6, numbers) => Ok(Call::Order(Order::with_room(Kind::Creation, numbers)?)),
+            (7, numbers) => Ok(Call::Order(Order::with_room(Kind::Redemption, numbers)?)),
+            (8, []) => Ok(Call::Value),
+            (11, numbers) => Ok(Call::Test(Order::new(Kind::Creation, numbers)?)),
+            (12, numbers) => Ok(Call::Test(Order::new(Kind::Redemption, numbers)?)),
             _ => Err(Fault::BadInput),
         }
     }
+}
 
+impl Call {
     fn is_reading(&self) -> bool {
         matches!(self, Call::Value | Call::Test(_))
     }
 
-    fn answered<W: Write>(&self, session: &mut Session, out: &mut W) -> Result<Numbers, Fault> {
+    // Makes the call, prints its reply, and hands back whether it was refused.
+    fn answered<W: Write>(
+        &self,
+        session: &mut Session,
+        out: &mut W,
+    ) -> Result<Result<(), Refusal>, Fault> {
         match *self {
             Call::Price { line, price } => {
-                let answer = day::price(
-                    &session.day,
-                    &session.book,
-                    &mut session.prices,
-                    line,
-                    price,
-                );
-                print(out, "price", Numbers::from(answer))
+                let (day, book) = (&session.day, &session.book);
+                let answer = day::price(day, book, &mut session.prices, line, price);
+                replies::print(out, "price", Numbers::from(answer))?;
+                Ok(answer)
             }
             Call::Trade(trade) => {
                 let answer = day::trade(&session.day, &mut session.book, &session.prices, trade);
-                print(out, "trade", Numbers::from(answer))
+                replies::print(out, "trade", Numbers::from(answer))?;
+                Ok(answer)
             }
             Call::Value => {
                 let answer = day::reference_value(&session.day, &session.book, &session.prices);
-                print(out, "value", Numbers::from(answer))
+                replies::print(out, "value", Numbers::from(answer))?;
+                Ok(answer.map(|_| ()))
             }
-            Call::Order(order) => order.make(session, out),
+            Call::Order(order) => Ok(order.make(session, out)?.map(|_| ())),
             Call::Test(order) => {
-                let reply = order.tested(session);
-                writeln!(out, "test-{} {}", order.name(), Reply(reply))?;
-                Ok(reply)
+                let answer = order.tested(session);
+                write!(out, "test-")?;
+                replies::print(out, order.name(), Numbers::from(answer))?;
+                Ok(answer.map(|_| ()))
             }
         }
     }
 
-    pub fn make<W: Write>(&self, session: &mut Session, out: &mut W) -> Result<(), Fault> {
+    // Hands back what the book and the prices were before the call.
+    pub fn make<W: Write>(&self, session: &mut Session, out: &mut W) -> Result<Kept, Fault> {
         let kept = Kept::new(session)?;
-        let reply = self.answered(session, out)?;
-        if reply.number != 0 || self.is_reading() {
+        let answer = self.answered(session, out)?;
+        if answer.is_err() || self.is_reading() {
             kept.print_same(session, out)?;
         }
-        if session.is_anew {
-            kept.put_back(session, out)?;
-        }
-        Ok(())
+        Ok(kept)
     }
 }

@@ -6,22 +6,63 @@
 mod call_items;
 mod kept;
 mod order_items;
-mod tags;
 
 use call_items::Call;
-use day_items::session::Session;
+use day_items::given;
+use day_items::given::Given;
+use day_items::session::{Longest, Session};
 use program_io::fault::Fault;
 use program_io::items::Item;
 use program_io::player;
 use program_io::player::Player;
 use program_io::rows::Row;
+use std::alloc::Global;
 use std::io;
-use std::io::{Input, Print, Write};
-use tags::Tag;
+use std::io::{Input, Print, Read, Write};
+
+// The longest book, that of the most accounts, and more prices than a day has.
+const MOST_ACCOUNTS: usize = 64;
+
+const MOST_BOOK: usize = MOST_ACCOUNTS * layout::MOST_WIDTH;
+
+const MOST_PRICES: usize = layout::MOST_COMPONENTS + 100;
+
+// What an item says.
+#[derive(Drop)]
+enum Said<'a> {
+    Opening(Given<'a>),
+    // A state on which each call is made anew.
+    StateAnew(Given<'a>),
+    State(Given<'a>),
+    Show,
+    Call(Call),
+}
+
+impl<'a> TryFrom<&'a Item> for Said<'a> {
+    type Error = Fault;
+
+    fn try_from(item: &'a Item) -> Result<Said<'a>, Fault> {
+        match item.tag {
+            1 => Ok(Said::Opening(Given::try_from(item)?)),
+            2 => Ok(Said::StateAnew(Given::try_from(item)?)),
+            3 => Ok(Said::State(Given::try_from(item)?)),
+            9 => Ok(Said::Show),
+            _ => Ok(Said::Call(Call::try_from(item)?)),
+        }
+    }
+}
+
+// The day that calls are made on: what they make of it is kept, or they are each made on what it was given as.
+#[derive(Drop)]
+enum Calls {
+    InOrder,
+    Anew,
+}
 
 #[derive(Drop)]
 struct Replay {
     session: Session,
+    calls: Calls,
 }
 
 impl Replay {
@@ -30,22 +71,131 @@ impl Replay {
         writeln!(out, "book{}", Row(&self.session.book))?;
         writeln!(out, "prices{}", Row(&self.session.prices))
     }
-}
 
-impl Player for Replay {
-    fn obey<W: Write>(&mut self, item: &Item, out: &mut W) -> Result<(), Fault> {
-        match Tag::try_from(item.tag)? {
-            Tag::Opening => self.session.open(item, out),
-            Tag::StateAnew => self.session.set(item, true, out),
-            Tag::State => self.session.set(item, false, out),
-            Tag::Show => Ok(self.show(out)?),
-            tag => Call::new(tag, item)?.make(&mut self.session, out),
+    fn make<W: Write>(&mut self, call: Call, out: &mut W) -> Result<(), Fault> {
+        let kept = call.make(&mut self.session, out)?;
+        match self.calls {
+            Calls::InOrder => Ok(()),
+            Calls::Anew => Ok(kept.put_back(&mut self.session, out)?),
         }
     }
 }
 
-// Plays standard input, from the blank day on.
+impl Player for Replay {
+    const MOST_NUMBERS: usize = given::HEAD + layout::BASKET_WIDTH + MOST_BOOK + MOST_PRICES;
+
+    fn obey<W: Write>(&mut self, item: &Item, out: &mut W) -> Result<(), Fault> {
+        match Said::try_from(item)? {
+            Said::Opening(given) => {
+                self.calls = Calls::InOrder;
+                self.session.open(&given, out)
+            }
+            Said::StateAnew(given) => {
+                self.calls = Calls::Anew;
+                self.session.set(&given, out)
+            }
+            Said::State(given) => {
+                self.calls = Calls::InOrder;
+                self.session.set(&given, out)
+            }
+            Said::Show => Ok(self.show(out)?),
+            Said::Call(call) => self.make(call, out),
+        }
+    }
+}
+
+// Plays an input, from the blank day on.
+fn play<R: Read + Drop, W: Write + Drop>(alloc: Global, input: R, output: W) -> Result<(), Fault> {
+    let longest = Longest {
+        book: MOST_BOOK,
+        prices: MOST_PRICES,
+    };
+    let session = Session::new(alloc, longest)?;
+    let calls = Calls::InOrder;
+    player::play(alloc, input, output, &mut Replay { session, calls })
+}
+
+// Plays standard input.
 pub fn run<R: Input + Print + AllocGlobal>(rt: &R) -> Result<(), Fault> {
-    let session = Session::new(rt.alloc())?;
-    player::play(rt, &mut Replay { session })
+    play(rt.alloc(), rt.reader(), io::writer(rt))
+}
+
+#[cfg(test)]
+mod tests {
+    use super::*;
+    use std::test::Fail;
+
+    fn played(alloc: Global, input: &str) -> Result<Vec<u8>, Fault> {
+        let mut out = Vec::new(alloc);
+        play(alloc, input.as_bytes(), &mut out)?;
+        Ok(out)
+    }
+
+    // The sign and the size of cash, and the lengths of a book and of prices.
+    #[test]
+    fn heads_in_range(rt: HostRuntime) -> Result<(), Fail> {
+        for (cash, lengths, is_read) in [
+            ("0 2", "18 1", true),
+            ("1 0", "18 1", true),
+            ("2 0", "18 1", false),
+            ("0 9223372036854775807", "18 1", true),
+            ("0 9223372036854775808", "18 1", false),
+            ("1 9223372036854775807", "18 1", true),
+            ("1 9223372036854775808", "18 1", false),
+            ("0 2", "57984 400", true),
+            ("0 2", "57985 1", false),
+            ("0 2", "18 401", false),
+        ] {
+            let item = format!(in rt.alloc(); "1 20 1 2 1 510050 2 9524 1 {cash} 0 0 0 0 0 0 0 0 0 {lengths}")?;
+            let out = played(rt.alloc(), item.as_str())?;
+            let want = if is_read {
+                "row 1\nopening 1 0 0 0\nsame\n"
+            } else {
+                "bad input\n"
+            };
+            assert_eq!(rt; out.as_slice(), want.as_bytes(), "{cash}, {lengths}");
+        }
+        Ok(())
+    }
+
+    // How many numbers a call has, and how long its lists are.
+    #[test]
+    fn calls_of_a_form(rt: HostRuntime) -> Result<(), Fail> {
+        for (call, want) in [
+            ("4 2 0 5", "price 5 0 0 0\nsame\n"),
+            ("4 1 0", "bad input\n"),
+            ("5 5 0 1 5 0 1", "trade 5 0 0 0\nsame\n"),
+            ("5 6 0 1 5 0 1 0", "bad input\n"),
+            ("6 5 1 2 2048 4096 4096", "test 5 0 0 0\ncreate 5 0 0 0\nrest same\nsame\n"),
+            ("6 5 1 2 2049 0 0", "bad input\n"),
+            ("7 5 1 2 0 4097 0", "bad input\n"),
+            ("7 5 1 2 0 0 4097", "bad input\n"),
+            ("7 4 1 2 0 0", "bad input\n"),
+            ("8 0", "value 5 0 0 0\nsame\n"),
+            ("8 1 0", "bad input\n"),
+            ("9 1 5", "book\nprices 7 8\n"),
+            ("11 5 1 2 2049 4097 4097", "test-create 5 0 0 0\nsame\n"),
+            ("12 5 1 2 2049 4097 4097", "test-redeem 5 0 0 0\nsame\n"),
+            ("12 4 1 2 3 4", "bad input\n"),
+            ("10 0", "bad input\n"),
+        ] {
+            let state = "2 22 1 2 1 510050 2 9524 1 0 2 0 0 0 0 0 0 0 0 0 0 2 7 8";
+            let input = format!(in rt.alloc(); "{state}\n{call}\n")?;
+            let out = played(rt.alloc(), input.as_str())?;
+            let printed = format!(in rt.alloc(); "row 1\n{want}")?;
+            assert_eq!(rt; out.as_slice(), printed.as_bytes(), "{call}");
+        }
+        Ok(())
+    }
+
+    #[test]
+    fn items_in_room(rt: HostRuntime) -> Result<(), Fail> {
+        for (length, want) in [(60_204, "book\nprices\n"), (60_205, "bad input\n")] {
+            let numbers = " 0".repeat(rt.alloc(), length)?;
+            let item = format!(in rt.alloc(); "9 {length}{numbers}")?;
+            let out = played(rt.alloc(), item.as_str())?;
+            assert_eq!(rt; out.as_slice(), want.as_bytes(), "{length}");
+        }
+        Ok(())
+    }
 }

@@ -1,13 +1,11 @@
 // Orders in the struct form, each with its tests alone before it. The records that are lent hold marks, and are printed as numbers.
 use answers::Numbers;
-use day_items::replies::Reply;
-use day_items::session;
+use day_items::replies;
 use day_items::session::Session;
 use layout::Record;
 use program_io::fault::Fault;
-use program_io::items::Item;
-use program_io::marks;
 use program_io::rows::Row;
+use program_io::{changes, marks};
 use rules::{Ask, Counts, Kind, Refusal};
 use std::alloc::{AllocError, Global};
 use std::io;
@@ -67,13 +65,10 @@ impl Lists {
     }
 
     // What an accepted order wrote: so many records, and so many reports to each party.
-    fn print_written<W: Write>(
-        &self,
-        records: &[u64],
-        investor: &[u64],
-        fund: &[u64],
-        out: &mut W,
-    ) -> io::Result<()> {
+    fn print_written<W: Write>(&self, counts: Counts, out: &mut W) -> io::Result<()> {
+        let records = front(&self.records, counts.records, layout::RECORD_WIDTH);
+        let investor = front(&self.investor, counts.reports, layout::REPORT_WIDTH);
+        let fund = front(&self.fund, counts.reports, layout::REPORT_WIDTH);
         writeln!(out, "records{}", Row(records))?;
         writeln!(out, "investor{}", Row(investor))?;
         writeln!(out, "fund_reports{}", Row(fund))?;
@@ -82,47 +77,41 @@ impl Lists {
 
     // `rest same` where the lists hold their marks from a place on, and for each that does not the first such place.
     fn print_rest<W: Write>(&self, records: usize, reports: usize, out: &mut W) -> io::Result<()> {
-        let is_records = session::is_marked(out, "records", &self.records, records)?;
-        let is_investor = session::is_marked(out, "investor", &self.investor, reports)?;
-        let is_fund = session::is_marked(out, "fund_reports", &self.fund, reports)?;
-        if is_records && is_investor && is_fund {
-            writeln!(out, "rest same")?;
-        }
-        Ok(())
+        let places = [
+            ("records", marks::first_marred(&self.records, records)),
+            ("investor", marks::first_marred(&self.investor, reports)),
+            ("fund_reports", marks::first_marred(&self.fund, reports)),
+        ];
+        changes::print(out, "rest same", &places)
     }
 
     // The lists after an order; where it was refused, whether they are what they were.
     fn print<W: Write>(&self, answer: Result<Counts, Refusal>, out: &mut W) -> io::Result<()> {
         match answer {
-            Ok(counts) => {
-                let records = front(&self.records, counts.records, layout::RECORD_WIDTH);
-                let investor = front(&self.investor, counts.reports, layout::REPORT_WIDTH);
-                let fund = front(&self.fund, counts.reports, layout::REPORT_WIDTH);
-                self.print_written(records, investor, fund, out)
-            }
+            Ok(counts) => self.print_written(counts, out),
             Err(_) => self.print_rest(0, 0, out),
         }
     }
 }
 
 impl Order {
-    // Behind the account and the units stand the lengths of the lists.
-    pub fn new(ask: Ask, item: &Item) -> Order {
-        Order {
-            ask,
-            records: item.size(2),
-            investor: item.size(3),
-            fund: item.size(4),
-        }
+    // The numbers of an order: account, units, and the lengths of its lists.
+    pub fn new(kind: Kind, numbers: &[u64]) -> Result<Order, Fault> {
+        let [account, units, records, investor, fund] = numbers else {
+            return Err(Fault::BadInput);
+        };
+        Ok(Order {
+            ask: kind.ask(*account as usize, *units),
+            records: *records as usize,
+            investor: *investor as usize,
+            fund: *fund as usize,
+        })
     }
 
     // The same, with lists that there is room for.
-    pub fn with_room(ask: Ask, item: &Item) -> Result<Order, Fault> {
-        let order = Order::new(ask, item);
-        if MOST_RECORDS < order.records
-            || MOST_REPORTS < order.investor
-            || MOST_REPORTS < order.fund
-        {
+    pub fn with_room(kind: Kind, numbers: &[u64]) -> Result<Order, Fault> {
+        let order = Order::new(kind, numbers)?;
+        if MOST_RECORDS < order.records || MOST_REPORTS < order.investor.max(order.fund) {
             return Err(Fault::BadInput);
         }
         Ok(order)
@@ -136,22 +125,18 @@ impl Order {
     }
 
     // What its tests alone answer.
-    pub fn tested(&self, session: &Session) -> Numbers {
+    pub fn tested(&self, session: &Session) -> Result<Counts, Refusal> {
         let (day, book, prices) = (&session.day, &session.book, &session.prices);
+        let rooms = rules::rooms_of(self.records, self.investor, self.fund);
         let Ask {
             kind,
             account,
             units,
         } = self.ask;
-        let (records, investor, fund) = (self.records, self.investor, self.fund);
-        Numbers::from(match kind {
-            Kind::Creation => {
-                day::creation_test(day, book, prices, account, units, records, investor, fund)
-            }
-            Kind::Redemption => {
-                day::redemption_test(day, book, prices, account, units, records, investor, fund)
-            }
-        })
+        match kind {
+            Kind::Creation => day::creation_test(day, book, prices, account, units, rooms),
+            Kind::Redemption => day::redemption_test(day, book, prices, account, units, rooms),
+        }
     }
 
     fn settle(
@@ -174,13 +159,16 @@ impl Order {
     }
 
     // The tests alone, and then the order.
-    pub fn make<W: Write>(&self, session: &mut Session, out: &mut W) -> Result<Numbers, Fault> {
+    pub fn make<W: Write>(
+        &self,
+        session: &mut Session,
+        out: &mut W,
+    ) -> Result<Result<Counts, Refusal>, Fault> {
         let mut lists = Lists::new(session.alloc, self)?;
-        writeln!(out, "test {}", Reply(self.tested(session)))?;
+        replies::print(out, "test", Numbers::from(self.tested(session)))?;
         let answer = self.settle(session, &mut lists)?;
-        let reply = Numbers::from(answer);
-        writeln!(out, "{} {}", self.name(), Reply(reply))?;
+        replies::print(out, self.name(), Numbers::from(answer))?;
         lists.print(answer, out)?;
-        Ok(reply)
+        Ok(answer)
     }
 }

@@ -5,42 +5,52 @@
 mod lists;
 mod texts;
 
+use lists::List;
 use program_io::fault::Fault;
 use program_io::items::Item;
 use program_io::player;
 use program_io::player::Player;
 use std::alloc::Global;
-use std::io::{Input, Print, Write};
-use text_parts::{bytes, made};
+use std::io;
+use std::io::{Input, Print, Read, Write};
+use text_parts::bytes;
+use text_parts::made::{Change, Grown};
+use texts::{Asking, Reading};
 
 // More numbers of components than a list has, and the longest text that is given whole or written.
 const MOST_RUN: usize = layout::BASKET_WIDTH + 600;
 
 const MOST_BYTES: usize = 20_000;
 
-// A text starts with its row and the length of the lent component run. Behind them stand the bytes of one that is given whole.
-const HEAD: usize = 2;
-
-// The tags of items.
-#[derive(Clone, Copy)]
-enum Tag {
-    Text,
-    Changed,
-    Grown,
-    Parts,
-    List,
+// What an item says.
+#[derive(Drop)]
+enum Said<'a> {
+    // A text that is given whole.
+    Text(Reading, &'a [u64]),
+    Changed(Reading, Change<'a>),
+    Grown(Reading, Grown<'a>),
+    // A text of which only the letters and one component's name are asked for.
+    Parts(Asking, Change<'a>),
+    List(List<'a>),
 }
 
-impl TryFrom<u64> for Tag {
-    type Error = Fault;
-
-    fn try_from(number: u64) -> Result<Tag, Fault> {
-        match number {
-            1 => Ok(Tag::Text),
-            2 => Ok(Tag::Changed),
-            3 => Ok(Tag::Grown),
-            4 => Ok(Tag::Parts),
-            5 => Ok(Tag::List),
+impl<'a> Said<'a> {
+    fn new(alloc: Global, item: &'a Item) -> Result<Said<'a>, Fault> {
+        match (item.tag, item.numbers.as_slice()) {
+            (1, [row, room, bytes @ ..]) => Ok(Said::Text(Reading::new(*row, *room), bytes)),
+            (2, [row, room, change @ ..]) => Ok(Said::Changed(
+                Reading::new(*row, *room),
+                Change::try_from(change)?,
+            )),
+            (3, [row, room, grown @ ..]) => Ok(Said::Grown(
+                Reading::new(*row, *room),
+                Grown::try_from(grown)?,
+            )),
+            (4, [row, component, change @ ..]) => Ok(Said::Parts(
+                Asking::new(*row, *component),
+                Change::try_from(change)?,
+            )),
+            (5, numbers) => Ok(Said::List(List::new(alloc, numbers)?)),
             _ => Err(Fault::BadInput),
         }
     }
@@ -55,8 +65,7 @@ struct Replay {
 
 impl Replay {
     // Takes a text that is given whole.
-    fn take(&mut self, item: &Item) -> Result<(), Fault> {
-        let (_, numbers) = item.numbers.split_at_checked(HEAD).ok_or(Fault::BadInput)?;
+    fn take(&mut self, numbers: &[u64]) -> Result<(), Fault> {
         if MOST_BYTES < numbers.len() {
             return Err(Fault::BadInput);
         }
@@ -66,24 +75,117 @@ impl Replay {
 }
 
 impl Player for Replay {
+    const MOST_NUMBERS: usize = MOST_BYTES + 100;
+
     fn obey<W: Write>(&mut self, item: &Item, out: &mut W) -> Result<(), Fault> {
         let alloc = self.alloc;
-        match Tag::try_from(item.tag)? {
-            Tag::Text => {
-                self.take(item)?;
-                texts::read(alloc, item, &self.base, out)
+        match Said::new(alloc, item)? {
+            Said::Text(reading, numbers) => {
+                self.take(numbers)?;
+                reading.read(alloc, &self.base, out)
             }
-            Tag::Changed => texts::read(alloc, item, &made::change(alloc, &self.base, item)?, out),
-            Tag::Grown => texts::read(alloc, item, &made::grow(alloc, item)?, out),
-            Tag::Parts => texts::parts(item, &made::change(alloc, &self.base, item)?, out),
-            Tag::List => lists::write(alloc, item, out),
+            Said::Changed(reading, change) => {
+                reading.read(alloc, &change.made(alloc, &self.base)?, out)
+            }
+            Said::Grown(reading, grown) => reading.read(alloc, &grown.made(alloc)?, out),
+            Said::Parts(asking, change) => {
+                Ok(asking.print(&change.made(alloc, &self.base)?, out)?)
+            }
+            Said::List(list) => list.write(alloc, out),
         }
     }
 }
 
+// Plays an input.
+fn play<R: Read + Drop, W: Write + Drop>(alloc: Global, input: R, output: W) -> Result<(), Fault> {
+    let base = Vec::new(alloc);
+    player::play(alloc, input, output, &mut Replay { alloc, base })
+}
+
 // Plays standard input.
 pub fn run<R: Input + Print + AllocGlobal>(rt: &R) -> Result<(), Fault> {
-    let alloc = rt.alloc();
-    let base = Vec::new(alloc);
-    player::play(rt, &mut Replay { alloc, base })
+    play(rt.alloc(), rt.reader(), io::writer(rt))
+}
+
+#[cfg(test)]
+mod tests {
+    use super::*;
+    use std::test::Fail;
+
+    fn played(alloc: Global, input: &str) -> Result<Vec<u8>, Fault> {
+        let mut out = Vec::new(alloc);
+        play(alloc, input.as_bytes(), &mut out)?;
+        Ok(out)
+    }
+
+    const REFUSED: &str = "row 1\nread 18 0 0\nsame\n";
+
+    // Behind a text of three bytes that is given whole.
+    #[test]
+    fn texts_of_a_form(rt: HostRuntime) -> Result<(), Fail> {
+        for (item, want) in [
+            ("1 1 1", "bad input\n"),
+            ("1 2 1 2400", REFUSED),
+            ("1 2 1 2401", "bad input\n"),
+            ("2 6 1 6 1 1 68 69", REFUSED),
+            ("2 4 1 6 3 0", REFUSED),
+            ("2 4 1 6 4 0", "bad input\n"),
+            ("2 4 1 6 2 2", "bad input\n"),
+            ("2 3 1 6 0", "bad input\n"),
+            ("3 8 1 6 2 1 1 65 66 67", REFUSED),
+            ("3 6 1 6 4000000 0 1 65", REFUSED),
+            ("3 6 1 6 4000001 0 1 65", "bad input\n"),
+            ("3 5 1 6 1 1 0", "bad input\n"),
+            ("3 4 1 6 1 0", "bad input\n"),
+            ("4 4 1 0 0 0", "row 1\nletters\nname\n"),
+            ("4 4 1 0 4 0", "bad input\n"),
+            ("6 0", "bad input\n"),
+        ] {
+            let input = format!(in rt.alloc(); "1 5 1 6 65 66 67\n{item}\n")?;
+            let out = played(rt.alloc(), input.as_str())?;
+            let printed = format!(in rt.alloc(); "{REFUSED}{want}")?;
+            assert_eq!(rt; out.as_slice(), printed.as_bytes(), "{item}");
+        }
+        Ok(())
+    }
+
+    // The lengths of the output, of components, names and letters. A list with no component is refused.
+    #[test]
+    fn lists_in_room(rt: HostRuntime) -> Result<(), Fail> {
+        for (output, components, names, letters, is_read) in [
+            (20_000, 0, 0, 0, true),
+            (20_001, 0, 0, 0, false),
+            (0, 20_074, 0, 0, true),
+            (0, 20_075, 0, 0, false),
+            (0, 0, 3_000, 0, true),
+            (0, 0, 3_001, 0, false),
+            (0, 0, 0, 100, true),
+            (0, 0, 0, 101, false),
+        ] {
+            let width = 22 + components + names + letters;
+            let numbers = " 0".repeat(rt.alloc(), width)?;
+            let length = width + 4;
+            let item = format!(in rt.alloc(); "5 {length} 1 {output} {components} {names}{numbers}")?;
+            let out = played(rt.alloc(), item.as_str())?;
+            let want = if is_read {
+                "row 1\nwrite 1 0 0\nsame\n"
+            } else {
+                "bad input\n"
+            };
+            assert_eq!(rt; out.as_slice(), want.as_bytes(), "{output} {components} {names} {letters}");
+        }
+        Ok(())
+    }
+
+    #[test]
+    fn whole_texts_in_room(rt: HostRuntime) -> Result<(), Fail> {
+        for (length, want) in [(20_000, REFUSED), (20_001, "bad input\n")] {
+            let numbers = " 65".repeat(rt.alloc(), length)?;
+            let width = length + 2;
+            let item = format!(in rt.alloc(); "1 {width} 1 6{numbers}")?;
+            let out = played(rt.alloc(), item.as_str())?;
+            assert_eq!(rt; out.as_slice(), want.as_bytes(), "{length}");
+        }
+        Ok(())
+    }
 }

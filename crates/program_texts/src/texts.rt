@@ -1,37 +1,28 @@
 // Items that are texts: each is read, what reading answers and leaves is printed, and a list that was read is written again.
 use list_rules::{ListFields, ListRead};
 use program_io::fault::Fault;
-use program_io::items::Item;
-use program_io::marks;
 use program_io::rows::Row;
+use program_io::{changes, marks};
 use std::alloc::Global;
 use std::io;
 use std::io::Write;
-use text_parts::replies::Reply;
-use text_parts::{bytes, fields, names};
-
-// How long the lent component run is. Where the parts of a text are asked for, the component stands in its place.
-const ROOM: usize = 1;
-
-const COMPONENT: usize = 1;
+use text_parts::{bytes, fields, names, replies};
 
 // The bytes of a written text are printed up to this length.
 const SHOWN: usize = 2000;
 
-// What a refused reading leaves: `same`, or the first place that is not as it should be.
-fn print_refused<W: Write>(run: &[u64], out: &mut W) -> io::Result<()> {
-    if let Some(place) = marks::first_marred(run, 0) {
-        return writeln!(out, "run {place}");
-    }
-    writeln!(out, "same")
+// The row of a text that is read, and how long the lent component run is.
+#[derive(Clone, Copy)]
+pub struct Reading {
+    row: u64,
+    room: usize,
 }
 
-// Whether the run past the last component has what it had.
-fn print_rest<W: Write>(run: &[u64], from: usize, out: &mut W) -> io::Result<()> {
-    match marks::first_marred(run, from) {
-        Some(place) => writeln!(out, "rest {place}"),
-        None => writeln!(out, "rest same"),
-    }
+// The row of a text whose letters are asked for, and the component whose name is.
+#[derive(Clone, Copy)]
+pub struct Asking {
+    row: u64,
+    component: usize,
 }
 
 // What was written: its bytes, or of a long text how many there are before the first that differs from the text; and the sum of all
@@ -58,7 +49,7 @@ fn write_again<W: Write>(
     let mut output = marks::marked(alloc, text.len().min(crate::MOST_BYTES))?;
     let letters = list_reading::letters(text);
     let answer = list_writing::write(l, components, joined, letters, &mut output);
-    writeln!(out, "written {}", Reply(answer))?;
+    replies::print(out, "written", answer)?;
     if let Ok(size) = answer {
         output.truncate(size);
         print_written(text, &output, out)?;
@@ -89,32 +80,52 @@ fn print_list<W: Write>(
     }
 }
 
-// Reads a text into a run of as many numbers as the item says, which holds other numbers.
-pub fn read<W: Write>(alloc: Global, item: &Item, text: &[u8], out: &mut W) -> Result<(), Fault> {
-    let room = item.size(ROOM);
-    if crate::MOST_RUN < room {
-        return Err(Fault::BadInput);
-    }
-    writeln!(out, "row {}", item.number(0))?;
-    let mut run = marks::marked(alloc, room)?;
-    let answer = list_reading::read(text, &mut run);
-    writeln!(out, "read {}", Reply(answer.map(|read| read.fields.count)))?;
-    match answer {
-        Ok(read) => {
-            let length = read.fields.count.saturating_mul(layout::COMPONENT_WIDTH);
-            print_rest(&run, length, out)?;
-            run.truncate(length);
-            print_list(alloc, &read, &run, text, out)
+impl Reading {
+    pub fn new(row: u64, room: u64) -> Reading {
+        Reading {
+            row,
+            room: room as usize,
         }
-        Err(_) => Ok(print_refused(&run, out)?),
+    }
+
+    // Reads a text into a run that holds other numbers.
+    pub fn read<W: Write>(&self, alloc: Global, text: &[u8], out: &mut W) -> Result<(), Fault> {
+        if crate::MOST_RUN < self.room {
+            return Err(Fault::BadInput);
+        }
+        writeln!(out, "row {}", self.row)?;
+        let mut run = marks::marked(alloc, self.room)?;
+        let answer = list_reading::read(text, &mut run);
+        replies::print(out, "read", answer.map(|read| read.fields.count))?;
+        match answer {
+            Ok(read) => {
+                let length = read.fields.count.saturating_mul(layout::COMPONENT_WIDTH);
+                let places = [("rest", marks::first_marred(&run, length))];
+                changes::print(out, "rest same", &places)?;
+                run.truncate(length);
+                print_list(alloc, &read, &run, text, out)
+            }
+            Err(_) => {
+                let places = [("run", marks::first_marred(&run, 0))];
+                Ok(changes::print(out, "same", &places)?)
+            }
+        }
     }
 }
 
-// The letters and one component's name of a text.
-pub fn parts<W: Write>(item: &Item, text: &[u8], out: &mut W) -> Result<(), Fault> {
-    let name = list_reading::name(text, item.size(COMPONENT));
-    writeln!(out, "row {}", item.number(0))?;
-    writeln!(out, "letters{}", Row(list_reading::letters(text)))?;
-    writeln!(out, "name{}", Row(name))?;
-    Ok(())
+impl Asking {
+    pub fn new(row: u64, component: u64) -> Asking {
+        Asking {
+            row,
+            component: component as usize,
+        }
+    }
+
+    // The letters and the component's name of a text.
+    pub fn print<W: Write>(&self, text: &[u8], out: &mut W) -> io::Result<()> {
+        let name = list_reading::name(text, self.component);
+        writeln!(out, "row {}", self.row)?;
+        writeln!(out, "letters{}", Row(list_reading::letters(text)))?;
+        writeln!(out, "name{}", Row(name))
+    }
 }

@@ -7,22 +7,22 @@ ghost use Rattle.rules.specs.Trade.{is_investor};
 ghost use Rattle.rules.specs.Orders.{most_baskets, number_of, within_limit};
 
 use rules::Kind;
+use std::num::NonZeroU64;
 
 // Whether x is lo to hi.
 #[tactic(auto, using(std::proofs::lemmas::Bool::Decides::nat_tests), unfolding(sequences::specs::Every::inside))]
 pub fn is_inside(lo: u64, hi: u64, x: u64) -> bool
     ensures { result ≡ inside lo hi x }
 {
-    lo <= x && x <= hi
+    (lo..=hi).contains(&x)
 }
 
 // Whether a is one of the accounts other than the fund.
 #[tactic(auto, using(std::proofs::lemmas::Bool::Decides::nat_tests), unfolding(rules::specs::Trade::is_investor, sequences::specs::Every::inside))]
 pub fn is_investor(accounts: usize, a: usize) -> bool
-    requires { 0 < accounts }
     ensures { result ≡ is_investor accounts a }
 {
-    1 <= a && a <= accounts - 1
+    (1..accounts).contains(&a)
 }
 
 // Whether so many units are a whole count of baskets from 1 to the most; `m` is the count with what is left over dropped.
@@ -46,5 +46,5 @@ pub fn switch_allows(switch: u64, kind: Kind) -> bool
 pub fn within_limit(limit: u64, units: u64) -> bool
     ensures { result ≡ within_limit limit units }
 {
-    limit == 0 || units <= limit
+    NonZeroU64::new(limit).is_none_or(|most| units <= most.get())
 }

@@ -1,9 +1,11 @@
 // The runs that the driver writes, and how they are printed and compared.
 use day_items::session::Session;
+use driver_rows::Work;
 use program_io::fault::Fault;
 use program_io::items::Item;
-use program_io::marks;
 use program_io::rows::Row;
+use program_io::{changes, marks};
+use rules::Refusal;
 use std::alloc::AllocError;
 use std::io;
 use std::io::Write;
@@ -15,69 +17,87 @@ const MOST_REPORTS: usize = 10_000;
 
 const MOST_ANSWERS: usize = 400;
 
-// How long the runs of records, of the investor's and of the fund's reports, and of the answers are: what a batch starts with.
+// A batch: how long the runs of records, of the investor's and of the fund's reports, and of the answers are, and the rows.
 #[derive(Clone, Copy)]
-pub struct Lengths {
+pub struct Batch<'a> {
     records: usize,
     investor: usize,
     fund: usize,
     answers: usize,
+    rows: &'a [u64],
 }
 
-impl Lengths {
-    // How many numbers of an item they are. Behind them stand the rows.
-    pub const WIDTH: usize = 4;
-
-    pub fn new(item: &Item) -> Result<Lengths, Fault> {
-        let lengths = Lengths {
-            records: item.size(0),
-            investor: item.size(1),
-            fund: item.size(2),
-            answers: item.size(3),
-        };
-        lengths.in_room().ok_or(Fault::BadInput)
+impl Batch<'_> {
+    fn has_room(&self) -> bool {
+        self.records <= MOST_RECORDS
+            && self.investor.max(self.fund) <= MOST_REPORTS
+            && self.answers <= MOST_ANSWERS
     }
+}
 
-    fn in_room(self) -> Option<Lengths> {
-        let is_reports = self.investor <= MOST_REPORTS && self.fund <= MOST_REPORTS;
-        let has_room = is_reports && self.records <= MOST_RECORDS && self.answers <= MOST_ANSWERS;
-        has_room.then_some(self)
+impl<'a> TryFrom<&'a Item> for Batch<'a> {
+    type Error = Fault;
+
+    fn try_from(item: &'a Item) -> Result<Batch<'a>, Fault> {
+        let [records, investor, fund, answers, rows @ ..] = item.numbers.as_slice() else {
+            return Err(Fault::BadInput);
+        };
+        let batch = Batch {
+            records: *records as usize,
+            investor: *investor as usize,
+            fund: *fund as usize,
+            answers: *answers as usize,
+            rows,
+        };
+        if batch.has_room() {
+            Ok(batch)
+        } else {
+            Err(Fault::BadInput)
+        }
     }
 }
 
 #[derive(Drop)]
 pub struct Lent {
-    pub book: Vec<u64>,
-    pub prices: Vec<u64>,
-    pub records: Vec<u64>,
-    pub investor: Vec<u64>,
-    pub fund: Vec<u64>,
-    pub answers: Vec<u64>,
-}
-
-// Whether a run is the same in two; if not, the first place that differs is printed.
-fn is_same<W: Write>(out: &mut W, word: &str, left: &[u64], other: &[u64]) -> io::Result<bool> {
-    match marks::first_difference(left, other) {
-        Some(place) => {
-            writeln!(out, "{word} {place}")?;
-            Ok(false)
-        }
-        None => Ok(true),
-    }
+    book: Vec<u64>,
+    prices: Vec<u64>,
+    records: Vec<u64>,
+    investor: Vec<u64>,
+    fund: Vec<u64>,
+    answers: Vec<u64>,
 }
 
 impl Lent {
     // The book and the prices of a session, and runs that hold marks.
-    pub fn new(session: &Session, lengths: Lengths) -> Result<Lent, AllocError> {
+    pub fn new(session: &Session, batch: Batch<'_>) -> Result<Lent, AllocError> {
         let alloc = session.alloc;
         Ok(Lent {
             book: session.book.clone()?,
             prices: session.prices.clone()?,
-            records: marks::marked(alloc, lengths.records)?,
-            investor: marks::marked(alloc, lengths.investor)?,
-            fund: marks::marked(alloc, lengths.fund)?,
-            answers: marks::marked(alloc, lengths.answers)?,
+            records: marks::marked(alloc, batch.records)?,
+            investor: marks::marked(alloc, batch.investor)?,
+            fund: marks::marked(alloc, batch.fund)?,
+            answers: marks::marked(alloc, batch.answers)?,
         })
+    }
+
+    // Runs the rows on them by one of the driver's two functions.
+    pub fn run<F: Fn(&[u64], &mut Work<'_>, &[u64], &mut [u64]) -> Result<(), Refusal>>(
+        &mut self,
+        day: &[u64],
+        batch: Batch<'_>,
+        run: F,
+    ) -> Result<(), Refusal>
+        requires { F.IsAlwaysCallable run }
+    {
+        let mut work = Work {
+            book: &mut self.book,
+            prices: &mut self.prices,
+            records: &mut self.records,
+            investor: &mut self.investor,
+            fund: &mut self.fund,
+        };
+        run(day, &mut work, batch.rows, &mut self.answers)
     }
 
     pub fn print<W: Write>(&self, out: &mut W) -> io::Result<()> {
@@ -91,16 +111,16 @@ impl Lent {
 
     // `same`, or for each run that differs from another's the first such place.
     pub fn print_same<W: Write>(&self, other: &Lent, out: &mut W) -> io::Result<()> {
-        let is_book = is_same(out, "book", &self.book, &other.book)?;
-        let is_prices = is_same(out, "prices", &self.prices, &other.prices)?;
-        let is_records = is_same(out, "records", &self.records, &other.records)?;
-        let is_investor = is_same(out, "investor", &self.investor, &other.investor)?;
-        let is_fund = is_same(out, "fund_reports", &self.fund, &other.fund)?;
-        let is_answers = is_same(out, "answers", &self.answers, &other.answers)?;
-        if is_book && is_prices && is_records && is_investor && is_fund && is_answers {
-            writeln!(out, "same")?;
-        }
-        Ok(())
+        let pairs = [
+            ("book", &self.book, &other.book),
+            ("prices", &self.prices, &other.prices),
+            ("records", &self.records, &other.records),
+            ("investor", &self.investor, &other.investor),
+            ("fund_reports", &self.fund, &other.fund),
+            ("answers", &self.answers, &other.answers),
+        ];
+        let places = pairs.map(|(word, left, other)| (word, marks::first_difference(left, other)));
+        changes::print(out, "same", &places)
     }
 
     // Leaves its book and prices to a session.

@@ -8,7 +8,7 @@ use Rattle.sequences.specs.Stretch.{stretch_of, over}
 use Rattle.units.specs.Units.{rounded, premium, discount, ratio_bound}
 use Rattle.flags.specs.Table.{flag_table, entry}
 use Rattle.fund.specs.Fund.{cash_in_range, limit_in_range, limits_in_range, fund_in_range, limit_of}
-use Rattle.fund.specs.Components.{outside_group, zero_unless, used_within, component_in_range, fits, fault_at, component_fault}
+use Rattle.fund.specs.Components.{outside_group, zero_unless, used_within, component_in_range, above_code, fits, code_before, fault_at, component_fault}
 use Rattle.layout.specs.Places.{record_width, report_width, day_width}
 use Rattle.layout.specs.Components.{component_at, places_of}
 use Rattle.layout.specs.Book.{head_at, lots_at, account, head_total, line_total}
@@ -250,7 +250,7 @@ rows =
 pub cases : all right rows ≡ true
 unfolding sum_below any_below all_below first_below join_below tabulate every inside answering passes is_accepted stretch_of over
     rounded premium discount ratio_bound flag_table entry cash_in_range limit_in_range limits_in_range fund_in_range limit_of
-    outside_group zero_unless used_within component_in_range fits fault_at component_fault component_at head_at lots_at head_total line_total
+    outside_group zero_unless used_within component_in_range above_code fits code_before fault_at component_fault component_at head_at lots_at head_total line_total
     code_of quantity column creation_rate redemption_rate creation_amount redemption_amount price_of
     cash_opened held_opened opened_total opened_cash day_sizes_fit size_checks fund_checks over_at total_fault total_checks day_checks
     components_opened places_of lent_sizes_fit opening_reply opened_day opened_stretch opened_book

@@ -28,11 +28,14 @@ abbrev pub by_kind : {A : Type 0} → Kind → A → A → A
 by_kind Creation x y = x
 by_kind Redemption x y = y
 
+abbrev pub ask_of : Kind → ℕ → ℕ → Ask
+ask_of kind a units = record { kind = kind; account = a; units = units }
+
 abbrev pub creation_of : ℕ → ℕ → Ask
-creation_of a units = record { kind = Creation; account = a; units = units }
+creation_of a units = ask_of Creation a units
 
 abbrev pub redemption_of : ℕ → ℕ → Ask
-redemption_of a units = record { kind = Redemption; account = a; units = units }
+redemption_of a units = ask_of Redemption a units
 
 -- Cash by market: of all components, where component i has f i; all of it; and none.
 abbrev pub by_market : Day → (ℕ → ℕ) → CashByMarket

@@ -12,13 +12,10 @@ use Rattle.rules.specs.declared.Kind.TheVariants.{Creation, Redemption}
 use Rattle.rules.specs.Lines.{quantity, is_shanghai}
 use Rattle.rules.specs.Trade.{is_investor}
 
--- the number of a kind of order, as limits and counters are laid out, and the kind that has a number: every one but 0 is redemption's
+-- the number of a kind of order, as limits and counters are laid out
 abbrev pub number_of : Kind → ℕ
 number_of Creation = 0
 number_of Redemption = 1
-
-abbrev pub kind_at : ℕ → Kind
-kind_at number = cond (eqb number 0) Creation Redemption
 
 -- the other kind
 abbrev pub opposite_kind : Kind → Kind

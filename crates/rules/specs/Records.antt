@@ -1,5 +1,5 @@
 -- The records of an order, and the lent list that takes them.
-use Rattle.std.specs.Prelude.{ℕ, ◌+◌, ◌*◌, ◌/◌, ◌%◌, cond, List, [], ◌∷◌, ◌++◌, map, ltb, eqb}
+use Rattle.std.specs.Prelude.{ℕ, ◌+◌, ◌*◌, ◌/◌, ◌%◌, cond, List, [], ◌∷◌, ◌++◌, map, ltb, eqb, Result, Ok, Err}
 use Rattle.sequences.specs.Below.{join_below}
 use Rattle.units.specs.Units.{split_size}
 use Rattle.layout.specs.Day.{Day}
@@ -18,6 +18,10 @@ side_s = 2
 abbrev pub side_number : Side → ℕ
 side_number B = side_b
 side_number S = side_s
+
+-- the side of a number, where it is a side's
+abbrev pub side_at : ℕ → Result Side ℕ
+side_at number = cond (eqb number side_b) (Ok B) (cond (eqb number side_s) (Ok S) (Err number))
 
 -- code, side, quantity and price; the amount is quantity times price
 abbrev pub record_of : ℕ → ℕ → ℕ → ℕ → Record

@@ -2,11 +2,11 @@
 #![tactic(auto)]
 
 ghost use Rattle.std.specs.Prelude.{◌≡◌, ◌<◌, ◌^◌};
-ghost use Rattle.rules.specs.Kinds.{all_cash, cash_report_count, creation_of, redemption_of};
+ghost use Rattle.rules.specs.Kinds.{all_cash, cash_report_count, ask_of};
 ghost use Rattle.rules.specs.Lent.{rooms_of, rooms_in};
 ghost use Rattle.rules.specs.Lists.{lent_in};
-ghost use Rattle.rules.specs.Orders.{kind_at, number_of, opposite_kind};
-ghost use Rattle.rules.specs.Records.{side_number};
+ghost use Rattle.rules.specs.Orders.{number_of, opposite_kind};
+ghost use Rattle.rules.specs.Records.{side_number, side_at};
 ghost use Rattle.rules.specs.Reports.{turned};
 
 use units::Money;
@@ -104,16 +104,15 @@ impl Kind {
             Kind::Redemption => Kind::Creation,
         }
     }
-}
 
-impl From<usize> for Kind {
-    // The kind that has a number: 0 is creation, and every other is redemption.
-    fn from(number: usize) -> Kind
-        ensures { result ≡ kind_at number }
+    // An order of the kind: units for an account, or from one.
+    pub fn ask(self, account: usize, units: u64) -> Ask
+        ensures { result ≡ ask_of self account units }
     {
-        match number {
-            0 => Kind::Creation,
-            _ => Kind::Redemption,
+        Ask {
+            kind: self,
+            account,
+            units,
         }
     }
 }
@@ -124,28 +123,6 @@ pub struct Ask {
     pub kind: Kind,
     pub account: usize,
     pub units: u64,
-}
-
-// A creation of units for an account.
-pub fn creation(account: usize, units: u64) -> Ask
-    ensures { result ≡ creation_of account units }
-{
-    Ask {
-        kind: Kind::Creation,
-        account,
-        units,
-    }
-}
-
-// A redemption of units of an account.
-pub fn redemption(account: usize, units: u64) -> Ask
-    ensures { result ≡ redemption_of account units }
-{
-    Ask {
-        kind: Kind::Redemption,
-        account,
-        units,
-    }
 }
 
 // A trade: a quantity of a line at a price a unit, from a seller to a buyer.
@@ -233,6 +210,21 @@ impl Side {
         match self {
             Side::B => Side::S,
             Side::S => Side::B,
+        }
+    }
+}
+
+impl TryFrom<u64> for Side {
+    // A number that is no side's.
+    type Error = u64;
+
+    ghost try_from_gives = { λ number side. side ≡ side_at number };
+
+    fn try_from(number: u64) -> Result<Side, u64> {
+        match number {
+            1 => Ok(Side::B),
+            2 => Ok(Side::S),
+            _ => Err(number),
         }
     }
 }

@@ -7,14 +7,6 @@ const CASH: u64 = 1_000_000_000_000_000_000;
 
 const STOCK: u64 = 1_000_000_000_000;
 
-// No component has this code.
-const NO_CODE: u64 = 1_000_000;
-
-// The code of a component, its first number.
-fn code_of(component: &[u64]) -> u64 {
-    component.first().copied().unwrap_or(NO_CODE)
-}
-
 // What the account holds of a component.
 fn stock_of(code: u64) -> u64 {
     match code {
@@ -34,39 +26,41 @@ fn price_of(code: u64) -> Option<u64> {
     }
 }
 
+// The codes of components.
+pub fn codes_of(alloc: Global, components: &[u64]) -> Result<Vec<u64>, AllocError> {
+    components
+        .chunks_exact(layout::COMPONENT_WIDTH)
+        .map(|numbers| layout::component_at(numbers, 0).code)
+        .collect(alloc)
+}
+
 // Adds one holder's holdings: cash, what it holds of each component, and no units.
-fn hold<F: Fn(u64) -> u64>(
-    held: &mut Vec<u64>,
-    components: &[u64],
-    stock: F,
-) -> Result<(), AllocError>
+fn hold<F: Fn(u64) -> u64>(held: &mut Vec<u64>, codes: &[u64], stock: F) -> Result<(), AllocError>
     requires { F.IsAlwaysCallable stock }
 {
     held.push(CASH)?;
-    for component in components.chunks_exact(layout::COMPONENT_WIDTH) {
-        held.push(stock(code_of(component)))?;
-    }
+    held.extend(codes.iter().map(|code| stock(*code)))?;
     held.push(0)?;
     Ok(())
 }
 
 // The holdings of the fund, and then of the account.
-pub fn holdings(alloc: Global, components: &[u64]) -> Result<Vec<u64>, AllocError> {
+pub fn holdings(alloc: Global, codes: &[u64]) -> Result<Vec<u64>, AllocError> {
     let mut held = Vec::new(alloc);
-    hold(&mut held, components, |_| STOCK)?;
-    hold(&mut held, components, stock_of)?;
+    hold(&mut held, codes, |_| STOCK)?;
+    hold(&mut held, codes, stock_of)?;
     Ok(held)
 }
 
-// Sets the prices of those components that have one, to the first that is refused.
+// Sets the prices of those codes that have one, to the first that is refused.
 pub fn set_prices(
     day: &[u64],
-    components: &[u64],
+    codes: &[u64],
     book: &[u64],
     prices: &mut [u64],
 ) -> Result<(), Refusal> {
-    for (line, component) in components.chunks_exact(layout::COMPONENT_WIDTH).enumerate() {
-        if let Some(price) = price_of(code_of(component)) {
+    for (line, code) in codes.iter().enumerate() {
+        if let Some(price) = price_of(*code) {
             day::price(day, book, prices, line, price)?;
         }
     }

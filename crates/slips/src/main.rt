@@ -9,7 +9,7 @@ mod printed;
 use fault::Fault;
 use list_rules::ListFields;
 use printed::Slip;
-use rules::{Counts, Refusal};
+use rules::Lists;
 use std::alloc::Global;
 use std::io;
 use std::io::{BufWriter, Read, Write};
@@ -35,20 +35,6 @@ struct Market {
     prices: Vec<u64>,
 }
 
-// What the tests of the creation alone answer, with room for all that an order can make.
-fn test(market: &Market, units: u64) -> Result<Counts, Refusal> {
-    day::creation_test(
-        &market.day,
-        &market.book,
-        &market.prices,
-        ACCOUNT,
-        units,
-        RECORDS_LENGTH,
-        REPORTS_LENGTH,
-        REPORTS_LENGTH,
-    )
-}
-
 // Creates one basket, and prints its records. The tests alone never answer otherwise than the creation; a line says so if they do.
 fn create<W: Write>(
     alloc: Global,
@@ -59,17 +45,14 @@ fn create<W: Write>(
     let mut records = vec![in alloc; 0u64; RECORDS_LENGTH]?;
     let mut investor = vec![in alloc; 0u64; REPORTS_LENGTH]?;
     let mut fund = vec![in alloc; 0u64; REPORTS_LENGTH]?;
-    let tested = test(market, units);
-    let answer = day::create(
-        &market.day,
-        &mut market.book,
-        &market.prices,
-        ACCOUNT,
-        units,
-        &mut records,
-        &mut investor,
-        &mut fund,
-    );
+    let mut lists = Lists {
+        records: &mut records,
+        investor: &mut investor,
+        fund: &mut fund,
+    };
+    let Market { day, book, prices } = market;
+    let tested = day::creation_test(day, book, prices, ACCOUNT, units, lists.rooms());
+    let answer = day::create(day, book, prices, ACCOUNT, units, &mut lists);
     if tested != answer {
         writeln!(out, "the tests alone answered otherwise")?;
     }
@@ -84,9 +67,14 @@ fn create<W: Write>(
 }
 
 // Opens the day of a list for the fund and one account.
-fn open(alloc: Global, fields: ListFields, components: &[u64]) -> Result<Market, Fault> {
+fn open(
+    alloc: Global,
+    fields: ListFields,
+    components: &[u64],
+    codes: &[u64],
+) -> Result<Market, Fault> {
     let count = fields.count.min(layout::MOST_COMPONENTS);
-    let held = given::holdings(alloc, components)?;
+    let held = given::holdings(alloc, codes)?;
     let mut day = vec![in alloc; 0u64; layout::DAY_WIDTH]?;
     let mut book = vec![in alloc; 0u64; ACCOUNTS * layout::width_of(count)]?;
     let mut prices = vec![in alloc; 0u64; count]?;
@@ -114,27 +102,91 @@ fn read(alloc: Global, text: &[u8]) -> Result<(ListFields, Vec<u64>), Fault> {
 // The slips of a list text.
 fn play<W: Write>(alloc: Global, text: &[u8], out: &mut W) -> Result<(), Fault> {
     let (fields, components) = read(alloc, text)?;
-    let mut market = open(alloc, fields, &components)?;
-    given::set_prices(&market.day, &components, &market.book, &mut market.prices)?;
+    let codes = given::codes_of(alloc, &components)?;
+    let mut market = open(alloc, fields, &components, &codes)?;
+    given::set_prices(&market.day, &codes, &market.book, &mut market.prices)?;
     create(alloc, &mut market, fields.fund.basket_size, out)
 }
 
-// What is read of the input is one byte more than the longest text, so that a longer one is known.
+// There is room for the longest text, and for the byte that says that one is longer. Where the input cannot be read it ends.
 fn play_input<R: Read + Drop, W: Write>(alloc: Global, input: R, out: &mut W) -> Result<(), Fault> {
-    let mut text = Vec::new(alloc);
-    input.take(MOST_TEXT as u64 + 1).read_to_end(&mut text)?;
+    let mut text = Vec::with_capacity(alloc, MOST_TEXT + 1)?;
+    let _ = input.take(MOST_TEXT as u64 + 1).read_to_end(&mut text);
     if MOST_TEXT < text.len() {
         return Err(Fault::TooLong);
     }
     play(alloc, &text, out)
 }
 
-fn main(rt: HostRuntime) -> Result<(), Fault> {
-    let alloc = rt.alloc();
-    let mut out = BufWriter::new(alloc, io::writer(&rt))?;
-    match play_input(alloc, rt.reader(), &mut out) {
-        Err(fault @ (Fault::TooLong | Fault::Refused { .. })) => writeln!(out, "{fault}")?,
-        played => played?,
+// The slips of an input. An output that cannot be written ends the run, and that is no fault of the program.
+fn run<R: Read + Drop, W: Write + Drop>(alloc: Global, input: R, output: W) -> Result<(), Fault> {
+    let mut out = BufWriter::new(alloc, output)?;
+    match play_input(alloc, input, &mut out) {
+        Err(fault @ (Fault::TooLong | Fault::Refused { .. })) => {
+            let _ = writeln!(out, "{fault}");
+        }
+        Err(fault @ Fault::Memory(_)) => return Err(fault),
+        Ok(()) | Err(Fault::Io(_)) => {}
     }
-    Ok(out.flush()?)
+    let _ = out.flush();
+    Ok(())
+}
+
+fn main(rt: HostRuntime) -> Result<(), Fault> {
+    run(rt.alloc(), rt.reader(), io::writer(&rt))
+}
+
+#[cfg(test)]
+mod tests {
+    use super::*;
+    use std::io::Error;
+    use std::test::Fail;
+
+    // Fails where it is read or written.
+    #[derive(Drop)]
+    struct Broken;
+
+    impl Read for Broken {
+        fn read(&mut self, _: &mut [u8]) -> io::Result<usize> {
+            Err(Error::other("broken"))
+        }
+    }
+
+    impl Write for Broken {
+        fn write(&mut self, _: &[u8]) -> io::Result<usize> {
+            Err(Error::other("broken"))
+        }
+
+        fn flush(&mut self) -> io::Result<()> {
+            Ok(())
+        }
+    }
+
+    #[test]
+    fn texts_up_to_the_longest(rt: HostRuntime) -> Result<(), Fail> {
+        for (length, want) in [
+            (0, "refused 18 0\n"),
+            (1_048_576, "refused 18 0\n"),
+            (1_048_577, "input too long\n"),
+        ] {
+            let text = "x".repeat(rt.alloc(), length)?;
+            let mut out = Vec::new(rt.alloc());
+            run(rt.alloc(), text.as_bytes(), &mut out)?;
+            assert_eq!(rt; out.as_slice(), want.as_bytes(), "{length}");
+        }
+        Ok(())
+    }
+
+    #[test]
+    fn ends_at_a_broken_input(rt: HostRuntime) -> Result<(), Fail> {
+        let mut out = Vec::new(rt.alloc());
+        run(rt.alloc(), "[ETF510300]".as_bytes().chain(Broken), &mut out)?;
+        assert_eq!(rt; out.as_slice(), b"refused 18 0\n".as_slice());
+        Ok(())
+    }
+
+    #[test]
+    fn ends_at_a_broken_output(rt: HostRuntime) -> Result<(), Fail> {
+        Ok(run(rt.alloc(), "".as_bytes(), Broken)?)
+    }
 }

@@ -1,5 +1,6 @@
 // How records are printed.
 use layout::Record;
+use rules::Side;
 use std::fmt;
 use std::fmt::Display;
 
@@ -15,11 +16,11 @@ impl Display for Yuan {
     }
 }
 
-fn side_of(x: u64) -> char {
-    if x == rules::Side::B.number() {
-        'B'
-    } else {
-        'S'
+// A side's letter.
+fn letter(side: u64) -> char {
+    match Side::try_from(side) {
+        Ok(Side::B) => 'B',
+        _ => 'S',
     }
 }
 
@@ -30,7 +31,7 @@ pub struct Slip(pub Record);
 impl Display for Slip {
     fn fmt<W: fmt::Write>(&self, f: &mut fmt::Formatter<W>) -> fmt::Result {
         let code = self.0.code;
-        let side = side_of(self.0.side);
+        let side = letter(self.0.side);
         let quantity = self.0.quantity;
         let price = Yuan(self.0.price.0);
         let amount = Yuan(self.0.amount.0);

@@ -21,7 +21,7 @@ use Rattle.layout.specs.Places.{most_components}
 use Rattle.layout.specs.declared.Component.{Component}
 use Rattle.layout.specs.Components.{blank, places_of, component_at}
 use Rattle.layout.specs.declared.Fund.{Fund}
-use Rattle.fund.specs.Components.{fault_at, component_fault}
+use Rattle.fund.specs.Components.{code_before, fault_at, component_fault}
 use Rattle.layout.proofs.Components.{places_at}
 use Rattle.layout.specs.Day.{Day}
 use Rattle.layout.specs.Book.{cash, created, redeemed, head_at, lots_at, width, width_of, account, head_total, line_total, line_from}
@@ -33,11 +33,15 @@ use Rattle.sound.proofs.Limits.{Fits, Still, still_true, still_facts, fits-true,
 
 -- the search for a fault in a day's places looks at the first n only
 pub fault_places : (g : ℕ) (f : ℕ → Component) (n : ℕ) → n ≤ most_components → component_fault g (places_of f n) n ≡ component_fault g (places_of f most_components) n
-unfolding component_fault fault_at
-fault_places g f n most = first_same _ _ n (λ k h. rw (same k h, same (k - 1) (omega arith)))
+unfolding component_fault fault_at code_before
+fault_places g f n most = first_same _ _ n agree
   where
     same : (k : ℕ) → k < n → get_or (places_of f n) k blank ≡ get_or (places_of f most_components) k blank
     same k h = places_at f n k h most ∙ sym (places_at f most_components k (omega arith) (omega arith))
+
+    agree : (k : ℕ) → k < n → fault_at g (places_of f n) k ≡ fault_at g (places_of f most_components) k
+    agree zero h = rw (same zero h)
+    agree (suc k) h = rw (same (suc k) h, same k (omega arith))
 
 -- a search that found none has passed all
 none_is : (r : Option ℕ) → is_none r ≡ true → None ≡ r

@@ -1,15 +1,16 @@
 -- What the tests on totals, on the fund's stretch and on sizes say, fact by fact.
-use mathlib.Core.Path.{◌≡◌}
-use mathlib.Core.Bool.{true, false}
+use mathlib.Core.Path.{◌≡◌, sym, ap, ◌∙◌}
+use mathlib.Core.Bool.{Bool, true, false, ◌&&◌}
 use mathlib.Core.List.{List}
 use Prim.Native.Nat.{ℕ, ◌+◌, ◌≤◌, ◌<◌, min}
 use native.Mathlib.Omega.{arith}
-use lib.Dec.{ltb}
+use lib.Dec.{ltb, leb}
 use lib.ListN.{get_or}
 use borrow.Author.Tests.{le-leb, leb-true, lt-ltb, le-ltb, eq-eqb, eqb-true}
 use Rattle.totals.specs.Totals.{top}
-use Rattle.sequences.proofs.Below.{all_at, all_true, cond_le}
-use Rattle.sequences.proofs.Every.{every_at, every_more, every_none, false_of}
+use Rattle.sequences.specs.Below.{all_below}
+use Rattle.sequences.proofs.Below.{all_at, all_true, all_more, cond_le}
+use Rattle.sequences.proofs.Every.{every_at, every_more, every_none, false_of, same_test}
 use Rattle.sequences.proofs.Stretch.{within}
 use Rattle.fund.specs.Fund.{ceiling}
 use Rattle.layout.specs.Book.{cash, created, redeemed, width_of, line_from}
@@ -73,6 +74,19 @@ module _ (n : ℕ) (t : ℕ → ℕ) where
 
   pub fits-false : (Fits n t → ⊥) → totals_fit n t ≡ false
   fits-false h = false_of (totals_fit n t) (λ e. h (fits_facts e))
+
+-- every line of a component within its limit, and the unit within its own
+pub lines_apart : (n : ℕ) (t : ℕ → ℕ) → (all_below (λ l. leb (line_of t l) most_of_line) n && leb (line_of t n) most_units) ≡ all_below (line_fits n t) (n + 1)
+unfolding line_fits
+lines_apart n t =
+    let fits : ℕ → Bool = λ l. leb (line_of t l) most_of_line in
+    let same : (l : ℕ) → l < n → line_fits n t l ≡ fits l = λ l h. ap (leb (line_of t l)) (most_line_lem n l h) in
+    let lines : all_below fits n ≡ all_below (line_fits n t) n =
+    same_test _ _ (λ e. all_true (line_fits n t) n (λ l h. same l h ∙ all_at fits n e l h)) (λ e. all_true fits n (λ l h. sym (same l h) ∙ all_at (line_fits n t) n e l h))
+    in
+    ap (λ (b : Bool). b && leb (line_of t n) most_units) lines
+    ∙ ap (λ (b : Bool). all_below (line_fits n t) n && b) (sym (ap (leb (line_of t n)) (most_unit n n (omega arith))))
+    ∙ sym (all_more (line_fits n t) n)
 
 -- Two families of totals: u is t as far as 2^62. As each limit is below that, both fit or neither does.
 module _ (n : ℕ) (t u : ℕ → ℕ) (capped : (k : ℕ) → k < width_of n → u k ≡ min (t k) top) where

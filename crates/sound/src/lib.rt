@@ -1,48 +1,41 @@
 // Refusal 5: whether a day, its book and its prices are sound. And whether they have what every call keeps.
 #![tactic(auto)]
 
-ghost use Rattle.std.specs.Prelude.{◌≡◌, true, ◌+◌, ◌*◌, ◌≤◌, length};
+ghost use Rattle.std.specs.Prelude.{◌≡◌, true, ◌+◌, ◌*◌, ◌≤◌, length, nat_le};
 ghost use Rattle.sequences.specs.Below.{all_below};
 ghost use Rattle.totals.specs.Totals.{most_rows, number_at, total, Capped};
 ghost use Rattle.layout.specs.Places.{most_components};
 ghost use Rattle.layout.specs.Book.{width_of, behind_line};
 ghost use Rattle.rules.specs.Opening.{day_sizes_fit};
 ghost use Rattle.rules.specs.Sound.{is_sound, is_kept};
-ghost use Rattle.sound.specs.Parts.{most_of, line_fits, totals_fit, line_still, stretch_still, price_fits, room_left};
+ghost use Rattle.sound.specs.Parts.{line_of, line_fits, totals_fit, line_still, stretch_still, price_fits, room_left};
 
 use layout::DayView;
+use totals::Rows;
 
-// The most that a line may total. Line `n` is the unit.
-#[tactic(auto, using(std::proofs::lemmas::Bool::Decides::nat_tests), unfolding(crate::specs::Parts::most_of))]
-fn most_of(n: usize, line: usize) -> u64
-    ensures { result ≡ most_of n line }
+// Whether a line totals at most so much.
+#[tactic(auto, using(std::proofs::lemmas::Bool::Decides::nat_tests), unfolding(totals::specs::Totals::number_at, layout::specs::Book::lots_at))]
+fn line_fits(totals: &[u64], line: usize, most: u64) -> bool
+    requires { (behind_line line ≤ length totals.now) × Capped (length totals.now) totals.now }
+    ensures { result ≡ nat_le (line_of (number_at totals.now) line) most }
 {
-    if line < n {
-        rules::MOST_OF_LINE
-    } else {
-        rules::MOST_UNITS
-    }
+    let lots = layout::lots_at(totals, line);
+    lots.old + lots.bought + lots.got <= most
 }
 
-fn line_fits(totals: &[u64; totals::WIDEST], n: usize, line: usize) -> bool
-    requires { (n ≤ most_components) × (line ≤ n) × Capped (width_of n) totals.now }
-    ensures { result ≡ line_fits n (number_at totals.now) line }
-{
-    let at = layout::LINES_FROM + layout::LINE_WIDTH * line;
-    totals[at] + totals[at + 1] + totals[at + 2] <= most_of(n, line)
-}
-
-fn lines_fit(totals: &[u64; totals::WIDEST], n: usize) -> bool
-    requires { (n ≤ most_components) × Capped (width_of n) totals.now }
+// Whether every line is within its limit. Line `n` is the unit.
+fn lines_fit(totals: &[u64], n: usize) -> bool
+    requires { (n ≤ most_components) × (length totals.now ≡ width_of n) × Capped (length totals.now) totals.now }
     ensures { result ≡ all_below (line_fits n (number_at totals.now)) (n + 1) }
 {
-    (0..n + 1).all(|line| line_fits(totals, n, line))
+    (0..n).all(|line| line_fits(totals, line, rules::MOST_OF_LINE))
+        && line_fits(totals, n, rules::MOST_UNITS)
 }
 
 // Whether cash, the counters and every line are within their limits.
 #[tactic(auto, using(std::proofs::lemmas::Bool::Decides::nat_tests), unfolding(crate::specs::Parts::totals_fit, totals::specs::Totals::number_at, sequences::specs::Every::every))]
-fn totals_fit(totals: &[u64; totals::WIDEST], n: usize) -> bool
-    requires { (n ≤ most_components) × Capped (width_of n) totals.now }
+fn totals_fit(totals: &[u64], n: usize) -> bool
+    requires { (n ≤ most_components) × (length totals.now ≡ width_of n) × Capped (length totals.now) totals.now }
     ensures { result ≡ totals_fit n (number_at totals.now) }
 {
     totals[layout::CASH] <= rules::MOST_CASH
@@ -51,23 +44,38 @@ fn totals_fit(totals: &[u64; totals::WIDEST], n: usize) -> bool
         && lines_fit(totals, n)
 }
 
-// The same of the totals of a book, as far as 2^62, which is above every limit.
-fn book_fits(book: &[u64], accounts: usize, n: usize) -> bool
-    requires { (n ≤ most_components) × (accounts ≤ most_rows) × (length book.now ≡ accounts * width_of n) }
-    ensures { result ≡ totals_fit n (total book.now (width_of n) accounts) }
+// A book as rows: an account's stretch each.
+fn rows_of(book: &[u64], accounts: usize, n: usize) -> Rows<'_>
+    requires { (n ≤ most_components) × (length book.now ≡ accounts * width_of n) }
+    ensures run { result.run.now ≡ book.now }
+    ensures rows { result.rows ≡ accounts }
+    ensures width { result.width ≡ width_of n }
 {
-    let mut totals = [0u64; totals::WIDEST];
-    totals::fill(&mut totals, book, accounts, layout::width_of(n));
-    totals_fit(&totals, n)
+    Rows {
+        run: book,
+        rows: accounts,
+        width: layout::width_of(n),
+    }
 }
 
-#[tactic(auto, using(std::proofs::lemmas::Bool::Decides::nat_tests), unfolding(crate::specs::Parts::line_still, sequences::specs::Every::every))]
+// The same of the totals of a book, as far as 2^62, which is above every limit.
+fn book_fits(book: &Rows, n: usize) -> bool
+    requires { (n ≤ most_components) × (book.now.rows ≤ most_rows) × (book.now.width ≡ width_of n) }
+    ensures { result ≡ totals_fit n (total book.now.run.now (width_of n) book.now.rows) }
+{
+    let mut places = [0u64; totals::WIDEST];
+    let totals = &mut places[..book.width];
+    book.fill(totals);
+    totals_fit(totals, n)
+}
+
+#[tactic(auto, using(std::proofs::lemmas::Bool::Decides::nat_tests), unfolding(crate::specs::Parts::line_still, layout::specs::Book::lots_at, sequences::specs::Every::every))]
 fn line_still(book: &[u64], line: usize) -> bool
     requires { (line ≤ most_components) × (behind_line line ≤ length book.now) }
     ensures { result ≡ line_still book.now line }
 {
-    let at = layout::LINES_FROM + layout::LINE_WIDTH * line;
-    book[at + 1] == 0 && book[at + 2] == 0
+    let lots = layout::lots_at(book, line);
+    lots.bought == 0 && lots.got == 0
 }
 
 fn lines_still(book: &[u64], n: usize) -> bool
@@ -123,20 +131,19 @@ pub fn is_sound(day: &DayView, book: &[u64], prices: &[u64]) -> bool
         && fund::run_fault(fund.first_code, basket, n).is_none()
         && prices_fit(prices)
         && fund_still(book, n)
-        && book_fits(book, accounts, n)
+        && book_fits(&rows_of(book, accounts, n), n)
 }
 
 // Whether there is room for all the units that the ceiling still lets be created.
-fn room_left(book: &[u64], accounts: usize, n: usize) -> bool
-    requires { (n ≤ most_components) × (length book.now ≡ accounts * width_of n) × (totals_fit n (total book.now (width_of n) accounts) ≡ true) }
-    ensures { result ≡ room_left n (total book.now (width_of n) accounts) }
+fn room_left(book: &Rows, n: usize) -> bool
+    requires { (n ≤ most_components) × (book.now.width ≡ width_of n) × (totals_fit n (total book.now.run.now (width_of n) book.now.rows) ≡ true) }
+    ensures { result ≡ room_left n (total book.now.run.now (width_of n) book.now.rows) }
 {
-    let width = layout::width_of(n);
     let at = layout::LINES_FROM + layout::LINE_WIDTH * n;
-    let old = totals::total_at(book, accounts, width, at);
-    let bought = totals::total_at(book, accounts, width, at + 1);
-    let got = totals::total_at(book, accounts, width, at + 2);
-    let created = totals::total_at(book, accounts, width, layout::CREATED);
+    let old = book.total_at(at);
+    let bought = book.total_at(at + 1);
+    let got = book.total_at(at + 2);
+    let created = book.total_at(layout::CREATED);
     old + bought + got + (fund::CEILING - created) <= rules::MOST_UNITS
 }
 
@@ -144,5 +151,6 @@ fn room_left(book: &[u64], accounts: usize, n: usize) -> bool
 pub fn is_kept(day: &DayView, book: &[u64], prices: &[u64]) -> bool
     ensures { result ≡ is_kept day.now book.now prices.now }
 {
-    is_sound(day, book, prices) && room_left(book, day.accounts(), day.count())
+    let n = day.count();
+    is_sound(day, book, prices) && room_left(&rows_of(book, day.accounts(), n), n)
 }

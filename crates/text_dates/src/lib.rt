@@ -31,5 +31,7 @@ pub fn is_date(d: u64) -> bool
     let year = d / 10_000;
     let month = d / 100 % 100;
     let day = d % 100;
-    matches!(year, 1..=9_999) && matches!(month, 1..=12) && 1 <= day && day <= days_in(year, month)
+    (1..=9_999).contains(&year)
+        && (1..=12).contains(&month)
+        && (1..=days_in(year, month)).contains(&day)
 }

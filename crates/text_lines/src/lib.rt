@@ -13,7 +13,7 @@ use text_rules::Columns;
 pub fn is_letters(s: &[u8]) -> bool
     ensures { result ≡ is_letters s.now }
 {
-    1 <= s.len() && s.len() <= text_rules::MOST_LETTERS && lines::is_letters(s)
+    (1..=text_rules::MOST_LETTERS).contains(&s.len()) && lines::is_letters(s)
 }
 
 // Whether the line is "[ETF", letters and "]".
@@ -25,7 +25,7 @@ pub fn is_opening(line: &[u8]) -> bool
     text_rules::SHORTEST_OPENING <= n
         && lines::same_bytes(&line[..text_rules::LETTERS_START], b"[ETF")
         && is_letters(&line[text_rules::LETTERS_START..n - 1])
-        && line[n - 1] == 93
+        && line[n - 1] == b']'
 }
 
 // The letters of a text's first line, as that part of it; an empty part where the line is another.
@@ -57,6 +57,7 @@ pub fn row_count(columns: &Columns, text: &[u8], start: usize) -> usize
     ensures columns_in_bounds { start + result * line_pitch columns.now ≤ length text.now }
 {
     let width = columns.width();
+    // By `while`: that the next place lies in the text is known where the line before it stands; a search over places would test it again.
     let mut at = start;
     let mut j = 0;
     while row_stands(columns, width, text, at) {

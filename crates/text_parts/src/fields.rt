@@ -2,59 +2,54 @@
 // minus) and size, eight limits, publish, trading day, previous trading day, cash component as sign and size, NAV per CU, NAV,
 // count.
 use list_rules::ListFields;
-use program_io::funds;
-use program_io::items::number_at;
 
 pub const WIDTH: usize = list_layout::FIELDS_WIDTH;
 
-// The size of an amount of cash. One that is out of its range counts as the largest number, which is in none.
-fn size_of(amount: i64) -> u64 {
-    if fund::cash_in_range(amount) {
-        amount.unsigned_abs()
-    } else {
-        u64::MAX
+const MOST_CASH: u64 = 1_000_000_000_000_000_000;
+
+// An amount of cash. Any sign but 0 is minus, and one that no number holds counts as 0.
+fn signed(sign: u64, size: u64) -> i64 {
+    match sign {
+        0 => i64::try_from(size).unwrap_or(0),
+        _ => 0i64.checked_sub_unsigned(size).unwrap_or(0),
     }
 }
 
-pub fn of_numbers(numbers: &[u64]) -> Option<ListFields> {
-    let at = |i| number_at(numbers, i);
-    Some(ListFields {
-        fund: funds::fund_of(numbers)?,
-        publish: at(14),
-        trading_day: at(15),
-        pre_trading_day: at(16),
-        cash_component: funds::signed(at(17), at(18))?,
-        nav_per_cu: at(19),
-        nav: at(20),
-        count: at(21) as usize,
-    })
+// As the library takes them from a run, but with cash of any size.
+pub fn of_numbers(numbers: &[u64; WIDTH]) -> ListFields {
+    let [_, _, _, _, estimated_sign, estimated_size, .., sign, size, _, _, _] = *numbers;
+    let mut fields = list_layout::fields_at(numbers);
+    fields.fund.estimated_cash = signed(estimated_sign, estimated_size);
+    fields.cash_component = signed(sign, size);
+    fields
 }
 
+// As the library stores them. It stores no cash past the most; no list that was read has any, and the numbers of one would be 0.
 pub fn numbers_of(l: ListFields) -> [u64; WIDTH] {
-    let f = l.fund;
-    let limits = f.limits;
-    [
-        f.first_code,
-        f.basket_size,
-        f.max_cash_ratio.0,
-        f.switch,
-        u64::from(f.estimated_cash < 0),
-        size_of(f.estimated_cash),
-        limits[0],
-        limits[1],
-        limits[2],
-        limits[3],
-        limits[4],
-        limits[5],
-        limits[6],
-        limits[7],
-        l.publish,
-        l.trading_day,
-        l.pre_trading_day,
-        u64::from(l.cash_component < 0),
-        size_of(l.cash_component),
-        l.nav_per_cu,
-        l.nav,
-        l.count as u64,
-    ]
+    let mut numbers = [0; WIDTH];
+    if l.fund.estimated_cash.unsigned_abs() <= MOST_CASH && l.cash_component.unsigned_abs() <= MOST_CASH {
+        list_layout::put_fields(&mut numbers, l);
+    }
+    numbers
+}
+
+#[cfg(test)]
+mod tests {
+    use super::*;
+
+    #[test]
+    fn amounts_of_any_sign_and_size(rt: HostRuntime) {
+        for (sign, size, amount) in [
+            (0, 7, 7),
+            (1, 7, -7),
+            (2, 7, -7),
+            (1, 0, 0),
+            (0, 9_223_372_036_854_775_807, i64::MAX),
+            (0, 9_223_372_036_854_775_808, 0),
+            (1, 9_223_372_036_854_775_808, i64::MIN),
+            (1, 9_223_372_036_854_775_809, 0),
+        ] {
+            assert_eq!(rt; signed(sign, size), amount, "{sign} {size}");
+        }
+    }
 }

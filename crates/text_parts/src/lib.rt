@@ -1,4 +1,4 @@
-// What programs that play list texts share: texts that are made, fields as numbers, names, and what is printed.
+// What programs that play list texts share: texts that are made, fields as numbers, names, and replies as they are printed.
 #![tactic(auto)]
 
 pub mod bytes;

@@ -2,22 +2,24 @@
 use list_rules::NAME_WIDTH;
 use std::alloc::{AllocError, Global};
 
-// Joins the names of so many components, if each is given alike in both ways of asking for it.
+// Whether a component's name is given alike in both ways of asking for it.
+fn is_alike(text: &[u8], first: usize, j: usize) -> bool {
+    let name = list_reading::name(text, j);
+    name.len() == NAME_WIDTH && name == list_reading::name_from(text, first, j)
+}
+
+// Joins the names of so many components, if each is given alike in both ways.
 pub fn join(
     alloc: Global,
     text: &[u8],
     first: usize,
     count: usize,
 ) -> Result<Option<Vec<u8>>, AllocError> {
-    let mut names = Vec::new(alloc);
-    for j in 0..count {
-        let name = list_reading::name(text, j);
-        if name.len() != NAME_WIDTH || name != list_reading::name_from(text, first, j) {
-            return Ok(None);
-        }
-        names.extend_from_slice(name)?;
+    if !(0..count).all(|j| is_alike(text, first, j)) {
+        return Ok(None);
     }
-    Ok(Some(names))
+    let names = (0..count).flat_map(|j| list_reading::name(text, j).iter().copied());
+    Ok(Some(names.collect(alloc)?))
 }
 
 // Whether no name is given where the text has no such component line.

@@ -1,21 +1,21 @@
-// An answer of reading or writing as the paper's number, place and value, as it is printed.
+// Replies of reading and writing as they are printed.
 use answers::Numbers;
+use program_io::rows::Row;
 use rules::Refusal;
-use std::fmt;
-use std::fmt::Display;
+use std::io;
+use std::io::Write;
 
-// The count of components or bytes, or why it was refused.
-#[derive(Drop)]
-pub struct Reply(pub Result<usize, Refusal>);
-
-impl Display for Reply {
-    fn fmt<W: fmt::Write>(&self, f: &mut fmt::Formatter<W>) -> fmt::Result {
-        match self.0 {
-            Ok(count) => write!(f, "0 0 {count}"),
-            Err(why) => {
-                let r = Numbers::from(why);
-                write!(f, "{} {} {}", r.number, r.place, r.value)
-            }
+// A word and a reply, the paper's number, place and value, on a line. The value is the count of components or bytes.
+pub fn print<W: Write>(
+    out: &mut W,
+    word: &str,
+    answer: Result<usize, Refusal>,
+) -> io::Result<()> {
+    match answer {
+        Ok(count) => writeln!(out, "{word}{}", Row(&[0, 0, count])),
+        Err(why) => {
+            let r = Numbers::from(why);
+            writeln!(out, "{word}{}", Row(&[r.number, r.place, r.value]))
         }
     }
 }

@@ -32,7 +32,7 @@ column_placed cs k well h =
     }
 
 -- ---- a line has more bytes than numbers, and than bytes of text
-taken_eq : {a a' b b' c c' : ℕ} → a ≡ a' → b ≡ b' → c ≡ c'
+pub taken_eq : {a a' b b' c c' : ℕ} → a ≡ a' → b ≡ b' → c ≡ c'
     → ◌≡◌ {A = Taken} (record { bytes = a; numbers = b; words = c }) (record { bytes = a'; numbers = b'; words = c' })
 taken_eq p q r = cc
 

@@ -48,7 +48,7 @@ pub struct Column {
 }
 
 // What some columns take of a line: bytes with their bars, numbers, and bytes of text.
-#[derive(Clone, Copy)]
+#[derive(Clone, Copy, Default)]
 pub struct Taken {
     pub bytes: usize,
     pub numbers: usize,
@@ -117,11 +117,8 @@ impl<'a> Columns<'a> {
         requires { k ≤ length self.now }
         ensures { result ≡ taken_before self.now k }
     {
-        let mut taken = Taken {
-            bytes: 0,
-            numbers: 0,
-            words: 0,
-        };
+        // By `for`: a closure of `fold` is not told that what is taken so far is right, which `past` asks.
+        let mut taken = Taken::default();
         for i in 0..k {
             taken = self.past(i, taken);
         }
@@ -299,4 +296,4 @@ pub const TAG_SIZE: usize = 8;
 pub const END_SIZE: usize = 11;
 
 // What stands behind each column.
-pub const BAR: u8 = 124;
+pub const BAR: u8 = b'|';

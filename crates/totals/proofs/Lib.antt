@@ -1,3 +1,4 @@
 pub mod Top
+pub mod Cut
 pub mod Pass
-pub mod Rows
+pub mod Sums

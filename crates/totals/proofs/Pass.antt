@@ -4,38 +4,33 @@ use Rattle.std.proofs.Common.{length-set, get_or-set_other, get_or-set_same, bel
 use lib.Bits.{bit_or}
 use Rattle.sequences.specs.Below.{any_below}
 use Rattle.sequences.proofs.Below.{any_more}
-use Rattle.totals.specs.Totals.{widest, top, quick_most, eight_at, reaches}
+use Rattle.totals.specs.Totals.{top, quick_most, reaches}
 use Rattle.totals.proofs.Top.{below_top, or_zero_left, or_zero_right}
 
--- the totals t₀ became t: those below j of the w are F, wrapped, and the others as they were
-pub record Pass (t₀ : List ℕ) (F : ℕ → ℕ) (w j : ℕ) (t : List ℕ) : Type 0 where
+-- the totals t₀ became t: those below j are F, wrapped, and the others as they were
+pub record Pass (t₀ : List ℕ) (F : ℕ → ℕ) (j : ℕ) (t : List ℕ) : Type 0 where
   pub done : (k : ℕ) → k < j → get_or t k 0 ≡ F k % 2 ^ 64
   pub rest : (k : ℕ) → j ≤ k → get_or t k 0 ≡ get_or t₀ k 0
-  pub size : length t ≡ widest
+  pub size : length t ≡ length t₀
 
-pub pass_none : (t : List ℕ) (F : ℕ → ℕ) (w : ℕ) → length t ≡ widest → Pass t F w 0 t
-pass_none t F w e =
+pub pass_none : (t : List ℕ) (F : ℕ → ℕ) → Pass t F 0 t
+pass_none t F =
     record {
       done = λ k l. absurd (not-suc-le-zero l);
       rest = λ k l. refl;
-      size = e;
+      size = refl;
     }
 
-module _ {t₀ : List ℕ} {F : ℕ → ℕ} {w j : ℕ} {t : List ℕ} (p : Pass t₀ F w j t) where
-  -- one place more: x is written
-  pub pass_more : (x : ℕ) → j < w → w ≤ widest → x ≡ F j % 2 ^ 64 → Pass t₀ F w (j + 1) (set t j x)
-  pass_more x l m e =
-      record {
-        done = below_more (λ (k : ℕ). get_or (set t j x) k 0 ≡ F k % 2 ^ 64) j
-            (λ k i. get_or-set_other t j k x 0 (λ q. omega (arith, q, i)) ∙ p.done k i)
-            (get_or-set_same t j x 0 (omega (arith, p.size)) ∙ e);
-        rest = λ k i. get_or-set_other t j k x 0 (λ q. omega (arith, q, i)) ∙ p.rest k (omega arith);
-        size = length-set t j x ∙ p.size;
-      }
-
-  -- all places are done
-  pub pass_end : w ≤ j → (length t ≡ widest) × ((k : ℕ) → k < w → get_or t k 0 ≡ F k % 2 ^ 64)
-  pass_end l = (p.size, (λ k i. p.done k (omega (arith, l, i))))
+-- one place more: x is written
+pub pass_more : {t₀ : List ℕ} {F : ℕ → ℕ} {j : ℕ} {t : List ℕ} → Pass t₀ F j t → (x : ℕ) → j < length t₀ → x ≡ F j % 2 ^ 64 → Pass t₀ F (j + 1) (set t j x)
+pass_more {t₀} {F} {j} {t} p x l e =
+    record {
+      done = below_more (λ (k : ℕ). get_or (set t j x) k 0 ≡ F k % 2 ^ 64) j
+          (λ k i. get_or-set_other t j k x 0 (λ q. omega (arith, q, i)) ∙ p.done k i)
+          (get_or-set_same t j x 0 (omega (arith, p.size)) ∙ e);
+      rest = λ k i. get_or-set_other t j k x 0 (λ q. omega (arith, q, i)) ∙ p.rest k (omega arith);
+      size = length-set t j x ∙ p.size;
+    }
 
 -- The or h of a pass that looks at every total: it reaches 2^62 just where one of F does.
 abbrev pub Seen : (F : ℕ → ℕ) (j h : ℕ) → Type 0
@@ -50,10 +45,10 @@ seen_end F j h w s l m =
     let e : j ≡ w = le_antisymm l m in
     below_top h _ (rw e at s)
 
--- The or h of a pass that adds the eight rows from `from` on: where it is 0, they add up, at each place below j, to at most what
--- eight numbers below 2^56 do.
-abbrev pub Small : (b : List ℕ) (from w j h : ℕ) → Type 0
-Small b from w j h = h ≡ 0 → (k : ℕ) → k < j → eight_at b from w k ≤ 8 * quick_most
+-- The or h of a pass that adds blocks of eight rows, whose sums are T: where it is 0, each of these below j is at most that of eight
+-- numbers below 2^56.
+abbrev pub Small : (T : ℕ → ℕ) (j h : ℕ) → Type 0
+Small T j h = h ≡ 0 → (k : ℕ) → k < j → T k ≤ 8 * quick_most
 
-pub small_more : (b : List ℕ) (from w j h g : ℕ) → Small b from w j h → (g ≡ 0 → eight_at b from w j ≤ 8 * quick_most) → Small b from w (j + 1) (bit_or h g)
-small_more b from w j h g s l e = below_more (λ (k : ℕ). eight_at b from w k ≤ 8 * quick_most) j (s (or_zero_left h g e)) (l (or_zero_right h g e))
+pub small_more : (T : ℕ → ℕ) (j h g : ℕ) → Small T j h → (g ≡ 0 → T j ≤ 8 * quick_most) → Small T (j + 1) (bit_or h g)
+small_more T j h g s l e = below_more (λ (k : ℕ). T k ≤ 8 * quick_most) j (s (or_zero_left h g e)) (l (or_zero_right h g e))

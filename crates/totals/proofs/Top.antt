@@ -1,6 +1,6 @@
 -- 2^62 and `|`: an or reaches 2^62 just where a side does. Of a total below 2^62 and the numbers added to it, one of the numbers or
 -- the wrapped sum reaches 2^62 just where the sum does. And no side is above an or.
-use Rattle.std.proofs.Common.{◌≡◌, ℕ, ◌+◌, ◌*◌, ◌%◌, ◌^◌, ◌<◌, ◌≤◌, Bool, true, false, not, ◌||◌, ltb, leb, sym, refl, ap, ◌∙◌, subst, le_trans, le_of_eq, le_refl, add-le-add, arith, le-ltb}
+use Rattle.std.proofs.Common.{◌≡◌, ℕ, ◌+◌, ◌%◌, ◌^◌, ◌<◌, ◌≤◌, Bool, true, false, not, ◌||◌, ltb, leb, sym, refl, ap, ◌∙◌, subst, le_trans, le_of_eq, le_refl, add-le-add, arith, le-ltb}
 use Rattle.std.proofs.Common.{lt-ltb, le-leb, leb-false, leb-true}
 use native.Mathlib.Nat.{add-le-add_iff_right}
 use lib.Bits.{bit_or, or_lt, or_add_and, and_le_r, or_comm}
@@ -44,21 +44,9 @@ or_zero_left a b e = omega (arith, le_or_left a b)
 pub or_zero_right : (a b : ℕ) → bit_or a b ≡ 0 → b ≡ 0
 or_zero_right a b e = omega (arith, le_or_right a b)
 
--- eight numbers whose or is at most m: each is
-pub or_eight : (a b c d e f g h m : ℕ) → bit_or (bit_or (bit_or (bit_or (bit_or (bit_or (bit_or a b) c) d) e) f) g) h ≤ m
-    → a + b + c + d + (e + f + g + h) ≤ 8 * m
-or_eight a b c d e f g h m l =
-    let i = or_sides _ h m l in
-    let j = or_sides _ g m i.0 in
-    let k = or_sides _ f m j.0 in
-    let n = or_sides _ e m k.0 in
-    let o = or_sides _ d m n.0 in
-    let p = or_sides _ c m o.0 in
-    let q = or_sides a b m p.0 in
-    omega (arith, i.1, j.1, k.1, n.1, o.1, p.1, q.0, q.1)
-  where
-    or_sides : (u v m : ℕ) → bit_or u v ≤ m → (u ≤ m) × (v ≤ m)
-    or_sides u v m l = (le_trans (le_or_left u v) l, le_trans (le_or_right u v) l)
+-- an or that is at most m has no side above m
+pub or_sides : (u v m : ℕ) → bit_or u v ≤ m → (u ≤ m) × (v ≤ m)
+or_sides u v m l = (le_trans (le_or_left u v) l, le_trans (le_or_right u v) l)
 
 pub below_top : (h : ℕ) (b : Bool) → leb top h ≡ b → ltb h top ≡ not b
 below_top h true e = le-ltb h top (leb-true top h e)

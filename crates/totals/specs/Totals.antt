@@ -1,5 +1,5 @@
 -- The totals of a run of rows of one width: for each place the sum over the rows, whether one reaches 2^62, and as far as 2^62.
-use Rattle.std.specs.Prelude.{ℕ, ◌+◌, ◌*◌, ◌<◌, ◌≤◌, min, Bool, List, nat_le, slice_index}
+use Rattle.std.specs.Prelude.{ℕ, ◌+◌, ◌*◌, ◌<◌, ◌≤◌, min, Bool, List, length, nat_le, slice_index}
 use Rattle.sequences.specs.Below.{sum_below}
 use Rattle.layout.specs.Places.{most_components}
 use Rattle.layout.specs.Book.{width_of}
@@ -36,20 +36,13 @@ total b w n k = sum_below (place_at b w k) n
 unfoldable pub capped_total : List ℕ → ℕ → ℕ → ℕ → ℕ
 capped_total b w n k = min (total b w n k) top
 
--- the total at place k once the row at `from` is added to the totals t
-unfoldable pub plus_one : List ℕ → List ℕ → ℕ → ℕ → ℕ
-plus_one t b from k = slice_index t k + slice_index b (from + k)
+-- the total at place k once a row is added to the totals t
+unfoldable pub plus_row : List ℕ → List ℕ → ℕ → ℕ
+plus_row t row k = slice_index t k + slice_index row k
 
--- the sum at place k of the eight rows from there on, each w wide
-unfoldable pub eight_at : List ℕ → ℕ → ℕ → ℕ → ℕ
-eight_at b from w k =
-    slice_index b (from + k) + slice_index b (from + w + k) + slice_index b (from + w + w + k) + slice_index b (from + w + w + w + k)
-    + (slice_index b (from + w + w + w + w + k) + slice_index b (from + w + w + w + w + w + k)
-    + slice_index b (from + w + w + w + w + w + w + k) + slice_index b (from + w + w + w + w + w + w + w + k))
-
--- the total at place k once these are added
-unfoldable pub plus_eight : List ℕ → List ℕ → ℕ → ℕ → ℕ → ℕ
-plus_eight t b from w k = slice_index t k + eight_at b from w k
+-- the total at place k once the eight rows of a block are
+unfoldable pub plus_block : List ℕ → List ℕ → ℕ → ℕ
+plus_block t block k = slice_index t k + total block (length t) 8 k
 
 unfoldable pub reaches : (ℕ → ℕ) → ℕ → Bool
 reaches f k = nat_le top (f k)

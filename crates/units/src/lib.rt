@@ -4,12 +4,14 @@
 ghost use Rattle.std.specs.Prelude.{◌≡◌, ◌+◌, ◌*◌, ◌≤◌, ◌<◌, ◌^◌};
 ghost use Rattle.units.specs.Units.{rate_one, rounded, premium, discount, ratio_bound};
 
+use std::ops::Add;
+
 // Thousandths of a yuan.
-#[derive(Clone, Copy, PartialEq, Eq, PartialOrd, Ord, Debug)]
+#[derive(Clone, Copy, PartialEq, Eq, PartialOrd, Ord, Debug, Default)]
 pub struct Money(pub u64);
 
 // Hundred-thousandths.
-#[derive(Clone, Copy, PartialEq, Eq, PartialOrd, Ord, Debug)]
+#[derive(Clone, Copy, PartialEq, Eq, PartialOrd, Ord, Debug, Default)]
 pub struct Rate(pub u64);
 
 // Ten-thousandths of a yuan.
@@ -20,26 +22,12 @@ impl Money {
     // The split size, 1,000 yuan: cash from here on takes two records.
     pub const SPLIT: Money = Money(1_000_000);
 
-    pub fn new(thousandths: u64) -> Self
-        ensures { result.0 ≡ thousandths }
-    {
-        Money(thousandths)
-    }
-
-    pub fn plus(self, other: Money) -> Money
-        requires { self.0 + other.0 < 2 ^ 64 }
-        ensures { result.0 ≡ self.0 + other.0 }
-    {
-        Money(self.0 + other.0)
-    }
-
     // The amount times (100,000 + rate) / 100,000, rounded.
     pub fn with_premium(self, rate: Rate) -> Money
         requires { (self.0 ≤ 20_000_000_000_000_000) × (rate.0 ≤ 100_000) }
         ensures { result.0 ≡ premium self.0 rate.0 }
     {
-        let one = Rate::ONE;
-        Money(scaled(self.0, one.0 + rate.0))
+        Money(scaled(self.0, Rate::ONE.0 + rate.0))
     }
 
     // The amount times (100,000 - rate) / 100,000, rounded.
@@ -47,29 +35,28 @@ impl Money {
         requires { (self.0 ≤ 20_000_000_000_000_000) × (rate.0 ≤ 100_000) }
         ensures { result.0 ≡ discount self.0 rate.0 }
     {
-        let one = Rate::ONE;
-        Money(scaled(self.0, one.0 - rate.0))
+        Money(scaled(self.0, Rate::ONE.0 - rate.0))
+    }
+}
+
+impl Add for Money {
+    type Output = Money;
+
+    ghost can_add = { λ x y. x.0 + y.0 < 2 ^ 64 };
+
+    ghost add_gives = { λ x y sum. sum.0 ≡ x.0 + y.0 };
+
+    fn add(self, other: Money) -> Money {
+        Money(self.0 + other.0)
     }
 }
 
 impl Rate {
     // The rate one.
     pub const ONE: Rate = Rate(100_000);
-
-    pub fn new(hundred_thousandths: u64) -> Self
-        ensures { result.0 ≡ hundred_thousandths }
-    {
-        Rate(hundred_thousandths)
-    }
 }
 
 impl ReferenceValue {
-    pub fn new(ten_thousandths: u64) -> Self
-        ensures { result.0 ≡ ten_thousandths }
-    {
-        ReferenceValue(ten_thousandths)
-    }
-
     // The most cash that may stand for missing stock of `baskets` baskets of `size` units under a maximum cash ratio.
     pub fn ratio_bound(self, baskets: u64, size: u64, ratio: Rate) -> Money
         requires { (self.0 ≤ 9_999_999) × (baskets ≤ 20) × (size ≤ 99_999_999) × (ratio.0 ≤ 100_000) }
@@ -89,7 +76,6 @@ fn scaled(v: u64, k: u64) -> u64
     if v == 0 {
         return 0;
     }
-    let rate = Rate::ONE;
-    let one = rate.0;
+    let one = Rate::ONE.0;
     (v / one) * k + ((v % one) * k + one / 2) / one
 }

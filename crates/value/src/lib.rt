@@ -14,7 +14,7 @@ use rules::Refusal;
 use units::{Money, ReferenceValue};
 
 // The most that a reference value may be.
-const MOST_VALUE: u64 = 9_999_999;
+const MOST_VALUE: ReferenceValue = ReferenceValue(9_999_999);
 
 // What a component adds to the sum.
 #[tactic(auto, unfolding(crate::specs::Worth::worth))]
@@ -36,28 +36,19 @@ fn lacks_price(c: Component, price: u64) -> bool
     flags::entry_of(c.flag, flags::Column::Priced) && c.quantity != 0 && price == 0
 }
 
-// What the estimated cash adds to the sum. This function and the next are all that computes with signed numbers.
+// What the estimated cash adds to the sum, and what it takes from it. All that computes with signed numbers.
 #[tactic(auto, using(crate::proofs::Sign::small))]
-fn cash_added(e: i64) -> Money
+fn cash_parts(e: i64) -> (Money, Money)
     requires { cash_in_range e ≡ true }
-    ensures { result.0 ≡ cash_added e }
+    ensures added { result.0.0 ≡ cash_added e }
+    ensures taken { result.1.0 ≡ cash_taken e }
 {
+    let cash = Money(10 * e.unsigned_abs());
     if e < 0 {
-        return Money(0);
+        (Money(0), cash)
+    } else {
+        (cash, Money(0))
     }
-    Money(10 * e.unsigned_abs())
-}
-
-// What it takes from the sum.
-#[tactic(auto, using(crate::proofs::Sign::small))]
-fn cash_taken(e: i64) -> Money
-    requires { cash_in_range e ≡ true }
-    ensures { result.0 ≡ cash_taken e }
-{
-    if e < 0 {
-        return Money(10 * e.unsigned_abs());
-    }
-    Money(0)
 }
 
 // A basket's worth by the unit, rounded.
@@ -67,7 +58,7 @@ fn per_unit(basket: Money, size: u64) -> ReferenceValue
     ensures { result.0 ≡ rounded (10 * basket.0) size }
 {
     let tenths = 10 * basket.0;
-    ReferenceValue::new((2 * tenths + size) / (2 * size))
+    ReferenceValue((2 * tenths + size) / (2 * size))
 }
 
 // The answer from the sum of the components and what the estimated cash adds to it and takes from it.
@@ -75,12 +66,12 @@ fn value_with(sum: Money, added: Money, taken: Money, size: u64) -> Result<Refer
     requires { (sum.0 + added.0 ≤ 400_000_000_000_000_000) × (1 ≤ size) × (size ≤ 99_999_999) }
     ensures { value_answer_reply result ≡ value_from (sum.0 + added.0) taken.0 size }
 {
-    let before = sum.plus(added);
-    if before.0 < taken.0 {
+    let before = sum + added;
+    if before < taken {
         return Err(Refusal::NoReferenceValue);
     }
     let value = per_unit(Money(before.0 - taken.0), size);
-    if MOST_VALUE < value.0 {
+    if MOST_VALUE < value {
         return Err(Refusal::NoReferenceValue);
     }
     Ok(value)
@@ -92,16 +83,14 @@ pub fn reference_value(day: &DayView, prices: &[u64]) -> Result<ReferenceValue, 
     ensures { value_answer_reply result ≡ answered (value_checks day.now prices.now) (reference_value day.now prices.now) }
 {
     let mut sum = Money(0);
-    for i in 0..day.count() {
+    for (i, price) in prices.iter().enumerate() {
         let component = day.component(i);
-        let price = prices[i];
-        if lacks_price(component, price) {
+        if lacks_price(component, *price) {
             return Err(Refusal::NoReferenceValue);
         }
-        sum = sum.plus(worth_of(component, price));
+        sum = sum + worth_of(component, *price);
     }
     let fund = day.fund();
-    let added = cash_added(fund.estimated_cash);
-    let taken = cash_taken(fund.estimated_cash);
+    let (added, taken) = cash_parts(fund.estimated_cash);
     value_with(sum, added, taken, fund.basket_size)
 }

@@ -1,7 +1,13 @@
--- `driver::run_rows` meets its contract: refusal 1, or all the rows.
-use mathlib.Core.Path.{sym, ◌∙◌}
+use mathlib.Core.Path.{refl, sym, ap, ◌∙◌}
 use native.Mathlib.Omega.{arith}
+use borrow.Author.Rules.{rules}
+use Rattle.layout.specs.Answers.{put_reply}
+use Rattle.sequences.specs.Checks.{Reply}
+use Rattle.driver_rows.specs.Lent.{left_work}
+use Rattle.driver.specs.Batch.{Batch, batch_in}
 use Rattle.driver.proofs.Sizes.{fit_facts, run_refused, run_done}
+use Rattle.driver.proofs.Going.{going_starts, going_sound, going_inside, going_on, going_done}
+use Rattle.driver.proofs.run_rows.Goals.{in-Some-kept, in-None-kept}
 use Rattle.driver.proofs.run_rows.Goals as goal
 
 pub returns-then-not-rows_fit : goal.returns-then-not-rows_fit
@@ -9,16 +15,49 @@ returns-then-not-rows_fit c =
     let r = run_refused _ _ (sym c.rows_fit.ensures ∙ c.if-not-rows_fit.true) in
     record {
       result_value = r.0;
-      left = r.1;
+      work = ap (λ (b : Batch). left_work c.args.work.now b.work) r.1;
+      answers = ap (λ (b : Batch). b.answers) r.1;
     }
 
-pub do_rows-requires : goal.do_rows-requires
-do_rows-requires c =
+pub loop-i-init : goal.loop-i-init
+loop-i-init c = rw (c.into_iter-i-iterator.ensures.into_iter_gives, c.enumerate-i-items.ensures.source, c.enumerate-i-items.ensures.count, c.chunks_exact.ensures.rest, c.chunks_exact.ensures.size)
+    (going_starts _ _ _ _ _ c.requires, refl)
+
+pub sound_row-reply-requires-clause-sound : goal.sound_row-reply-requires-clause-sound
+sound_row-reply-requires-clause-sound c = going_sound _ _ _ _ _ _ _ _ _ c.loop-i.invariant.0 _ c.in-Some-kept.is
+
+pub put_answer-requires : goal.put_answer-requires
+put_answer-requires c =
+    let g = c.loop-i.invariant in
+    let steps = c.in-Some.ensures.steps in
     let facts = fit_facts _ _ (sym c.rows_fit.ensures ∙ c.if-not-rows_fit.false) in
-    record { prices_value = c.requires; n_in_bounds = omega (arith, facts.0); n_in_bounds_2 = omega (arith, facts.1) }
+    let inside = going_inside _ _ _ _ _ _ _ _ _ g.0 _ _ steps.0.1.0 (steps.0.1.1 ∙ g.1) in
+    omega (arith, inside, facts.1, g.0.answers, steps.1)
+
+pub loop-i-preserved : goal.loop-i-preserved
+loop-i-preserved c =
+    let g = c.loop-i.invariant in
+    let steps = c.in-Some.ensures.steps in
+    let put = rw (steps.1, c.into.ensures) at c.put_answer.ensures in (
+      elim c.match-kept.branch [
+        | in-Some-kept w ↦
+            let same = (g.0.still _ w.in-Some-kept.is).0 in
+            going_on _ _ _ _ _ _ _ _ _ g.0 _ _ steps.0.1.0 (steps.0.1.1 ∙ g.1) _ _ _ _ steps.2
+            (w.work-is ∙ rw same at w.sound_row-reply.ensures.left) (rw same at w.sound_row-reply.ensures.result_value) (rw w.reply-is at put)
+        | in-None-kept w ↦
+            going_on _ _ _ _ _ _ _ _ _ g.0 _ _ steps.0.1.0 (steps.0.1.1 ∙ g.1) _ _ _ _ steps.2
+            (w.work-is ∙ w.row_call-reply.ensures.left) w.row_call-reply.ensures.result_value (rw w.reply-is at put)
+      ],
+      steps.0.0 ∙ g.1,
+    )
 
 pub returns : goal.returns
-returns c = let r = run_done _ _ _
-    (sym c.rows_fit.ensures
-    ∙ c.if-not-rows_fit.false)
-    c.do_rows.ensures in record { result_value = r.0; left = r.1 }
+returns c =
+    let g = c.loop-i.invariant in
+    let steps = c.in-None.ensures.steps in
+    let r = run_done _ _ _ (sym c.rows_fit.ensures ∙ c.if-not-rows_fit.false) (going_done _ _ _ _ _ _ _ _ _ g.0 (rw g.1 at steps.0.1.0)) in
+    record {
+      result_value = r.0;
+      work = g.0.same ∙ ap (λ (b : Batch). left_work c.args.work.now b.work) r.1;
+      answers = ap (λ (b : Batch). b.answers) r.1;
+    }

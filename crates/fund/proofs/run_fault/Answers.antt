@@ -4,6 +4,7 @@ use mathlib.Core.List.{List}
 use Prim.Native.Nat.{ℕ, ◌≤◌, ◌<◌}
 use native.Mathlib.Omega.{arith}
 use lib.ListN.{get_or}
+use Rattle.std.specs.Prelude.{Option, Some}
 use Rattle.sequences.proofs.Below.{first_none}
 use Rattle.layout.specs.Places.{most_components}
 use Rattle.layout.specs.declared.Component.{Component}
@@ -23,8 +24,8 @@ module _ (run : List ℕ) (n i : ℕ) (low : i < n) (most : n ≤ most_component
   placed : c ≡ get_or (places run n) i blank
   placed = e ∙ sym (places_at (component_at run) n i low most)
 
-  tested : (g previous : ℕ) (r : Bool) → r ≡ fits g i previous c → not (fits g i previous (get_or (places run n) i blank)) ≡ not r
-  tested g previous r a = ap not (ap (fits g i previous) (sym placed) ∙ sym a)
+  tested : (g : ℕ) (previous : Option ℕ) (r : Bool) → r ≡ fits g previous c → not (fits g previous (get_or (places run n) i blank)) ≡ not r
+  tested g previous r a = ap not (ap (fits g previous) (sym placed) ∙ sym a)
 
 pub loop-i-init : goal.loop-i-init
 loop-i-init c = (first_none _, sym (before_none _))
@@ -43,7 +44,7 @@ loop-i-preserved c =
     let count = c.args.count in
     let low : c.loop-i.i < count = omega arith in (
       goes_on _ _ count _ _ inv.0 inv.1 (tested _ _ _ low (omega arith) read.result read.ensures _ _ _ c.component_fits.ensures ∙ ap not c.if-not-component_fits.false),
-      ap (λ (x : Component). x.code) (placed _ _ _ low (omega arith) read.result read.ensures) ∙ sym (before_more _ _),
+      ap (λ (x : Component). Some x.code) (placed _ _ _ low (omega arith) read.result read.ensures) ∙ sym (before_more _ _),
     )
 
 pub returns : goal.returns

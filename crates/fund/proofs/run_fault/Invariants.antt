@@ -3,8 +3,7 @@
 use mathlib.Core.Path.{◌≡◌}
 use Rattle.sequences.specs.Below.{first_below}
 use Rattle.layout.specs.Components.{component_at, places_of}
-use Rattle.fund.specs.Components.{fault_at}
-use Rattle.fund.proofs.Laws.{code_before}
+use Rattle.fund.specs.Components.{code_before, fault_at}
 use Rattle.fund.proofs.run_fault.Given as goal
 
 abbrev pub invariant-loop-i : goal.invariant-loop-i

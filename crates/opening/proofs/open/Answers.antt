@@ -7,23 +7,21 @@ use borrow.Author.Rules.{rules}
 use Rattle.std.proofs.lemmas.Result.{err_from_is_err_and}
 use Rattle.layout.specs.Places.{limit_count}
 use Rattle.rules.specs.Opening.{Opening}
-use Rattle.opening.specs.Given.{given}
+use Rattle.opening.specs.Given.{given_in}
 use Rattle.opening.proofs.Answer.{Sizes, done_sizes, done_fund, outcome_done, outcome_refused}
 use Rattle.opening.proofs.open.Goals.{In_ok-opening_answer, Start}
 use Rattle.opening.proofs.open.Goals as goal
 
 -- what is opened
 abbrev opening : Start → Opening
-opening c =
-    let a = c.args in
-    given a.accounts a.count a.fund a.components.now a.holdings.now a.book.now a.prices.now a.day.now
+opening c = given_in c.args.given c.args.book.now c.args.prices.now c.args.day.now
 
 -- the lent lengths where the answer is done
 sizes : (c : In_ok-opening_answer) → Sizes (opening (goal.at.In_ok-opening_answer c).Start)
 sizes c = done_sizes (opening (goal.at.In_ok-opening_answer c).Start) _ c.in_ok-opening_answer.ensures refl
 
 -- the fund has all its limits
-limits : (c : Start) → length c.args.fund.limits ≡ limit_count
+limits : (c : Start) → length c.args.given.fund.limits ≡ limit_count
 limits c = search rules
 
 pub open_book-requires : goal.open_book-requires

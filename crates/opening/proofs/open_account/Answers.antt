@@ -1,13 +1,18 @@
-use mathlib.Core.Path.{refl}
-use native.Mathlib.Omega.{arith}
+use Rattle.std.proofs.Common.{◌≡◌, ℕ, ◌+◌, ◌-◌, length, get_or, take, drop, refl, ◌∙◌, get_or-take, arith}
+use Rattle.std.proofs.lemmas.List.{get_or-drop, length-drop, length-take-le}
 use Rattle.opening.proofs.Front.{fronted_none, fronted_more, fronted_all}
 use Rattle.opening.proofs.open_account.Goals as goal
 
-pub loop-l-init : goal.loop-l-init
-loop-l-init c = fronted_none _ _ _ _ c.requires.stretch_len refl
+pub loop-line-init : goal.loop-line-init
+loop-line-init c = fronted_none _ _ _ _ c.requires.stretch refl
 
-pub loop-l-preserved : goal.loop-l-preserved
-loop-l-preserved c = fronted_more _ _ _ _ _ (omega arith) c.put_lots.ensures c.loop-l.invariant
+pub loop-line-preserved : goal.loop-line-preserved
+loop-line-preserved c =
+    let h = c.args.held.now in
+    let lines : ℕ = length h - 1 in
+    let at : get_or (take lines (drop 1 h)) c.loop-line.line 0 ≡ get_or h (1 + c.loop-line.line) 0 =
+    get_or-take lines (drop 1 h) c.loop-line.line 0 (omega (arith, length-take-le lines (drop 1 h))) ∙ get_or-drop 1 h c.loop-line.line 0 in
+    fronted_more _ _ _ _ _ (omega (arith, length-take-le lines (drop 1 h), length-drop 1 h)) (rw at at c.put_lots.ensures) c.loop-line.invariant
 
 pub returns : goal.returns
-returns c = fronted_all _ _ _ _ (omega arith) c.loop-l.invariant
+returns c = fronted_all _ _ _ _ (omega arith) c.loop-line.invariant

@@ -4,7 +4,7 @@ use mathlib.Core.Bool.{true}
 use native.Mathlib.Omega.{arith}
 use Rattle.fund.specs.Fund.{fund_in_range}
 use Rattle.rules.specs.Opening.{Opening, opening_sizes_fit}
-use Rattle.opening.specs.Given.{given}
+use Rattle.opening.specs.Given.{given_in}
 use Rattle.opening.proofs.Sizes.{lent_facts}
 use Rattle.opening.proofs.Answer.{Sizes, places_fault, answer_sizes, answer_fund, answer_component, answer_total, answer_done}
 use Rattle.opening.proofs.opening_answer.Goals.{Else-not-fund_in_range, Else-not-sizes_fit, Start}
@@ -12,9 +12,7 @@ use Rattle.opening.proofs.opening_answer.Goals as goal
 
 -- what is opened
 abbrev opening : Start → Opening
-opening c =
-    let a = c.args in
-    given a.accounts a.count a.fund a.components.now a.holdings.now a.book.now a.prices.now a.day.now
+opening c = given_in c.args.given.now c.args.book.now c.args.prices.now c.args.day.now
 
 -- past refusals 1 and 2
 fits : (c : Else-not-sizes_fit) → opening_sizes_fit (opening (goal.at.Else-not-sizes_fit c).Start) ≡ true
@@ -23,7 +21,7 @@ fits c = sym c.sizes_fit.ensures ∙ c.if-not-sizes_fit.false
 sizes : (c : Else-not-sizes_fit) → Sizes (opening (goal.at.Else-not-sizes_fit c).Start)
 sizes c = lent_facts _ _ _ _ _ _ _ (fits c)
 
-in_range : (c : Else-not-fund_in_range) → fund_in_range c.args.fund ≡ true
+in_range : (c : Else-not-fund_in_range) → fund_in_range c.args.given.now.fund ≡ true
 in_range c = sym c.fund_in_range.ensures ∙ c.if-not-fund_in_range.false
 
 pub returns-then-not-sizes_fit : goal.returns-then-not-sizes_fit

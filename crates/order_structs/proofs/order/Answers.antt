@@ -1,20 +1,45 @@
--- `order_structs::order` meets its contract: the records of the run that `settle` fills are the order's, and `fill` lays them at the front of the list.
-use mathlib.Core.Path.{refl, ◌∙◌}
+-- `order_structs::order` meets its contract: the order is made on the front of a flat run, which has room enough for every order, and
+-- `fill` lays its records at the front of the list.
+use mathlib.Core.Path.{refl, sym, ◌∙◌}
 use native.Mathlib.Omega.{arith}
+use lib.Seq.{length-take-le}
+use Rattle.std.specs.Prelude.{Ok, Err, length}
+use Rattle.std.proofs.lemmas.Grind.{common_steps}
 use Rattle.std.proofs.lemmas.Result.{err_from_is_err_and}
-use Rattle.order_structs.proofs.Laws.{first_is, none_made}
+use Rattle.order_structs.proofs.Room.{lent_bound}
+use Rattle.order_structs.proofs.Laws.{settling, first_is, none_made}
 use Rattle.order_structs.proofs.order.Goals as goal
 
-pub fill-requires : goal.fill-requires
-fill-requires c = let s = c.in_ok-counts.ensures.settling in (s.listed, omega (arith, s.held))
+pub overflow_mul-lent : goal.overflow_mul-lent
+overflow_mul-lent c = record { fits = omega (arith, lent_bound _ _ c.records_lent-lent.ensures) }
+
+pub slice_bounds-flat-end : goal.slice_bounds-flat-end
+slice_bounds-flat-end c = omega (arith, lent_bound _ _ c.records_lent-lent.ensures)
+
+pub slice_bounds-run-end : goal.slice_bounds-run-end
+slice_bounds-run-end c = sym (length-take-le _ _ (omega (arith, lent_bound _ _ c.records_lent-lent.ensures)))
 
 pub returns-in_err-counts : goal.returns-in_err-counts
 returns-in_err-counts c =
-    let s = c.in_err-counts.ensures.settling in
+    let a = c.args in
+    let o = c.in_err-counts.ensures in
     let p = err_from_is_err_and c.from_residual.result c.from_residual.ensures.1 in
-    (rw (p.1, p.2) s.replies, s.book, none_made _ _ _ _ _ _ _ _ s refl _, c.in_err-counts.ensures.reports)
+    let both =
+    settling _ _ _ _ (length a.list.now) _ (Err c.in_err-counts.field-0.0) _ _ _ _ _ a.investor.now a.fund.now c.records_lent-lent.ensures refl o.result_value o.book o.lists in
+    record { result_value = rw (p.1, p.2) both.0.replies; book = both.0.book; list = none_made _ _ _ _ _ _ _ _ both.0 refl _; reports = both.1 }
+
+pub fill-requires : goal.fill-requires
+fill-requires c =
+    let a = c.args in
+    let o = c.in_ok-counts.ensures in
+    let both =
+    settling _ _ _ _ (length a.list.now) _ (Ok c.in_ok-counts.counts) _ _ _ _ _ a.investor.now a.fund.now c.records_lent-lent.ensures refl o.result_value o.book o.lists in
+    (both.0.listed, grind (arith, common_steps, both.0.held))
 
 pub returns : goal.returns
 returns c =
-    let s = c.in_ok-counts.ensures.settling in
-    (s.replies, s.book, c.fill.ensures.1 ∙ first_is _ _ _ _ _ _ _ _ s _, c.in_ok-counts.ensures.reports)
+    let a = c.args in
+    let o = c.in_ok-counts.ensures in
+    let both =
+    settling _ _ _ _ (length a.list.now) _ (Ok c.in_ok-counts.counts) _ _ _ _ _ a.investor.now a.fund.now c.records_lent-lent.ensures refl o.result_value o.book o.lists in
+    record { result_value = both.0.replies; book = both.0.book; list = c.fill.ensures.1 ∙ first_is _ _ _ _ _ _ _ _ both.0 _; reports = both.1 }

@@ -7,7 +7,7 @@ use Rattle.layout.specs.declared.Fund.{Fund}
 use Rattle.fund.proofs.Laws.{fund_sound}
 use Rattle.order_tests.specs.Tests.{accepted_reply}
 use Rattle.rules.specs.Orders.{baskets}
-use Rattle.rules.specs.Lent.{lent_of, rooms_in}
+use Rattle.rules.specs.Lists.{lent_in, left_in}
 use Rattle.rules.proofs.SoundDay.{sound_facts}
 use Rattle.rules.proofs.Replies.{leaves_after, leaves_before}
 use Rattle.orders.proofs.Laws.{order_makes, order_reports_lem, order_made}
@@ -16,46 +16,42 @@ use Rattle.orders.proofs.order.Goals as goal
 pub nonzero_div-m : goal.nonzero_div-m
 nonzero_div-m c = rw c.fund.ensures (omega (arith, (fund_sound _ (sound_facts _ _ _ c.requires.prices_value).own.fund_fields).size_low))
 
-pub tested_in-requires : goal.tested_in-requires
-unfolding baskets
-tested_in-requires c = record { prices_value = c.requires.prices_value; m_value = rw c.fund.ensures }
-
 pub settle-requires : goal.settle-requires
-unfolding rooms_in baskets
+unfolding baskets
 settle-requires c =
     let whole = ap (λ (f : Fund). c.args.ask.units / f.basket_size) c.fund.ensures in
-    let made = ap accepted_reply (sym c.in_ok-accepted.was) ∙ (rw c.rooms_of-rooms.ensures at c.tested_in.ensures.answer_value) in
-    let lent = lent_of c.args.records.now c.args.investor.now c.args.fund.now in
-    let ready = order_makes _ _ _ _ lent c.requires.prices_value _ made _ whole _ c.in_ok-accepted.ensures.cash in
+    let made = ap accepted_reply (sym c.in_ok-accepted.was) ∙ (rw c.rooms.ensures at c.order_tested.ensures.answer_value) in
+    let ready = order_makes _ _ _ _ (lent_in c.args.lists.now) c.requires.prices_value _ made _ whole _ c.in_ok-accepted.ensures.cash in
     record { order_ready = ready.0; writable = ready.1 }
 
 pub report-requires : goal.report-requires
-unfolding rooms_in baskets
+unfolding baskets
 report-requires c =
     let whole = ap (λ (f : Fund). c.args.ask.units / f.basket_size) c.fund.ensures in
-    let made = ap accepted_reply (sym c.in_ok-accepted.was) ∙ (rw c.rooms_of-rooms.ensures at c.tested_in.ensures.answer_value) in
-    let lent = lent_of c.args.records.now c.args.investor.now c.args.fund.now in
-    let r = order_reports_lem _ _ _ _ lent c.requires.prices_value _ made _ whole _ c.in_ok-accepted.ensures.cash _ c.settle.ensures.list in
+    let made = ap accepted_reply (sym c.in_ok-accepted.was) ∙ (rw c.rooms.ensures at c.order_tested.ensures.answer_value) in
+    let r = order_reports_lem _ _ _ _ (lent_in c.args.lists.now) c.requires.prices_value _ made _ whole _ c.in_ok-accepted.ensures.cash _ c.settle.ensures.list in
     record { cash_bound = r.0; reports_in_bounds = r.1 }
 
 pub returns-in_err-accepted : goal.returns-in_err-accepted
-unfolding rooms_in
 returns-in_err-accepted c =
     let p = err_from_is_err_and c.from_residual.result c.from_residual.ensures.1 in
-    let stopped = ap accepted_reply (sym c.in_err-accepted.was) ∙ (rw c.rooms_of-rooms.ensures at c.tested_in.ensures.answer_value) in
+    let stopped = ap accepted_reply (sym c.in_err-accepted.was) ∙ (rw c.rooms.ensures at c.order_tested.ensures.answer_value) in
     record {
       result_value = rw (p.1, p.2) stopped;
       book = leaves_before _ _ _ _ stopped;
-      lists = leaves_before _ _ _ _ stopped;
+      lists = ap (left_in c.args.lists.now) (leaves_before _ _ _ _ stopped);
     }
 
 pub returns : goal.returns
-unfolding rooms_in baskets
+unfolding baskets
 returns c =
     let whole = ap (λ (f : Fund). c.args.ask.units / f.basket_size) c.fund.ensures in
-    let made = ap accepted_reply (sym c.in_ok-accepted.was) ∙ (rw c.rooms_of-rooms.ensures at c.tested_in.ensures.answer_value) in
-    let lent = lent_of c.args.records.now c.args.investor.now c.args.fund.now in
+    let made = ap accepted_reply (sym c.in_ok-accepted.was) ∙ (rw c.rooms.ensures at c.order_tested.ensures.answer_value) in
     let done =
-    order_made _ _ _ _ lent c.requires.prices_value _ made _ whole _ c.in_ok-accepted.ensures.cash _ c.settle.ensures.list _ _ _
+    order_made _ _ _ _ (lent_in c.args.lists.now) c.requires.prices_value _ made _ whole _ c.in_ok-accepted.ensures.cash _ c.settle.ensures.list _ _ _
     c.settle.ensures.book c.report.ensures.investor c.report.ensures.fund in
-    record { result_value = made; book = done.0 ∙ leaves_after _ _ _ _ refl made; lists = done.1 ∙ leaves_after _ _ _ _ refl made }
+    record {
+      result_value = made;
+      book = done.0 ∙ leaves_after _ _ _ _ refl made;
+      lists = ap (left_in c.args.lists.now) (done.1 ∙ leaves_after _ _ _ _ refl made);
+    }

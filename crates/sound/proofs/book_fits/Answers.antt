@@ -1,24 +1,19 @@
 -- `sound::book_fits` meets its contract: the book's totals fit just where they do as far as 2^62.
-use mathlib.Core.Path.{◌≡◌, sym, ap, ◌∙◌}
-use mathlib.Core.List.{List}
-use Prim.Native.Nat.{ℕ, ◌*◌, ◌<◌, min}
-use native.Mathlib.Omega.{arith}
-use lib.ListN.{get_or, get_or-replicate}
+use Rattle.std.proofs.Common.{◌≡◌, ℕ, ◌<◌, min, List, length, get_or, ◌∙◌, get_or-take, arith}
+use Rattle.std.proofs.Math.ListN.{replicate, get_or-replicate}
+use Rattle.std.proofs.lemmas.List.{length-take-le}
 use Rattle.sequences.proofs.Every.{same_test}
-use Rattle.totals.specs.Totals.{widest, top, number_at, total, capped_total, Capped}
-use Rattle.totals.proofs.Rows.{capped_is}
+use Rattle.totals.specs.Totals.{widest, top, number_at, total, capped_total}
+use Rattle.totals.proofs.Sums.{capped_is, capped_le}
 use Rattle.layout.specs.Book.{width_of}
 use Rattle.sound.specs.Parts.{totals_fit}
 use Rattle.sound.proofs.Limits.{fits-true, fits_facts, capped_fits, fits_capped}
 use Rattle.sound.proofs.book_fits.Goals as goal
 
--- the width w is that of n components, and t holds the totals as far as 2^62
-module _ (b : List ℕ) (accounts n w : ℕ) (e : w ≡ width_of n) (t : List ℕ) (sums : (k : ℕ) → k < w → get_or t k 0 ≡ capped_total b w accounts k) where
+-- t holds the totals of a book of n components as far as 2^62
+module _ (b : List ℕ) (accounts n : ℕ) (t : List ℕ) (sums : (k : ℕ) → k < width_of n → get_or t k 0 ≡ capped_total b (width_of n) accounts k) where
   capped : (k : ℕ) → k < width_of n → get_or t k 0 ≡ min (total b (width_of n) accounts k) top
-  capped k h = rw (← e) (sums k (omega arith) ∙ capped_is b w accounts k)
-
-  low : Capped (width_of n) t
-  low k h = omega (arith, capped k h)
+  capped k h = sums k h ∙ capped_is b (width_of n) accounts k
 
   same-fit : totals_fit n (number_at t) ≡ totals_fit n (total b (width_of n) accounts)
   unfolding number_at
@@ -29,17 +24,18 @@ module _ (b : List ℕ) (accounts n w : ℕ) (e : w ≡ width_of n) (t : List �
 
 pub fill-requires : goal.fill-requires
 fill-requires c = (
-  omega arith,
+  length-take-le c.args.book.now.width (replicate widest 0) (omega arith),
   c.requires.1,
-  c.requires.2 ∙ ap (λ (w : ℕ). c.args.accounts * w) (sym c.width_of.ensures),
-  (λ k h. get_or-replicate widest k 0 0 (omega arith)),
+  (λ k h. get_or-take c.args.book.now.width (replicate widest 0) k 0 h ∙ get_or-replicate widest k 0 0 (omega arith)),
 )
 
 pub totals_fit-requires : goal.totals_fit-requires
-totals_fit-requires c = (
-  c.requires.0,
-  low _ _ _ _ c.width_of.ensures c.fill.new.totals c.fill.ensures.sums,
-)
+totals_fit-requires c =
+    let long : length c.fill.new.totals ≡ c.args.book.now.width = c.fill.auto.totals ∙ length-take-le c.args.book.now.width (replicate widest 0) (omega arith) in (
+      c.requires.0,
+      long ∙ c.requires.2,
+      (λ k h. omega (arith, c.fill.ensures k (omega (arith, h, long)), capped_le c.args.book.now.run.now c.args.book.now.width c.args.book.now.rows k)),
+    )
 
 pub returns : goal.returns
-returns c = c.totals_fit.ensures ∙ same-fit _ _ _ _ c.width_of.ensures c.fill.new.totals c.fill.ensures.sums
+returns c = c.totals_fit.ensures ∙ same-fit _ _ _ c.fill.new.totals (rw c.requires.2 at c.fill.ensures)

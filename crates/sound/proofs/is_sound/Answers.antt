@@ -27,8 +27,11 @@ run_fault-requires c =
 pub fund_still-requires : goal.fund_still-requires
 fund_still-requires c = let s = sizes (goal.at.fund_still-requires c).Else-not-sizes_fit in (s.count_high, sizes_first s)
 
+pub rows_of-requires : goal.rows_of-requires
+rows_of-requires c = let s = sizes (goal.at.rows_of-requires c).Else-not-sizes_fit in (s.count_high, s.book_size)
+
 pub book_fits-requires : goal.book_fits-requires
-book_fits-requires c = let s = sizes (goal.at.book_fits-requires c).Else-not-sizes_fit in (s.count_high, s.accounts_high, s.book_size)
+book_fits-requires c = let s = sizes (goal.at.book_fits-requires c).Else-not-sizes_fit in (s.count_high, rw c.rows_of.ensures.rows s.accounts_high, c.rows_of.ensures.width)
 
 pub returns-then-fund_still : goal.returns-then-fund_still
 unfolding every

@@ -1,40 +1,41 @@
-use Rattle.std.proofs.Common.{◌+◌, ◌*◌, ◌≤◌, sym, ◌∙◌, le_trans, le_of_eq, arith}
+use Rattle.std.proofs.Common.{◌≡◌, ◌+◌, ◌*◌, ◌≤◌, not, length, drop, sym, ap, ◌∙◌, length-append, arith}
 use borrow.Author.Tests.{not-true, not-false}
-use Rattle.sequences.proofs.Stretch.{within}
-use Rattle.totals.proofs.Rows.{counted_low, counted_one, reached_one, answer-true, answer-false, started}
-use Rattle.totals.proofs.add_all.Goals.{In-loop-a}
+use mathlib.Core.Bool.{false≢true}
+use Rattle.totals.proofs.Cut.{Piece, cut_piece, cut_all, row_from, row_among, rows_end}
+use Rattle.totals.proofs.Sums.{Counted, counted_fine, counted_row, reached_row}
+use Rattle.totals.proofs.add_all.Goals.{In-Some}
 use Rattle.totals.proofs.add_all.Goals as goal
 
-pub add_eights-first-requires : goal.add_eights-first-requires
-add_eights-first-requires c = c.requires
+-- the row that is added
+row : (c : In-Some) → let a = c.args.rows.now in let l = c.loop-row in
+    Piece (drop (c.add_blocks-first.result * a.width) a.run.now) a.width (length l.yielded) c.in-Some.row.now c.next.new.self
+row c = cut_piece c.loop-row.invariant.0 _ _ (omega arith) c.in-Some.row c.in-Some.is c.next.ensures.steps
 
-pub loop-a-init : goal.loop-a-init
-loop-a-init c = started _ _ _ _ _ (c.add_eights-first.ensures.upper_bound, (c.add_eights-first.ensures.long, (c.add_eights-first.ensures.sums, c.add_eights-first.ensures.low)))
+pub loop-row-preserved : goal.loop-row-preserved
+loop-row-preserved c =
+    let a = c.args.rows.now in
+    let l = c.loop-row in
+    let p = row (goal.at.loop-row-preserved c).In-Some in
+    let more : c.add_blocks-first.result + (length l.yielded + 1) ≡ c.add_blocks-first.result + length l.yielded + 1 = omega arith in
+    let q : Counted c.add_row.new.totals a.run.now a.width (c.add_blocks-first.result + length l.yielded + 1) =
+    counted_row l.invariant.1 _ _ p.long (row_from _ _ a.rows _ _ a.whole c.requires.0 c.add_blocks-first.ensures.upper_bound _ _ p) _ (not-true _ (sym c.add_row.ensures.value ∙ c.if-not-add_row.false)) c.add_row.ensures.sums in
+    rw (length-append, more) (p.next, q)
 
--- the row that is added lies in the run
-inside : (c : In-loop-a) → let s = c.args in c.loop-a.a * s.width + s.width ≤ s.rows * s.width
-inside c = within _ _ _ (omega arith)
-
-pub add_one-requires : goal.add_one-requires
-add_one-requires c =
-    let l = c.loop-a in (
-      c.requires.0,
-      le_trans (inside (goal.at.add_one-requires c).In-loop-a) (le_of_eq (sym c.requires.2)),
-      counted_low l.invariant,
-    )
-
-pub returns-then-not-add_one : goal.returns-then-not-add_one
-returns-then-not-add_one c = let r = answer-false c.add_one.new.totals _ _ _
-    (reached_one c.loop-a.invariant _ (omega arith) (not-false _ (sym c.add_one.ensures.value ∙ c.if-not-add_one.true)))
-    c.add_one.ensures.long in record { value = r.0; long = r.1.0; sums = r.1.1 }
-
-pub loop-a-preserved : goal.loop-a-preserved
-loop-a-preserved c =
-    counted_one c.loop-a.invariant _
-    (not-true _ (sym c.add_one.ensures.value ∙ c.if-not-add_one.false)) c.add_one.ensures.long c.add_one.ensures.sums
+pub returns-then-not-add_row : goal.returns-then-not-add_row
+returns-then-not-add_row c =
+    let a = c.args.rows.now in
+    let l = c.loop-row in
+    let p = row (goal.at.returns-then-not-add_row c).In-Some in
+    let le : c.add_blocks-first.result + length l.yielded + 1 ≤ a.rows = row_among _ _ a.rows _ _ a.whole c.requires.0 c.add_blocks-first.ensures.upper_bound _ _ p in
+    let on = reached_row l.invariant.1 _ _ p.long (row_from _ _ a.rows _ _ a.whole c.requires.0 c.add_blocks-first.ensures.upper_bound _ _ p) a.rows le
+    (not-false _ (sym c.add_row.ensures.value ∙ c.if-not-add_row.true)) in
+    record { value = ap not (sym on); sums = λ e. absurd (false≢true e) }
 
 pub returns : goal.returns
-returns c = let r = answer-true c.loop-a.invariant _ (omega arith) in record { value = r.0; long = r.1.0; sums = r.1.1 }
-
-pub overflow_mul-a : goal.overflow_mul-a
-overflow_mul-a c = omega (arith, inside (goal.at.overflow_mul-a c).In-loop-a)
+returns c =
+    let a = c.args.rows.now in
+    let l = c.loop-row in
+    let all : c.add_blocks-first.result + length l.yielded ≡ a.rows =
+    rows_end _ _ a.rows _ _ a.whole c.requires.0 c.add_blocks-first.ensures.upper_bound l.invariant.0 (cut_all l.invariant.0 _ _ c.in-None.is c.next.ensures.steps) in
+    let q : Counted l.totals a.run.now a.width a.rows = rw all at l.invariant.1 in
+    record { value = ap not (sym (counted_fine q)); sums = λ _. q.same }

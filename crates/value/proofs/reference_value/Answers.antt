@@ -30,9 +30,9 @@ unfolding price_of
 worth_of-requires c = rw c.component-component.ensures (c.requires.countable c.loop-i.i (omega arith))
 
 -- the sum with this component's worth
-pub plus-sum-requires : goal.plus-sum-requires
+pub add-sum-requires : goal.add-sum-requires
 unfolding price_of
-plus-sum-requires c =
+add-sum-requires c =
     let d = c.args.day.now in
     let more : c.loop-i.sum.0 + c.worth_of.result.0 ≡ sum_below (worth_at d c.args.prices.now) (c.loop-i.i + 1) =
     rw (c.loop-i.invariant.1, c.worth_of.ensures, c.component-component.ensures) (sum_next d _ _) in
@@ -44,7 +44,7 @@ loop-i-preserved c =
     let d = c.args.day.now in
     let priced = rw c.component-component.ensures at (sym c.lacks_price.ensures ∙ c.if-lacks_price.false) in (
       priced_next d _ _ c.loop-i.invariant.0 priced,
-      c.plus-sum.ensures ∙ rw (c.loop-i.invariant.1, c.worth_of.ensures, c.component-component.ensures) (sum_next d _ _),
+      c.add-sum.ensures ∙ rw (c.loop-i.invariant.1, c.worth_of.ensures, c.component-component.ensures) (sum_next d _ _),
     )
 
 -- the machine reads the estimated cash back
@@ -53,16 +53,13 @@ read c =
     let back : to_z w64 (of_z w64 c.fund-fund.result.estimated_cash) ≡ c.fund-fund.result.estimated_cash = search rules in
     back ∙ ap (λ (f : Fund). f.estimated_cash) c.fund-fund.ensures
 
-pub cash_added-added-requires : goal.cash_added-added-requires
-cash_added-added-requires c = rw (read (goal.at.cash_added-added-requires c).After-fund-fund) c.requires.cash
-
-pub cash_taken-taken-requires : goal.cash_taken-taken-requires
-cash_taken-taken-requires c = rw (read (goal.at.cash_taken-taken-requires c).After-fund-fund) c.requires.cash
+pub cash_parts-requires : goal.cash_parts-requires
+cash_parts-requires c = rw (read (goal.at.cash_parts-requires c).After-fund-fund) c.requires.cash
 
 pub value_with-requires : goal.value_with-requires
 value_with-requires c =
     let small = sum_small c.args.day.now c.args.prices.now c.requires c.loop-i.i (omega arith) in
-    let added = c.cash_added-added.ensures ∙ ap cash_added (read (goal.at.value_with-requires c).After-fund-fund) in
+    let added = c.cash_parts.ensures.added ∙ ap cash_added (read (goal.at.value_with-requires c).After-fund-fund) in
     (omega (arith, c.loop-i.invariant.1, small, added, added_small _ c.requires.cash), rw c.fund-fund.ensures c.requires.size_low, rw c.fund-fund.ensures c.requires.size_high)
 
 pub returns : goal.returns
@@ -71,5 +68,5 @@ returns c =
     let back = read (goal.at.returns c).After-fund-fund in
     let all : c.loop-i.i ≡ c.args.day.now.count = omega arith in
     c.value_with.ensures
-    ∙ rw (c.loop-i.invariant.1, c.cash_added-added.ensures, c.cash_taken-taken.ensures, back, c.fund-fund.ensures, all)
+    ∙ rw (c.loop-i.invariant.1, c.cash_parts.ensures.added, c.cash_parts.ensures.taken, back, c.fund-fund.ensures, all)
     (priced_all c.args.day.now _ (rw all at c.loop-i.invariant.0))

@@ -1,0 +1,58 @@
+// What the item of an opening or a state gives.
+use layout::Fund;
+use program_io::fault::Fault;
+use program_io::items::{Item, split};
+
+// The head of an opening and of a state: the row, the numbers of a day's run before its components (accounts, count, and the fund:
+// first code, basket size, maximum cash ratio, switch, estimated cash as sign, 1 is minus, and size, and the limits), and the
+// lengths of components, book and prices. Behind it stand the components, and then the holdings, or the book and the prices.
+const DAY: usize = 1;
+
+const FUND: usize = 3;
+
+const COMPONENTS_LENGTH: usize = DAY + layout::BASKET_FROM;
+
+pub const HEAD: usize = COMPONENTS_LENGTH + 3;
+
+#[derive(Drop)]
+pub struct Given<'a> {
+    pub row: u64,
+    pub accounts: usize,
+    pub count: usize,
+    pub fund: Fund,
+    // The numbers of a day's run before its components.
+    pub day: &'a [u64],
+    pub components: &'a [u64],
+    pub book_length: usize,
+    pub prices_length: usize,
+    // The holdings, or the book and the prices.
+    pub rest: &'a [u64],
+}
+
+impl<'a> TryFrom<&'a Item> for Given<'a> {
+    type Error = Fault;
+
+    // Cash is of one of two signs, and of a size that an amount can have.
+    fn try_from(item: &'a Item) -> Result<Given<'a>, Fault> {
+        let (head, body) = split(&item.numbers, HEAD)?;
+        let [row, accounts, count, _, _, _, _, 0 | 1, size, .., components, book, prices] = head
+        else {
+            return Err(Fault::BadInput);
+        };
+        let (components, rest) = split(body, *components as usize)?;
+        if i64::try_from(*size).is_err() {
+            return Err(Fault::BadInput);
+        }
+        Ok(Given {
+            row: *row,
+            accounts: *accounts as usize,
+            count: *count as usize,
+            fund: layout::fund_of(head, FUND),
+            day: &head[DAY..COMPONENTS_LENGTH],
+            components,
+            book_length: *book as usize,
+            prices_length: *prices as usize,
+            rest,
+        })
+    }
+}

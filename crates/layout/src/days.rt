@@ -1,0 +1,148 @@
+// A day in a run, and a day where it lies.
+ghost use Rattle.std.specs.Prelude.{◌≡◌, ◌-◌, ◌≤◌, ◌<◌, ◌++◌, nat_abs, length, get_or, replicate};
+ghost use Rattle.digits.specs.Digits.{cap};
+ghost use Rattle.layout.specs.Places.{most_components, basket_width, day_width};
+ghost use Rattle.layout.specs.Components.{blank, component_at, places_of};
+ghost use Rattle.layout.specs.Day.{Day, day_of, day_head_at, basket_at, day_at, day_numbers};
+
+use crate::basket::component_of;
+use crate::funds::{fund_of, put_fund};
+use crate::{ACCOUNTS_AT, BASKET_FROM, COUNT_AT, Component, DayHead, FUND_FROM, Fund};
+use std::marker::Model;
+
+// The accounts of a day's run.
+#[tactic(auto, unfolding(crate::specs::Day::day_head_at))]
+pub fn accounts_of(day: &[u64]) -> usize
+    requires { length day.now ≡ day_width }
+    ensures { result ≡ (day_head_at day.now).accounts }
+{
+    day[ACCOUNTS_AT] as usize
+}
+
+// Its count of components.
+#[tactic(auto, unfolding(crate::specs::Day::day_head_at))]
+pub fn count_of(day: &[u64]) -> usize
+    requires { length day.now ≡ day_width }
+    ensures { result ≡ (day_head_at day.now).count }
+{
+    day[COUNT_AT] as usize
+}
+
+// Its head.
+#[tactic(auto, unfolding(crate::specs::Day::day_head_at))]
+pub fn head_of(day: &[u64]) -> DayHead
+    requires { length day.now ≡ day_width }
+    ensures { result ≡ day_head_at day.now }
+{
+    let fund = fund_of(day, FUND_FROM);
+    DayHead {
+        accounts: accounts_of(day),
+        count: count_of(day),
+        fund,
+    }
+}
+
+// Its components.
+pub fn basket_of(day: &[u64]) -> &[u64]
+    requires { length day.now ≡ day_width }
+    ensures { result.now ≡ basket_at day.now }
+{
+    &day[BASKET_FROM..]
+}
+
+// A day where it lies: its head, and its basket. Contracts see it as the day.
+#[derive(Drop)]
+pub struct DayView<'a> {
+    head: DayHead,
+    basket: &'a [u64],
+}
+
+impl<'a> Model for DayView<'a> {
+    ghost Value = { Day };
+
+    ghost view = { λ x. day_of x.head x.basket.now };
+
+    ghost invariant = { λ x. length x.basket.now ≡ basket_width };
+}
+
+impl<'a> DayView<'a> {
+    // The day of a head and a basket.
+    pub fn new(head: DayHead, basket: &'a [u64]) -> Self
+        requires { length basket.now ≡ basket_width }
+        ensures { result ≡ day_of head basket.now }
+    {
+        DayView { head, basket }
+    }
+
+    // Its head.
+    pub fn head(&self) -> DayHead
+        ensures { result ≡ record { accounts = self.now.accounts; count = self.now.count; fund = self.now.fund } }
+    {
+        self.head
+    }
+
+    pub fn accounts(&self) -> usize
+        ensures { result ≡ self.now.accounts }
+    {
+        self.head.accounts
+    }
+
+    // How many components it has.
+    pub fn count(&self) -> usize
+        ensures { result ≡ self.now.count }
+    {
+        self.head.count
+    }
+
+    pub fn fund(&self) -> Fund
+        ensures { result ≡ self.now.fund }
+    {
+        self.head.fund
+    }
+
+    // Component i.
+    pub fn component(&self, i: usize) -> Component
+        requires { i < most_components }
+        ensures { result ≡ get_or self.now.components i blank }
+    {
+        component_of(self.basket, i)
+    }
+
+    // Its basket.
+    pub fn basket(&self) -> &[u64]
+        ensures length { length result.now ≡ basket_width }
+        ensures components { places_of (component_at result.now) most_components ≡ self.now.components }
+    {
+        self.basket
+    }
+}
+
+// The day in a run.
+pub fn view_of(run: &[u64]) -> DayView<'_>
+    requires { length run.now ≡ day_width }
+    ensures { result ≡ day_at run.now }
+{
+    DayView::new(head_of(run), basket_of(run))
+}
+
+// Stores components as a basket: zeros stand behind them.
+fn put_basket(basket: &mut [u64], components: &[u64])
+    requires { length components.now ≤ length basket.old }
+    ensures { basket.new ≡ components.now ++ replicate (length basket.old - length components.now) 0 }
+{
+    let (front, rest) = basket.split_at_mut(components.len());
+    front.copy_from_slice(components);
+    rest.fill(0);
+}
+
+// Stores a day.
+pub fn put_day(day: &mut [u64], accounts: usize, count: usize, fund: Fund, components: &[u64])
+    requires day_len { length day.old ≡ day_width }
+    requires components_len_bound { (length components.now ≤ basket_width) × (nat_abs fund.estimated_cash ≤ cap) }
+    ensures { day.new ≡ day_numbers accounts count fund components.now }
+{
+    day[ACCOUNTS_AT] = accounts as u64;
+    day[COUNT_AT] = count as u64;
+    put_fund(day, FUND_FROM, fund);
+    put_basket(&mut day[BASKET_FROM..], components);
+}

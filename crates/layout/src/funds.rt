@@ -1,0 +1,89 @@
+// A fund in a run, with its signed number and its limits.
+ghost use Rattle.std.specs.Prelude.{◌≡◌, ◌+◌, ◌≤◌, nat_abs, length, get_or};
+ghost use Rattle.std.proofs.lemmas.List.Edits.{sets};
+ghost use Rattle.sequences.specs.Below.{tabulate};
+ghost use Rattle.digits.specs.Digits.{cap, capped};
+ghost use Rattle.layout.specs.Places.{limit_count, fund_width};
+ghost use Rattle.layout.specs.Fund.{signed_at, signed_numbers, fund_at, fund_numbers};
+
+use crate::{CASH_AT, Fund, LIMITS, LIMITS_FROM};
+use digits::Figure;
+use units::Rate;
+
+// The most that is read of a signed number's size.
+const MOST_SIZE: u64 = 1_000_000_000_000_000_000;
+
+#[tactic(auto, using(std::proofs::lemmas::Bool::Decides::nat_tests), unfolding(digits::specs::Digits::capped))]
+fn capped_size(size: u64) -> u64
+    ensures { result ≡ capped size }
+{
+    size.min(MOST_SIZE)
+}
+
+// A signed number, of a sign and a size.
+pub fn signed_at(run: &[u64], at: usize) -> i64
+    requires { at + 2 ≤ length run.now }
+    ensures { result ≡ signed_at run.now at }
+{
+    let size = capped_size(run[at + 1]);
+    digits::signed_of(Figure {
+        negative: run[at] == 1,
+        size,
+    })
+}
+
+pub fn put_signed(run: &mut [u64], at: usize, e: i64)
+    requires at_in_bounds { at + 2 ≤ length run.old }
+    requires e_bound { nat_abs e ≤ cap }
+    ensures { run.new ≡ sets run.old at (signed_numbers e) }
+{
+    let z = Figure::from(e);
+    run[at] = z.negative as u64;
+    run[at + 1] = z.size;
+}
+
+fn limits_at(run: &[u64], at: usize) -> [u64; LIMITS]
+    requires { at + limit_count ≤ length run.now }
+    ensures { result ≡ tabulate (λ k. get_or run.now (at + k) 0) limit_count }
+{
+    let mut limits = [0; LIMITS];
+    limits.copy_from_slice(&run[at..at + LIMITS]);
+    limits
+}
+
+fn put_limits(run: &mut [u64], at: usize, limits: [u64; LIMITS])
+    requires { at + limit_count ≤ length run.old }
+    ensures { run.new ≡ sets run.old at (tabulate (λ k. get_or limits k 0) limit_count) }
+{
+    run[at..at + LIMITS].copy_from_slice(&limits);
+}
+
+// The fund whose numbers start at a place of a run.
+#[tactic(auto, unfolding(crate::specs::Fund::fund_at))]
+pub fn fund_of(run: &[u64], at: usize) -> Fund
+    requires { at + fund_width ≤ length run.now }
+    ensures { result ≡ fund_at run.now at }
+{
+    Fund {
+        first_code: run[at],
+        basket_size: run[at + 1],
+        max_cash_ratio: Rate(run[at + 2]),
+        switch: run[at + 3],
+        estimated_cash: signed_at(run, at + CASH_AT),
+        limits: limits_at(run, at + LIMITS_FROM),
+    }
+}
+
+// Stores a fund's numbers from a place on.
+pub fn put_fund(run: &mut [u64], at: usize, f: Fund)
+    requires fund_width_in_bounds { at + fund_width ≤ length run.old }
+    requires estimated_cash_bound { nat_abs f.estimated_cash ≤ cap }
+    ensures { run.new ≡ sets run.old at (fund_numbers f) }
+{
+    run[at] = f.first_code;
+    run[at + 1] = f.basket_size;
+    run[at + 2] = f.max_cash_ratio.0;
+    run[at + 3] = f.switch;
+    put_signed(run, at + CASH_AT, f.estimated_cash);
+    put_limits(run, at + LIMITS_FROM, f.limits);
+}

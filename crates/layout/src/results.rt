@@ -1,0 +1,77 @@
+// Records, reports and the answers of a list of calls, in runs.
+ghost use Rattle.std.specs.Prelude.{◌≡◌, ◌+◌, ◌*◌, ◌≤◌, length};
+ghost use Rattle.std.proofs.lemmas.List.Edits.{sets};
+ghost use Rattle.layout.specs.Places.{record_width, report_width, answer_width};
+ghost use Rattle.layout.specs.Records.{record_at, record_numbers};
+ghost use Rattle.layout.specs.Reports.{report_numbers};
+ghost use Rattle.layout.specs.Answers.{put_reply, reply_in};
+
+use crate::{ANSWER_WIDTH, RECORD_WIDTH, REPORT_WIDTH, Record, Report};
+use units::Money;
+
+// The k-th record of a run.
+#[tactic(auto, unfolding(crate::specs::Records::record_at))]
+pub fn record_at(list: &[u64], k: usize) -> Record
+    requires { record_width * k + record_width ≤ length list.now }
+    ensures { result ≡ record_at list.now k }
+{
+    let at = RECORD_WIDTH * k;
+    Record {
+        code: list[at],
+        side: list[at + 1],
+        quantity: list[at + 2],
+        price: Money(list[at + 3]),
+        amount: Money(list[at + 4]),
+    }
+}
+
+// A record's numbers, in their order.
+fn numbers_of_record(r: Record) -> [u64; RECORD_WIDTH]
+    ensures { result ≡ record_numbers r }
+{
+    [r.code, r.side, r.quantity, r.price.0, r.amount.0]
+}
+
+// Stores a record from a place on.
+pub fn put_record(list: &mut [u64], at: usize, r: Record)
+    requires { at + record_width ≤ length list.old }
+    ensures { list.new ≡ sets list.old at (record_numbers r) }
+{
+    list[at..at + RECORD_WIDTH].copy_from_slice(&numbers_of_record(r));
+}
+
+// A report's numbers, in their order.
+fn numbers_of_report(r: Report) -> [u64; REPORT_WIDTH]
+    ensures { result ≡ report_numbers r }
+{
+    [
+        r.report_type,
+        r.side,
+        r.code,
+        r.quantity,
+        r.first.kind,
+        r.first.amount.0,
+        r.second.kind,
+        r.second.amount.0,
+        r.third.kind,
+        r.third.amount.0,
+    ]
+}
+
+// Stores the k-th report.
+pub fn put_report(list: &mut [u64], k: usize, r: Report)
+    requires { report_width * k + report_width ≤ length list.old }
+    ensures { list.new ≡ sets list.old (report_width * k) (report_numbers r) }
+{
+    let at = REPORT_WIDTH * k;
+    list[at..at + REPORT_WIDTH].copy_from_slice(&numbers_of_report(r));
+}
+
+// Stores the i-th answer: a refusal's number, its place, the value of an accepted call and the count of an order's reports.
+pub fn put_answer(answers: &mut [u64], i: usize, numbers: [u64; ANSWER_WIDTH])
+    requires { answer_width * i + answer_width ≤ length answers.old }
+    ensures { answers.new ≡ put_reply answers.old i (reply_in numbers) }
+{
+    let at = ANSWER_WIDTH * i;
+    answers[at..at + ANSWER_WIDTH].copy_from_slice(&numbers);
+}

@@ -1,7 +1,0 @@
--- `order_scan::scan_lines` meets its contract. The loop's invariant: `t` is the scan of the components below `i`.
-use mathlib.Core.Path.{◌≡◌}
-use Rattle.order_scan.proofs.Lines.{order_lines, scan_below}
-use Rattle.order_scan.proofs.scan_lines.Given as goal
-
-abbrev pub invariant-loop-i : goal.invariant-loop-i
-invariant-loop-i l = l.t ≡ scan_below (order_lines l.kind l.day.components l.stretch l.fund l.prices l.m) l.i

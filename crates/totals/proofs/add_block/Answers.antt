@@ -1,0 +1,25 @@
+use Rattle.std.proofs.Common.{◌≡◌, ℕ, ◌+◌, ◌%◌, ◌^◌, get_or, ap, ◌∙◌, le_refl, length, not-suc-le-zero, arith}
+use Rattle.totals.specs.Totals.{plus_block, total}
+use Rattle.totals.proofs.Top.{add_wrapped}
+use Rattle.totals.proofs.Pass.{pass_none, pass_more, small_more}
+use Rattle.totals.proofs.add_block.Goals as goal
+
+pub loop-j-init : goal.loop-j-init
+loop-j-init c = (pass_none _ _, (λ _ k l. absurd (not-suc-le-zero l)))
+
+pub loop-j-preserved : goal.loop-j-preserved
+unfolding plus_block
+loop-j-preserved c =
+    let l = c.loop-j in
+    let sums : ℕ → ℕ = total c.args.block.now (length c.args.totals.now) 8 in
+    let sum : ℕ = c.column-sum.result.0 in
+    let t : (get_or l.totals l.j 0 + sum) % 2 ^ 64 ≡ (get_or c.args.totals.now l.j 0 + sums l.j) % 2 ^ 64 =
+    ap (λ (n : ℕ). (n + sum) % 2 ^ 64) (l.invariant.0.rest l.j (le_refl l.j))
+    ∙ add_wrapped (get_or c.args.totals.now l.j 0) (sums l.j) sum c.column-sum.ensures.sum
+    in (
+      pass_more l.invariant.0 _ (omega arith) t,
+      small_more sums l.j l.high c.column-sum.result.1 l.invariant.1 c.column-sum.ensures.low,
+    )
+
+pub returns : goal.returns
+returns c = record { small = λ z k h. c.loop-j.invariant.1 z k (omega (arith, h)); sums = λ k h. c.loop-j.invariant.0.done k (omega (arith, h)) }

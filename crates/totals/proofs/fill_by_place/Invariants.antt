@@ -1,7 +1,0 @@
--- `totals::fill_by_place` meets its contract. The loop's invariant: `Pass`, with the totals, as far as 2^62, at the places below `j`.
-use Rattle.totals.specs.Totals.{capped_total}
-use Rattle.totals.proofs.Pass.{Pass}
-use Rattle.totals.proofs.fill_by_place.Given as goal
-
-abbrev pub invariant-loop-j : goal.invariant-loop-j
-invariant-loop-j l = Pass l.initial.totals (capped_total l.run l.width l.rows) l.width l.j l.totals
