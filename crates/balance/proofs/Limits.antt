@@ -35,7 +35,8 @@ pub record Limits (s : State) : Type 0 where
 pub within_less : {limit limit' units units' : ℕ} → limit' ≡ limit → units' ≤ units → Within limit units → Within limit' units'
 within_less e h w p = omega (arith, w (omega arith))
 
-module _ {s t : State} {kind : Kind} {all other-all : ℕ} {each other-each : ℕ → ℕ} (stays : Stays s.day t.day) (own : Rises s t kind each all) (other : Rises s t (opposite_kind kind) other-each other-all) where
+module _ {s t : State} {kind : Kind} {all other-all : ℕ} {each other-each : ℕ → ℕ} (stays : Stays s.day t.day)
+    (own : Rises s t kind each all) (other : Rises s t (opposite_kind kind) other-each other-all) where
   limit_stays : (limit : ℕ) → limit_for t.day limit kind ≡ limit_for s.day limit kind
   limit_stays limit = ap (λ (f : Fund). limit_of f limit (number_of kind)) stays.fund
 

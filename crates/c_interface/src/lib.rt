@@ -1,6 +1,7 @@
 // The day book for other languages: each call over numbers and runs of numbers. A call returns the refusal's number, 0 where it is
 // accepted, and puts its place and its value, and of an order the count of its reports, where the caller points;
-// include/roffelaine.h says it in C.
+// include/roffelaine.h says it in C. Names and arguments are those of the C interface, so that functions stand in pairs, for both kinds
+// of order, for their tests and for the driver, and each takes its runs, its place and its value one by one.
 #![tactic(auto)]
 
 ghost use Rattle.std.specs.Prelude.{◌≡◌, length};
@@ -21,6 +22,7 @@ ghost use Rattle.flat_calls.specs.Opening.{flat_given, FlatOutcome};
 ghost use Rattle.flat_calls.specs.Text.{taking, TextRead, part_kept, TextWritten};
 
 use answers::Numbers;
+use driver_rows::Work;
 use rules::{Lists, Trade};
 use units::Money;
 
@@ -40,9 +42,10 @@ pub extern "C" fn roffelaine_open(
 ) -> u64
     ensures { FlatOutcome fund.now (flat_given accounts count fund.now components.now holdings.now book.old prices.old day.old) result place.new value.new book.new prices.new day.new }
 {
-    flat_calls::open(
-        accounts, count, fund, components, holdings, book, prices, day, place, value,
-    )
+    let answer = flat_calls::open(
+        accounts, count, fund, components, holdings, book, prices, day,
+    );
+    answers::tell(Numbers::from(answer), place, value)
 }
 
 // Sets a component's price.
@@ -224,7 +227,14 @@ pub extern "C" fn roffelaine_run(
     ensures left { batch_of (day_at day.now) book.new prices.new (lent_of records.new investor.new fund.new) answers.new ≡ ran rows.now (batch_of (day_at day.now) book.old prices.old (lent_of records.old investor.old fund.old) answers.old) }
     ensures demand { Demand3 (state_of (day_at day.now) book.old prices.old) (events_of rows.now (batch_of (day_at day.now) book.old prices.old (lent_of records.old investor.old fund.old) answers.old)) (state_of (day_at day.now) book.new prices.new) }
 {
-    let answer = driver::run(day, book, prices, rows, records, investor, fund, answers);
+    let mut work = Work {
+        book,
+        prices,
+        records,
+        investor,
+        fund,
+    };
+    let answer = driver::run(day, &mut work, rows, answers);
     answers::tell(Numbers::from(answer), place, value)
 }
 
@@ -246,7 +256,14 @@ pub extern "C" fn roffelaine_run_public(
     ensures left { batch_of (day_at day.now) book.new prices.new (lent_of records.new investor.new fund.new) answers.new ≡ ran rows.now (batch_of (day_at day.now) book.old prices.old (lent_of records.old investor.old fund.old) answers.old) }
     ensures demand { Demand3 (state_of (day_at day.now) book.old prices.old) (events_of rows.now (batch_of (day_at day.now) book.old prices.old (lent_of records.old investor.old fund.old) answers.old)) (state_of (day_at day.now) book.new prices.new) }
 {
-    let answer = driver::run_public(day, book, prices, rows, records, investor, fund, answers);
+    let mut work = Work {
+        book,
+        prices,
+        records,
+        investor,
+        fund,
+    };
+    let answer = driver::run_public(day, &mut work, rows, answers);
     answers::tell(Numbers::from(answer), place, value)
 }
 
@@ -262,7 +279,8 @@ pub extern "C" fn roffelaine_read(
 ) -> u64
     ensures { TextRead text.now (taking run.old fields.old first_row.old) result place.new value.new (taking run.new fields.new first_row.new) }
 {
-    flat_calls::read(text, run, fields, first_row, place, value)
+    let answer = flat_calls::read(text, run, fields, first_row);
+    answers::tell(Numbers::from(answer), place, value)
 }
 
 // Where the name of a component stands in a text, from where reading found the first component line.
@@ -296,5 +314,6 @@ pub extern "C" fn roffelaine_write(
 ) -> u64
     ensures { TextWritten fields.now (listing (fields_at fields.now) run.now names.now letters.now) output.old result place.new value.new output.new }
 {
-    flat_calls::write(fields, run, names, letters, output, place, value)
+    let answer = flat_calls::write(fields, run, names, letters, output);
+    answers::tell(Numbers::from(answer), place, value)
 }

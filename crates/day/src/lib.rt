@@ -1,5 +1,7 @@
 // The calls of the day. Each takes any day, book, prices and numbers, returns, and refuses by the paper's numbers; a refusal
 // changes nothing. The day is one lent run of numbers, which `day_at` reads; a run of another length than a day's is not sound.
+// The day, the book and the prices stay three parameters: a price changes the prices alone, and a trade or an order the book alone,
+// so that one struct would lend more for writing than a call may write, or need a second one beside it.
 #![tactic(auto)]
 
 ghost use Rattle.std.specs.Prelude.{◌≡◌};
@@ -16,7 +18,7 @@ ghost use Rattle.opening.specs.Given.{given, Outcome};
 
 use layout::Fund;
 use opening::Given;
-use rules::{Counts, Lists, Refusal, Rooms, Trade};
+use rules::{Counts, Kind, Lists, Refusal, Rooms, Trade};
 use units::ReferenceValue;
 
 // Opens a day: the book, the prices and the day are filled.
@@ -90,13 +92,8 @@ pub fn create(
     ensures book { book.new ≡ created_book (day_at day.now) book.old prices.now account units (rooms_in (lent_in lists.old)) }
     ensures lists { lists.new ≡ left_in lists.old (created_lists (day_at day.now) book.old prices.now account units (lent_in lists.old)) }
 {
-    order_calls::order(
-        day,
-        book,
-        prices,
-        rules::Kind::Creation.ask(account, units),
-        lists,
-    )
+    let ask = Kind::Creation.ask(account, units);
+    order_calls::order(day, book, prices, ask, lists)
 }
 
 // Redeems units of an account; the records and the reports to both parties go to the lent lists.
@@ -113,13 +110,8 @@ pub fn redeem(
     ensures book { book.new ≡ redeemed_book (day_at day.now) book.old prices.now account units (rooms_in (lent_in lists.old)) }
     ensures lists { lists.new ≡ left_in lists.old (redeemed_lists (day_at day.now) book.old prices.now account units (lent_in lists.old)) }
 {
-    order_calls::order(
-        day,
-        book,
-        prices,
-        rules::Kind::Redemption.ask(account, units),
-        lists,
-    )
+    let ask = Kind::Redemption.ask(account, units);
+    order_calls::order(day, book, prices, ask, lists)
 }
 
 // The tests of a creation alone, with the rooms of the lists: the answer that the creation would give.
@@ -134,13 +126,8 @@ pub fn creation_test(
 ) -> Result<Counts, Refusal>
     ensures { order_answer_reply result ≡ creation_reply (day_at day.now) book.now prices.now account units rooms }
 {
-    order_calls::order_test(
-        day,
-        book,
-        prices,
-        rules::Kind::Creation.ask(account, units),
-        rooms,
-    )
+    let ask = Kind::Creation.ask(account, units);
+    order_calls::order_test(day, book, prices, ask, rooms)
 }
 
 // The tests of a redemption alone.
@@ -155,11 +142,6 @@ pub fn redemption_test(
 ) -> Result<Counts, Refusal>
     ensures { order_answer_reply result ≡ redemption_reply (day_at day.now) book.now prices.now account units rooms }
 {
-    order_calls::order_test(
-        day,
-        book,
-        prices,
-        rules::Kind::Redemption.ask(account, units),
-        rooms,
-    )
+    let ask = Kind::Redemption.ask(account, units);
+    order_calls::order_test(day, book, prices, ask, rooms)
 }

@@ -35,8 +35,10 @@ impl<'a> TryFrom<&'a Item> for Given<'a> {
     // Cash is of one of two signs, and of a size that an amount can have.
     fn try_from(item: &'a Item) -> Result<Given<'a>, Fault> {
         let (head, body) = split(&item.numbers, HEAD)?;
-        let [row, accounts, count, _, _, _, _, 0 | 1, size, .., components, book, prices] = head
-        else {
+        let [row, accounts, count, _, _, _, _, 0 | 1, size, ..] = head else {
+            return Err(Fault::BadInput);
+        };
+        let [.., components, book, prices] = head else {
             return Err(Fault::BadInput);
         };
         let (components, rest) = split(body, *components as usize)?;

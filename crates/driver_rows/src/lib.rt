@@ -30,7 +30,7 @@ pub struct Work<'a> {
     pub fund: &'a mut [u64],
 }
 
-// The call that a row names.
+// The call that a row names. The call of an item in `program_replay` has other kinds and other numbers: one type for both is no plainer.
 #[derive(Clone, Copy)]
 enum Call {
     Price { line: usize, price: u64 },
@@ -54,7 +54,8 @@ fn part_in(run: usize, start: u64, size: u64) -> Range<usize>
     start..start + size
 }
 
-// An order on a sound day, with its lists as runs: a part of a run keeps its tie to the run as an argument, and not in a struct.
+// An order on a sound day, with its lists one by one: tried as a struct of parts of the runs, of which no proof can say that what is
+// written in the part is written in the run.
 #[tactic(auto, using(order_calls::proofs::Laws::order_own, order_calls::proofs::Laws::leaves_own))]
 fn order_in(
     day: &DayView,
@@ -78,7 +79,8 @@ fn order_in(
     orders::order(day, book, prices, ask, &mut lists)
 }
 
-// An order whose lists are parts of the three runs, as its row names them.
+// An order whose lists are parts of the three runs, as its row names them. Tried with the work as a struct: parts of two runs behind
+// one reference cannot be lent at once.
 fn order_row(
     day: &DayView,
     book: &mut [u64],

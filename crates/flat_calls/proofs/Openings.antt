@@ -14,10 +14,8 @@ use Rattle.rules.specs.declared.Refusal.{Refusal}
 use Rattle.rules.specs.Replies.{answer_reply}
 use Rattle.rules.specs.Opening.{Opening, opening_reply, opened_run, opened_book, opened_prices}
 use Rattle.opening.specs.Given.{given, Outcome}
-use Rattle.answers.specs.declared.Numbers.{Numbers}
-use Rattle.answers.specs.Numbers.{reply_of, Told}
 use Rattle.flat_calls.specs.Opening.{flat_reply, FlatOutcome}
-use Rattle.flat_calls.proofs.Laws.{told_as, kept, sizes_refuse}
+use Rattle.flat_calls.proofs.Laws.{told_of, kept, sizes_refuse}
 
 -- an outcome with the same fund
 pub outcome_as : {accounts count : ℕ} {f g : Fund} {components holdings book prices day : List ℕ} {r : Result ⊤ Refusal} {book' prices' day' : List ℕ}
@@ -36,13 +34,12 @@ module _ (fund : List ℕ) (o : Opening) where
   refused unfit = rw (ne_eqb (length fund) fund_width unfit)
 
   -- refused by the width
-  pub opens_refused : (length fund ≡ fund_width → ⊥) → (number place value : ℕ) → Told (reply 1 0 0) number place value
-      → FlatOutcome fund o number place value o.book o.prices o.day
+  pub opens_refused : (length fund ≡ fund_width → ⊥) → FlatOutcome fund o 1 0 0 o.book o.prices o.day
   unfolding is_accepted
-  opens_refused unfit number place value t =
+  opens_refused unfit =
       let no = refused unfit in
       record {
-        told = told_as (sym no) t;
+        told = told_of (sym no);
         book_is = rw no;
         prices_is = rw no;
         day_is = rw no;
@@ -50,13 +47,13 @@ module _ (fund : List ℕ) (o : Opening) where
       }
 
   -- answered by opening
-  pub opens_done : length fund ≡ fund_width → (n : Numbers) (r : Result ⊤ Refusal) (book prices day : List ℕ) → reply_of n ≡ answer_reply r → Outcome o r book prices day
-      → (number place value : ℕ) → Told (reply_of n) number place value → FlatOutcome fund o number place value book prices day
+  pub opens_done : length fund ≡ fund_width → (r : Result ⊤ Refusal) (book prices day : List ℕ) → Outcome o r book prices day
+      → FlatOutcome fund o (answer_reply r).number (answer_reply r).place (answer_reply r).value book prices day
   unfolding opened_book opened_prices opened_run
-  opens_done fit n r book prices day e out number place value t =
+  opens_done fit r book prices day out =
       let same = reply_same fit in
       record {
-        told = told_as (e ∙ out.answer_is ∙ sym same) t;
+        told = told_of (out.answer_is ∙ sym same);
         book_is = rw same (out.book_is ∙ kept (is_accepted (opening_reply o)) _ _);
         prices_is = rw same (out.prices_is ∙ kept (is_accepted (opening_reply o)) _ _);
         day_is = rw same (out.day_is ∙ kept (is_accepted (opening_reply o)) _ _);

@@ -13,11 +13,10 @@ use Rattle.digits.specs.Digits.{cap}
 use Rattle.layout.specs.Places.{limit_count}
 use Rattle.fund.specs.Fund.{cash_in_range}
 use Rattle.fund.proofs.Laws.{fund_sound, cash_size}
-use Rattle.answers.specs.declared.Numbers.{Numbers}
-use Rattle.answers.specs.Numbers.{reply_of, Told}
 use Rattle.list_rules.specs.declared.ListFields.{ListFields}
 use Rattle.list_rules.specs.declared.ListRead.{ListRead}
 use Rattle.rules.specs.declared.Refusal.{Refusal}
+use Rattle.rules.specs.Replies.{refusal_reply}
 use Rattle.rules.proofs.Replies.{is_refused}
 use Rattle.std.proofs.Common.{Result, Ok, Err}
 use Rattle.list_rules.specs.Fields.{fields_from}
@@ -31,7 +30,7 @@ use Rattle.list_writing.specs.Outcome.{WriteOutcome}
 use Rattle.list_layout.specs.Run.{fields_width, fields_at, fields_numbers}
 use Rattle.list_layout.proofs.Laws.{fields_flat}
 use Rattle.flat_calls.specs.Text.{Taking, taking, of_width, taking_reply, TextRead, TextWritten}
-use Rattle.flat_calls.proofs.Laws.{told_as, kept, sizes_refuse}
+use Rattle.flat_calls.proofs.Laws.{told_of, kept, sizes_refuse}
 
 -- The width.
 
@@ -50,13 +49,12 @@ module _ (text : List ℕ) (t : Taking) where
   abbrev answer : Reply
   answer = read_reply text (length t.run)
 
-  pub read_refused : (length t.fields ≡ fields_width → ⊥) → (number place value : ℕ) → Told (reply 1 0 0) number place value
-      → TextRead text t number place value t
+  pub read_refused : (length t.fields ≡ fields_width → ⊥) → TextRead text t 1 0 0 t
   unfolding taking_reply is_accepted
-  read_refused other number place value told =
+  read_refused other =
       let refused = width_differs (length t.fields) answer other in
       record {
-        told = told_as (sym refused) told;
+        told = told_of (sym refused);
         run_is = rw refused;
         fields_is = rw refused;
         first_is = rw refused;
@@ -78,14 +76,13 @@ module _ (text run run' : List ℕ) where
           cash_size _ (ap (λ (l : ListFields). cash_in_range l.cash_component) fields ∙ ranges.cash),
         )
 
-    pub read_done : (n : Numbers) → reply_of n ≡ read_answer_reply (Ok read) → (fields : List ℕ) (first : ℕ) → length fields ≡ fields_width → (number place value : ℕ) (fields' : List ℕ)
-        → Told (reply_of n) number place value → fields' ≡ fields_numbers read.fields
-        → TextRead text (taking run fields first) number place value (taking run' fields' read.first_row)
+    pub read_done : (fields : List ℕ) (first : ℕ) → length fields ≡ fields_width → (fields' : List ℕ) → fields' ≡ fields_numbers read.fields
+        → TextRead text (taking run fields first) 0 0 read.fields.count (taking run' fields' read.first_row)
     unfolding taking_reply run_after
-    read_done n e fields first wide number place value fields' told p =
+    read_done fields first wide fields' p =
         let same = width_fits (length fields) (read_reply text (length run)) wide in
         record {
-          told = told_as (e ∙ out.answer_is ∙ sym same) told;
+          told = told_of (out.answer_is ∙ sym same);
           run_is = rw same (out.run_is ∙ kept (is_accepted (read_reply text (length run))) _ _);
           fields_is = rw (same, accepted) (p ∙ ap fields_numbers out.handed.fields_is);
           first_is = rw (same, accepted) out.handed.first_is;
@@ -95,14 +92,13 @@ module _ (text run run' : List ℕ) where
     refused : is_accepted (read_reply text (length run)) ≡ false
     refused = is_refused why _ out.answer_is
 
-    pub read_stopped : (n : Numbers) → reply_of n ≡ read_answer_reply (Err why) → (fields : List ℕ) (first : ℕ) → length fields ≡ fields_width → (number place value : ℕ)
-        → Told (reply_of n) number place value
-        → TextRead text (taking run fields first) number place value (taking run' fields first)
+    pub read_stopped : (fields : List ℕ) (first : ℕ) → length fields ≡ fields_width
+        → TextRead text (taking run fields first) (refusal_reply why).number (refusal_reply why).place (refusal_reply why).value (taking run' fields first)
     unfolding taking_reply run_after
-    read_stopped n e fields first wide number place value told =
+    read_stopped fields first wide =
         let same = width_fits (length fields) (read_reply text (length run)) wide in
         record {
-          told = told_as (e ∙ out.answer_is ∙ sym same) told;
+          told = told_of (out.answer_is ∙ sym same);
           run_is = rw same (out.run_is ∙ kept (is_accepted (read_reply text (length run))) _ _);
           fields_is = rw (same, refused);
           first_is = rw (same, refused);
@@ -128,19 +124,18 @@ module _ (text : List ℕ) (t : Taking) (accepted : is_accepted (taking_reply te
 -- Writing.
 
 module _ (fields : List ℕ) (l : Listing) (output : List ℕ) where
-  pub write_refused : (length fields ≡ fields_width → ⊥) → (number place value : ℕ) → Told (reply 1 0 0) number place value
-      → TextWritten fields l output number place value output
+  pub write_refused : (length fields ≡ fields_width → ⊥) → TextWritten fields l output 1 0 0 output
   unfolding is_accepted
-  write_refused other number place value told =
+  write_refused other =
       let refused = width_differs (length fields) (write_reply l (length output)) other in
-      record { told = told_as (sym refused) told; output_is = rw refused }
+      record { told = told_of (sym refused); output_is = rw refused }
 
-  pub write_done : length fields ≡ fields_width → (n : Numbers) (r : Result ℕ Refusal) (output' : List ℕ) → reply_of n ≡ list_reply r → WriteOutcome l output r output'
-      → (number place value : ℕ) → Told (reply_of n) number place value → TextWritten fields l output number place value output'
+  pub write_done : length fields ≡ fields_width → (r : Result ℕ Refusal) (output' : List ℕ) → WriteOutcome l output r output'
+      → TextWritten fields l output (list_reply r).number (list_reply r).place (list_reply r).value output'
   unfolding output_after
-  write_done wide n r output' e out number place value told =
+  write_done wide r output' out =
       let same = width_fits (length fields) (write_reply l (length output)) wide in
       record {
-        told = told_as (e ∙ out.answer_is ∙ sym same) told;
+        told = told_of (out.answer_is ∙ sym same);
         output_is = rw same (out.output_is ∙ kept (is_accepted (write_reply l (length output))) _ _);
       }

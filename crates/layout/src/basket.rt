@@ -1,7 +1,7 @@
 // Components in a run.
-ghost use Rattle.std.specs.Prelude.{◌≡◌, ◌+◌, ◌*◌, ◌≤◌, ◌<◌, length, get_or};
-ghost use Rattle.layout.specs.Places.{most_components, component_width, basket_width};
-ghost use Rattle.layout.specs.Components.{blank, component_at, places_of};
+ghost use Rattle.std.specs.Prelude.{◌≡◌, ◌+◌, ◌*◌, ◌≤◌, length};
+ghost use Rattle.layout.specs.Places.{component_width};
+ghost use Rattle.layout.specs.Components.{component_at};
 
 use crate::{COMPONENT_WIDTH, Component};
 use units::{Money, Rate};
@@ -21,12 +21,4 @@ pub fn component_at(run: &[u64], i: usize) -> Component
         discount: Rate(run[at + 4]),
         amount: Money(run[at + 5]),
     }
-}
-
-// Component i of a basket.
-pub fn component_of(basket: &[u64], i: usize) -> Component
-    requires { (i < most_components) × (length basket.now ≡ basket_width) }
-    ensures { result ≡ get_or (places_of (component_at basket.now) most_components) i blank }
-{
-    component_at(basket, i)
 }

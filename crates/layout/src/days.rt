@@ -3,52 +3,12 @@ ghost use Rattle.std.specs.Prelude.{◌≡◌, ◌-◌, ◌≤◌, ◌<◌, ◌+
 ghost use Rattle.digits.specs.Digits.{cap};
 ghost use Rattle.layout.specs.Places.{most_components, basket_width, day_width};
 ghost use Rattle.layout.specs.Components.{blank, component_at, places_of};
-ghost use Rattle.layout.specs.Day.{Day, day_of, day_head_at, basket_at, day_at, day_numbers};
+ghost use Rattle.layout.specs.Day.{Day, day_of, day_at, day_numbers};
 
-use crate::basket::component_of;
+use crate::basket::component_at;
 use crate::funds::{fund_of, put_fund};
 use crate::{ACCOUNTS_AT, BASKET_FROM, COUNT_AT, Component, DayHead, FUND_FROM, Fund};
 use std::marker::Model;
-
-// The accounts of a day's run.
-#[tactic(auto, unfolding(crate::specs::Day::day_head_at))]
-pub fn accounts_of(day: &[u64]) -> usize
-    requires { length day.now ≡ day_width }
-    ensures { result ≡ (day_head_at day.now).accounts }
-{
-    day[ACCOUNTS_AT] as usize
-}
-
-// Its count of components.
-#[tactic(auto, unfolding(crate::specs::Day::day_head_at))]
-pub fn count_of(day: &[u64]) -> usize
-    requires { length day.now ≡ day_width }
-    ensures { result ≡ (day_head_at day.now).count }
-{
-    day[COUNT_AT] as usize
-}
-
-// Its head.
-#[tactic(auto, unfolding(crate::specs::Day::day_head_at))]
-pub fn head_of(day: &[u64]) -> DayHead
-    requires { length day.now ≡ day_width }
-    ensures { result ≡ day_head_at day.now }
-{
-    let fund = fund_of(day, FUND_FROM);
-    DayHead {
-        accounts: accounts_of(day),
-        count: count_of(day),
-        fund,
-    }
-}
-
-// Its components.
-pub fn basket_of(day: &[u64]) -> &[u64]
-    requires { length day.now ≡ day_width }
-    ensures { result.now ≡ basket_at day.now }
-{
-    &day[BASKET_FROM..]
-}
 
 // A day where it lies: its head, and its basket. Contracts see it as the day.
 #[derive(Drop)]
@@ -101,11 +61,12 @@ impl<'a> DayView<'a> {
     }
 
     // Component i.
+    #[tactic(auto, using(crate::proofs::Components::places_at))]
     pub fn component(&self, i: usize) -> Component
         requires { i < most_components }
         ensures { result ≡ get_or self.now.components i blank }
     {
-        component_of(self.basket, i)
+        component_at(self.basket, i)
     }
 
     // Its basket.
@@ -122,7 +83,12 @@ pub fn view_of(run: &[u64]) -> DayView<'_>
     requires { length run.now ≡ day_width }
     ensures { result ≡ day_at run.now }
 {
-    DayView::new(head_of(run), basket_of(run))
+    let head = DayHead {
+        accounts: run[ACCOUNTS_AT] as usize,
+        count: run[COUNT_AT] as usize,
+        fund: fund_of(run, FUND_FROM),
+    };
+    DayView::new(head, &run[BASKET_FROM..])
 }
 
 // Stores components as a basket: zeros stand behind them.
@@ -135,14 +101,15 @@ fn put_basket(basket: &mut [u64], components: &[u64])
     rest.fill(0);
 }
 
-// Stores a day.
-pub fn put_day(day: &mut [u64], accounts: usize, count: usize, fund: Fund, components: &[u64])
+// Stores a day, of its head and its components.
+#[tactic(auto, using(crate::proofs::Stored::day_stored))]
+pub fn put_day(day: &mut [u64], head: DayHead, components: &[u64])
     requires day_len { length day.old ≡ day_width }
-    requires components_len_bound { (length components.now ≤ basket_width) × (nat_abs fund.estimated_cash ≤ cap) }
-    ensures { day.new ≡ day_numbers accounts count fund components.now }
+    requires components_len_bound { (length components.now ≤ basket_width) × (nat_abs head.fund.estimated_cash ≤ cap) }
+    ensures { day.new ≡ day_numbers head.accounts head.count head.fund components.now }
 {
-    day[ACCOUNTS_AT] = accounts as u64;
-    day[COUNT_AT] = count as u64;
-    put_fund(day, FUND_FROM, fund);
+    day[ACCOUNTS_AT] = head.accounts as u64;
+    day[COUNT_AT] = head.count as u64;
+    put_fund(day, FUND_FROM, head.fund);
     put_basket(&mut day[BASKET_FROM..], components);
 }

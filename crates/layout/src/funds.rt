@@ -1,4 +1,5 @@
-// A fund in a run, with its signed number and its limits.
+// A fund in a run, with its signed number and its limits. The place stands beside the run: what a store leaves is said of the whole
+// run, which has other numbers around the fund, and a part lent would be named by the same place.
 ghost use Rattle.std.specs.Prelude.{◌≡◌, ◌+◌, ◌≤◌, nat_abs, length, get_or};
 ghost use Rattle.std.proofs.lemmas.List.Edits.{sets};
 ghost use Rattle.sequences.specs.Below.{tabulate};
@@ -10,17 +11,16 @@ use crate::{CASH_AT, Fund, LIMITS, LIMITS_FROM};
 use digits::Figure;
 use units::Rate;
 
-// The most that is read of a signed number's size.
-const MOST_SIZE: u64 = 1_000_000_000_000_000_000;
-
+// What is read of a signed number's size.
 #[tactic(auto, using(std::proofs::lemmas::Bool::Decides::nat_tests), unfolding(digits::specs::Digits::capped))]
 fn capped_size(size: u64) -> u64
     ensures { result ≡ capped size }
 {
-    size.min(MOST_SIZE)
+    size.min(digits::CAP)
 }
 
 // A signed number, of a sign and a size.
+#[tactic(auto, using(digits::proofs::Read::capped_within), unfolding(crate::specs::Fund::signed_at))]
 pub fn signed_at(run: &[u64], at: usize) -> i64
     requires { at + 2 ≤ length run.now }
     ensures { result ≡ signed_at run.now at }
@@ -32,6 +32,7 @@ pub fn signed_at(run: &[u64], at: usize) -> i64
     })
 }
 
+#[tactic(auto, using(crate::proofs::Stored::signed_stored))]
 pub fn put_signed(run: &mut [u64], at: usize, e: i64)
     requires at_in_bounds { at + 2 ≤ length run.old }
     requires e_bound { nat_abs e ≤ cap }
@@ -51,6 +52,7 @@ fn limits_at(run: &[u64], at: usize) -> [u64; LIMITS]
     limits
 }
 
+#[tactic(auto, using(crate::proofs::Stored::limits_stored))]
 fn put_limits(run: &mut [u64], at: usize, limits: [u64; LIMITS])
     requires { at + limit_count ≤ length run.old }
     ensures { run.new ≡ sets run.old at (tabulate (λ k. get_or limits k 0) limit_count) }
@@ -75,6 +77,7 @@ pub fn fund_of(run: &[u64], at: usize) -> Fund
 }
 
 // Stores a fund's numbers from a place on.
+#[tactic(auto, using(crate::proofs::Stored::fund_stored))]
 pub fn put_fund(run: &mut [u64], at: usize, f: Fund)
     requires fund_width_in_bounds { at + fund_width ≤ length run.old }
     requires estimated_cash_bound { nat_abs f.estimated_cash ≤ cap }

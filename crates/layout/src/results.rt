@@ -33,6 +33,7 @@ fn numbers_of_record(r: Record) -> [u64; RECORD_WIDTH]
 }
 
 // Stores a record from a place on.
+#[tactic(auto, using(crate::proofs::Stored::numbers_stored))]
 pub fn put_record(list: &mut [u64], at: usize, r: Record)
     requires { at + record_width ≤ length list.old }
     ensures { list.new ≡ sets list.old at (record_numbers r) }
@@ -59,6 +60,7 @@ fn numbers_of_report(r: Report) -> [u64; REPORT_WIDTH]
 }
 
 // Stores the k-th report.
+#[tactic(auto, using(crate::proofs::Stored::numbers_stored))]
 pub fn put_report(list: &mut [u64], k: usize, r: Report)
     requires { report_width * k + report_width ≤ length list.old }
     ensures { list.new ≡ sets list.old (report_width * k) (report_numbers r) }
@@ -68,6 +70,7 @@ pub fn put_report(list: &mut [u64], k: usize, r: Report)
 }
 
 // Stores the i-th answer: a refusal's number, its place, the value of an accepted call and the count of an order's reports.
+#[tactic(auto, using(crate::proofs::Stored::numbers_stored, crate::proofs::Stored::reply_stored))]
 pub fn put_answer(answers: &mut [u64], i: usize, numbers: [u64; ANSWER_WIDTH])
     requires { answer_width * i + answer_width ≤ length answers.old }
     ensures { answers.new ≡ put_reply answers.old i (reply_in numbers) }

@@ -11,7 +11,7 @@ ghost use Rattle.totals.specs.Totals.{most_rows};
 ghost use Rattle.rules.specs.Opening.{most_of_line, total_fault, lent_sizes_fit, opening_reply, opened_stretch};
 ghost use Rattle.opening.specs.Given.{given_in, Outcome, totals_in, totals_of};
 
-use layout::Fund;
+use layout::{DayHead, Fund};
 use lots::Lots;
 use rules::Refusal;
 use totals::Rows;
@@ -61,6 +61,9 @@ fn total_fault(holdings: &[u64], accounts: usize, count: usize) -> Option<usize>
     rows.fill(totals);
     first_over(totals, holdings[count + 1], count)
 }
+
+// `count ≤ most_components` stands in the contracts: refusal 1's test says it of any number, and what is given is a caller's, so that a
+// type that carries it would be made between the two.
 
 // Refusal 1's test. The ranges come first, so that no product is too large.
 #[tactic(auto, using(std::proofs::lemmas::Bool::Decides::nat_tests), unfolding(rules::specs::Opening::lent_sizes_fit, rules::specs::Opening::day_sizes_fit, sequences::specs::Every::every, sequences::specs::Every::inside))]
@@ -145,12 +148,11 @@ pub fn open(
     opening_answer(&given, book, prices, day)?;
     open_book(book, given.holdings, given.accounts, given.count);
     prices.fill(0);
-    layout::put_day(
-        day,
-        given.accounts,
-        given.count,
-        given.fund,
-        given.components,
-    );
+    let head = DayHead {
+        accounts: given.accounts,
+        count: given.count,
+        fund: given.fund,
+    };
+    layout::put_day(day, head, given.components);
     Ok(())
 }

@@ -20,7 +20,8 @@ struct Counts {
     reverse: u64,
 }
 
-// The counts of one account.
+// The counts of one account. `Countable` stands in four contracts, since head and book come from the caller apart: a struct of both
+// would be made for each order only to carry it.
 fn counts_of(head: &DayHead, book: &[u64], a: usize, kind: Kind) -> Counts
     requires { Countable (day_of head.now []) book.now × (a < head.now.accounts) }
     ensures { result ≡ own_counts (day_of head.now []) book.now a kind }
@@ -34,7 +35,7 @@ fn counts_of(head: &DayHead, book: &[u64], a: usize, kind: Kind) -> Counts
     }
 }
 
-// The counts of all accounts together.
+// The counts of all accounts together, which are read by number: the one account of an order is read in the same way.
 fn counts_of_all(head: &DayHead, book: &[u64], kind: Kind) -> Counts
     requires { Countable (day_of head.now []) book.now }
     ensures { result ≡ all_counts (day_of head.now []) book.now kind }
@@ -85,7 +86,7 @@ fn limits_held(head: &DayHead, book: &[u64], ask: Ask) -> bool
 }
 
 // The tests 8, 11, 12 and 13 of an order. They look at no component.
-#[tactic(auto, unfolding(sequences::specs::Checks::answering, crate::specs::Form::order_form, rules::specs::Orders::form_checks, rules::specs::Orders::permission_checks, rules::specs::Orders::whole_baskets, rules::specs::Orders::baskets, rules::specs::Orders::switch_allows))]
+#[tactic(auto, unfolding(sequences::specs::Checks::answering, crate::specs::Form::order_form, rules::specs::Orders::form_checks, rules::specs::Orders::permission_checks))]
 pub fn order_form(head: &DayHead, book: &[u64], ask: Ask) -> Result<(), Refusal>
     requires { Countable (day_of head.now []) book.now }
     ensures { answer_reply result ≡ answered (order_form (day_of head.now []) book.now ask) 0 }

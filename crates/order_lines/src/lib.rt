@@ -100,7 +100,8 @@ impl Part {
         }
     }
 
-    // Its line where stock of it moves in a creation, for an account that has so much of it to hand in.
+    // Its line where stock of it moves in a creation, for an account that has so much of it to hand in. A redemption has a function of
+    // its own: only here may cash stand for stock, so that one for both would ask for the kind three times.
     fn creation_line(self, have: u64, price: u64) -> Line
         requires { (entry self.component.flag stock_moves ≡ true) × (price ≤ most_price) }
         ensures { result ≡ creation_line self.component have price self.baskets }

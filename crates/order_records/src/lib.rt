@@ -10,7 +10,7 @@ use layout::Record;
 use rules::{CashByMarket, Kind, Side};
 use units::Money;
 
-// A record whose amount is its quantity times its price.
+// A record whose amount is its quantity times its price. Its side is a number there, as a record read back from any run may have any.
 pub fn record_of(code: u64, side: Side, quantity: u64, price: Money) -> Record
     requires { quantity * price.0 < 2 ^ 64 }
     ensures { result ≡ record_of code (side_number side) quantity price.0 }

@@ -17,7 +17,8 @@ use layout::{Group, Record, Report};
 use rules::{CashByMarket, CashKind, Kind, ReportType, Side};
 use units::Money;
 
-// The group that stands where a report has none.
+// The group that stands where a report has none. A report holds what its run shows, numbers for type, side and kinds too: it is only
+// written, and what makes it (`told`, `cash_report`) takes the enums.
 const NO_GROUP: Group = Group {
     kind: 0,
     amount: Money(0),
@@ -69,7 +70,8 @@ fn cash_report(side: Side, cash: CashByMarket) -> Report
     }
 }
 
-// The reports of stock, behind the unit's, from the `n` records of stock.
+// The reports of stock, behind the unit's, from the `n` records of stock. By number: chunks of both runs, zipped, would also have to
+// leave out the unit in front and the cash behind.
 fn put_stock(list: &mut [u64], records: &[u64], n: usize, side: Side)
     requires { (report_width * (1 + n) ≤ length list.old) × (record_width * (1 + n) ≤ length records.now) }
     ensures { list.new ≡ sets list.old report_width (laid report_numbers (tabulate (told_stock (side_number side) records.now) n)) }
@@ -80,7 +82,8 @@ fn put_stock(list: &mut [u64], records: &[u64], n: usize, side: Side)
     }
 }
 
-// The report of cash, as the k-th: none where there is no cash.
+// The report of cash, as the k-th: none where there is no cash. That all cash fits one number stands in three contracts: two amounts
+// of which each fits are a `CashByMarket` too, and the definitions have such.
 fn put_cash(list: &mut [u64], k: usize, side: Side, cash: CashByMarket)
     requires { (all_cash cash < 2 ^ 64) × (report_width * (k + cash_report_count cash) ≤ length list.old) }
     ensures { list.new ≡ sets list.old (report_width * k) (laid report_numbers (told_cash (side_number side) cash)) }
@@ -103,7 +106,8 @@ fn put_reports(list: &mut [u64], records: &[u64], n: usize, stock: Side, cash: C
     put_cash(list, 1 + n, rest, cash);
 }
 
-// The reports of an order, so many to each party. The fund's have all sides opposite to the investor's.
+// The reports of an order, so many to each party. The fund's have all sides opposite to the investor's. The runs come one by one, not
+// as `rules::Lists`: the records are only read.
 #[tactic(auto, using(rules::proofs::Reports::turned_stock, rules::proofs::Reports::turned_rest))]
 pub fn report(
     kind: Kind,

@@ -15,7 +15,8 @@ use order_records::Out;
 use rules::{Ask, CashByMarket};
 use units::Money;
 
-// Moves the stock of every component, and writes its records.
+// Moves the stock of every component, and writes its records. By number: it is the component's, that of its lots on both sides, and
+// the turn in the definition.
 fn settle_stock(ask: Ask, day: &DayView, book: &mut [u64], m: u64, out: &mut Out)
     requires account_nonzero { (0 < ask.account) × (ask.account * width day.now + width day.now ≤ length book.old) }
     requires stock_ready { StockReady day.now (account day.now book.old ask.account) m }
@@ -36,7 +37,8 @@ fn settle_stock(ask: Ask, day: &DayView, book: &mut [u64], m: u64, out: &mut Out
     }
 }
 
-// Settles an order in `m` baskets with its cash. The records tell what moves.
+// Settles an order in `m` baskets with its cash. The records tell what moves. `m` comes beside the order, whose units say it only with
+// the day's basket size, and what is promised holds for any.
 pub fn settle(
     ask: Ask,
     day: &DayView,

@@ -13,12 +13,13 @@ ghost use Rattle.rules.specs.Kinds.{asked_cash, asked_moves};
 ghost use Rattle.order_tests.specs.Tests.{accepted_reply, means_answer};
 ghost use Rattle.orders.specs.Orders.{asked_answer, answered_lists, Formed};
 
-use layout::{DayHead, DayView};
+use layout::DayView;
 use order_scan::Parties;
 use order_tests::Accepted;
 use rules::{Ask, Counts, Lists, Refusal, Rooms};
 
-// An account's part of the book.
+// An account's part of the book. That the count is within the most is no invariant of a `DayView`: a view reads any run of a day's
+// length, and the sound day of the callers says it.
 fn part_of(book: &[u64], count: usize, a: usize) -> &[u64]
     requires { (count ≤ most_components) × (a * width_of count + width_of count ≤ length book.now) }
     ensures { result.now ≡ stretch_of (width_of count) book.now a }
@@ -48,7 +49,8 @@ fn order_stage(
     order_tests::order_means(day, &parties, prices, ask, rooms)
 }
 
-// The tests of an order alone, with the cash of one that is accepted.
+// The tests of an order alone, with the cash of one that is accepted. That the day is sound stands in both contracts: it is a fact of
+// the day with its book and prices, of which the tests lend the book to read and an order to write, so one struct would need a twin.
 pub fn order_tested(
     day: &DayView,
     book: &[u64],
@@ -60,12 +62,7 @@ pub fn order_tested(
     ensures answer_value { accepted_reply result ≡ asked_answer day.now book.now prices.now ask rooms }
     ensures cash { IfOk result (λ accepted. accepted.cash ≡ asked_cash day.now (account day.now book.now ask.account) prices.now ask) }
 {
-    let head = DayHead {
-        accounts: day.accounts(),
-        count: day.count(),
-        fund: day.fund(),
-    };
-    order_form::order_form(&head, book, ask)?;
+    order_form::order_form(&day.head(), book, ask)?;
     order_stage(day, book, prices, ask, rooms)
 }
 

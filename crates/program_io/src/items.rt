@@ -1,6 +1,6 @@
 // Items of an input: a tag, how many numbers follow, and these. Numbers are unsigned, in base ten, with blanks or line ends between
 // them.
-ghost use Rattle.std.specs.Prelude.{◌≡◌, ◌×◌, length, take, drop, IfOk};
+ghost use Rattle.std.specs.Prelude.{◌≡◌, length, take, drop, IfOk};
 
 use crate::fault::Fault;
 use std::alloc::Global;

@@ -52,7 +52,8 @@ impl<'a> TryFrom<&'a Item> for Said<'a> {
     }
 }
 
-// The day that calls are made on: what they make of it is kept, or they are each made on what it was given as.
+// Whether calls go on from what those before them left, or each is made on the state anew. An earlier item says which, so that a
+// value keeps it: a closure would be a boxed one.
 #[derive(Drop)]
 enum Calls {
     InOrder,
@@ -146,7 +147,9 @@ mod tests {
             ("0 2", "57985 1", false),
             ("0 2", "18 401", false),
         ] {
-            let item = format!(in rt.alloc(); "1 20 1 2 1 510050 2 9524 1 {cash} 0 0 0 0 0 0 0 0 0 {lengths}")?;
+            let item = format!(in rt.alloc();
+                "1 20 1 2 1 510050 2 9524 1 {cash} 0 0 0 0 0 0 0 0 0 {lengths}"
+            )?;
             let out = played(rt.alloc(), item.as_str())?;
             let want = if is_read {
                 "row 1\nopening 1 0 0 0\nsame\n"
@@ -166,7 +169,10 @@ mod tests {
             ("4 1 0", "bad input\n"),
             ("5 5 0 1 5 0 1", "trade 5 0 0 0\nsame\n"),
             ("5 6 0 1 5 0 1 0", "bad input\n"),
-            ("6 5 1 2 2048 4096 4096", "test 5 0 0 0\ncreate 5 0 0 0\nrest same\nsame\n"),
+            (
+                "6 5 1 2 2048 4096 4096",
+                "test 5 0 0 0\ncreate 5 0 0 0\nrest same\nsame\n",
+            ),
             ("6 5 1 2 2049 0 0", "bad input\n"),
             ("7 5 1 2 0 4097 0", "bad input\n"),
             ("7 5 1 2 0 0 4097", "bad input\n"),

@@ -35,6 +35,7 @@ enum Said<'a> {
 }
 
 impl<'a> Said<'a> {
+    // No `TryFrom`: a list keeps its names and its letters as bytes, which takes memory.
     fn new(alloc: Global, item: &'a Item) -> Result<Said<'a>, Fault> {
         match (item.tag, item.numbers.as_slice()) {
             (1, [row, room, bytes @ ..]) => Ok(Said::Text(Reading::new(*row, *room), bytes)),
@@ -165,14 +166,20 @@ mod tests {
             let width = 22 + components + names + letters;
             let numbers = " 0".repeat(rt.alloc(), width)?;
             let length = width + 4;
-            let item = format!(in rt.alloc(); "5 {length} 1 {output} {components} {names}{numbers}")?;
+            let item = format!(in rt.alloc();
+                "5 {length} 1 {output} {components} {names}{numbers}"
+            )?;
             let out = played(rt.alloc(), item.as_str())?;
             let want = if is_read {
                 "row 1\nwrite 1 0 0\nsame\n"
             } else {
                 "bad input\n"
             };
-            assert_eq!(rt; out.as_slice(), want.as_bytes(), "{output} {components} {names} {letters}");
+            assert_eq!(rt;
+                out.as_slice(),
+                want.as_bytes(),
+                "{output} {components} {names} {letters}"
+            );
         }
         Ok(())
     }

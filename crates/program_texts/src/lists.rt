@@ -1,5 +1,5 @@
 // Items that are lists: each is written, what writing answers and leaves is printed, and a text that was written is read again.
-use list_rules::ListRead;
+use list_rules::{ListRead, Listing};
 use program_io::fault::Fault;
 use program_io::items::split;
 use program_io::rows::Row;
@@ -74,7 +74,10 @@ impl<'a> List<'a> {
 
     // Whether the fields and the components that were read are those of the list; if not, the first that differs is printed.
     fn is_listed<W: Write>(&self, read: &ListRead, run: &[u64], out: &mut W) -> io::Result<bool> {
-        if let Some(place) = marks::first_difference(&fields::numbers_of(read.fields), &self.fields) {
+        if let Some(place) = marks::first_difference(
+            &fields::numbers_of(read.fields),
+            &self.fields,
+        ) {
             writeln!(out, "back fields {place}")?;
             return Ok(false);
         }
@@ -116,14 +119,13 @@ impl<'a> List<'a> {
         }
         writeln!(out, "row {}", self.row)?;
         let mut output = marks::marked(alloc, self.room)?;
-        let given = fields::of_numbers(&self.fields);
-        let answer = list_writing::write(
-            given,
-            self.components,
-            &self.names,
-            &self.letters,
-            &mut output,
-        );
+        let list = Listing {
+            fields: fields::of_numbers(&self.fields),
+            run: self.components,
+            names: &self.names,
+            letters: &self.letters,
+        };
+        let answer = list_writing::write(&list, &mut output);
         replies::print(out, "write", answer)?;
         match answer {
             Ok(size) => self.print_written(alloc, &output, size, out),

@@ -1,5 +1,5 @@
 // Items that are texts: each is read, what reading answers and leaves is printed, and a list that was read is written again.
-use list_rules::{ListFields, ListRead};
+use list_rules::{ListRead, Listing};
 use program_io::fault::Fault;
 use program_io::rows::Row;
 use program_io::{changes, marks};
@@ -40,15 +40,12 @@ fn print_written<W: Write>(text: &[u8], written: &[u8], out: &mut W) -> io::Resu
 // Writes the list that was read, into an output of the text's own length, up to the longest, that holds other bytes.
 fn write_again<W: Write>(
     alloc: Global,
-    l: ListFields,
-    components: &[u64],
-    joined: &[u8],
+    list: &Listing<'_>,
     text: &[u8],
     out: &mut W,
 ) -> Result<(), Fault> {
     let mut output = marks::marked(alloc, text.len().min(crate::MOST_BYTES))?;
-    let letters = list_reading::letters(text);
-    let answer = list_writing::write(l, components, joined, letters, &mut output);
+    let answer = list_writing::write(list, &mut output);
     replies::print(out, "written", answer)?;
     if let Ok(size) = answer {
         output.truncate(size);
@@ -61,20 +58,27 @@ fn write_again<W: Write>(
 fn print_list<W: Write>(
     alloc: Global,
     read: &ListRead,
-    components: &[u64],
+    run: &[u64],
     text: &[u8],
     out: &mut W,
 ) -> Result<(), Fault> {
-    let count = read.fields.count;
+    let fields = read.fields;
     let first = read.first_row;
-    writeln!(out, "fields{}", Row(&fields::numbers_of(read.fields)))?;
+    let letters = list_reading::letters(text);
+    writeln!(out, "fields{}", Row(&fields::numbers_of(fields)))?;
     writeln!(out, "first {first}")?;
-    writeln!(out, "components{}", Row(components))?;
-    writeln!(out, "letters{}", Row(list_reading::letters(text)))?;
-    match names::join(alloc, text, first, count)? {
-        Some(joined) if names::end_with(text, first, count) => {
+    writeln!(out, "components{}", Row(run))?;
+    writeln!(out, "letters{}", Row(letters))?;
+    match names::join(alloc, text, first, fields.count)? {
+        Some(joined) if names::end_with(text, first, fields.count) => {
             writeln!(out, "names{}", Row(&joined))?;
-            write_again(alloc, read.fields, components, &joined, text, out)
+            let list = Listing {
+                fields,
+                run,
+                names: &joined,
+                letters,
+            };
+            write_again(alloc, &list, text, out)
         }
         _ => Ok(writeln!(out, "names wrong")?),
     }

@@ -45,8 +45,9 @@ pub fn fill(list: &mut [Record], flat: &[u64], count: usize) -> usize
     ensures { (result ≡ count) × (list.new ≡ with_first count flat.now list.old) }
 {
     let mut writer = Writer::new(list);
-    for i in 0..count {
-        writer.push(layout::record_at(flat, i));
+    let records = &flat[..layout::RECORD_WIDTH * count];
+    for numbers in records.chunks_exact(layout::RECORD_WIDTH) {
+        writer.push(layout::record_at(numbers, 0));
     }
     writer.finish()
 }

@@ -46,11 +46,7 @@ impl<'a> TryFrom<&'a Item> for Said<'a> {
 }
 
 // The driver and, from the same start, the calls with a test each; whether they leave the same.
-fn run_both<W: Write>(
-    session: &mut Session,
-    batch: Batch<'_>,
-    out: &mut W,
-) -> Result<(), Fault> {
+fn run_both<W: Write>(session: &mut Session, batch: Batch<'_>, out: &mut W) -> Result<(), Fault> {
     let mut left = Lent::new(session, batch)?;
     let mut other = Lent::new(session, batch)?;
     let driven = left.run(&session.day, batch, driver::run);

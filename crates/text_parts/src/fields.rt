@@ -17,7 +17,8 @@ fn signed(sign: u64, size: u64) -> i64 {
 
 // As the library takes them from a run, but with cash of any size.
 pub fn of_numbers(numbers: &[u64; WIDTH]) -> ListFields {
-    let [_, _, _, _, estimated_sign, estimated_size, .., sign, size, _, _, _] = *numbers;
+    let [_, _, _, _, estimated_sign, estimated_size, ..] = *numbers;
+    let [.., sign, size, _, _, _] = *numbers;
     let mut fields = list_layout::fields_at(numbers);
     fields.fund.estimated_cash = signed(estimated_sign, estimated_size);
     fields.cash_component = signed(sign, size);
@@ -27,7 +28,9 @@ pub fn of_numbers(numbers: &[u64; WIDTH]) -> ListFields {
 // As the library stores them. It stores no cash past the most; no list that was read has any, and the numbers of one would be 0.
 pub fn numbers_of(l: ListFields) -> [u64; WIDTH] {
     let mut numbers = [0; WIDTH];
-    if l.fund.estimated_cash.unsigned_abs() <= MOST_CASH && l.cash_component.unsigned_abs() <= MOST_CASH {
+    if l.fund.estimated_cash.unsigned_abs() <= MOST_CASH
+        && l.cash_component.unsigned_abs() <= MOST_CASH
+    {
         list_layout::put_fields(&mut numbers, l);
     }
     numbers

@@ -75,7 +75,10 @@ impl Grown<'_> {
     // Whether it is no longer than the longest text.
     fn fits(&self) -> bool {
         let rest = self.front.len().saturating_add(self.tail.len());
-        self.times.saturating_mul(self.part.len()).saturating_add(rest) <= MOST_BYTES
+        self.times
+            .saturating_mul(self.part.len())
+            .saturating_add(rest)
+            <= MOST_BYTES
     }
 
     // The text.

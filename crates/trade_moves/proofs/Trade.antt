@@ -7,9 +7,9 @@ use lib.ListN.{length, take, drop}
 use borrow.Rule.Slice.PartMut.{put_mid}
 use Rattle.sequences.specs.Stretch.{stretch_of, put_stretch, on_stretch}
 use Rattle.sequences.proofs.Stretch.{stretch-length, stretch-put-other}
-use Rattle.lots.specs.Lots.{sell_of}
-use Rattle.layout.specs.Book.{cash, head_at, lots_at, width_of}
-use Rattle.rules.specs.Trade.{sell_side}
+use Rattle.lots.specs.Lots.{sell_of, buy_of}
+use Rattle.layout.specs.Book.{cash, head_at, put_head, lots_at, put_lots, on_line, width_of}
+use Rattle.rules.specs.Trade.{sell_side, buy_side}
 use Rattle.rules.proofs.Sides.{side-length}
 use Rattle.book.specs.Ready.{Tradable}
 
@@ -21,6 +21,18 @@ part_put w a f b s e = rw (e, add-sub_cancel_left)
 sell_side-length : (line q m : ℕ) (s : List ℕ) → length (sell_side line q m s) ≡ length s
 unfolding sell_side
 sell_side-length line q m s = side-length (λ x. sell_of x q) line (head_at s cash + m) s
+
+-- the seller's side and the buyer's, of what is read off the book
+module _ (w a line q m : ℕ) (b t : List ℕ) where
+  pub sold_side : t ≡ on_stretch w a (λ s. put_head cash (head_at (stretch_of w b a) cash + m) (put_lots s line (sell_of (lots_at (stretch_of w b a) line) q))) b
+      → t ≡ on_stretch w a (sell_side line q m) b
+  unfolding sell_side on_line
+  sold_side e = e
+
+  pub bought_side : t ≡ on_stretch w a (λ s. put_head cash (head_at (stretch_of w b a) cash - m) (put_lots s line (buy_of (lots_at (stretch_of w b a) line) q))) b
+      → t ≡ on_stretch w a (buy_side line q m) b
+  unfolding buy_side on_line
+  bought_side e = e
 
 -- the buyer's stretch is as it was when the seller's has changed
 pub buyer_ready : {n line q price seller buyer w : ℕ} {b mid : List ℕ} → Tradable n b line q price seller buyer → w ≡ width_of n

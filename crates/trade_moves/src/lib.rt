@@ -2,42 +2,24 @@
 #![tactic(auto)]
 
 ghost use Rattle.std.specs.Prelude.{◌≡◌, ◌+◌, ◌*◌, ◌≤◌, ◌<◌, ◌^◌, length};
-ghost use Rattle.lots.specs.Lots.{sellable};
-ghost use Rattle.layout.specs.Book.{behind_line, cash, head_at, lots_at};
-ghost use Rattle.rules.specs.Trade.{sell_side, buy_side, trade_moves};
+ghost use Rattle.sequences.specs.Stretch.{on_stretch};
+ghost use Rattle.layout.specs.Book.{behind_line, cash as cash_at, put_lots, put_head};
+ghost use Rattle.rules.specs.Trade.{trade_moves};
 ghost use Rattle.book.specs.Ready.{Tradable};
 
+use lots::Lots;
 use rules::Trade;
-use units::Money;
 
-// What a trade makes of the seller's stretch.
-#[tactic(auto, unfolding(rules::specs::Trade::sell_side, layout::specs::Book::head_at, layout::specs::Book::put_head, layout::specs::Book::on_line))]
-fn sell_side(stretch: &mut [u64], line: usize, quantity: u64, amount: Money)
-    requires line_in_bounds { behind_line line ≤ length stretch.old }
-    requires quantity_bound { quantity ≤ sellable (lots_at stretch.old line) }
-    requires amount_bound { head_at stretch.old cash + amount.0 < 2 ^ 64 }
-    ensures { stretch.new ≡ sell_side line quantity amount.0 stretch.old }
+// Stores the lots of a line and the cash of account `a`.
+fn put_side(book: &mut [u64], width: usize, a: usize, line: usize, lots: Lots, cash: u64)
+    requires account { a * width + width ≤ length book.old }
+    requires line { behind_line line ≤ width }
+    ensures { book.new ≡ on_stretch width a (λ s. put_head cash_at cash (put_lots s line lots)) book.old }
 {
-    let held = stretch[layout::CASH];
-    let x = layout::lots_at(stretch, line);
-    let left = x.sell(quantity);
-    layout::put_lots(stretch, line, left);
-    stretch[layout::CASH] = held + amount.0;
-}
-
-// What a trade makes of the buyer's stretch.
-#[tactic(auto, unfolding(rules::specs::Trade::buy_side, layout::specs::Book::head_at, layout::specs::Book::put_head, layout::specs::Book::on_line))]
-fn buy_side(stretch: &mut [u64], line: usize, quantity: u64, amount: Money)
-    requires line_in_bounds { behind_line line ≤ length stretch.old }
-    requires quantity_bound { (lots_at stretch.old line).bought + quantity < 2 ^ 64 }
-    requires amount_bound { amount.0 ≤ head_at stretch.old cash }
-    ensures { stretch.new ≡ buy_side line quantity amount.0 stretch.old }
-{
-    let held = stretch[layout::CASH];
-    let x = layout::lots_at(stretch, line);
-    let more = x.buy(quantity);
-    layout::put_lots(stretch, line, more);
-    stretch[layout::CASH] = held - amount.0;
+    let start = a * width;
+    let stretch = &mut book[start..start + width];
+    layout::put_lots(stretch, line, lots);
+    stretch[layout::CASH] = cash;
 }
 
 // Both sides of a trade, in a fund of `count` components.
@@ -53,9 +35,11 @@ pub fn move_trade(book: &mut [u64], count: usize, trade: Trade)
         buyer,
     } = trade;
     let width = layout::width_of(count);
-    let amount = Money(quantity * price.0);
-    let sold = seller * width;
-    sell_side(&mut book[sold..sold + width], line, quantity, amount);
-    let bought = buyer * width;
-    buy_side(&mut book[bought..bought + width], line, quantity, amount);
+    let amount = quantity * price.0;
+    let left = book::lots_of(book, width, seller, line).sell(quantity);
+    let got = book::head_of(book, width, seller, layout::CASH) + amount;
+    put_side(book, width, seller, line, left, got);
+    let more = book::lots_of(book, width, buyer, line).buy(quantity);
+    let rest = book::head_of(book, width, buyer, layout::CASH) - amount;
+    put_side(book, width, buyer, line, more, rest);
 }

@@ -53,7 +53,8 @@ fn trade_means(count: usize, book: &[u64], trade: Trade, amount: Money) -> Resul
     if held.sellable() < trade.quantity {
         return Err(Refusal::ShortOfStock(0));
     }
-    if book::head_of(book, width, trade.buyer, layout::CASH) < amount.0 {
+    let cash = Money(book::head_of(book, width, trade.buyer, layout::CASH));
+    if cash < amount {
         return Err(Refusal::ShortOfCash);
     }
     Ok(())

@@ -1,11 +1,14 @@
-use Rattle.std.proofs.Common.{◌≡◌}
+-- `record_writer::fill` meets its contract. The loop's invariant: the writer has the borrow that it was made with, it stands behind as
+-- many records as were given of the run, and they stand in the list.
+use Rattle.std.proofs.Common.{◌≡◌, ◌*◌, take}
+use Rattle.layout.specs.Places.{record_width}
+use Rattle.sequences.proofs.Chunks.{ChunksFrom}
 use Rattle.record_writer.proofs.Filled.{filled}
 use Rattle.record_writer.proofs.fill.Given as goal
 
--- the writer has the borrow that it was made with, and the list has the records so far
-abbrev pub invariant-loop-i : goal.invariant-loop-i
-invariant-loop-i l = record {
-  place : l.writer.at ≡ l.i;
+abbrev pub invariant-loop-numbers : goal.invariant-loop-numbers
+invariant-loop-numbers l = record {
+  given : ChunksFrom (take (record_width * l.count) l.flat) record_width l.numbers-iterator.size l.numbers-iterator.rest.now l.writer.at;
   same_borrow : l.writer.list.ghost_name ≡ l.initial.writer.list.ghost_name;
-  stored : l.writer.list.now ≡ filled l.initial.writer.list.now l.flat l.i;
+  stored : l.writer.list.now ≡ filled l.initial.writer.list.now l.flat l.writer.at;
 }
