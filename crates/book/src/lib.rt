@@ -13,7 +13,8 @@ use rules::Kind;
 // The fund's account.
 pub const FUND: usize = 0;
 
-// The book and its width are passed apart: an order writes the book between its reads, so that a view of both would be made for each.
+// The book and its width are passed apart, and each contract says that the account and the line lie in it: an order writes the book
+// between its reads, so that a view that carries this would be made for each.
 
 // A number of the head of account `a`, its cash or a counter, read off the whole book.
 #[tactic(auto, using(sequences::proofs::Stretch::stretch_at), unfolding(layout::specs::Book::head_at))]

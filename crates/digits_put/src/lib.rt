@@ -5,6 +5,8 @@ ghost use Rattle.std.specs.Prelude.{◌≡◌, ◌+◌, ◌/◌, ◌%◌, ◌^�
 ghost use Rattle.digits.specs.Digits.{fixed, tens, decimal};
 ghost use Rattle.digits.specs.Written.{Written};
 
+// Each gives the place behind what it writes, where the next one writes: a slice behind it would have to be lent anew for each.
+
 // Writes one byte.
 pub fn put_byte(dst: &mut [u8], at: usize, b: u8) -> usize
     requires { at < length dst.old }
@@ -77,5 +79,6 @@ pub fn put_all<const SMALL: bool>(dst: &mut [u8], end: usize, n: u64) -> usize
         }
         m = rest;
     }
+    // Not reached: the last digit had room.
     0
 }

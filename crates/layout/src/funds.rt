@@ -1,4 +1,5 @@
-// A fund in a run, with its signed number and its limits.
+// A fund in a run, with its signed number and its limits. The place stands beside the run: what a store leaves is said of the whole
+// run, which has other numbers around the fund, and a part lent would be named by the same place.
 ghost use Rattle.std.specs.Prelude.{◌≡◌, ◌+◌, ◌≤◌, nat_abs, length, get_or};
 ghost use Rattle.std.proofs.lemmas.List.Edits.{sets};
 ghost use Rattle.sequences.specs.Below.{tabulate};

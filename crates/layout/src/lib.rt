@@ -48,7 +48,8 @@ pub struct DayHead {
     pub fund: Fund,
 }
 
-// A record of an order.
+// A record of an order. Its side is a number, as a component's flag and a fund's switch are: they are read back from any numbers of
+// a lent run.
 #[derive(Clone, Copy)]
 pub struct Record {
     pub code: u64,
@@ -65,7 +66,8 @@ pub struct Group {
     pub amount: Money,
 }
 
-// A report of an order, to one of its two parties.
+// A report of an order, to one of its two parties. Its type, side and kinds of cash are numbers, since what a report says is read
+// back from any numbers of a lent run; what makes one takes them from the enums of the crate rules.
 #[derive(Clone, Copy)]
 pub struct Report {
     pub report_type: u64,
@@ -104,7 +106,7 @@ pub const BASKET_FROM: usize = FUND_FROM + FUND_WIDTH;
 
 pub const DAY_WIDTH: usize = BASKET_FROM + BASKET_WIDTH;
 
-// An account's stretch: cash, units created, units redeemed, and then the lots of each line.
+// An account's stretch: cash, units created, units redeemed, and then the lots of each line. Places in a run that crosses to C.
 pub const CASH: usize = 0;
 
 pub const CREATED: usize = 1;

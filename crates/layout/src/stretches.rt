@@ -1,4 +1,5 @@
-// An account's stretch.
+// An account's stretch. That it has a line is asked of its length, here and above: a stretch is lent as a part of the caller's run,
+// whose length the day's count of components says.
 ghost use Rattle.std.specs.Prelude.{◌≡◌, ◌≤◌, length};
 ghost use Rattle.layout.specs.Places.{most_components};
 ghost use Rattle.layout.specs.Book.{width_of, behind_line, lots_at, put_lots};

@@ -10,7 +10,7 @@ ghost use Rattle.list_rules.specs.Shanghai.{field_count, creation_code_field, li
 
 use digits::Figure;
 use layout::Fund;
-use list_rules::ListFields;
+use list_rules::{ListField, ListFields};
 use text_rules::MOST_FIELDS;
 use units::Rate;
 
@@ -18,9 +18,10 @@ use units::Rate;
 fn limits_of(figures: [Figure; MOST_FIELDS]) -> [u64; layout::LIMITS]
     ensures { result ≡ tabulate (λ k. (get_or figures (limits_field + k) (plain 0)).size) limit_count }
 {
+    let first = ListField::FirstLimit.place();
     let mut limits = [0; layout::LIMITS];
     for k in 0..layout::LIMITS {
-        limits[k] = figures[list_rules::LIMITS + k].size;
+        limits[k] = figures[first + k].size;
     }
     limits
 }
@@ -32,22 +33,22 @@ pub fn fields_of(figures: [Figure; MOST_FIELDS]) -> ListFields
     ensures { result ≡ fields_from (λ k. get_or figures k (plain 0)) }
 {
     let fund = Fund {
-        first_code: figures[list_rules::CREATION_CODE].size - 1,
-        basket_size: figures[list_rules::BASKET_SIZE].size,
-        max_cash_ratio: Rate(figures[list_rules::CASH_RATIO].size),
-        switch: figures[list_rules::SWITCH].size,
-        estimated_cash: digits::signed_of(figures[list_rules::ESTIMATED_CASH]),
+        first_code: ListField::CreationCode.of(&figures).size - 1,
+        basket_size: ListField::BasketSize.of(&figures).size,
+        max_cash_ratio: Rate(ListField::CashRatio.of(&figures).size),
+        switch: ListField::Switch.of(&figures).size,
+        estimated_cash: digits::signed_of(ListField::EstimatedCash.of(&figures)),
         limits: limits_of(figures),
     };
     ListFields {
         fund,
-        publish: figures[list_rules::PUBLISH].size,
-        trading_day: figures[list_rules::TRADING_DAY].size,
-        pre_trading_day: figures[list_rules::PRE_TRADING_DAY].size,
-        cash_component: digits::signed_of(figures[list_rules::CASH_COMPONENT]),
-        nav_per_cu: figures[list_rules::BASKET_VALUE].size,
-        nav: figures[list_rules::UNIT_VALUE].size,
-        count: figures[list_rules::COUNT].size as usize,
+        publish: ListField::Publish.of(&figures).size,
+        trading_day: ListField::TradingDay.of(&figures).size,
+        pre_trading_day: ListField::PreTradingDay.of(&figures).size,
+        cash_component: digits::signed_of(ListField::CashComponent.of(&figures)),
+        nav_per_cu: ListField::BasketValue.of(&figures).size,
+        nav: ListField::UnitValue.of(&figures).size,
+        count: ListField::Count.of(&figures).size as usize,
     }
 }
 

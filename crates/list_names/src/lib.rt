@@ -7,7 +7,7 @@ ghost use Rattle.list_rules.specs.Shanghai.{name_width};
 ghost use Rattle.list_rules.specs.Reading.{name_place, name_from};
 ghost use Rattle.list_rules.specs.Writing.{name_fault};
 
-use list_rules::{NAME_WIDTH, TextPart};
+use list_rules::{ListColumn, NAME_WIDTH, TextPart};
 
 // Where the name of the j-th component line behind a place stands; an empty part where the text has no such bytes.
 pub fn name_place(text: &[u8], first: usize, j: usize) -> TextPart
@@ -23,7 +23,7 @@ pub fn name_place(text: &[u8], first: usize, j: usize) -> TextPart
             length: 0,
         };
     }
-    let place = first + j * pitch + columns.start(list_rules::NAME);
+    let place = first + j * pitch + columns.start(ListColumn::Name.place());
     TextPart {
         place,
         length: NAME_WIDTH,

@@ -9,7 +9,7 @@ ghost use Rattle.list_reading.specs.Outcome.{ReadOutcome};
 ghost use Rattle.list_reading.specs.Stages.{Found, Spelled, Ranged};
 
 use digits::Figure;
-use list_rules::{ListFields, ListRead, TextPart};
+use list_rules::{ListField, ListFields, ListRead, TextPart};
 use list_shape::Rows;
 use rules::Refusal;
 use text_rules::MOST_FIELDS;
@@ -53,10 +53,10 @@ fn read_values(
     requires found { Found text.now rows.count numbers.now }
     ensures { ReadOutcome text.now run.old result run.new }
 {
-    if !list_shape::is_counted(figures[list_rules::COUNT].size, rows.count) {
+    if !list_shape::is_counted(ListField::Count.of(&figures).size, rows.count) {
         return Err(Refusal::RecordCount);
     }
-    if figures[list_rules::CREATION_CODE].size < 1 {
+    if ListField::CreationCode.of(&figures).size < 1 {
         return Err(Refusal::FundField);
     }
     let fields = list_fields::fields_of(figures);

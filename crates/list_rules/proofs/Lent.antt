@@ -7,7 +7,7 @@ use Rattle.sequences.specs.Every.{every}
 use Rattle.lines.specs.Lines.{other_byte, all_bytes}
 use Rattle.text_rules.specs.Tables.{column_at, field_at}
 use Rattle.text_rules.specs.Columns.{column_width, column_start, line_width}
-use Rattle.text_rules.specs.Well.{column_well, digits_fill, columns_well, is_always, flag_well, field_well, fields_well, form_well}
+use Rattle.text_rules.specs.Well.{digits_fill, column_well, columns_well, is_always, flag_well, field_well, fields_well, form_well}
 use Rattle.text_rules.proofs.Well.{form_facts}
 use Rattle.list_rules.specs.Shanghai.{shanghai, shanghai_columns, shanghai_fields, field_count, flag_column}
 

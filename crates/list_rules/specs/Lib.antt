@@ -1,4 +1,5 @@
 pub mod Shanghai
+pub mod Places
 pub mod Fields
 pub mod Replies
 pub mod Reading

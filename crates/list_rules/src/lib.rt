@@ -1,13 +1,17 @@
 // What the list text promises: the types of a list and its answers, and the tables of its form. The definitions are in specs/.
 #![tactic(auto)]
 
-ghost use Rattle.std.specs.Prelude.{◌≡◌};
+ghost use Rattle.std.specs.Prelude.{◌≡◌, get_or};
+ghost use Rattle.digits.specs.Digits.{plain};
+ghost use Rattle.list_rules.specs.Fields.{blank_fields};
 ghost use Rattle.list_rules.specs.Shanghai.{shanghai_fields, shanghai_lines};
+ghost use Rattle.list_rules.specs.Places.{column_place, field_place};
 
-use digits::Form;
+use digits::{Figure, Form};
 use layout::Fund;
 use rules::Refusal;
-use text_rules::{Column, Field, Fields, LineForm, Use, ValueKind};
+use text_rules::{Column, Field, Fields, LineForm, MOST_FIELDS, Use, ValueKind};
+use units::Rate;
 
 // The fields of a list but its components, its names and the letters of its first line.
 #[derive(Clone, Copy)]
@@ -23,6 +27,32 @@ pub struct ListFields {
     // In ten-thousandths of a yuan.
     pub nav: u64,
     pub count: usize,
+}
+
+// The fields where there are none, as where a reading is refused.
+impl Default for ListFields {
+    ghost is_default = { λ l. l ≡ blank_fields };
+
+    fn default() -> ListFields {
+        let fund = Fund {
+            first_code: 0,
+            basket_size: 0,
+            max_cash_ratio: Rate(0),
+            switch: 0,
+            estimated_cash: 0,
+            limits: [0; layout::LIMITS],
+        };
+        ListFields {
+            fund,
+            publish: 0,
+            trading_day: 0,
+            pre_trading_day: 0,
+            cash_component: 0,
+            nav_per_cu: 0,
+            nav: 0,
+            count: 0,
+        }
+    }
 }
 
 // What reading hands back: the fields, and where the component lines start.
@@ -48,12 +78,28 @@ pub struct TextPart {
     pub length: usize,
 }
 
-// The columns of a component line, and which of them have the name and the flag.
+// How many columns a component line has, and which they are, in their order.
 pub const COLUMN_COUNT: usize = 7;
 
-pub const NAME: usize = 1;
+#[derive(Clone, Copy, PartialEq, Eq, Debug)]
+pub enum ListColumn {
+    Code,
+    Name,
+    Quantity,
+    Flag,
+    Premium,
+    Discount,
+    Amount,
+}
 
-pub const FLAG: usize = 3;
+impl ListColumn {
+    // Its place.
+    pub fn place(self) -> usize
+        ensures { result ≡ column_place self }
+    {
+        self as usize
+    }
+}
 
 const COLUMNS: [Column; COLUMN_COUNT] = [
     // Code.
@@ -110,34 +156,41 @@ const COLUMNS: [Column; COLUMN_COUNT] = [
 // How many bytes a component's name has.
 pub const NAME_WIDTH: usize = 8;
 
-// How many fields the head has, and which is which.
+// How many fields the head has, and which they are, in their order; the limits stand last.
 pub const FIELD_COUNT: usize = 20;
 
-pub const CREATION_CODE: usize = 0;
+#[derive(Clone, Copy, PartialEq, Eq, Debug)]
+pub enum ListField {
+    CreationCode,
+    BasketSize,
+    CashRatio,
+    Publish,
+    Switch,
+    Count,
+    EstimatedCash,
+    TradingDay,
+    PreTradingDay,
+    CashComponent,
+    BasketValue,
+    UnitValue,
+    FirstLimit,
+}
 
-pub const BASKET_SIZE: usize = 1;
+impl ListField {
+    // Its place.
+    pub fn place(self) -> usize
+        ensures { result ≡ field_place self }
+    {
+        self as usize
+    }
 
-pub const CASH_RATIO: usize = 2;
-
-pub const PUBLISH: usize = 3;
-
-pub const SWITCH: usize = 4;
-
-pub const COUNT: usize = 5;
-
-pub const ESTIMATED_CASH: usize = 6;
-
-pub const TRADING_DAY: usize = 7;
-
-pub const PRE_TRADING_DAY: usize = 8;
-
-pub const CASH_COMPONENT: usize = 9;
-
-pub const BASKET_VALUE: usize = 10;
-
-pub const UNIT_VALUE: usize = 11;
-
-pub const LIMITS: usize = 12;
+    // Its figure, among those of the head.
+    pub fn of(self, figures: &[Figure; MOST_FIELDS]) -> Figure
+        ensures { result ≡ get_or figures.now (field_place self) (plain 0) }
+    {
+        figures[self.place()]
+    }
+}
 
 // Their forms: a whole number, a code of six digits, a date, and with decimals a ratio, a unit's value and money.
 const WHOLE: Form = Form {
@@ -147,9 +200,15 @@ const WHOLE: Form = Form {
     width: None,
 };
 
-const CODE: Form = Form { digits: Some(6), ..WHOLE };
+const CODE: Form = Form {
+    digits: Some(6),
+    ..WHOLE
+};
 
-const DATE: Form = Form { digits: Some(8), ..WHOLE };
+const DATE: Form = Form {
+    digits: Some(8),
+    ..WHOLE
+};
 
 const RATIO: Form = Form {
     decimals: 5,
@@ -278,7 +337,7 @@ const FIELDS: [Field<'static>; FIELD_COUNT] = [
 pub fn line_form() -> LineForm<'static>
     ensures { result ≡ shanghai_lines }
 {
-    LineForm::new(&COLUMNS, FLAG, &flags::TABLE)
+    LineForm::new(&COLUMNS, ListColumn::Flag.place(), &flags::TABLE)
 }
 
 // The fields of the head.

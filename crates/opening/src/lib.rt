@@ -62,6 +62,9 @@ fn total_fault(holdings: &[u64], accounts: usize, count: usize) -> Option<usize>
     first_over(totals, holdings[count + 1], count)
 }
 
+// `count ≤ most_components` stands in the contracts: refusal 1's test says it of any number, and what is given is a caller's, so that a
+// type that carries it would be made between the two.
+
 // Refusal 1's test. The ranges come first, so that no product is too large.
 #[tactic(auto, using(std::proofs::lemmas::Bool::Decides::nat_tests), unfolding(rules::specs::Opening::lent_sizes_fit, rules::specs::Opening::day_sizes_fit, sequences::specs::Every::every, sequences::specs::Every::inside))]
 fn sizes_fit(given: &Given, book: usize, prices: usize, day: usize) -> bool

@@ -20,7 +20,8 @@ struct Counts {
     reverse: u64,
 }
 
-// The counts of one account.
+// The counts of one account. `Countable` stands in four contracts, since head and book come from the caller apart: a struct of both
+// would be made for each order only to carry it.
 fn counts_of(head: &DayHead, book: &[u64], a: usize, kind: Kind) -> Counts
     requires { Countable (day_of head.now []) book.now × (a < head.now.accounts) }
     ensures { result ≡ own_counts (day_of head.now []) book.now a kind }

@@ -82,7 +82,8 @@ fn put_stock(list: &mut [u64], records: &[u64], n: usize, side: Side)
     }
 }
 
-// The report of cash, as the k-th: none where there is no cash.
+// The report of cash, as the k-th: none where there is no cash. That all cash fits one number stands in three contracts: two amounts
+// of which each fits are a `CashByMarket` too, and the definitions have such.
 fn put_cash(list: &mut [u64], k: usize, side: Side, cash: CashByMarket)
     requires { (all_cash cash < 2 ^ 64) × (report_width * (k + cash_report_count cash) ≤ length list.old) }
     ensures { list.new ≡ sets list.old (report_width * k) (laid report_numbers (told_cash (side_number side) cash)) }

@@ -43,7 +43,8 @@ const NO_LINES: Scan = Scan {
     stock_records: 0,
 };
 
-// What an account can hand in of a line.
+// What an account can hand in of a line. That the line lies in the stretch is a clause, here and in `held_at`: a stretch is lent as the
+// slice that it is.
 #[tactic(auto, unfolding(rules::specs::Creation::available))]
 pub fn handable_at(stretch: &[u64], line: usize) -> u64
     requires { (behind_line line ≤ length stretch.now) × (available stretch.now line < 2 ^ 64) }

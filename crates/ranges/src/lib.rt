@@ -25,6 +25,7 @@ pub fn is_investor(accounts: usize, a: usize) -> bool
     (1..accounts).contains(&a)
 }
 
+// A basket size above 0 is asked for here alone: a sound fund has one, and `fund` says so.
 // Whether so many units are a whole count of baskets from 1 to the most; `m` is the count with what is left over dropped.
 pub fn whole_baskets(size: u64, units: u64, m: u64) -> bool
     requires { (0 < size) × (m ≡ units / size) }

@@ -13,6 +13,9 @@ ghost use Rattle.sound.specs.Parts.{line_of, line_fits, totals_fit, line_still, 
 use layout::DayView;
 use totals::Rows;
 
+// `n ≤ most_components` and `Capped` stand in the contracts below: both come from tests and sums made here, of any numbers that are lent,
+// and a type that carries them would be made for these few calls alone.
+
 // Whether a line totals at most so much.
 #[tactic(auto, using(std::proofs::lemmas::Bool::Decides::nat_tests), unfolding(totals::specs::Totals::number_at, layout::specs::Book::lots_at))]
 fn line_fits(totals: &[u64], line: usize, most: u64) -> bool
@@ -82,6 +85,7 @@ fn lines_still(book: &[u64], n: usize) -> bool
     requires { (n ≤ most_components) × (width_of n ≤ length book.now) }
     ensures { result ≡ all_below (line_still book.now) (n + 1) }
 {
+    // Lines by their number, which layout reads them by: chunks of three numbers would say their lots by place.
     (0..n + 1).all(|line| line_still(book, line))
 }
 

@@ -18,6 +18,7 @@ pub fn is_row(columns: &Columns, width: usize, line: &[u8]) -> bool
     if line.len() != width {
         return false;
     }
+    // By place: the length is tested once, where parts cut off the line one by one would be tested each.
     let mut at = 0;
     for column in columns.table() {
         let bar = at + column.width;

@@ -57,6 +57,7 @@ pub fn row_count(columns: &Columns, text: &[u8], start: usize) -> usize
     ensures columns_in_bounds { start + result * line_pitch columns.now ≤ length text.now }
 {
     let width = columns.width();
+    // By `while`: that the next place lies in the text is known where the line before it stands; a search over places would test it again.
     let mut at = start;
     let mut j = 0;
     while row_stands(columns, width, text, at) {

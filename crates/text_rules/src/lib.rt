@@ -117,6 +117,7 @@ impl<'a> Columns<'a> {
         requires { k ≤ length self.now }
         ensures { result ≡ taken_before self.now k }
     {
+        // By `for`: a closure of `fold` is not told that what is taken so far is right, which `past` asks.
         let mut taken = Taken::default();
         for i in 0..k {
             taken = self.past(i, taken);

@@ -48,6 +48,7 @@ fn column(block: &[u64], width: usize, place: usize) -> (u64, u64)
 {
     let mut sum: u64 = 0;
     let mut all: u64 = 0;
+    // The rows by their number: skip, step_by and a fold over a pair would say the same eight numbers, and no plainer.
     for i in 0..EIGHT {
         let x = block[i * width + place];
         sum = sum.wrapping_add(x);

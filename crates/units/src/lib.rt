@@ -1,4 +1,5 @@
-// The paper's units of count, each a type of its own, and the roundings between them.
+// The paper's units of count, each a type of its own, and the roundings between them. The ranges that roundings ask are asked of the
+// numbers: a sound day says them all at once, and a type for each would be made and opened again at each call.
 #![tactic(auto)]
 
 ghost use Rattle.std.specs.Prelude.{◌≡◌, ◌+◌, ◌*◌, ◌≤◌, ◌<◌, ◌^◌};
@@ -71,6 +72,7 @@ impl ReferenceValue {
 
 // v times k hundred-thousandths, rounded: the product is taken in two halves, so that it fits 64 bits. Most lines of an order have
 // no cash, and 0 needs no division.
+#[tactic(auto, using(crate::proofs::Laws::split, crate::proofs::Laws::rounded_rate), unfolding(crate::specs::Units::rounded))]
 fn scaled(v: u64, k: u64) -> u64
     requires { (v ≤ 20_000_000_000_000_000) × (k ≤ 200_000) }
     ensures { result ≡ rounded (v * k) rate_one }

@@ -16,6 +16,9 @@ use units::{Money, ReferenceValue};
 // The most that a reference value may be.
 const MOST_VALUE: ReferenceValue = ReferenceValue(9_999_999);
 
+// What the value is reckoned from lies in its ranges by `Priceable`, a fact of a sound day: a type that carries it would be made for
+// this one call of a view and its prices.
+
 // What a component adds to the sum.
 #[tactic(auto, unfolding(crate::specs::Worth::worth))]
 fn worth_of(c: Component, price: u64) -> Money

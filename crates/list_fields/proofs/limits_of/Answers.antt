@@ -1,5 +1,5 @@
 -- `list_fields::limits_of` meets its contract: the limits are the sizes of their figures at every place, so they are that list.
-use Rattle.std.proofs.Common.{◌+◌, get_or, arith, below_more, ◌∙◌}
+use Rattle.std.proofs.Common.{ℕ, ◌+◌, get_or, arith, below_more, ◌∙◌, ap}
 use Rattle.std.proofs.lemmas.List.{length-set, get_or-set_other, get_or-set_same}
 use Rattle.sequences.proofs.Below.{table_ext}
 use Rattle.layout.specs.Places.{limit_count}
@@ -12,7 +12,7 @@ loop-k-preserved c = record {
   long = length-set _ _ _ ∙ c.loop-k.invariant.long;
   sizes = below_more _ _
       (λ j h. get_or-set_other c.loop-k.limits c.loop-k.k j _ 0 (λ e. omega arith) ∙ c.loop-k.invariant.sizes j h)
-      (get_or-set_same c.loop-k.limits c.loop-k.k _ 0 (omega arith));
+      (get_or-set_same c.loop-k.limits c.loop-k.k _ 0 (omega arith) ∙ ap (λ (n : ℕ). (get_or c.args.figures (n + c.loop-k.k) (plain 0)).size) c.place-first.ensures);
 }
 
 pub returns : goal.returns

@@ -33,7 +33,7 @@ overflow_add-place-2 c =
     let pitch = c.pitch-pitch.ensures ∙ ap line_pitch ours in
     let some = pitch_some _ c.pitch-pitch.ensures in
     let line : a.first + a.j * c.pitch-pitch.result + c.pitch-pitch.result ≤ length a.text.now = line_some _ _ _ _ some c.if-text-first.false c.if-text-first-2.false in
-    let start = c.start.ensures.value ∙ ap (λ (cs : List Column). column_start cs name_column) ours in
+    let start = c.start.ensures.value ∙ ap (column_start c.columns-columns.result.now) c.place.ensures ∙ ap (λ (cs : List Column). column_start cs name_column) ours in
     let room = place_room a.text.now a.first a.j _ pitch line start in
     omega arith
 
@@ -44,6 +44,6 @@ returns c =
     let pitch = c.pitch-pitch.ensures ∙ ap line_pitch ours in
     let some = pitch_some _ c.pitch-pitch.ensures in
     let line : a.first + a.j * c.pitch-pitch.result + c.pitch-pitch.result ≤ length a.text.now = line_some _ _ _ _ some c.if-text-first.false c.if-text-first-2.false in
-    let start = c.start.ensures.value ∙ ap (λ (cs : List Column). column_start cs name_column) ours in
+    let start = c.start.ensures.value ∙ ap (column_start c.columns-columns.result.now) c.place.ensures ∙ ap (λ (cs : List Column). column_start cs name_column) ours in
     let room = place_room a.text.now a.first a.j _ pitch line start in
     record { value = place_is _ _ _ _ pitch line start; length_in_bounds = room }

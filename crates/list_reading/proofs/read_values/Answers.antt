@@ -22,35 +22,35 @@ pub returns-then-not-is_counted : goal.returns-then-not-is_counted
 returns-then-not-is_counted c =
     let s = c.requires.spelled in
     outcome_refused _ _ _
-    (count_reply _ _ _ s _ (figure s count_field (omega arith)) _ (sym c.is_counted.ensures ∙ c.if-not-is_counted.true))
+    (count_reply _ _ _ s _ (figure s count_field (omega arith)) _ (sym (rw c.of.ensures at c.is_counted.ensures) ∙ c.if-not-is_counted.true))
 
-pub returns-then-figures-lt1 : goal.returns-then-figures-lt1
-returns-then-figures-lt1 c =
+pub returns-then-of-lt1 : goal.returns-then-of-lt1
+returns-then-of-lt1 c =
     let s = c.requires.spelled in
-    let counted = sym c.is_counted.ensures ∙ c.if-not-is_counted.false in
+    let counted = sym (rw c.of.ensures at c.is_counted.ensures) ∙ c.if-not-is_counted.false in
     outcome_refused _ _ _
-    (first_reply _ _ _ s _ (figure s count_field (omega arith)) counted _ _ (figure s creation_code_field (omega arith)) c.if-figures-lt1.true)
+    (first_reply _ _ _ s _ (figure s count_field (omega arith)) counted _ _ (figure s creation_code_field (omega arith)) (rw c.of-2.ensures at c.if-of-lt1.true))
 
 pub fields_of-fields-requires : goal.fields_of-fields-requires
-fields_of-fields-requires c = record { bound = c.if-figures-lt1.false; by_index = figures_capped _ _ _ c.requires.spelled }
+fields_of-fields-requires c = record { bound = (rw c.of-2.ensures at c.if-of-lt1.false); by_index = figures_capped _ _ _ c.requires.spelled }
 
 pub returns-then-not-fields_in_range : goal.returns-then-not-fields_in_range
 returns-then-not-fields_in_range c =
     let s = c.requires.spelled in
-    let counted = sym c.is_counted.ensures ∙ c.if-not-is_counted.false in
+    let counted = sym (rw c.of.ensures at c.is_counted.ensures) ∙ c.if-not-is_counted.false in
     outcome_refused _ _ _
     (range_reply _ _ _ s _ (figure s count_field (omega arith)) counted _
-    (figure s creation_code_field (omega arith)) c.if-figures-lt1.false _ (fields_are _ _ _ s _ c.fields_of-fields.ensures) _
+    (figure s creation_code_field (omega arith)) (rw c.of-2.ensures at c.if-of-lt1.false) _ (fields_are _ _ _ s _ c.fields_of-fields.ensures) _
     (sym c.fields_in_range.ensures ∙ c.if-not-fields_in_range.true))
 
 pub read_components-requires : goal.read_components-requires
 read_components-requires c =
     let s = c.requires.spelled in
-    let counted = sym c.is_counted.ensures ∙ c.if-not-is_counted.false in
+    let counted = sym (rw c.of.ensures at c.is_counted.ensures) ∙ c.if-not-is_counted.false in
     record {
       ranged =
           ranged _ _ _ s _ (figure s count_field (omega arith)) counted _
-          (figure s creation_code_field (omega arith)) c.if-figures-lt1.false _ (fields_are _ _ _ s _ c.fields_of-fields.ensures)
+          (figure s creation_code_field (omega arith)) (rw c.of-2.ensures at c.if-of-lt1.false) _ (fields_are _ _ _ s _ c.fields_of-fields.ensures)
           (sym c.fields_in_range.ensures ∙ c.if-not-fields_in_range.false);
       found = c.requires.found;
     }

@@ -11,4 +11,4 @@ new-requires c = (shanghai_columns_well, omega arith)
 
 pub returns : goal.returns
 unfolding shanghai_columns flag_table
-returns c = c.new.ensures
+returns c = rw c.place.ensures at c.new.ensures
