@@ -6,7 +6,7 @@ ghost use Rattle.digits.specs.Digits.{cap, capped, is_digit, is_shaped, blanks, 
 
 use digits::CAP;
 
-// The value of a digit.
+// The value of a digit. By its range: `to_digit` goes through a character and 32 bits, and is no plainer.
 #[tactic(auto, using(crate::proofs::Blank::digit_tests))]
 fn digit_of(b: u8) -> Option<u64>
     ensures { result ≡ cond (is_digit b) (Some (b - 48)) None }
