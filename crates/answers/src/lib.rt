@@ -140,7 +140,7 @@ pub fn tell(answer: Numbers, place: &mut u64, value: &mut u64) -> u64
     answer.number
 }
 
-// An order's numbers: the count of its reports where the caller points too.
+// An order's numbers: the count of its reports where the caller points too. The C interface gives an order this one pointer more.
 pub fn tell_order(answer: Numbers, place: &mut u64, value: &mut u64, reports: &mut u64) -> u64
     ensures { ToldOrder (reply_of answer) result place.new value.new reports.new }
 {
