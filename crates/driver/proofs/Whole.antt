@@ -82,6 +82,6 @@ run_meets d rows w left answers e =
     all_balanced _ _ _ (subst (λ (v : Work). Happened (state_in d w) (events_of rows b) v.state) (sym leaves) (run_happened rows b))
 
 -- and with the state that they leave run by run
-pub meets_as : {d : Day} {s : State} {es : List Event} {left : Runs} {book prices : List ℕ} → book ≡ left.book.now → prices ≡ left.prices.now
+pub meets_as : {d : Day} {s : State} {es : List Event} {book prices : List ℕ} (left : Runs) → book ≡ left.book.now → prices ≡ left.prices.now
     → Demand3 s es (state_in d left) → Demand3 s es (state_of d book prices)
-meets_as p q demand = rw (p, q) demand
+meets_as left p q demand = rw (p, q) demand

@@ -1,4 +1,6 @@
 // One row of the driver: the call that it names, made.
+// Each function asks a row of the width of rows: a chunk of the rows is a slice, and an array is made of it by a conversion that can
+// fail. It asks for a sound day where it makes a call: a fact of the day with its book and prices, which the calls write.
 #![tactic(auto)]
 
 ghost use Rattle.std.specs.Prelude.{◌≡◌, true, ◌+◌, ◌≤◌, ◌<◌, length, Some, OnOk, IfOk, IfErr, MatchOption, false};

@@ -13,4 +13,4 @@ pub returns-clause-left : goal.returns-clause-left
 returns-clause-left c = batch_left _ _ refl (search rules) (search rules) (search rules) (search rules) (search rules) (search rules)
 
 pub returns-clause-demand : goal.returns-clause-demand
-returns-clause-demand c = meets_as (search rules) (search rules) c.run-answer.ensures.demand
+returns-clause-demand c = meets_as c.run-answer.new.work (search rules) (search rules) c.run-answer.ensures.demand
