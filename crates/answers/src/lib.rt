@@ -40,6 +40,8 @@ fn accepted(value: u64) -> Numbers
     }
 }
 
+// An impl for each answer: a trait of what an accepted call tells would take as many, and each answer has its own definition.
+
 impl From<Refusal> for Numbers {
     ghost from_gives = { λ why numbers. reply_of numbers ≡ refusal_reply why };
 
