@@ -113,8 +113,7 @@ fn order_row(
     Numbers::from(answer)
 }
 
-// The call that a row names by its kind, or none. By place: all rows have one width, whatever they name. That a row has it is a clause:
-// rows are chunks of a lent run, and an array of each would be a copy.
+// The call that a row names by its kind, or none. By place: all rows have one width, whatever they name.
 #[tactic(auto, unfolding(crate::specs::Rows::row_of))]
 fn call_of(row: &[u64]) -> Option<Call>
     requires { length row.now ≡ row_width }
@@ -139,8 +138,7 @@ fn call_of(row: &[u64]) -> Option<Call>
     }
 }
 
-// The call that a row names, made on a sound day. That it is sound is a clause: book and prices change at each call, so that no struct of
-// them could carry it.
+// The call that a row names, made on a sound day.
 fn make(day: &DayView, work: &mut Work, call: Call, row: &[u64]) -> Numbers
     requires sound { is_sound day.now work.old.book.now work.old.prices.now ≡ true }
     requires row_len { length row.now ≡ row_width }
