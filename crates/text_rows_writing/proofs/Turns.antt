@@ -5,11 +5,11 @@ use mathlib.Core.List.{List}
 use Prim.Native.Nat.{ℕ, ◌+◌, ◌*◌, ◌/◌, ◌≤◌, ◌<◌}
 use native.Mathlib.Nat.{mul-div_cancel}
 use native.Mathlib.Omega.{arith}
-use lib.ListN.{length, replicate, length-replicate}
+use lib.ListN.{length, get_or, replicate, length-replicate}
 use Rattle.sequences.proofs.Below.{all_at}
 use Rattle.text_rules.specs.declared.Column.{Column}
 use Rattle.text_rules.specs.declared.Taken.{Taken}
-use Rattle.text_rules.specs.Tables.{TextForm, column_at}
+use Rattle.text_rules.specs.Tables.{TextForm, no_column, column_at}
 use Rattle.text_rules.specs.Columns.{column_width, line_width, line_pitch, is_text, holds_text, numbers_before, line_numbers, line_words, taken_before}
 use Rattle.text_rules.specs.Well.{most_line, column_well, columns_well, flag_well}
 use Rattle.text_rules.proofs.Tables.{end_line}
@@ -39,6 +39,11 @@ table_ready w f e h = record { well = w; flag = f; whole = h ∙ ap (λ (t : Lis
 -- how many lines the blank rows have
 pub lines_count : (count w pitch : ℕ) {b : List ℕ} → b ≡ replicate (count * w) 32 → pitch + 2 ≡ w → length b / (pitch + 2) ≡ count
 lines_count count w pitch e f = rw (e, length-replicate {A = ℕ} (count * w) 32, f) (mul-div_cancel count (omega (arith, f)))
+
+-- a row of the table as it is lent is the form's column
+pub column_here : (t : TextForm) (k : ℕ) {table columns : List Column} → table ≡ columns → columns ≡ t.columns → get_or table k no_column ≡ column_at t.columns k
+unfolding column_at
+column_here t k e f = ap (λ (cs : List Column). get_or cs k no_column) (e ∙ f)
 
 -- whether a column holds text
 pub column_holds : (t : TextForm) (k : ℕ) {c : Column} → c ≡ column_at t.columns k → {b : Bool} → b ≡ is_text c.used → {d : Bool} → b ≡ d → holds_text t.columns k ≡ d

@@ -73,12 +73,11 @@ fn put_columns(form: &LineForm, line: Taken, run: &[u64], texts: &[u8], rows: &m
     let flags = form.flags();
     let flag_place = form.before_flag().numbers;
     let mut taken = columns.taken_before(0);
-    for k in 0..columns.table().len() {
-        let column = form.column(k);
+    for (k, column) in columns.table().iter().enumerate() {
         if column.used.is_text() {
             put_words_column(column.width, taken, line, texts, rows);
         } else {
-            put_numbers_column(flags, column, taken, line, flag_place, run, rows);
+            put_numbers_column(flags, *column, taken, line, flag_place, run, rows);
         }
         taken = columns.past(k, taken);
     }
