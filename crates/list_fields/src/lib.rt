@@ -20,8 +20,8 @@ fn limits_of(figures: [Figure; MOST_FIELDS]) -> [u64; layout::LIMITS]
 {
     let first = ListField::FirstLimit.place();
     let mut limits = [0; layout::LIMITS];
-    for k in 0..layout::LIMITS {
-        limits[k] = figures[first + k].size;
+    for (k, limit) in limits.iter_mut().enumerate() {
+        *limit = figures[first + k].size;
     }
     limits
 }

@@ -90,6 +90,7 @@ pub fn read_columns(form: &LineForm, rows: &[u8], run: &mut [u64]) -> Option<Cel
     let pitch = columns.pitch();
     let mut row = rows.len() / pitch;
     let mut fault = None;
+    // By number: a column is read by its number and the form, so that `enumerate` would give a row of the table that nothing uses.
     for k in 0..columns.table().len() {
         if let Some(j) = read_column(form, k, &rows[..row * pitch], run) {
             row = j;

@@ -1,5 +1,5 @@
 -- All lines so far: a column that is written into each line leaves every line with one column more.
-use mathlib.Core.Path.{◌≡◌, sym, ap, ◌∙◌, subst}
+use mathlib.Core.Path.{◌≡◌, refl, sym, ap, ◌∙◌, subst}
 use mathlib.Core.Bool.{Bool, true, false, cond}
 use mathlib.Core.List.{List, [], ◌∷◌, ◌++◌}
 use Prim.Native.Nat.{ℕ, suc, ◌+◌, ◌-◌, ◌*◌, ◌≤◌, ◌<◌}
@@ -35,15 +35,23 @@ number_inside cs k h e =
     let more = rw e at (sum_grows (λ i. cond (holds_text cs i) 0 1) (suc k) (length cs) h) in
     omega arith
 
--- ---- a number column in a line i, from a run in which the line's numbers start at q
+-- ---- a number column in a line i, from the line's piece x of the run
 module _ (flags : List (List Bool)) (c : Column) (run : List ℕ) (stride flagPlace place : ℕ) where
-  module _ (i : ℕ) {used : Bool} (told : used ≡ used_by flags (get_or run (i * stride + flagPlace) 0) c.used) where
-    pub number_here : used_text used c (get_or run (i * stride + place) 0) ≡ number_at flags c run stride flagPlace place i
-    unfolding number_at
-    number_here = rw told
+  module _ (i : ℕ) {x : List ℕ} (piece : x ≡ take stride (drop (i * stride) run)) (flag : flagPlace < stride) (there : place < stride)
+      {used : Bool} (told : used ≡ used_by flags (get_or x flagPlace 0) c.used) where
+    piece_at : (k : ℕ) → k < stride → get_or x k 0 ≡ get_or run (i * stride + k) 0
+    unfolding stretch_of
+    piece_at k h = ap (λ (l : List ℕ). get_or l k 0) piece ∙ stretch_at stride run i k h
 
-    pub number_fits : {count : ℕ} → NumbersFit flags c run stride flagPlace place count → i < count → used ≡ true → Fits (number_form c) (plain (get_or run (i * stride + place) 0))
-    number_fits fit h u = fit i h (sym told ∙ u)
+    told_run : used ≡ used_by flags (get_or run (i * stride + flagPlace) 0) c.used
+    told_run = told ∙ ap (λ (n : ℕ). used_by flags n c.used) (piece_at flagPlace flag)
+
+    pub number_here : used_text used c (get_or x place 0) ≡ number_at flags c run stride flagPlace place i
+    unfolding number_at
+    number_here = rw (piece_at place there, told_run) refl
+
+    pub number_fits : {count : ℕ} → NumbersFit flags c run stride flagPlace place count → i < count → used ≡ true → Fits (number_form c) (plain (get_or x place 0))
+    number_fits fit h u = rw (piece_at place there) (fit i h (sym told_run ∙ u))
 
   -- what is written into a line ends in it
   pub numbers_held : (at w count : ℕ) → WellColumn c → at + c.width < w → NumbersFit flags c run stride flagPlace place count
@@ -51,14 +59,17 @@ module _ (flags : List (List Bool)) (c : Column) (run : List ℕ) (stride flagPl
   unfolding number_at
   numbers_held at w count well room fit i h = omega (arith, used-length c _ well _ (fit i h))
 
--- ---- words, from texts in which they stand from q on
+-- ---- words, from the line's piece x of the texts
 pub part_long : (q k : ℕ) (s : List ℕ) → q + k ≤ length s → length (take (q + k - q) (drop q s)) ≡ k
 part_long q k s h = rw (add-sub_cancel_left q k) (length-take-le k (drop q s) (rw length-drop (omega arith)))
 
 module _ (width : ℕ) (texts : List ℕ) (stride place : ℕ) where
-  pub word_here : (i : ℕ) → take (i * stride + place + width - (i * stride + place)) (drop (i * stride + place) texts) ++ 124 ∷ [] ≡ word_at width texts stride place i
-  unfolding word_at
-  word_here i = rw (add-sub_cancel_left (i * stride + place) width)
+  pub word_here : (i : ℕ) {x : List ℕ} → x ≡ take stride (drop (i * stride) texts) → place + width ≤ stride
+      → take (place + width - place) (drop place x) ++ 124 ∷ [] ≡ word_at width texts stride place i
+  unfolding word_at stretch_of
+  word_here i e h =
+      rw (add-sub_cancel_left place width)
+      (ap (λ (s : List ℕ). s ++ 124 ∷ []) (ap (λ (s : List ℕ). take width (drop place s)) e ∙ sym (part_stretch stride texts i place width h)))
 
   pub words_held : (at w count : ℕ) → length texts ≡ count * stride → place + width ≤ stride → at + width < w
       → (i : ℕ) → i < count → at + length (word_at width texts stride place i) ≤ w

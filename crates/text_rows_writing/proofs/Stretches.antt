@@ -2,8 +2,8 @@
 use mathlib.Core.Path.{◌≡◌, refl, sym, ap, ◌∙◌}
 use mathlib.Core.List.{List, ◌++◌, append_assoc}
 use mathlib.Core.Logic.{⊎_elim}
-use Prim.Native.Nat.{ℕ, zero, suc, ◌+◌, ◌*◌, ◌≤◌, ◌<◌}
-use native.Mathlib.Nat.{add_assoc, eq-or-lt_of_le, le_of_suc-le-suc, le_step, lt-suc_self, not-suc-le-zero}
+use Prim.Native.Nat.{ℕ, zero, suc, ◌+◌, ◌*◌, ◌/◌, ◌≤◌, ◌<◌}
+use native.Mathlib.Nat.{add_assoc, eq-or-lt_of_le, le_of_suc-le-suc, le_step, lt-suc_self, not-suc-le-zero, lt_of_mul-lt-mul_right, mul-div_cancel}
 use native.Mathlib.Numerals.{add-one}
 use native.Mathlib.Omega.{arith}
 use lib.ListN.{length, take, drop, length-drop, take-append-drop}
@@ -102,8 +102,8 @@ module _ {w at : ℕ} {text : ℕ → List ℕ} {b : List ℕ} {count : ℕ} {b'
   put_end e = v.bytes ∙ ap (λ (n : ℕ). lines_put w at text n b) e
 
   module _ (below : j < count) where
-    here : j * w + w ≤ length b'
-    here = rw v.long (within w j count below)
+    pub put_here : j * w + w ≤ length b'
+    put_here = rw v.long (within w j count below)
 
     -- what stands there is as it was
     pub put_later : (k : ℕ) → at + k < w → take k (drop (j * w + at) b') ≡ take k (drop at (stretch_of w b j))
@@ -115,7 +115,15 @@ module _ {w at : ℕ} {text : ℕ → List ℕ} {b : List ℕ} {count : ℕ} {b'
     unfolding lines_put
     put-again {b''} {xs} e t =
         let same : b'' ≡ lines_put w at text (j + 1) b =
-        e ∙ ap (put b' (j * w + at)) t ∙ sym (line-put w j at b' (text j) here (v.room j below)) ∙ rw (v.bytes, add-one j, lines_put)
+        e ∙ ap (put b' (j * w + at)) t ∙ sym (line-put w j at b' (text j) put_here (v.room j below)) ∙ rw (v.bytes, add-one j, lines_put)
         in
         let long : length b'' ≡ count * w = ap length same ∙ lines_long w at text b count v.before v.room (j + 1) (omega arith) ∙ v.before in
         record { room = v.room; before = v.before; bytes = same; long = long }
+
+-- ---- a run of so many lines in pieces of a line each: the place of a piece is a line's, and behind the last piece all lines are done
+module _ {n w count i : ℕ} (whole : n ≡ count * w) (some : 0 < w) where
+  pub piece_below : i * w + w ≤ n → i < count
+  piece_below h = lt_of_mul-lt-mul_right w (omega (arith, whole, some, h))
+
+  pub pieces_all : i ≡ n / w → i ≡ count
+  pieces_all e = e ∙ ap (λ (m : ℕ). m / w) whole ∙ mul-div_cancel count some

@@ -2,17 +2,18 @@
 use mathlib.Core.Path.{◌≡◌, sym, ap, ◌∙◌}
 use mathlib.Core.Bool.{Bool, true, false, and-eq-true_iff}
 use mathlib.Core.List.{List}
-use Prim.Native.Nat.{ℕ, ◌+◌, ◌*◌, ◌≤◌, ◌<◌}
+use Prim.Native.Nat.{ℕ, ◌+◌, ◌*◌, ◌/◌, ◌≤◌, ◌<◌}
+use native.Mathlib.Nat.{mul-div_cancel}
 use native.Mathlib.Omega.{arith}
-use lib.ListN.{length}
+use lib.ListN.{length, get_or, replicate, length-replicate}
 use Rattle.sequences.proofs.Below.{all_at}
 use Rattle.text_rules.specs.declared.Column.{Column}
 use Rattle.text_rules.specs.declared.Taken.{Taken}
-use Rattle.text_rules.specs.Tables.{TextForm, column_at}
+use Rattle.text_rules.specs.Tables.{TextForm, no_column, column_at}
 use Rattle.text_rules.specs.Columns.{column_width, line_width, line_pitch, is_text, holds_text, numbers_before, line_numbers, line_words, taken_before}
 use Rattle.text_rules.specs.Well.{most_line, column_well, columns_well, flag_well}
 use Rattle.text_rules.proofs.Tables.{end_line}
-use Rattle.text_rules.proofs.Well.{line_short}
+use Rattle.text_rules.proofs.Well.{column_well_lem, line_short}
 use Rattle.text_rules.proofs.Placed.{bytes_of}
 use Rattle.text_rows_writing.specs.Lines.{number_at, word_at, lines_put, BlankAt, NumbersFit, TableReady, RowsReady, RowsSoFar}
 use Rattle.text_rows_writing.proofs.Rows.{rows_blank, word_room, words_next, number_room, flag_room, numbers_fit, numbers_next}
@@ -35,6 +36,15 @@ pub table_ready : {cs columns : List Column} {flag_at : ℕ} {line : Taken} → 
     → line ≡ taken_before columns (length columns) → TableReady cs flag_at line
 table_ready w f e h = record { well = w; flag = f; whole = h ∙ ap (λ (t : List Column). taken_before t (length t)) e }
 
+-- how many lines the blank rows have
+pub lines_count : (count w pitch : ℕ) {b : List ℕ} → b ≡ replicate (count * w) 32 → pitch + 2 ≡ w → length b / (pitch + 2) ≡ count
+lines_count count w pitch e f = rw (e, length-replicate {A = ℕ} (count * w) 32, f) (mul-div_cancel count (omega (arith, f)))
+
+-- a row of the table as it is lent is the form's column
+pub column_here : (t : TextForm) (k : ℕ) {table columns : List Column} → table ≡ columns → columns ≡ t.columns → get_or table k no_column ≡ column_at t.columns k
+unfolding column_at
+column_here t k e f = ap (λ (cs : List Column). get_or cs k no_column) (e ∙ f)
+
 -- whether a column holds text
 pub column_holds : (t : TextForm) (k : ℕ) {c : Column} → c ≡ column_at t.columns k → {b : Bool} → b ≡ is_text c.used → {d : Bool} → b ≡ d → holds_text t.columns k ≡ d
 unfolding holds_text
@@ -52,10 +62,10 @@ module _ (t : TextForm) {line : Taken} (whole : TableReady t.columns t.flag_at l
 
   -- words
   module _ (text : holds_text t.columns k ≡ true) where
-    pub words_ask : (taken.bytes + c.width < line.bytes + 2) × (((length texts ≡ count * line.words) × (taken.words + c.width ≤ line.words)) × (length b ≡ count * (line.bytes + 2)))
+    pub words_ask : ((0 < c.width) × (taken.bytes + c.width < line.bytes + 2)) × (((length texts ≡ count * line.words) × (taken.words + c.width ≤ line.words)) × (length b ≡ count * (line.bytes + 2)))
     unfolding taken_before line_words column_width
     words_ask =
-        rw e (cell_room, ((rw whole.whole ready.words, rw (place, whole.whole) (word_room _ _ _ _ whole.well ready k inside v text)), rows-length))
+        rw e (((column_well_lem t.columns whole.well k inside).some, cell_room), ((rw whole.whole ready.words, rw (place, whole.whole) (word_room _ _ _ _ whole.well ready k inside v text)), rows-length))
 
     pub words_turn : {b' : List ℕ} → b' ≡ lines_put (line.bytes + 2) taken.bytes (word_at c.width texts line.words taken.words) count b → RowsSoFar t run texts count (k + 1) b'
     unfolding taken_before line_words line_width line_pitch column_width

@@ -1,7 +1,7 @@
 // Writes the component lines of a text, by their form, column by column.
 #![tactic(auto)]
 
-ghost use Rattle.std.specs.Prelude.{◌≡◌, true, [], ◌∷◌, ◌+◌, ◌*◌, ◌≤◌, ◌<◌, length, replicate};
+ghost use Rattle.std.specs.Prelude.{ℕ, ◌≡◌, true, [], ◌∷◌, ◌+◌, ◌*◌, ◌≤◌, ◌<◌, length, replicate};
 ghost use Rattle.text_rules.specs.Columns.{line_pitch, line_numbers, line_words};
 ghost use Rattle.text_rules.specs.Writing.{rows_text};
 ghost use Rattle.text_rules.specs.Well.{most_line, column_well, flag_well};
@@ -17,9 +17,9 @@ fn put_numbers_column(
     line: Taken,
     flag_place: usize,
     run: &[u64],
-    count: usize,
     rows: &mut [u8],
 )
+    ghost count: { ℕ }
     requires column_value { (column_well column ≡ true) × (taken.bytes + column.width < line.bytes + 2) × (line.bytes ≤ most_line) }
     requires run_len { (length run.now ≡ count * line.numbers) × (flag_place < line.numbers) × (taken.numbers < line.numbers) }
     requires rows_len { (length rows.old ≡ count * (line.bytes + 2)) × BlankAt (line.bytes + 2) taken.bytes column.width count rows.old }
@@ -27,37 +27,25 @@ fn put_numbers_column(
     ensures { rows.new ≡ lines_put (line.bytes + 2) taken.bytes (number_at flags.now column run.now line.numbers flag_place taken.numbers) count rows.old }
 {
     let pitch = line.bytes + 2;
-    for j in 0..count {
-        let q = j * line.numbers;
-        let used = column.used.has_number(flags, run[q + flag_place]);
-        text_cells_writing::put_cell(
-            rows,
-            j * pitch + taken.bytes,
-            column,
-            used,
-            run[q + taken.numbers],
-        );
+    for (j, numbers) in run.chunks_exact(line.numbers).enumerate() {
+        let used = column.used.has_number(flags, numbers[flag_place]);
+        let n = numbers[taken.numbers];
+        text_cells_writing::put_cell(rows, j * pitch + taken.bytes, column, used, n);
     }
 }
 
 // Writes a column of words into so many lines.
-fn put_words_column(
-    width: usize,
-    taken: Taken,
-    line: Taken,
-    texts: &[u8],
-    count: usize,
-    rows: &mut [u8],
-)
-    requires width_bound { (taken.bytes + width < line.bytes + 2) × (line.bytes ≤ most_line) }
+fn put_words_column(width: usize, taken: Taken, line: Taken, texts: &[u8], rows: &mut [u8])
+    ghost count: { ℕ }
+    requires width_bound { (0 < width) × (taken.bytes + width < line.bytes + 2) × (line.bytes ≤ most_line) }
     requires texts_len { (length texts.now ≡ count * line.words) × (taken.words + width ≤ line.words) }
     requires rows_len { length rows.old ≡ count * (line.bytes + 2) }
     ensures { rows.new ≡ lines_put (line.bytes + 2) taken.bytes (word_at width texts.now line.words taken.words) count rows.old }
 {
     let pitch = line.bytes + 2;
-    for j in 0..count {
-        let q = j * line.words + taken.words;
-        text_cells_writing::put_words(rows, j * pitch + taken.bytes, &texts[q..q + width]);
+    for (j, words) in texts.chunks_exact(line.words).enumerate() {
+        let place = j * pitch + taken.bytes;
+        text_cells_writing::put_words(rows, place, &words[taken.words..taken.words + width]);
     }
 }
 
@@ -67,20 +55,15 @@ fn put_ends(line: Taken, count: usize, rows: &mut [u8])
     ensures { rows.new ≡ lines_put (line.bytes + 2) line.bytes (λ _. 13 ∷ 10 ∷ []) count rows.old }
 {
     let pitch = line.bytes + 2;
+    // By place: of what is written through the pieces of `chunks_exact_mut` nothing is known behind the loop (tried).
     for j in 0..count {
         text_cells_writing::put_end(rows, j * pitch + line.bytes);
     }
 }
 
 // Writes every column into the lines, which hold only blanks. `line` is what a whole line takes.
-fn put_columns(
-    form: &LineForm,
-    line: Taken,
-    run: &[u64],
-    texts: &[u8],
-    count: usize,
-    rows: &mut [u8],
-)
+fn put_columns(form: &LineForm, line: Taken, run: &[u64], texts: &[u8], rows: &mut [u8])
+    ghost count: { ℕ }
     requires table_ready { TableReady form.now.columns form.now.flag_at line }
     requires rows_ready { RowsReady form.now run.now texts.now count }
     requires rows_value { rows.old ≡ replicate (count * line_pitch form.now.columns) 32 }
@@ -90,12 +73,11 @@ fn put_columns(
     let flags = form.flags();
     let flag_place = form.before_flag().numbers;
     let mut taken = columns.taken_before(0);
-    for k in 0..columns.table().len() {
-        let column = form.column(k);
+    for (k, column) in columns.table().iter().enumerate() {
         if column.used.is_text() {
-            put_words_column(column.width, taken, line, texts, count, rows);
+            put_words_column(column.width, taken, line, texts, rows);
         } else {
-            put_numbers_column(flags, column, taken, line, flag_place, run, count, rows);
+            put_numbers_column(flags, *column, taken, line, flag_place, run, rows);
         }
         taken = columns.past(k, taken);
     }
@@ -111,6 +93,6 @@ pub fn put_rows(form: &LineForm, run: &[u64], texts: &[u8], count: usize, rows: 
 {
     let line = form.columns().whole();
     digits_put::put_blanks(rows, 0, rows.len());
-    put_columns(form, line, run, texts, count, rows);
+    put_columns(form, line, run, texts, rows);
     put_ends(line, count, rows);
 }

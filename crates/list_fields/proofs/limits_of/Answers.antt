@@ -11,11 +11,11 @@ pub loop-k-preserved : goal.loop-k-preserved
 loop-k-preserved c = record {
   long = length-set _ _ _ ∙ c.loop-k.invariant.long;
   sizes = below_more _ _
-      (λ j h. get_or-set_other c.loop-k.limits c.loop-k.k j _ 0 (λ e. omega arith) ∙ c.loop-k.invariant.sizes j h)
-      (get_or-set_same c.loop-k.limits c.loop-k.k _ 0 (omega arith) ∙ ap (λ (n : ℕ). (get_or c.args.figures (n + c.loop-k.k) (plain 0)).size) c.place-first.ensures);
+      (λ j h. get_or-set_other c.loop-k.limit-items c.loop-k.k j _ 0 (λ e. omega arith) ∙ c.loop-k.invariant.sizes j h)
+      (get_or-set_same c.loop-k.limit-items c.loop-k.k _ 0 (omega arith) ∙ ap (λ (n : ℕ). (get_or c.args.figures (n + c.loop-k.k) (plain 0)).size) c.place-first.ensures);
 }
 
 pub returns : goal.returns
 returns c =
-    table_ext (λ k. (get_or c.args.figures (limits_field + k) (plain 0)).size) limit_count 0 c.loop-k.limits c.loop-k.invariant.long
+    table_ext (λ k. (get_or c.args.figures (limits_field + k) (plain 0)).size) limit_count 0 c.loop-k.limit-items c.loop-k.invariant.long
     (λ k h. c.loop-k.invariant.sizes k (omega arith))

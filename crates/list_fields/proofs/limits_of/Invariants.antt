@@ -7,6 +7,6 @@ use Rattle.list_fields.proofs.limits_of.Given as goal
 
 abbrev pub invariant-loop-k : goal.invariant-loop-k
 invariant-loop-k l = record {
-  long : length l.limits ≡ limit_count;
-  sizes : (j : ℕ) → j < l.k → get_or l.limits j 0 ≡ (get_or l.figures (limits_field + j) (plain 0)).size;
+  long : length l.limit-items ≡ limit_count;
+  sizes : (j : ℕ) → j < l.k → get_or l.limit-items j 0 ≡ (get_or l.figures (limits_field + j) (plain 0)).size;
 }

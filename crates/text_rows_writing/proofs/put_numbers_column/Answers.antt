@@ -1,29 +1,72 @@
 -- Each line's number fits its cell, which is blank until then.
-use mathlib.Core.Path.{◌∙◌}
+use mathlib.Core.Path.{◌∙◌, refl}
 use native.Mathlib.Omega.{arith}
+use Rattle.sequences.proofs.Chunks.{chunks_start, chunk_room, chunk_is, chunks_again, chunks_end}
 use Rattle.text_rules.proofs.Well.{column_facts}
 use Rattle.text_rows_writing.proofs.Rows.{number_here, number_fits, numbers_held}
-use Rattle.text_rows_writing.proofs.Stretches.{put-start, put_end, put_later, put-again}
+use Rattle.text_rows_writing.proofs.Stretches.{put-start, put_end, put_here, put_later, put-again, piece_below, pieces_all}
 use Rattle.text_rows_writing.proofs.put_numbers_column.Goals as goal
 
 pub loop-j-init : goal.loop-j-init
-loop-j-init c =
+loop-j-init g c =
     let p = c.requires in
-    put-start _ _ _ _ _ p.rows_len.0 (numbers_held _ _ _ _ _ _ _ _ _ (column_facts _ p.column_value.0) p.column_value.1 p.numbers_fit)
+    let items = c.enumerate-j-items.ensures in
+    rw (c.into_iter-j-iterator.ensures.into_iter_gives, items.source, items.count) (
+      chunks_start _ _ c.chunks_exact.ensures.size c.chunks_exact.ensures.rest refl,
+      put-start _ _ _ _ _ p.1.1.0.0 (numbers_held _ _ _ _ _ _ _ _ _ (column_facts _ p.0.0) p.0.1 p.1.1.1),
+    )
+
+pub overflow_mul-j : goal.overflow_mul-j
+overflow_mul-j g c =
+    let p = c.requires in
+    let v = c.loop-j.invariant in
+    let step = c.in-Some.ensures.steps in
+    let below = piece_below p.1.0.0 (omega (arith, p.1.0.1)) (chunk_room _ _ v.0 _ _ step.0.1) in
+    rw step.1 (omega (arith, put_here v.1 below))
+
+pub overflow_add-j : goal.overflow_add-j
+overflow_add-j g c =
+    let p = c.requires in
+    let v = c.loop-j.invariant in
+    let step = c.in-Some.ensures.steps in
+    let below = piece_below p.1.0.0 (omega (arith, p.1.0.1)) (chunk_room _ _ v.0 _ _ step.0.1) in
+    rw step.1 (omega (arith, put_here v.1 below, p.0.1))
+
+pub put_cell-requires-clause-column_value : goal.put_cell-requires-clause-column_value
+put_cell-requires-clause-column_value g c =
+    let p = c.requires in
+    let v = c.loop-j.invariant in
+    let step = c.in-Some.ensures.steps in
+    let below = piece_below p.1.0.0 (omega (arith, p.1.0.1)) (chunk_room _ _ v.0 _ _ step.0.1) in
+    (p.0.0, rw step.1 (omega (arith, put_here v.1 below, p.0.1)))
 
 pub put_cell-requires-clause-line_value : goal.put_cell-requires-clause-line_value
-put_cell-requires-clause-line_value c =
+put_cell-requires-clause-line_value g c =
     let p = c.requires in
-    let t = c.loop-j-test.true in
-    put_later c.loop-j.invariant t _ p.column_value.1 ∙ p.rows_len.1 _ t
+    let v = c.loop-j.invariant in
+    let step = c.in-Some.ensures.steps in
+    let below = piece_below p.1.0.0 (omega (arith, p.1.0.1)) (chunk_room _ _ v.0 _ _ step.0.1) in
+    rw step.1 (put_later v.1 below _ p.0.1 ∙ p.1.1.0.1 _ below)
 
 pub put_cell-requires-clause-fits : goal.put_cell-requires-clause-fits
-put_cell-requires-clause-fits c =
-    number_fits _ _ _ _ _ _ _ c.has_number-used.ensures c.requires.numbers_fit c.loop-j-test.true
+put_cell-requires-clause-fits g c =
+    let p = c.requires in
+    let v = c.loop-j.invariant in
+    let step = c.in-Some.ensures.steps in
+    let below = piece_below p.1.0.0 (omega (arith, p.1.0.1)) (chunk_room _ _ v.0 _ _ step.0.1) in
+    number_fits _ _ _ _ _ _ _ (chunk_is _ _ v.0 _ _ step.0.1) p.1.0.1 p.1.0.2 c.has_number-used.ensures p.1.1.1 below
 
 pub loop-j-preserved : goal.loop-j-preserved
-loop-j-preserved c =
-    put-again c.loop-j.invariant c.loop-j-test.true c.put_cell.ensures (number_here _ _ _ _ _ _ _ c.has_number-used.ensures)
+loop-j-preserved g c =
+    let p = c.requires in
+    let v = c.loop-j.invariant in
+    let step = c.in-Some.ensures.steps in
+    let below = piece_below p.1.0.0 (omega (arith, p.1.0.1)) (chunk_room _ _ v.0 _ _ step.0.1) in
+    let number = number_here _ _ _ _ _ _ _ (chunk_is _ _ v.0 _ _ step.0.1) p.1.0.1 p.1.0.2 c.has_number-used.ensures in
+    (chunks_again _ _ v.0 _ _ step.0.1 step.0.0 step.2, rw step.2 (put-again v.1 below (rw step.1 at c.put_cell.ensures) number))
 
 pub returns : goal.returns
-returns c = put_end c.loop-j.invariant (omega arith)
+returns g c =
+    let p = c.requires in
+    let v = c.loop-j.invariant in
+    put_end v.1 (pieces_all p.1.0.0 (omega (arith, p.1.0.1)) (chunks_end _ _ v.0 c.in-None.ensures.steps.0.1.0))
