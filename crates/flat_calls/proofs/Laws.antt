@@ -19,10 +19,6 @@ told_order_as {a} {b} {number} {place} {value} {reports} e t = subst (λ (r : Re
 pub told_of : {a b : Reply} → a ≡ b → Told b a.number a.place a.value
 told_of e = record { number_is = ap (λ (r : Reply). r.number) e; place_is = ap (λ (r : Reply). r.place) e; value_is = ap (λ (r : Reply). r.value) e }
 
--- what holds of a reply's numbers holds of numbers that tell an equal one
-pub told_through : {a b : Reply} {number place value : ℕ} → a ≡ b → Told a number place value → (P : ℕ → ℕ → ℕ → Type 0) → P b.number b.place b.value → P number place value
-told_through e t P p = rw (t.number_is, t.place_is, t.value_is, e) p
-
 -- the count that an accepted reading or writing tells
 pub counted : (answer : Result ℕ Refusal) → count_answer_reply answer ≡ list_reply answer
 counted (Ok count) = refl

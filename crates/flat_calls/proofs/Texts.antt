@@ -1,6 +1,6 @@
 -- Reading and writing through the flat layout: their outcomes from those of reading and writing.
 use mathlib.Core.Path.{◌≡◌, refl, sym, ap, ◌∙◌}
-use mathlib.Core.Bool.{Bool, true, false, cond}
+use mathlib.Core.Bool.{Bool, true, false}
 use mathlib.Core.List.{List}
 use Prim.Native.Nat.{ℕ, ◌≤◌}
 use lib.Dec.{eqb}
@@ -20,7 +20,7 @@ use Rattle.rules.specs.Replies.{refusal_reply}
 use Rattle.rules.proofs.Replies.{is_refused}
 use Rattle.std.proofs.Common.{Result, Ok, Err}
 use Rattle.list_rules.specs.Fields.{fields_from}
-use Rattle.list_rules.specs.Replies.{list_reply, read_answer_reply}
+use Rattle.list_rules.specs.Replies.{list_reply}
 use Rattle.list_rules.specs.Reading.{fields_read, read_reply, run_after}
 use Rattle.list_rules.specs.Writing.{Listing, write_reply, output_after}
 use Rattle.list_rules.proofs.Ranges.{fields_sound}
