@@ -27,6 +27,7 @@ fn put_numbers_column(
     ensures { rows.new ≡ lines_put (line.bytes + 2) taken.bytes (number_at flags.now column run.now line.numbers flag_place taken.numbers) count rows.old }
 {
     let pitch = line.bytes + 2;
+    // The rows by place, as in `put_ends`.
     for (j, numbers) in run.chunks_exact(line.numbers).enumerate() {
         let used = column.used.has_number(flags, numbers[flag_place]);
         let n = numbers[taken.numbers];
@@ -43,6 +44,7 @@ fn put_words_column(width: usize, taken: Taken, line: Taken, texts: &[u8], rows:
     ensures { rows.new ≡ lines_put (line.bytes + 2) taken.bytes (word_at width texts.now line.words taken.words) count rows.old }
 {
     let pitch = line.bytes + 2;
+    // The rows by place, as in `put_ends`.
     for (j, words) in texts.chunks_exact(line.words).enumerate() {
         let place = j * pitch + taken.bytes;
         text_cells_writing::put_words(rows, place, &words[taken.words..taken.words + width]);
@@ -56,7 +58,7 @@ fn put_ends(line: Taken, rows: &mut [u8])
     ensures { rows.new ≡ lines_put (line.bytes + 2) line.bytes (λ _. 13 ∷ 10 ∷ []) count rows.old }
 {
     let pitch = line.bytes + 2;
-    // By place: of what is written through the pieces of `chunks_exact_mut` nothing is known behind the loop (tried).
+    // By place: tried by `chunks_exact_mut`, but of what is written through its pieces nothing is known behind the loop.
     for j in 0..rows.len() / pitch {
         text_cells_writing::put_end(rows, j * pitch + line.bytes);
     }
