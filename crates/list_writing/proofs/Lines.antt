@@ -1,12 +1,12 @@
 -- The component lines that are written by the code's form are the list's.
-use mathlib.Core.Path.{◌≡◌, refl, ap, ◌∙◌, subst⁻¹}
+use mathlib.Core.Path.{◌≡◌, refl, ap, ◌∙◌}
 use mathlib.Core.Bool.{true}
 use mathlib.Core.List.{List}
 use Prim.Native.Nat.{ℕ, ◌*◌}
 use lib.ListN.{length}
 use Rattle.sequences.specs.Checks.{passes}
 use Rattle.text_rules.specs.Tables.{TextForm}
-use Rattle.text_rules.specs.Columns.{line_numbers, line_words, content_at, column_text, row_text}
+use Rattle.text_rules.specs.Columns.{line_pitch, line_numbers, line_words, content_at, column_text, row_text}
 use Rattle.text_rules.specs.Writing.{numbers_at, words_at, rows_text}
 use Rattle.text_rows_writing.specs.Lines.{RowsFit}
 use Rattle.list_rules.specs.Shanghai.{shanghai, shanghai_columns, shanghai_lines}
@@ -28,11 +28,11 @@ fit_ours l e = rows_fit_lem l e
 
 -- what writing the component lines asks of the list
 module _ (l : Listing) (p : passes (list_checks l) ≡ true) where
-  pub run_long : length l.run ≡ l.fields.count * line_numbers shanghai_columns
+  run_long : length l.run ≡ l.fields.count * line_numbers shanghai_columns
   unfolding sheet_of shanghai
   run_long = (sheet_fits l p).run_length
 
-  pub names_long : length l.names ≡ l.fields.count * line_words shanghai_columns
+  names_long : length l.names ≡ l.fields.count * line_words shanghai_columns
   unfolding sheet_of shanghai
   names_long = (sheet_fits l p).texts-length
 
@@ -41,5 +41,6 @@ module _ (form : TextForm) (e : form ≡ shanghai_lines) where
   pub lines_lent : (l : Listing) → rows_text form l.run l.names l.fields.count ≡ lines_of l
   lines_lent l = ap (λ (t : TextForm). rows_text t l.run l.names l.fields.count) e ∙ lines_ours l
 
-  pub fit_lent : (l : Listing) → passes (list_checks l) ≡ true → RowsFit form l.run l.names l.fields.count
-  fit_lent l p = subst⁻¹ (λ (t : TextForm). RowsFit t l.run l.names l.fields.count) e (fit_ours l p)
+  pub rows_ask : (l : Listing) → passes (list_checks l) ≡ true → {n : ℕ} → n ≡ l.fields.count → {m : ℕ} → m ≡ l.fields.count * line_pitch shanghai_columns
+      → ((length l.run ≡ n * line_numbers form.columns) × (length l.names ≡ n * line_words form.columns)) × ((m ≡ n * line_pitch form.columns) × RowsFit form l.run l.names n)
+  rows_ask l p h long = rw (h, e) ((run_long l p, names_long l p), (long, fit_ours l p))

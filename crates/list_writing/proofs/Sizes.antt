@@ -2,8 +2,8 @@
 use mathlib.Core.Path.{◌≡◌, refl, sym, ap, ◌∙◌}
 use mathlib.Core.Bool.{true}
 use mathlib.Core.List.{List, ◌++◌, append_assoc}
-use Prim.Native.Nat.{ℕ, ◌+◌, ◌-◌, ◌*◌, ◌≤◌}
-use native.Mathlib.Nat.{add-sub_cancel_left}
+use Prim.Native.Nat.{ℕ, ◌+◌, ◌-◌, ◌*◌, ◌/◌, ◌≤◌, ◌<◌}
+use native.Mathlib.Nat.{add-sub_cancel_left, mul-div_cancel}
 use native.Mathlib.Omega.{arith}
 use lib.ListN.{length, take, drop, length-append, length-drop}
 use lib.Seq.{length-take-le}
@@ -14,6 +14,7 @@ use Rattle.digits.proofs.Put.{written_then, written-length}
 use Rattle.lines.specs.Lines.{line_text}
 use Rattle.lines.proofs.Laws.{length-line_text}
 use Rattle.text_rules.specs.Head.{end_word, end_size}
+use Rattle.text_rules.specs.declared.Column.{Column}
 use Rattle.text_rules.specs.Columns.{line_pitch}
 use Rattle.text_rules.specs.Writing.{sheet_text}
 use Rattle.text_cells_writing.proofs.Cells.{part-put}
@@ -34,6 +35,10 @@ parts l =
 pub head_room : (l : Listing) (d : List ℕ) → length (text_of l) ≤ length d → 0 + length (head_of l) ≤ length d
 head_room l d room = omega (arith, parts l, room)
 
+pitch_some : {pitch : ℕ} (cs : List Column) → pitch ≡ line_pitch cs → 0 < pitch
+unfolding line_pitch
+pitch_some cs f = omega (arith, f)
+
 -- A list that passes, with the length of a component line as the code computes it.
 module _ (l : Listing) (e : passes (list_checks l) ≡ true) (pitch : ℕ) (f : pitch ≡ line_pitch shanghai_columns) where
   lines_long : length (lines_of l) ≡ l.fields.count * pitch
@@ -48,6 +53,12 @@ module _ (l : Listing) (e : passes (list_checks l) ≡ true) (pitch : ℕ) (f : 
     part_long =
         rw (add-sub_cancel_left a (l.fields.count * pitch))
         (length-take-le (l.fields.count * pitch) (drop a d₁) (omega (arith, lines_room, length-drop a d₁)))
+
+    -- so many lines are in their part
+    pub lines_counted : (cs : List Column) → cs ≡ shanghai_columns → length (take (a + l.fields.count * pitch - a) (drop a d₁)) / line_pitch cs ≡ l.fields.count
+    lines_counted cs h =
+        let same : line_pitch cs ≡ pitch = ap line_pitch h ∙ sym f in
+        rw (part_long, same) (mul-div_cancel l.fields.count (pitch_some _ f))
 
     module _ {xs : List ℕ} (g : xs ≡ lines_of l) where
       -- the component lines come back in their part of the output

@@ -16,7 +16,6 @@ fn put_list(list: &Listing, output: &mut [u8])
     requires room { length (text_of (listed list.now)) ≤ length output.old }
     ensures { output.new ≡ put output.old 0 (text_of (listed list.now)) }
 {
-    let count = list.fields.count;
     let figures = list_fields::figures_of(list.fields);
     let p = text_head_writing::put_head(
         &list_rules::field_table(),
@@ -27,8 +26,8 @@ fn put_list(list: &Listing, output: &mut [u8])
     );
     let form = list_rules::line_form();
     let pitch = form.columns().pitch();
-    let q = p + count * pitch;
-    text_rows_writing::put_rows(&form, list.run, list.names, count, &mut output[p..q]);
+    let q = p + list.fields.count * pitch;
+    text_rows_writing::put_rows(&form, list.run, list.names, &mut output[p..q]);
     digits_put::put_bytes(output, q, b"ENDENDEND\r\n");
 }
 

@@ -127,3 +127,7 @@ module _ {n w count i : ℕ} (whole : n ≡ count * w) (some : 0 < w) where
 
   pub pieces_all : i ≡ n / w → i ≡ count
   pieces_all e = e ∙ ap (λ (m : ℕ). m / w) whole ∙ mul-div_cancel count some
+
+-- how many lines, each with its two bytes behind the others, are in so many bytes
+pub rows_count : (bytes : ℕ) {n count : ℕ} → n ≡ count * (bytes + 2) → n / (bytes + 2) ≡ count
+rows_count bytes {n} {count} whole = ap (λ (m : ℕ). m / (bytes + 2)) whole ∙ mul-div_cancel count (omega arith)

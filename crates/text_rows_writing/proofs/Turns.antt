@@ -2,10 +2,9 @@
 use mathlib.Core.Path.{◌≡◌, sym, ap, ◌∙◌}
 use mathlib.Core.Bool.{Bool, true, false, and-eq-true_iff}
 use mathlib.Core.List.{List}
-use Prim.Native.Nat.{ℕ, ◌+◌, ◌*◌, ◌/◌, ◌≤◌, ◌<◌}
-use native.Mathlib.Nat.{mul-div_cancel}
+use Prim.Native.Nat.{ℕ, ◌+◌, ◌*◌, ◌≤◌, ◌<◌}
 use native.Mathlib.Omega.{arith}
-use lib.ListN.{length, get_or, replicate, length-replicate}
+use lib.ListN.{length, get_or}
 use Rattle.sequences.proofs.Below.{all_at}
 use Rattle.text_rules.specs.declared.Column.{Column}
 use Rattle.text_rules.specs.declared.Taken.{Taken}
@@ -35,10 +34,6 @@ module _ {cs : List Column} {flag_at : ℕ} {line : Taken} (whole : TableReady c
 pub table_ready : {cs columns : List Column} {flag_at : ℕ} {line : Taken} → columns_well cs ≡ true → flag_well cs flag_at ≡ true → columns ≡ cs
     → line ≡ taken_before columns (length columns) → TableReady cs flag_at line
 table_ready w f e h = record { well = w; flag = f; whole = h ∙ ap (λ (t : List Column). taken_before t (length t)) e }
-
--- how many lines the blank rows have
-pub lines_count : (count w pitch : ℕ) {b : List ℕ} → b ≡ replicate (count * w) 32 → pitch + 2 ≡ w → length b / (pitch + 2) ≡ count
-lines_count count w pitch e f = rw (e, length-replicate {A = ℕ} (count * w) 32, f) (mul-div_cancel count (omega (arith, f)))
 
 -- a row of the table as it is lent is the form's column
 pub column_here : (t : TextForm) (k : ℕ) {table columns : List Column} → table ≡ columns → columns ≡ t.columns → get_or table k no_column ≡ column_at t.columns k

@@ -27,6 +27,7 @@ fn put_numbers_column(
     ensures { rows.new ≡ lines_put (line.bytes + 2) taken.bytes (number_at flags.now column run.now line.numbers flag_place taken.numbers) count rows.old }
 {
     let pitch = line.bytes + 2;
+    // The rows by place, as in `put_ends`.
     for (j, numbers) in run.chunks_exact(line.numbers).enumerate() {
         let used = column.used.has_number(flags, numbers[flag_place]);
         let n = numbers[taken.numbers];
@@ -43,6 +44,7 @@ fn put_words_column(width: usize, taken: Taken, line: Taken, texts: &[u8], rows:
     ensures { rows.new ≡ lines_put (line.bytes + 2) taken.bytes (word_at width texts.now line.words taken.words) count rows.old }
 {
     let pitch = line.bytes + 2;
+    // The rows by place, as in `put_ends`.
     for (j, words) in texts.chunks_exact(line.words).enumerate() {
         let place = j * pitch + taken.bytes;
         text_cells_writing::put_words(rows, place, &words[taken.words..taken.words + width]);
@@ -50,13 +52,14 @@ fn put_words_column(width: usize, taken: Taken, line: Taken, texts: &[u8], rows:
 }
 
 // Writes the end of so many lines.
-fn put_ends(line: Taken, count: usize, rows: &mut [u8])
+fn put_ends(line: Taken, rows: &mut [u8])
+    ghost count: { ℕ }
     requires { (length rows.old ≡ count * (line.bytes + 2)) × (line.bytes ≤ most_line) }
     ensures { rows.new ≡ lines_put (line.bytes + 2) line.bytes (λ _. 13 ∷ 10 ∷ []) count rows.old }
 {
     let pitch = line.bytes + 2;
-    // By place: of what is written through the pieces of `chunks_exact_mut` nothing is known behind the loop (tried).
-    for j in 0..count {
+    // By place: tried by `chunks_exact_mut`, but of what is written through its pieces nothing is known behind the loop.
+    for j in 0..rows.len() / pitch {
         text_cells_writing::put_end(rows, j * pitch + line.bytes);
     }
 }
@@ -84,7 +87,8 @@ fn put_columns(form: &LineForm, line: Taken, run: &[u64], texts: &[u8], rows: &m
 }
 
 // Writes so many component lines, each with its end, from their numbers and their words.
-pub fn put_rows(form: &LineForm, run: &[u64], texts: &[u8], count: usize, rows: &mut [u8])
+pub fn put_rows(form: &LineForm, run: &[u64], texts: &[u8], rows: &mut [u8])
+    ghost count: { ℕ }
     requires columns_value { flag_well form.now.columns form.now.flag_at ≡ true }
     requires run_len { (length run.now ≡ count * line_numbers form.now.columns) × (length texts.now ≡ count * line_words form.now.columns) }
     requires rows_len { length rows.old ≡ count * line_pitch form.now.columns }
@@ -94,5 +98,5 @@ pub fn put_rows(form: &LineForm, run: &[u64], texts: &[u8], count: usize, rows: 
     let line = form.columns().whole();
     digits_put::put_blanks(rows, 0, rows.len());
     put_columns(form, line, run, texts, rows);
-    put_ends(line, count, rows);
+    put_ends(line, rows);
 }

@@ -2,15 +2,17 @@
 use Rattle.std.proofs.Common.{◌≡◌, ap, ◌∙◌, ℕ, ◌*◌, rules}
 use Rattle.digits.specs.Written.{Written}
 use Rattle.lines.specs.Lines.{line_text}
+use Rattle.text_rules.specs.Tables.{TextForm}
 use Rattle.text_rules.specs.Columns.{line_pitch}
+use Rattle.text_rules.specs.Writing.{rows_text}
 use Rattle.list_rules.specs.Shanghai.{shanghai_columns}
 use Rattle.list_rules.specs.Writing.{listed}
 use Rattle.list_rules.proofs.Lent.{shanghai_flag_well}
 use Rattle.list_trip.proofs.WrittenPassing.{passing}
 use Rattle.list_writing_tests.proofs.Heads.{head_of, head_lent}
 use Rattle.list_writing_tests.proofs.Sizes.{our_columns}
-use Rattle.list_writing.proofs.Lines.{run_long, names_long, lines_lent, fit_lent}
-use Rattle.list_writing.proofs.Sizes.{head_room, lines_room, part_long, end_room, text-put}
+use Rattle.list_writing.proofs.Lines.{lines_lent, rows_ask}
+use Rattle.list_writing.proofs.Sizes.{head_room, lines_room, part_long, lines_counted, end_room, text-put}
 use Rattle.list_writing.proofs.put_list.Goals as goal
 
 pub figures_of-figures-requires : goal.figures_of-figures-requires
@@ -62,12 +64,8 @@ put_rows-requires c =
     let headed : Written a.output.now 0 (head_of l) c.put_head-p.new.dst c.put_head-p.result = rw (head_lent _ c.field_table.ensures l _ c.figures_of-figures.ensures) at c.put_head-p.ensures in
     let pitched : c.pitch-pitch.result ≡ line_pitch shanghai_columns = c.pitch-pitch.ensures ∙ ap line_pitch (our_columns c.columns.ensures.value c.line_form-form.ensures) in
     let e = c.line_form-form.ensures in
-    record {
-      columns_value = rw e shanghai_flag_well;
-      run_len = rw e (run_long l p.passing, names_long l p.passing);
-      rows_len = rw e (part_long l p.passing _ pitched a.output.now p.room headed ∙ ap (λ (n : ℕ). a.list.now.fields.count * n) pitched);
-      rows_fit = fit_lent _ e l p.passing;
-    }
+    let counted = lines_counted l p.passing _ pitched a.output.now p.room headed _ (ap (λ (t : TextForm). t.columns) c.line_form-form.ensures) in
+    (rw e shanghai_flag_well, rows_ask _ e l p.passing counted (part_long l p.passing _ pitched a.output.now p.room headed ∙ ap (λ (n : ℕ). a.list.now.fields.count * n) pitched))
 
 pub put_bytes-requires : goal.put_bytes-requires
 put_bytes-requires c =
@@ -76,7 +74,8 @@ put_bytes-requires c =
     let p = c.requires in
     let headed : Written a.output.now 0 (head_of l) c.put_head-p.new.dst c.put_head-p.result = rw (head_lent _ c.field_table.ensures l _ c.figures_of-figures.ensures) at c.put_head-p.ensures in
     let pitched : c.pitch-pitch.result ≡ line_pitch shanghai_columns = c.pitch-pitch.ensures ∙ ap line_pitch (our_columns c.columns.ensures.value c.line_form-form.ensures) in
-    let lined = c.put_rows.ensures ∙ lines_lent _ c.line_form-form.ensures l in
+    let counted = lines_counted l p.passing _ pitched a.output.now p.room headed _ (ap (λ (t : TextForm). t.columns) c.line_form-form.ensures) in
+    let lined = c.put_rows.ensures ∙ ap (rows_text c.line_form-form.result l.run l.names) counted ∙ lines_lent _ c.line_form-form.ensures l in
     end_room l p.passing _ pitched a.output.now p.room headed lined
 
 pub returns : goal.returns
@@ -87,5 +86,6 @@ returns c =
     let p = c.requires in
     let headed : Written a.output.now 0 (head_of l) c.put_head-p.new.dst c.put_head-p.result = rw (head_lent _ c.field_table.ensures l _ c.figures_of-figures.ensures) at c.put_head-p.ensures in
     let pitched : c.pitch-pitch.result ≡ line_pitch shanghai_columns = c.pitch-pitch.ensures ∙ ap line_pitch (our_columns c.columns.ensures.value c.line_form-form.ensures) in
-    let lined = c.put_rows.ensures ∙ lines_lent _ c.line_form-form.ensures l in
+    let counted = lines_counted l p.passing _ pitched a.output.now p.room headed _ (ap (λ (t : TextForm). t.columns) c.line_form-form.ensures) in
+    let lined = c.put_rows.ensures ∙ ap (rows_text c.line_form-form.result l.run l.names) counted ∙ lines_lent _ c.line_form-form.ensures l in
     text-put l p.passing _ pitched a.output.now p.room headed lined c.put_bytes.ensures

@@ -4,4 +4,4 @@ use Rattle.text_rows_writing.proofs.Stretches.{PutBelow}
 use Rattle.text_rows_writing.proofs.put_ends.Given as goal
 
 abbrev pub invariant-loop-j : goal.invariant-loop-j
-invariant-loop-j l = PutBelow l.pitch l.line.bytes (λ _. 13 ∷ 10 ∷ []) l.initial.rows l.count l.rows l.j
+invariant-loop-j g l = PutBelow l.pitch l.line.bytes (λ _. 13 ∷ 10 ∷ []) l.initial.rows g.count l.rows l.j
