@@ -40,6 +40,8 @@ fn accepted(value: u64) -> Numbers
     }
 }
 
+// An impl for each answer: a trait of what an accepted call tells would take as many, and each answer has its own definition.
+
 impl From<Refusal> for Numbers {
     ghost from_gives = { λ why numbers. reply_of numbers ≡ refusal_reply why };
 
@@ -140,7 +142,7 @@ pub fn tell(answer: Numbers, place: &mut u64, value: &mut u64) -> u64
     answer.number
 }
 
-// An order's numbers: the count of its reports where the caller points too.
+// An order's numbers: the count of its reports where the caller points too. The C interface gives an order this one pointer more.
 pub fn tell_order(answer: Numbers, place: &mut u64, value: &mut u64, reports: &mut u64) -> u64
     ensures { ToldOrder (reply_of answer) result place.new value.new reports.new }
 {

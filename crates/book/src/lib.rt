@@ -1,4 +1,4 @@
-// The head and the lots of an account, read off the whole book and stored in it. What moves make of a book is in specs/.
+// An account's head and lots read off the whole book, and lots stored. What moves make of a book is in specs/.
 #![tactic(auto)]
 
 ghost use Rattle.std.specs.Prelude.{◌≡◌, ◌+◌, ◌*◌, ◌≤◌, ◌<◌, length};

@@ -34,7 +34,8 @@ pub fn sound_day<'a>(run: &'a [u64], book: &[u64], prices: &[u64]) -> Result<Day
     }
 }
 
-// The day in a run, where it has what every call keeps.
+// The day in a run, where it has what every call keeps. Not one function with the above over a closure: the one tells a refusal, the
+// other none, and each has its own contract.
 #[tactic(auto, using(crate::proofs::Run::blank_not_kept))]
 pub fn kept_day<'a>(run: &'a [u64], book: &[u64], prices: &[u64]) -> Option<DayView<'a>>
     ensures { MatchOption result (is_kept (day_at run.now) book.now prices.now ≡ false) (λ day. (day ≡ day_at run.now) × (is_kept (day_at run.now) book.now prices.now ≡ true)) }

@@ -1,7 +1,9 @@
 // The calls of the day. Each takes any day, book, prices and numbers, returns, and refuses by the paper's numbers; a refusal
 // changes nothing. The day is one lent run of numbers, which `day_at` reads; a run of another length than a day's is not sound.
 // The day, the book and the prices stay three parameters: a price changes the prices alone, and a trade or an order the book alone,
-// so that one struct would lend more for writing than a call may write, or need a second one beside it.
+// so that one struct would lend more for writing than a call may write, or need a second one beside it. Creation and redemption, and
+// their tests, are the paper's calls, each with the definitions of its section; the one for both is `order_calls`. What opening is given
+// stands one by one, as in the C interface.
 #![tactic(auto)]
 
 ghost use Rattle.std.specs.Prelude.{◌≡◌};

@@ -6,6 +6,7 @@ use program_io::items::{Item, split};
 // The head of an opening and of a state: the row, the numbers of a day's run before its components (accounts, count, and the fund:
 // first code, basket size, maximum cash ratio, switch, estimated cash as sign, 1 is minus, and size, and the limits), and the
 // lengths of components, book and prices. Behind it stand the components, and then the holdings, or the book and the prices.
+// By place: `layout::fund_of` reads a fund at a place of a run.
 const DAY: usize = 1;
 
 const FUND: usize = 3;
@@ -23,6 +24,7 @@ pub struct Given<'a> {
     // The numbers of a day's run before its components.
     pub day: &'a [u64],
     pub components: &'a [u64],
+    // Lengths alone: an opening says how long its book and its prices are, and has none.
     pub book_length: usize,
     pub prices_length: usize,
     // The holdings, or the book and the prices.

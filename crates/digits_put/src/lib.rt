@@ -36,7 +36,8 @@ pub fn put_blanks(dst: &mut [u8], at: usize, k: usize) -> usize
     next
 }
 
-// The last digit of a number as a byte, and the number before it. A number of 32 bits is divided faster than one of 64.
+// The last digit of a number as a byte, and the number before it. A number of 32 bits is divided faster than one of 64. The bound stands
+// in each contract: a type of 32 bits beside would make a trait of one division.
 fn split_last<const SMALL: bool>(m: u64) -> (u64, u8)
     requires { SMALL ≡ true → m < 4_294_967_296 }
     ensures { (result.0 ≡ m / 10) × (result.1 ≡ 48 + m % 10) }
@@ -71,6 +72,7 @@ pub fn put_all<const SMALL: bool>(dst: &mut [u8], end: usize, n: u64) -> usize
     ensures { Written dst.old result (decimal n) dst.new end }
 {
     let mut m = n;
+    // By place: where the first digit stands is the answer.
     for i in (0..end).rev() {
         let (rest, digit) = split_last::<SMALL>(m);
         dst[i] = digit;

@@ -32,7 +32,7 @@ fn whole_size(digits: Option<usize>, n: u64) -> usize
     }
 }
 
-// How many bytes the number takes, without its sign and its blanks.
+// How many bytes the number takes, without its sign and its blanks. The bounds are asked here and not of `Form`: reading takes any form.
 fn plain_size(form: Form, n: u64) -> usize
     requires { (form.decimals ≤ 9) × (unwrap_or form.digits 0 ≤ 20) }
     ensures { (result ≡ length (plain_text form n)) × (result ≤ 40) }

@@ -4,11 +4,12 @@ use mathlib.Core.Bool.{Bool, true, false, cond}
 use mathlib.Core.List.{List}
 use Prim.Native.Nat.{ℕ, zero, suc}
 use Rattle.layout.specs.Day.{Day}
-use Rattle.balance.specs.Calls.{Call, price, trade, create, redeem, value, step}
+use Rattle.balance.specs.Calls.{price, trade, create, redeem, value, step}
 use Rattle.driver_rows.specs.declared.Work.{Work as Runs}
 use Rattle.driver_rows.specs.Lent.{work_in, left_work}
 use Rattle.driver_rows.specs.Rows.{Row, call, none, row_at, Work, row_leaves}
-use Rattle.driver.specs.Batch.{Batch, row_done, run_from, rows_in, fits, ran}
+use Rattle.rules.specs.Lent.{lent_of}
+use Rattle.driver.specs.Batch.{Batch, batch_of, row_done, run_from, rows_in, fits, ran}
 
 pub row_day : (w : Work) (row : Row) → (row_leaves w row).state.day ≡ w.state.day
 unfolding row_leaves step
@@ -35,3 +36,15 @@ ran_day rows b = go (fits rows b)
 -- Runs that are left as a work of the day says it.
 pub left_of : (d : Day) (w : Runs) (x : Work) → x.state.day ≡ d → work_in d (left_work w x) ≡ x
 left_of d w x e = rw (← e) refl
+
+-- What a list of rows leaves, run by run.
+batch_is : {d : Day} {book prices records investor fund answers : List ℕ} (x : Batch) → x.work.state.day ≡ d → book ≡ x.work.state.book
+    → prices ≡ x.work.state.prices → records ≡ x.work.runs.records → investor ≡ x.work.runs.investor → fund ≡ x.work.runs.fund → answers ≡ x.answers
+    → batch_of d book prices (lent_of records investor fund) answers ≡ x
+batch_is x e p q r s t u = rw (p, q, r, s, t, u, ← e) refl
+
+pub batch_left : {d : Day} {book prices records investor fund answers : List ℕ} (rows : List ℕ) (b : Batch) → b.work.state.day ≡ d
+    → book ≡ (ran rows b).work.state.book → prices ≡ (ran rows b).work.state.prices → records ≡ (ran rows b).work.runs.records
+    → investor ≡ (ran rows b).work.runs.investor → fund ≡ (ran rows b).work.runs.fund → answers ≡ (ran rows b).answers
+    → batch_of d book prices (lent_of records investor fund) answers ≡ ran rows b
+batch_left rows b e p q r s t u = batch_is (ran rows b) (ran_day rows b ∙ e) p q r s t u

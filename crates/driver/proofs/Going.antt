@@ -5,12 +5,12 @@ use mathlib.Core.List.{List, ◌++◌}
 use Prim.Native.Nat.{ℕ, suc, ◌+◌, ◌-◌, ◌*◌, ◌<◌, ◌≤◌}
 use native.Mathlib.Omega.{arith}
 use native.Mathlib.Nat.{suc-mul}
-use lib.ListN.{length, take, drop, length-append, length-drop, length-set}
+use lib.ListN.{length, drop, length-append, length-drop, length-set}
 use lib.Seq.{drop-drop, take-append_seam, drop-append_seam}
-use Rattle.std.specs.Prelude.{Option, Some, None, IfSome}
+use Rattle.std.specs.Prelude.{Option, Some, IfSome}
 use Rattle.sequences.specs.Checks.{Reply}
 use Rattle.sequences.specs.Stretch.{stretch_of}
-use Rattle.layout.specs.Places.{row_width, answer_width}
+use Rattle.layout.specs.Places.{row_width}
 use Rattle.layout.specs.Day.{Day}
 use Rattle.layout.specs.Answers.{put_reply}
 use Rattle.rules.specs.Sound.{is_sound, is_kept}
@@ -18,7 +18,7 @@ use Rattle.rules.proofs.SoundDay.{kept_facts, sound-true}
 use Rattle.balance.proofs.Theorems.{KeptState, kept_step}
 use Rattle.driver_rows.specs.declared.Work.{Work as Runs}
 use Rattle.driver_rows.specs.Lent.{state_in, work_in, left_work}
-use Rattle.driver_rows.specs.Rows.{Row, call, none, row_of, row_at, Spans, Work, lent_to, row_reply, row_leaves}
+use Rattle.driver_rows.specs.Rows.{Row, call, none, row_of, row_at, Work, lent_to, row_reply, row_leaves}
 use Rattle.driver.proofs.Days.{row_day, left_of}
 use Rattle.driver.specs.Batch.{Batch, batch_in, row_done, run_from, rows_in}
 

@@ -49,7 +49,8 @@ fn run_rows(
     Ok(())
 }
 
-// The list of calls made one by one (the C interface has this and `run`, with the promise of each): each tests the day, as the calls of `day` do.
+// The list of calls made one by one (the C interface has this and `run`, with the promise of each): each tests the day, as the calls of
+// `day` do.
 pub fn run_public(
     day: &[u64],
     work: &mut Work,

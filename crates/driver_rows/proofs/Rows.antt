@@ -25,7 +25,7 @@ use Rattle.driver_rows.specs.declared.Call.{Call as Named}
 use Rattle.driver_rows.specs.declared.Call.TheVariants.{Price, Trade, Order, Value}
 use Rattle.driver_rows.specs.declared.Work.{Work as Runs}
 use Rattle.driver_rows.specs.Lent.{work_in, left_work}
-use Rattle.driver_rows.specs.Rows.{Row, call, call_named, none, Span, Spans, no_spans, spans_in, span_within, order_of, Work, state_of, work_of, lent_to, result_of, runs_after, row_reply, row_leaves}
+use Rattle.driver_rows.specs.Rows.{Row, call, call_named, none, Spans, no_spans, spans_in, span_within, order_of, Work, state_of, work_of, lent_to, result_of, row_reply, row_leaves}
 use Rattle.driver_rows.proofs.Parts.{none_within, own_back}
 
 -- a part of a run from a start to before an end, and the run with another in its place

@@ -1,4 +1,6 @@
 // One row of the driver: the call that it names, made.
+// Each function asks a row of the width of rows: a chunk of the rows is a slice, and an array is made of it by a conversion that can
+// fail. It asks for a sound day where it makes a call: a fact of the day with its book and prices, which the calls write.
 #![tactic(auto)]
 
 ghost use Rattle.std.specs.Prelude.{◌≡◌, true, ◌+◌, ◌≤◌, ◌<◌, length, Some, OnOk, IfOk, IfErr, MatchOption, false};
@@ -39,7 +41,7 @@ enum Call {
     Value,
 }
 
-// The part that is lent: the empty one at the front, where the part named lies outside the run.
+// The part that is lent: the empty one at the front, where the part named lies outside the run. No Option: that is what such a row means.
 #[tactic(auto, unfolding(crate::specs::Rows::span_within))]
 fn part_in(run: usize, start: u64, size: u64) -> Range<usize>
     ensures start_value { result.start ≡ (span_within run (span start size)).start }
@@ -54,7 +56,7 @@ fn part_in(run: usize, start: u64, size: u64) -> Range<usize>
     start..start + size
 }
 
-// An order on a sound day, with its lists one by one: tried as a struct of parts of the runs, of which no proof can say that what is
+// An order on a sound day, with its lists one by one (as `flat_order` in order_structs, on any day): tried as a struct of parts of the runs, of which no proof can say that what is
 // written in the part is written in the run.
 #[tactic(auto, using(order_calls::proofs::Laws::order_own, order_calls::proofs::Laws::leaves_own))]
 fn order_in(
@@ -111,7 +113,8 @@ fn order_row(
     Numbers::from(answer)
 }
 
-// The call that a row names by its kind, or none.
+// The call that a row names by its kind, or none. By place: all rows have one width, whatever they name. That a row has it is a clause:
+// rows are chunks of a lent run, and an array of each would be a copy.
 #[tactic(auto, unfolding(crate::specs::Rows::row_of))]
 fn call_of(row: &[u64]) -> Option<Call>
     requires { length row.now ≡ row_width }
@@ -136,7 +139,8 @@ fn call_of(row: &[u64]) -> Option<Call>
     }
 }
 
-// The call that a row names, made on a sound day.
+// The call that a row names, made on a sound day. That it is sound is a clause: book and prices change at each call, so that no struct of
+// them could carry it.
 fn make(day: &DayView, work: &mut Work, call: Call, row: &[u64]) -> Numbers
     requires sound { is_sound day.now work.old.book.now work.old.prices.now ≡ true }
     requires row_len { length row.now ≡ row_width }

@@ -21,7 +21,7 @@ pub enum Column {
 }
 
 impl Column {
-    // Its place.
+    // Its place. No `From`: as a number it is a place alone.
     pub fn number(self) -> usize
         ensures { result ≡ column_number self }
     {
@@ -43,13 +43,13 @@ pub const TABLE: [[bool; COLUMNS]; FLAGS] = [
 pub fn entry_of(flag: u64, column: Column) -> bool
     ensures { result ≡ entry flag (column_number column) }
 {
-    entry_in(&TABLE, flag, column.number())
+    entry_by_row(&TABLE, flag, column.number())
 }
 
-// What a table that is lent has for a flag in a column by its place; false past either end. Row by row: of a table that is known
-// only tests of the flag are left (an order's pass takes 7 % more instructions with the row by index, and reading a list 14 %).
+// What a table has for a flag in a column, row by row: of a table that is known only tests of the flag are left. By index, as a lent
+// table is read, an order's pass takes 7 % more instructions.
 #[tactic(auto, using(std::proofs::lemmas::Bool::Decides::nat_tests), unfolding(crate::specs::Table::entry_in))]
-pub fn entry_in(table: &[[bool; COLUMNS]; FLAGS], flag: u64, column: usize) -> bool
+fn entry_by_row(table: &[[bool; COLUMNS]; FLAGS], flag: u64, column: usize) -> bool
     ensures { result ≡ entry_in table.now flag column }
 {
     column < COLUMNS
@@ -57,4 +57,13 @@ pub fn entry_in(table: &[[bool; COLUMNS]; FLAGS], flag: u64, column: usize) -> b
             .iter()
             .enumerate()
             .any(|(row, entries)| flag == row as u64 && entries[column])
+}
+
+// The same of a table that is lent, by flag and column, the form that the project names. A column by its place, as a text's table of
+// columns has it; false past either end.
+#[tactic(auto, using(std::proofs::lemmas::Bool::Decides::nat_tests), unfolding(crate::specs::Table::entry_in))]
+pub fn entry_in(table: &[[bool; COLUMNS]; FLAGS], flag: u64, column: usize) -> bool
+    ensures { result ≡ entry_in table.now flag column }
+{
+    flag < FLAGS as u64 && column < COLUMNS && table[flag as usize][column]
 }

@@ -24,7 +24,7 @@ pub enum Limit {
 }
 
 impl Limit {
-    // Its place among those of a kind.
+    // Its place among those of a kind. No `From`: as a number it is a place alone.
     pub fn number(self) -> usize
         ensures { result ≡ limit_number self }
     {
@@ -68,7 +68,7 @@ pub fn fund_in_range(f: Fund) -> bool
         && limits_in_range(size, f.limits)
 }
 
-// The most that either rate may be, and an amount.
+// The most that either rate may be, the rate one, and an amount.
 const MOST_RATE: u64 = 100_000;
 
 const MOST_AMOUNT: u64 = 99_999_999_999;

@@ -1,5 +1,6 @@
 // The types that lie in lent runs of numbers, and their places there: a component, a fund, a day, an account's stretch, a record,
-// a report, and the rows and answers of a list of calls. No other crate knows a width or a place. The types and the places are
+// a report, and the rows and answers of a list of calls. Other crates take widths and places by these
+// names. The types and the places are
 // here, and what reads and stores them is in a module for each subject.
 #![tactic(auto)]
 
@@ -21,6 +22,7 @@ pub use stretches::{lots_at, put_lots, width_of};
 pub struct Component {
     pub code: u64,
     pub quantity: u64,
+    // A number, as in a run that crosses to C, where any may stand: refusal 3 tests it.
     pub flag: u64,
     // Creation takes the premium, redemption the discount.
     pub premium: Rate,
@@ -33,6 +35,7 @@ pub struct Fund {
     pub first_code: u64,
     pub basket_size: u64,
     pub max_cash_ratio: Rate,
+    // A number, as the flag is: refusal 2 tests it.
     pub switch: u64,
     // In hundredths of a yuan.
     pub estimated_cash: i64,

@@ -7,7 +7,7 @@ ghost use Rattle.layout.specs.Book.{width_of, behind_line, lots_at, put_lots};
 use crate::{LINE_WIDTH, LINES_FROM};
 use lots::Lots;
 
-// The width of an account's stretch in a fund of `count` components.
+// The width of an account's stretch in a fund of `count` components, a count that any run may say: sizes are tested first.
 pub fn width_of(count: usize) -> usize
     requires { count ≤ most_components }
     ensures { result ≡ width_of count }

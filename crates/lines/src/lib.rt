@@ -13,7 +13,7 @@ fn end_at(s: &[u8], i: usize) -> bool
     s[i] == b'\r' && i + 1 < s.len() && s[i + 1] == b'\n'
 }
 
-// Where the first 0D 0A stands.
+// Where the first 0D 0A stands. Over places and not over pairs of bytes: `end_at` is defined at a place.
 fn end_of(s: &[u8]) -> Option<usize>
     ensures { MatchOption result (ended s.now ≡ false) (λ n. (n ≡ line_len s.now) × (n < length s.now)) }
 {

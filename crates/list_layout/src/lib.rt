@@ -8,6 +8,7 @@ ghost use Rattle.list_layout.specs.Run.{fields_width, fields_at, fields_numbers}
 use list_rules::ListFields;
 
 // Where the fields behind the fund stand: Publish, both days, the cash component, NAVperCU, NAV, and the count of components.
+// They are places of a run that crosses to C: an enum with a cast at each read is no plainer.
 const PUBLISH_AT: usize = layout::FUND_WIDTH;
 
 const TRADING_DAY_AT: usize = PUBLISH_AT + 1;

@@ -30,7 +30,7 @@ pub fn name_place(text: &[u8], first: usize, j: usize) -> TextPart
     }
 }
 
-// That name, as the part of the text.
+// That name, as the part of the text. No Option: it goes on to C as a place and a length.
 pub fn name_from(text: &[u8], first: usize, j: usize) -> &[u8]
     ensures { result.now ≡ name_from text.now first j }
 {

@@ -66,7 +66,8 @@ fn read_values(
     read_components(text, rows, fields, numbers, run)
 }
 
-// Refusal 19, and what follows. The numbers of the components wait in an array until all is tested.
+// Refusal 19, and what follows. The numbers of the components wait in an array, since the library has no heap, until all is tested. By
+// match: of what `map_err` hands on no equation is known.
 fn read_fields(text: &[u8], rows: Rows, run: &mut [u64]) -> Result<ListRead, Refusal>
     requires { RowsStand text.now rows }
     ensures { ReadOutcome text.now run.old result run.new }
@@ -82,7 +83,7 @@ fn read_fields(text: &[u8], rows: Rows, run: &mut [u64]) -> Result<ListRead, Ref
     }
 }
 
-// Reads a list: its fields, and its components at the front of the lent run. A refusal changes nothing.
+// Reads a list: its fields, and its components at the front of the lent run. A refusal changes nothing. By match, as above.
 pub fn read(text: &[u8], run: &mut [u64]) -> Result<ListRead, Refusal>
     ensures { ReadOutcome text.now run.old result run.new }
 {
@@ -92,7 +93,8 @@ pub fn read(text: &[u8], run: &mut [u64]) -> Result<ListRead, Refusal>
     }
 }
 
-// The letters of a text's first line, as that part of it; an empty part where the line is another.
+// The letters of a text's first line, as that part of it; an empty part where the line is another. This and the names are handed on,
+// so that all calls of reading stand in one crate; no Option, since a part goes on to C as a place and a length.
 pub fn letters(text: &[u8]) -> &[u8]
     ensures { result.now ≡ letters_read text.now }
 {

@@ -17,6 +17,7 @@ use units::Rate;
 #[derive(Clone, Copy)]
 pub struct ListFields {
     pub fund: Fund,
+    // 0 or 1, as any number: it comes from a run that crosses from C, and refusal 2 tests it.
     pub publish: u64,
     // Dates as year, month and day in eight digits.
     pub trading_day: u64,
@@ -66,12 +67,14 @@ pub struct ListRead {
 #[derive(Clone, Copy)]
 pub struct Listing<'a> {
     pub fields: ListFields,
+    // Components and names flat, as they cross from C.
     pub run: &'a [u64],
     pub names: &'a [u8],
     pub letters: &'a [u8],
 }
 
-// A part of a text: where it starts, and how many bytes it has.
+// A part of a text: where it starts, and how many bytes it has. Empty where there is none, and no Option: it crosses to C as these two
+// numbers.
 #[derive(Clone, Copy)]
 pub struct TextPart {
     pub place: usize,

@@ -24,13 +24,14 @@ fn end_stands(text: &[u8], at: usize) -> bool
     requires { at ≤ length text.now }
     ensures { result ≡ line_stands (λ l. same l end_word) text.now at }
 {
+    // By match: a closure would want a contract of its own.
     match lines::first_line(&text[at..]) {
         Some(line) => lines::same_bytes(line, b"ENDENDEND"),
         None => false,
     }
 }
 
-// Refusal 18 behind the head.
+// Refusal 18 behind the head. The error is a place alone: no other refusal stands here.
 fn body_shape(text: &[u8], start: usize) -> Result<Rows, usize>
     requires head_stands { wrong_line shanghai_fields text.now ≡ head_lines shanghai_fields }
     requires start_value { (start ≡ body_start shanghai text.now) × (start ≤ length text.now) }
@@ -54,6 +55,7 @@ fn body_shape(text: &[u8], start: usize) -> Result<Rows, usize>
 pub fn shape_of(text: &[u8]) -> Result<Rows, usize>
     ensures { Shaped text.now result }
 {
+    // By match: of what `map_err` hands on no equation is known.
     match text_head::head_shape(&list_rules::field_table(), text) {
         Ok(start) => body_shape(text, start),
         Err(wrong) => Err(wrong.place),

@@ -24,7 +24,8 @@ fn lengths_fit(count: usize, run: usize, names: usize) -> bool
         && names == list_rules::NAME_WIDTH * count
 }
 
-// The first component at fault, by its numbers or by its name.
+// The first component at fault, by its numbers or by its name. By cases: the least of two that may be missing is no plainer as an
+// iterator.
 fn write_fault(list: &Listing) -> Option<usize>
     requires { (list.now.fields.count ≤ most_components) × (length list.now.run.now ≡ component_width * list.now.fields.count) × (length list.now.names.now ≡ name_width * list.now.fields.count) }
     ensures { result ≡ below list.now.fields.count (write_fault (listed list.now)) }

@@ -26,7 +26,7 @@ pub struct Line {
     pub moves: bool,
 }
 
-// No cash.
+// No cash. A constant and no `Default`: `..NO_CASH` says what stands there.
 pub const NO_CASH: CashByMarket = CashByMarket {
     shanghai: Money(0),
     other: Money(0),

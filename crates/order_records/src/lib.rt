@@ -42,7 +42,8 @@ pub fn rest_side(kind: Kind) -> Side
     stock_side(kind).opposite()
 }
 
-// A run that records are written to one behind another, and its next free place.
+// A run that records are written to one behind another, and its next free place: the library has no heap, and no Vec to push to.
+// `record_writer::Writer` is this over structs.
 #[derive(Drop)]
 pub struct Out<'a> {
     pub run: &'a mut [u64],

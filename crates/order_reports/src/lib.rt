@@ -17,8 +17,8 @@ use layout::{Group, Record, Report};
 use rules::{CashByMarket, CashKind, Kind, ReportType, Side};
 use units::Money;
 
-// The group that stands where a report has none. A report holds what its run shows, numbers for type, side and kinds too: it is only
-// written, and what makes it (`told`, `cash_report`) takes the enums.
+// The group that stands where a report has none. A report holds what its run shows, numbers for type, side and kinds too: code only
+// writes it, and what makes it (`told`, `cash_report`) takes the enums.
 const NO_GROUP: Group = Group {
     kind: 0,
     amount: Money(0),

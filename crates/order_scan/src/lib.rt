@@ -77,7 +77,7 @@ fn with_missing(found: Option<Money>, more: Option<Money>) -> Option<Money>
     }
 }
 
-// The cash with that of one component more.
+// The cash with that of one component more: a function and no `Add`, since cash by market is added here alone.
 #[tactic(auto, unfolding(crate::specs::Lines::with_cash))]
 fn with_cash(cash: CashByMarket, more: CashByMarket) -> CashByMarket
     requires { (cash.shanghai.0 + more.shanghai.0 < 2 ^ 64) × (cash.other.0 + more.other.0 < 2 ^ 64) }

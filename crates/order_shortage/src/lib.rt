@@ -30,7 +30,7 @@ fn is_too_short(rooms: Rooms, counts: Counts) -> bool
     rooms.records < counts.records || rooms.investor < counts.reports || rooms.fund < counts.reports
 }
 
-// The tests 10 or 17 at cash, and 16.
+// The tests 10 or 17 at cash, and 16. Cash held is a number, as the book and the definition have it.
 #[tactic(auto, unfolding(crate::specs::Tests::last_tests, sequences::specs::Checks::answering))]
 pub fn last_answer(
     kind: Kind,

@@ -15,7 +15,8 @@ use layout::Component;
 use lots::Lots;
 use rules::Kind;
 
-// The stock of component `c` that an order of `m` baskets moves, for an account with the lots `x` of it.
+// The stock of component `c` that an order of `m` baskets moves, for an account with the lots `x` of it. The tests kept no quantities,
+// since no scratch is lent, so that it is read off the lots again.
 #[tactic(auto, unfolding(book::specs::Moved::moved_of))]
 fn stock_moved(kind: Kind, c: Component, m: u64, x: Lots) -> Option<u64>
     requires quantity_bound { m * c.quantity < 2 ^ 62 }
@@ -46,7 +47,8 @@ fn fund_lots(kind: Kind, x: Lots, q: u64) -> Lots
     }
 }
 
-// Moves the stock of one component and gives how much, read off the account's lots. Where nothing moves, nothing is stored.
+// Moves the stock of one component and gives how much, read off the account's lots. Where nothing moves, nothing is stored. The numbers
+// come one by one: some are the order's, some the turn's, and the book is written between.
 pub fn move_line(
     kind: Kind,
     c: Component,

@@ -16,7 +16,7 @@ use rules::{Ask, Counts, Lists, Refusal};
 // The most records of an order.
 pub const MOST_RECORDS: usize = rules::MOST_RECORDS;
 
-// How many numbers they take in a flat run.
+// How many numbers they take in a flat run: the library has no heap, and the writer hands the records on.
 const FLAT_LENGTH: usize = layout::RECORD_WIDTH * MOST_RECORDS;
 
 // The fewer of a list's room and the most records of an order.

@@ -11,7 +11,8 @@ ghost use Rattle.book.specs.Ready.{CashReady, AccountRest, RestReady};
 use rules::Kind;
 use units::Money;
 
-// What the cash `c` of an order makes of cash that pays it on a creation and gets it on a redemption, as the account's does.
+// What the cash `c` of an order makes of cash that pays it on a creation and gets it on a redemption, as the account's does. Cash held is
+// a number, as in the book.
 #[tactic(auto, unfolding(rules::specs::Kinds::account_cash))]
 fn cash_after(kind: Kind, held: u64, c: Money) -> u64
     requires { CashReady kind held c.0 }

@@ -30,7 +30,8 @@ fn part_of(book: &[u64], count: usize, a: usize) -> &[u64]
     &book[start..end]
 }
 
-// The third stage of an order, on the account's part of the book and the fund's.
+// The third stage of an order, on the account's part of the book and the fund's. Day, book, prices and ask come apart, as in `day`: an
+// order writes the book alone.
 fn order_stage(
     day: &DayView,
     book: &[u64],

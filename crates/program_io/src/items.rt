@@ -26,7 +26,8 @@ fn is_between(b: u8) -> bool {
     b == b' ' || b == b'\n'
 }
 
-// A number with one digit more; nothing where that is no digit, or the number is past 64 bits.
+// A number with one digit more; nothing where that is no digit, or the number is past 64 bits. Digit by digit: the bytes come from a
+// reader, and are no text to parse.
 fn with_digit(number: u64, b: u8) -> Option<u64> {
     let digit = char::from(b).to_digit(10)?;
     number.checked_mul(10)?.checked_add(u64::from(digit))

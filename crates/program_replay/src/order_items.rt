@@ -117,6 +117,7 @@ impl Order {
         Ok(order)
     }
 
+    // No `Display` of `Kind`: these are this program's words.
     pub fn name(&self) -> &'static str {
         match self.ask.kind {
             Kind::Creation => "create",

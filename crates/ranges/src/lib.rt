@@ -25,8 +25,8 @@ pub fn is_investor(accounts: usize, a: usize) -> bool
     (1..accounts).contains(&a)
 }
 
-// A basket size above 0 is asked for here alone: a sound fund has one, and `fund` says so.
-// Whether so many units are a whole count of baskets from 1 to the most; `m` is the count with what is left over dropped.
+// Whether so many units are a whole count of baskets from 1 to the most; `m` is the count with what is left over dropped, which the
+// caller has at hand. A size above 0 is a clause, here and in `fund`, which tests it before it divides.
 pub fn whole_baskets(size: u64, units: u64, m: u64) -> bool
     requires { (0 < size) × (m ≡ units / size) }
     ensures { result ≡ every (eqb (units % size) 0 ∷ inside 1 most_baskets (units / size) ∷ []) }
@@ -34,7 +34,7 @@ pub fn whole_baskets(size: u64, units: u64, m: u64) -> bool
     m * size == units && is_inside(1, rules::MOST_BASKETS, m)
 }
 
-// Whether the switch allows a kind of order: 1 both, 2 creation only, 3 redemption only.
+// Whether the switch, a number as it lies in a run, allows a kind of order: 1 both, 2 creation only, 3 redemption only.
 #[tactic(auto, using(std::proofs::lemmas::Bool::Decides::nat_tests))]
 pub fn switch_allows(switch: u64, kind: Kind) -> bool
     ensures { result ≡ (eqb switch 1 || eqb switch (2 + number_of kind)) }
@@ -42,7 +42,7 @@ pub fn switch_allows(switch: u64, kind: Kind) -> bool
     switch == 1 || switch == 2 + kind.number() as u64
 }
 
-// Whether so many units pass no limit; 0 is no limit.
+// Whether so many units pass no limit; 0 is no limit, as it lies in a run.
 #[tactic(auto, using(std::proofs::lemmas::Bool::Decides::nat_tests), unfolding(rules::specs::Orders::within_limit))]
 pub fn within_limit(limit: u64, units: u64) -> bool
     ensures { result ≡ within_limit limit units }

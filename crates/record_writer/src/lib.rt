@@ -7,7 +7,7 @@ ghost use Rattle.record_writer.specs.Stored.{pushed, with_first};
 
 use layout::Record;
 
-// A writer over a lent list: it holds the place of the next record.
+// A writer over a lent list, the form that the project names: it holds the place of the next record.
 #[derive(Drop)]
 pub struct Writer<'a> {
     pub list: &'a mut [Record],

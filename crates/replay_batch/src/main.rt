@@ -141,7 +141,7 @@ mod tests {
             ("2 0", false),
         ] {
             let out = played(rt.alloc(), batch)?;
-            let is_bad = out.as_slice() == b"bad input\n";
+            let is_bad = out.as_slice() == b"bad input\n".as_slice();
             assert_eq!(rt; is_bad, !is_read, "{batch}");
         }
         Ok(())

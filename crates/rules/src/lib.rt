@@ -88,7 +88,7 @@ pub enum Kind {
 }
 
 impl Kind {
-    // Its number, as limits and counters are laid out.
+    // Its number, as limits and counters are laid out. No `From`: as a number it is a place alone.
     pub fn number(self) -> usize
         ensures { result ≡ number_of self }
     {
@@ -143,7 +143,7 @@ pub struct CashByMarket {
 }
 
 impl CashByMarket {
-    // All of it.
+    // All of it, by number, as the definition adds it.
     pub fn total(self) -> Money
         requires { all_cash self < 2 ^ 64 }
         ensures { result.0 ≡ all_cash self }
@@ -195,7 +195,7 @@ pub enum Side {
 }
 
 impl Side {
-    // Its number.
+    // Its number, the paper's.
     pub fn number(self) -> u64
         ensures { result ≡ side_number self }
     {

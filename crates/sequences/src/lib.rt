@@ -1,3 +1,3 @@
 #![tactic(auto)]
 
-// Definitions over lists and indices, and their laws, which every other crate cites. There is no code here.
+// Definitions over lists and indices, and their laws, which other crates cite. There is no code here.

@@ -1,4 +1,4 @@
-// What ends a run with no slips, or with a part of them.
+// What ends a run with no slips, or with a part of them. Not the `Fault` of the other programs: a refusal ends this run and is printed.
 use answers::Numbers;
 use rules::Refusal;
 use std::alloc::AllocError;

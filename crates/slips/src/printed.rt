@@ -16,7 +16,7 @@ impl Display for Yuan {
     }
 }
 
-// A side's letter.
+// A side's letter. No `Display` of `Side`: a record's side is any number, and what is none prints as S.
 fn letter(side: u64) -> char {
     match Side::try_from(side) {
         Ok(Side::B) => 'B',

@@ -26,7 +26,7 @@ fn line_fits(totals: &[u64], line: usize, most: u64) -> bool
     lots.old + lots.bought + lots.got <= most
 }
 
-// Whether every line is within its limit. Line `n` is the unit.
+// Whether every line is within its limit, lines by their number. Line `n` is the unit.
 fn lines_fit(totals: &[u64], n: usize) -> bool
     requires { (n ≤ most_components) × (length totals.now ≡ width_of n) × Capped (length totals.now) totals.now }
     ensures { result ≡ all_below (line_fits n (number_at totals.now)) (n + 1) }
@@ -61,7 +61,8 @@ fn rows_of(book: &[u64], accounts: usize, n: usize) -> Rows<'_>
     }
 }
 
-// The same of the totals of a book, as far as 2^62, which is above every limit.
+// Whether the totals of a book, as far as 2^62, are within their limits, which are all below that. They stand in room for the widest row,
+// since the library has no heap.
 fn book_fits(book: &Rows, n: usize) -> bool
     requires { (n ≤ most_components) × (book.now.rows ≤ most_rows) × (book.now.width ≡ width_of n) }
     ensures { result ≡ totals_fit n (total book.now.run.now (width_of n) book.now.rows) }
@@ -107,7 +108,7 @@ fn prices_fit(prices: &[u64]) -> bool
     prices.iter().all(|price| *price <= rules::MOST_PRICE)
 }
 
-// A, N and the lengths of the book and of the prices.
+// A, N and the lengths of the book and of the prices, bound by bound: each is tried by an edit of its own.
 #[tactic(auto, using(std::proofs::lemmas::Bool::Decides::nat_tests), unfolding(rules::specs::Opening::day_sizes_fit, sequences::specs::Every::every, sequences::specs::Every::inside))]
 pub fn sizes_fit(accounts: usize, n: usize, book: usize, prices: usize) -> bool
     ensures { result ≡ day_sizes_fit accounts n book prices }

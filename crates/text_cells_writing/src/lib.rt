@@ -12,7 +12,7 @@ ghost use Rattle.text_cells_writing.specs.Cells.{used_text};
 use digits::{Figure, Form};
 use text_rules::Column;
 
-// Writes a number into its cell, which holds only blanks.
+// Writes a number into its cell, which holds only blanks. That the column is well is asked of it alone: `Columns` holds it of all.
 fn put_number(cell: &mut [u8], column: Column, n: u64)
     requires column_value { (column_well column ≡ true) × (cell.old ≡ replicate column.width 32) }
     requires fits { Fits (number_form column) (plain n) }
@@ -27,7 +27,8 @@ fn put_number(cell: &mut [u8], column: Column, n: u64)
     digits_writing::put_signed(cell, form, Figure::from(n));
 }
 
-// Writes a number into its place in a line, where the column is used, and the bar behind it.
+// Writes a number into its place in a line, where the column is used, and the bar behind it. `used` and no Option: the run has the
+// column's number either way.
 pub fn put_cell(line: &mut [u8], at: usize, column: Column, used: bool, n: u64)
     requires column_value { (column_well column ≡ true) × (at + column.width < length line.old) }
     requires line_value { take column.width (drop at line.old) ≡ replicate column.width 32 }

@@ -18,7 +18,7 @@ pub fn is_row(columns: &Columns, width: usize, line: &[u8]) -> bool
     if line.len() != width {
         return false;
     }
-    // By place: the length is tested once, where parts cut off the line one by one would be tested each.
+    // By place: the length is tested once; parts cut off the line one by one would be tested each, and be no plainer.
     let mut at = 0;
     for column in columns.table() {
         let bar = at + column.width;
@@ -44,7 +44,8 @@ fn read_blanks(s: &[u8]) -> Option<u64>
     digits_scan::is_blank(s).then_some(0)
 }
 
-// The number of a column, with so many digits, or as many as there are, and so many decimals; 0 for its blanks where it is not used.
+// The number of a column, with so many digits, or as many as there are, and so many decimals; 0 for its blanks where it is not used, as
+// the flag table says. Its form has no width: the blanks are passed over here.
 pub fn read_cell(used: bool, digits: Option<usize>, decimals: usize, s: &[u8]) -> Option<u64>
     requires { length s.now ≤ most_width }
     ensures { result ≡ cell_size used digits decimals s.now }

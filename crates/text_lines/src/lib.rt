@@ -28,7 +28,7 @@ pub fn is_opening(line: &[u8]) -> bool
         && line[n - 1] == b']'
 }
 
-// The letters of a text's first line, as that part of it; an empty part where the line is another.
+// The letters of a text's first line, as that part of it; an empty part where the line is another: it goes on to C as place and length.
 pub fn letters(text: &[u8]) -> &[u8]
     ensures { result.now ≡ letters_read text.now }
 {
@@ -38,7 +38,8 @@ pub fn letters(text: &[u8]) -> &[u8]
     }
 }
 
-// Whether a component line with its end stands at a place.
+// Whether a component line with its end stands at a place of the whole text, of which the answers are places. `width` is the columns',
+// added up once for all lines. By match: a closure would have to carry what `is_row` asks of the width.
 fn row_stands(columns: &Columns, width: usize, text: &[u8], at: usize) -> bool
     requires columns_value { width ≡ line_width columns.now }
     requires at_in_bounds { at ≤ length text.now }

@@ -5,7 +5,7 @@ use program_io::fault::Fault;
 use program_io::items::split;
 use std::alloc::Global;
 
-// The longest text that is made.
+// The longest text that is made of a part many times.
 const MOST_BYTES: usize = 4_000_000;
 
 // The place of the bytes that go, how many they are, and the bytes that come in their place.

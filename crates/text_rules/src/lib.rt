@@ -14,6 +14,7 @@ use std::marker::Model;
 #[derive(Clone, Copy)]
 pub enum Use {
     Always,
+    // A place and no `flags::Column`: the definitions take any place (`entry_in`), and the enum would ask more.
     ByFlag(usize),
     Text,
 }
@@ -117,7 +118,7 @@ impl<'a> Columns<'a> {
         requires { k ≤ length self.now }
         ensures { result ≡ taken_before self.now k }
     {
-        // By `for`: a closure of `fold` is not told that what is taken so far is right, which `past` asks.
+        // By `for`: `past` asks that what is taken so far is right; with `fold` that is a clause and a proof of each turn, and no plainer.
         let mut taken = Taken::default();
         for i in 0..k {
             taken = self.past(i, taken);
@@ -198,6 +199,7 @@ impl<'a> LineForm<'a> {
         ensures well { columns_well self.now.columns ≡ true }
     {
         let columns = &self.columns;
+        // This borrow shows what the columns hold, which `well` hands on.
         let _ = &columns.all;
         columns
     }
@@ -278,7 +280,7 @@ impl<'a> Fields<'a> {
     }
 }
 
-// How many fields there is room for.
+// How many fields there is room for: figures stand in a fixed array, since the library has no heap.
 pub const MOST_FIELDS: usize = 24;
 
 // How many letters the first line has at most, where they start, how short it may be, and what it takes beside them with its end.

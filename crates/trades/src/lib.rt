@@ -17,6 +17,8 @@ use units::Money;
 
 const MOST_QUANTITY: u64 = 999_999_999;
 
+// Accounts, count and book come apart here: the day's test says that they fit, and a struct of them would be made for one call.
+
 // The tests of a price call.
 #[tactic(auto, unfolding(sequences::specs::Checks::answering, rules::specs::Price::price_checks))]
 fn price_answer(count: usize, line: usize, price: u64) -> Result<(), Refusal>

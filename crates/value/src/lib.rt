@@ -28,7 +28,7 @@ fn worth_of(c: Component, price: u64) -> Money
     if flags::entry_of(c.flag, flags::Column::Priced) {
         return Money(c.quantity * price);
     }
-    Money(c.amount.0)
+    c.amount
 }
 
 // Whether a component that is counted by its price has none.
@@ -64,7 +64,8 @@ fn per_unit(basket: Money, size: u64) -> ReferenceValue
     ReferenceValue((2 * tenths + size) / (2 * size))
 }
 
-// The answer from the sum of the components and what the estimated cash adds to it and takes from it.
+// The answer from the sum of the components and what the estimated cash adds to it and takes from it: here alone money is taken away, and
+// behind a test, so that it has no `Sub`.
 fn value_with(sum: Money, added: Money, taken: Money, size: u64) -> Result<ReferenceValue, Refusal>
     requires { (sum.0 + added.0 ≤ 400_000_000_000_000_000) × (1 ≤ size) × (size ≤ 99_999_999) }
     ensures { value_answer_reply result ≡ value_from (sum.0 + added.0) taken.0 size }

@@ -4,7 +4,4 @@ use Rattle.flat_calls.proofs.Laws.{told_order_as}
 use Rattle.c_interface.proofs.roffelaine_creation_test.Goals as goal
 
 pub returns : goal.returns
-returns c =
-    let made = c.creation_test-answer.ensures in
-    let told = told_order_as (c.from.ensures ∙ made) c.tell_order.ensures in
-    told
+returns c = told_order_as (c.from.ensures ∙ rw c.rooms_of-rooms.ensures at c.creation_test-answer.ensures) c.tell_order.ensures

@@ -4,7 +4,4 @@ use Rattle.flat_calls.proofs.Laws.{told_order_as}
 use Rattle.c_interface.proofs.roffelaine_redemption_test.Goals as goal
 
 pub returns : goal.returns
-returns c =
-    let made = c.redemption_test-answer.ensures in
-    let told = told_order_as (c.from.ensures ∙ made) c.tell_order.ensures in
-    told
+returns c = told_order_as (c.from.ensures ∙ rw c.rooms_of-rooms.ensures at c.redemption_test-answer.ensures) c.tell_order.ensures

@@ -12,6 +12,3 @@ loop-i-preserved g c =
 pub returns-then-rest-eq0 : goal.returns-then-rest-eq0
 returns-then-rest-eq0 g c =
     all_end _ _ _ c.requires.room.0 c.requires.room.1 _ _ _ c.loop-i.invariant c.split_last-rest.ensures.0 c.split_last-rest.ensures.1 c.if-rest-eq0.true
-
-pub returns : goal.returns
-returns g c = absurd (omega (arith, c.loop-i.invariant.some))

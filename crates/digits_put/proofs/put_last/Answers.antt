@@ -1,4 +1,4 @@
-use Rattle.digits_put.proofs.Last.{last_start, last_again, last_end}
+use Rattle.digits_put.proofs.Last.{last_start, last_again}
 use Rattle.digits_put.proofs.put_last.Goals as goal
 
 pub loop-i-init : goal.loop-i-init
@@ -7,8 +7,3 @@ loop-i-init g c = last_start _ _
 pub loop-i-preserved : goal.loop-i-preserved
 loop-i-preserved g c =
     rw (c.split_last-rest.ensures.0, c.split_last-rest.ensures.1) (last_again _ _ _ _ _ c.loop-i.invariant c.loop-i-test.true)
-
-pub returns : goal.returns
-returns g c =
-    let e = last_end _ _ _ _ _ c.loop-i.invariant c.loop-i-test.false in
-    record { bytes = e.0; left = e.1 }

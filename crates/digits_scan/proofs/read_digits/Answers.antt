@@ -14,12 +14,6 @@ returns-in_err-digit g c =
 pub next_size-a-requires : goal.next_size-a-requires
 next_size-a-requires g c = (c.loop-b.invariant.read.within, (digit_there _ _ (c.in_ok-digit.ensures)).2)
 
-pub overflow_mul-a : goal.overflow_mul-a
-overflow_mul-a g c = omega (arith, c.loop-b.invariant.read.within)
-
-pub overflow_add-a : goal.overflow_add-a
-overflow_add-a g c = omega (arith, c.loop-b.invariant.read.within, digit_there _ _ (c.in_ok-digit.ensures))
-
 pub loop-b-preserved : goal.loop-b-preserved
 loop-b-preserved g c =
     let d = digit_there _ _ (c.in_ok-digit.ensures) in

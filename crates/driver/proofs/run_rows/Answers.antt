@@ -1,10 +1,7 @@
 use mathlib.Core.Path.{refl, sym, ap, ◌∙◌}
 use native.Mathlib.Omega.{arith}
-use borrow.Author.Rules.{rules}
-use Rattle.layout.specs.Answers.{put_reply}
-use Rattle.sequences.specs.Checks.{Reply}
 use Rattle.driver_rows.specs.Lent.{left_work}
-use Rattle.driver.specs.Batch.{Batch, batch_in}
+use Rattle.driver.specs.Batch.{Batch}
 use Rattle.driver.proofs.Sizes.{fit_facts, run_refused, run_done}
 use Rattle.driver.proofs.Going.{going_starts, going_sound, going_inside, going_on, going_done}
 use Rattle.driver.proofs.run_rows.Goals.{in-Some-kept, in-None-kept}

@@ -6,4 +6,4 @@ pub returns-then-fields-ne-FIELDS_WIDTH : goal.returns-then-fields-ne-FIELDS_WID
 returns-then-fields-ne-FIELDS_WIDTH c = write_refused _ _ _ c.if-fields-ne-FIELDS_WIDTH.true
 
 pub returns : goal.returns
-returns c = rw (← c.fields_at-fields.ensures) (write_done _ _ _ c.if-fields-ne-FIELDS_WIDTH.false _ _ c.write.ensures)
+returns c = rw (← c.fields_at.ensures) (write_done _ _ _ c.if-fields-ne-FIELDS_WIDTH.false _ _ c.write.ensures)
