@@ -18,7 +18,6 @@ use Rattle.text_rules.specs.Tables.{TextForm, column_at}
 use Rattle.text_rules.specs.Columns.{column_start, column_width, line_width, line_pitch, is_text, holds_text, content_by, used_by, is_cell, part_of, flag_of, content_of, wrong_cell, cell_read}
 use Rattle.text_rules.specs.Well.{columns_well}
 use Rattle.text_rules.proofs.Tables.{end_line}
-use Rattle.text_rules.proofs.Well.{column_well_lem}
 use Rattle.text_columns.specs.Read.{cell_size}
 use Rattle.text_columns.proofs.Cells.{cell_reading, column_cell}
 use Rattle.text_rows.specs.Rows.{row_in}

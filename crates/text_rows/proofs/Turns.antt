@@ -1,7 +1,7 @@
 -- The turns of the loops that read component lines.
 use Prim.Native.Nat.{ℕ, zero, suc, ◌+◌, ◌-◌, ◌*◌, ◌/◌, ◌≤◌, ◌<◌}
 use mathlib.Core.Path.{◌≡◌, refl, sym, ap, ap₂, ◌∙◌, subst}
-use mathlib.Core.Bool.{Bool, true, false, cond, not}
+use mathlib.Core.Bool.{Bool, true, false, cond, not, false≢true}
 use mathlib.Core.List.{List}
 use native.Mathlib.Nat.{le_refl, le_antisymm, mul-le-mul_left, mul-le-mul_right, le-div_iff_mul-le, mul-div_cancel}
 use native.Mathlib.Numerals.{add-one}
@@ -17,7 +17,9 @@ use Rattle.text_rules.specs.declared.Column.{Column}
 use Rattle.text_rules.specs.declared.Taken.{Taken}
 use Rattle.text_rules.specs.Tables.{TextForm, column_at}
 use Rattle.text_rules.specs.Columns.{column_start, column_width, line_width, line_pitch, holds_text, is_text, used_by, wrong_cell, numbers_before, line_numbers, taken_before, cell_read}
-use Rattle.text_rules.specs.Well.{most_line, columns_well}
+use Rattle.text_rules.specs.Well.{most_line, columns_well, is_always}
+use Rattle.text_rules.specs.declared.Use.{Use}
+use Rattle.text_rules.specs.declared.Use.TheVariants.{Always, ByFlag, Text}
 use Rattle.text_rules.proofs.Tables.{start_next, end_line}
 use Rattle.text_rules.proofs.Well.{WellColumn, column_well_lem, line_short}
 use Rattle.text_rules.proofs.Placed.{bytes_of, numbers_of}
@@ -205,6 +207,13 @@ module _ (t : TextForm) (k : ℕ) {line taken : Taken} (v : Known t k line taken
       unfolding wrong_at
       cell_some f = reading_some t (row_in t.columns rows j) k (sym reads_cell ∙ f)
 
+-- a column that is always used, whatever the flag
+pub used_always : (u : Use) → is_always u ≡ true → (flags : List (List Bool)) (flag : ℕ) → true ≡ used_by flags flag u
+unfolding is_always used_by
+used_always Always e flags flag = refl
+used_always (ByFlag column) e flags flag = absurd (false≢true e)
+used_always Text e flags flag = refl
+
 -- a column is well made
 pub column_here : (t : TextForm) → columns_well t.columns ≡ true → {k : ℕ} → k < length t.columns → {c : Column} → c ≡ column_at t.columns k → WellColumn c
 column_here t well {k} h e = subst WellColumn (sym e) (column_well_lem t.columns well k h)
@@ -218,9 +227,21 @@ unfolding words_fault cells_fault
 words_cells t rows k count h e p a w =
     rw (p, a, w) (first_same _ _ count (λ j l. sym (words_wrong t rows k j h e)))
 
-pub column_holds : (t : TextForm) (k : ℕ) {c : Column} → c ≡ column_at t.columns k → {b : Bool} → b ≡ is_text c.used → {d : Bool} → b ≡ d → holds_text t.columns k ≡ d
-unfolding holds_text
-column_holds t k e f g = sym (f ∙ ap (λ (c : Column). is_text c.used) e) ∙ g
+module _ (t : TextForm) (k : ℕ) {c : Column} (e : c ≡ column_at t.columns k) where
+  pub holds_words : c.used ≡ Text → holds_text t.columns k ≡ true
+  unfolding holds_text is_text
+  holds_words f = ap (λ (x : Column). is_text x.used) (sym e) ∙ ap is_text f
+
+  pub holds_always : c.used ≡ Always → (holds_text t.columns k ≡ false) × (is_always (column_at t.columns k).used ≡ true)
+  unfolding holds_text is_text is_always
+  holds_always f = (
+    ap (λ (x : Column). is_text x.used) (sym e) ∙ ap is_text f,
+    ap (λ (x : Column). is_always x.used) (sym e) ∙ ap is_always f,
+  )
+
+  pub holds_by : {column : ℕ} → c.used ≡ ByFlag column → holds_text t.columns k ≡ false
+  unfolding holds_text is_text
+  holds_by f = ap (λ (x : Column). is_text x.used) (sym e) ∙ ap is_text f
 
 -- the words of a column within a line
 pub words_room : (t : TextForm) (k : ℕ) → k < length t.columns → {cs : List Column} → cs ≡ t.columns → {pitch start : ℕ} → pitch ≡ line_pitch cs → start ≡ column_start cs k

@@ -4,10 +4,12 @@
 ghost use Rattle.std.specs.Prelude.{◌≡◌, true, false, ◌+◌, ◌/◌, ◌≤◌, ◌<◌, length, set};
 ghost use Rattle.sequences.specs.Below.{below};
 ghost use Rattle.text_rules.specs.Columns.{holds_text};
+ghost use Rattle.text_rules.specs.Tables.{column_at};
+ghost use Rattle.text_rules.specs.Well.{is_always};
 ghost use Rattle.text_rows.specs.Rows.{line_count, fault_in, column_kept, numbers_kept};
 ghost use Rattle.text_rows.specs.Turns.{words_fault, cells_fault, column_stored};
 
-use text_rules::LineForm;
+use text_rules::{LineForm, Use};
 
 // The first line with a column at fault, and that column.
 #[derive(Clone, Copy, PartialEq, Eq, Debug)]
@@ -38,9 +40,16 @@ pub fn words_fault(rows: &[u8], pitch: usize, from: usize, width: usize) -> Opti
     None
 }
 
-// The first line whose column k, a number's, is at fault. The numbers before it are stored.
-fn read_numbers_column(form: &LineForm, k: usize, rows: &[u8], run: &mut [u64]) -> Option<usize>
-    requires { (k < length form.now.columns) × (holds_text form.now.columns k ≡ false) }
+// The first line whose column k, a number's, is at fault. The numbers before it are stored. A column that is always used has a loop of
+// its own, in which no flag is read.
+fn read_numbers_column<const ALWAYS: bool>(
+    form: &LineForm,
+    k: usize,
+    rows: &[u8],
+    run: &mut [u64],
+) -> Option<usize>
+    requires column { (k < length form.now.columns) × (holds_text form.now.columns k ≡ false) }
+    requires always { ALWAYS ≡ true → is_always (column_at form.now.columns k).used ≡ true }
     ensures value { result ≡ below (line_count form.now rows.now) (cells_fault form.now rows.now k (line_count form.now rows.now)) }
     ensures run_after { run.new ≡ column_kept form.now rows.now k (cells_fault form.now rows.now k (line_count form.now rows.now)) run.old }
 {
@@ -51,9 +60,12 @@ fn read_numbers_column(form: &LineForm, k: usize, rows: &[u8], run: &mut [u64]) 
     let taken = columns.taken_before(k);
     let column = form.column(k);
     for (j, row) in rows.chunks_exact(line.bytes + 2).enumerate() {
-        let flag = text_columns::flag_digit(row[flag_start]);
+        let used = ALWAYS
+            || column
+                .used
+                .has_number(flags, text_columns::flag_digit(row[flag_start]));
         let size = text_columns::read_cell(
-            column.used.has_number(flags, flag),
+            used,
             column.digits,
             column.decimals,
             &row[taken.bytes..taken.bytes + column.width],
@@ -73,11 +85,14 @@ fn read_column(form: &LineForm, k: usize, rows: &[u8], run: &mut [u64]) -> Optio
     ensures run_after { run.new ≡ column_stored form.now rows.now k (cells_fault form.now rows.now k (line_count form.now rows.now)) run.old }
 {
     let column = form.column(k);
-    if column.used.is_text() {
-        let columns = form.columns();
-        return words_fault(rows, columns.pitch(), columns.start(k), column.width);
+    match column.used {
+        Use::Text => {
+            let columns = form.columns();
+            words_fault(rows, columns.pitch(), columns.start(k), column.width)
+        }
+        Use::Always => read_numbers_column::<true>(form, k, rows, run),
+        Use::ByFlag(_) => read_numbers_column::<false>(form, k, rows, run),
     }
-    read_numbers_column(form, k, rows, run)
 }
 
 // Reads component lines, column by column, as far as the first fault. Their numbers go to the run, those of a line behind those of the

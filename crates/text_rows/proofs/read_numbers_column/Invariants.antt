@@ -6,6 +6,6 @@ use Rattle.text_rows.proofs.Turns.{NumbersRead}
 use Rattle.text_rows.proofs.read_numbers_column.Given as goal
 
 abbrev pub invariant-loop-j : goal.invariant-loop-j
-invariant-loop-j l =
+invariant-loop-j g l =
     ChunksFrom l.rows (line_pitch l.form.columns) l.j-iterator.iter.size l.j-iterator.iter.rest.now l.j-iterator.count
     × NumbersRead l.form l.rows l.k l.initial.run l.run l.j-iterator.count
