@@ -24,15 +24,14 @@ use Rattle.rules.specs.declared.Kind.TheVariants.{Creation, Redemption}
 use Rattle.rules.specs.Orders.{most_baskets}
 use Rattle.rules.specs.Kinds.{no_cash}
 use Rattle.rules.proofs.Asked.{either_kind}
-use Rattle.order_lines.specs.declared.Line.{Line}
-use Rattle.order_lines.specs.Lines.{money, worth_in, in_market, missing_of, worth_of, creation_line, redemption_line, amount_due, amount_line, order_line}
+use Rattle.order_lines.specs.Lines.{money, worth_in, Effect, in_market, missing_of, worth_of, creation_line, redemption_line, amount_due, amount_line, order_line}
 use Rattle.order_lines.specs.Ready.{Ranged}
 
 -- Bounds.
 
 -- what a line adds to the sums at most
-pub record Small (x : Line) : Type 0 where
-  pub worth : worth_in x.missing ≤ 20_000_000_000_000_000
+pub record Small (x : Effect) : Type 0 where
+  pub worth : worth_in x.worth ≤ 20_000_000_000_000_000
   pub other : x.cash.other.0 ≤ 40_000_000_000_000_000
   pub shanghai : x.cash.shanghai.0 ≤ 40_000_000_000_000_000
 
@@ -124,33 +123,33 @@ module _ (c : Component) (have m : ℕ) (moves : entry c.flag stock_moves ≡ tr
   -- cash stands for what is missing
   pub missing_line : (price : ℕ) (worth cash : Money) → have < m * c.quantity → entry c.flag shortage_in_cash ≡ true
       → worth.0 ≡ (m * c.quantity - have) * price → cash.0 ≡ premium worth.0 c.premium.0
-      → record { short = false; missing = Some worth; cash = in_market c cash.0; moves = ltb 0 (min (m * c.quantity) have) } ≡ creation_line c have price m
+      → record { short = false; missing = m * c.quantity - have; worth = Some worth; cash = in_market c cash.0; moved = min (m * c.quantity) have } ≡ creation_line c have price m
   unfolding creation_line worth_of missing_of every
   missing_line price worth cash lacks in-cash is_worth is_cash =
       rw (moves, in-cash, is_cash, ← is_worth, lt-ltb 0 (m * c.quantity - have) (omega (arith, lacks)))
 
   -- it is short, or is there in full
   pub short_line : (price : ℕ) → have < m * c.quantity → entry c.flag shortage_in_cash ≡ false
-      → record { short = ltb have (m * c.quantity); missing = None; cash = no_cash; moves = ltb 0 (min (m * c.quantity) have) } ≡ creation_line c have price m
+      → record { short = ltb have (m * c.quantity); missing = 0; worth = None; cash = no_cash; moved = min (m * c.quantity) have } ≡ creation_line c have price m
   unfolding creation_line worth_of missing_of every
   short_line price lacks none = rw (moves, none, lt-ltb have (m * c.quantity) lacks, zero-mul price, premium-zero c.premium.0, ← none_in c)
 
   pub full_line : (price : ℕ) → m * c.quantity ≤ have
-      → record { short = ltb have (m * c.quantity); missing = None; cash = no_cash; moves = ltb 0 (min (m * c.quantity) have) } ≡ creation_line c have price m
+      → record { short = ltb have (m * c.quantity); missing = 0; worth = None; cash = no_cash; moved = min (m * c.quantity) have } ≡ creation_line c have price m
   unfolding creation_line worth_of missing_of
   full_line price enough =
       let none : m * c.quantity - have ≡ 0 = omega arith in
       rw (moves, le-ltb have (m * c.quantity) enough, none, cond_same (entry c.flag shortage_in_cash) 0, zero-mul price, premium-zero c.premium.0, ← none_in c)
       (rw (covered_short (entry c.flag shortage_in_cash)))
 
-  pub delivered_line : record { short = ltb have (m * c.quantity); missing = None; cash = no_cash; moves = ltb 0 (m * c.quantity) } ≡ redemption_line c have m
+  pub delivered_line : record { short = ltb have (m * c.quantity); missing = 0; worth = None; cash = no_cash; moved = m * c.quantity } ≡ redemption_line c have m
   unfolding redemption_line
   delivered_line = rw (moves, ← none_in c)
 
 -- a component of which no stock moves, in an order
 module _ (c : Component) (have price m : ℕ) (stays : entry c.flag stock_moves ≡ false) where
-  abbrev paid : ℕ → Line
-  paid cash = record { short = false; missing = None; cash = in_market c cash; moves = false }
+  abbrev paid : ℕ → Effect
+  paid cash = record { short = false; missing = 0; worth = None; cash = in_market c cash; moved = 0 }
 
   amount_creation : creation_line c have price m ≡ paid (premium (m * c.amount.0) c.premium.0)
   unfolding creation_line worth_of missing_of every

@@ -1,5 +1,5 @@
 -- One component in an order.
-use Rattle.std.specs.Prelude.{false, cond, not, [], ◌∷◌, ℕ, ◌-◌, ◌*◌, min, ltb, Option, Some, None}
+use Rattle.std.specs.Prelude.{Bool, false, cond, not, [], ◌∷◌, ℕ, ◌-◌, ◌*◌, min, ltb, Option, Some, None}
 use Rattle.std.specs.Bool.{then_some}
 use Rattle.sequences.specs.Every.{every}
 use Rattle.units.specs.declared.Money.{Money}
@@ -8,8 +8,9 @@ use Rattle.flags.specs.Table.{entry, stock_moves, shortage_in_cash, shanghai}
 use Rattle.layout.specs.declared.Component.{Component}
 use Rattle.rules.specs.declared.Kind.{Kind}
 use Rattle.rules.specs.declared.CashByMarket.{CashByMarket}
-use Rattle.rules.specs.Kinds.{by_kind}
+use Rattle.rules.specs.Kinds.{by_kind, no_cash}
 use Rattle.order_lines.specs.declared.Line.{Line}
+use Rattle.order_lines.specs.declared.Line.TheVariants.{Stock, InCash, Amount}
 
 abbrev pub money : ℕ → Money
 money x = record { 0 = x }
@@ -18,6 +19,21 @@ money x = record { 0 = x }
 abbrev pub worth_in : Option Money → ℕ
 worth_in None = 0
 worth_in (Some worth) = worth.0
+
+-- what a component comes to in an order: whether there is not enough of it; where cash stands for a shortage, what is missing and its
+-- worth without the premium; its cash, and how much of its stock moves
+pub record Effect : Type 0 where
+  pub short : Bool
+  pub missing : ℕ
+  pub worth : Option Money
+  pub cash : CashByMarket
+  pub moved : ℕ
+
+-- what a line of the code says
+abbrev pub effect_of : Line → Effect
+effect_of (Stock short moved) = record { short = short; missing = 0; worth = None; cash = no_cash; moved = moved }
+effect_of (InCash missing worth cash moved) = record { short = false; missing = missing; worth = Some worth; cash = cash; moved = moved }
+effect_of (Amount cash) = record { short = false; missing = 0; worth = None; cash = cash; moved = 0 }
 
 -- cash for a component, which goes to its market
 abbrev pub in_market : Component → ℕ → CashByMarket
@@ -35,27 +51,29 @@ unfoldable pub worth_of : Component → ℕ → ℕ → ℕ → ℕ
 worth_of c have price m = missing_of c have m * price
 
 -- a component in a creation of m baskets, for an account that has so much of it to hand in
-unfoldable pub creation_line : Component → ℕ → ℕ → ℕ → Line
+unfoldable pub creation_line : Component → ℕ → ℕ → ℕ → Effect
 creation_line c have price m =
     record {
       short = every (entry c.flag stock_moves ∷ not (entry c.flag shortage_in_cash) ∷ ltb have (need_of c m) ∷ []);
-      missing = then_some (ltb 0 (missing_of c have m)) (money (worth_of c have price m));
+      missing = missing_of c have m;
+      worth = then_some (ltb 0 (missing_of c have m)) (money (worth_of c have price m));
       cash = in_market c (premium (cond (entry c.flag stock_moves) (worth_of c have price m) (m * c.amount.0)) c.premium.0);
-      moves = ltb 0 (cond (entry c.flag stock_moves) (min (need_of c m) have) 0);
+      moved = cond (entry c.flag stock_moves) (min (need_of c m) have) 0;
     }
 
 -- a component in a redemption of m baskets, of which the fund has so much
-unfoldable pub redemption_line : Component → ℕ → ℕ → Line
+unfoldable pub redemption_line : Component → ℕ → ℕ → Effect
 redemption_line c have m =
     record {
       short = ltb have (cond (entry c.flag stock_moves) (need_of c m) 0);
-      missing = None;
+      missing = 0;
+      worth = None;
       cash = in_market c (cond (entry c.flag stock_moves) 0 (discount (m * c.amount.0) c.discount.0));
-      moves = ltb 0 (cond (entry c.flag stock_moves) (need_of c m) 0);
+      moved = cond (entry c.flag stock_moves) (need_of c m) 0;
     }
 
 -- a component in an order of either kind
-unfoldable pub order_line : Kind → Component → ℕ → ℕ → ℕ → Line
+unfoldable pub order_line : Kind → Component → ℕ → ℕ → ℕ → Effect
 order_line kind c have price m = by_kind kind (creation_line c have price m) (redemption_line c have m)
 
 -- an amount that stands for a component: with the premium on creation, less the discount on redemption
@@ -63,11 +81,12 @@ unfoldable pub amount_due : Kind → Component → ℕ → ℕ
 amount_due kind c amount = by_kind kind (premium amount c.premium.0) (discount amount c.discount.0)
 
 -- a component of which no stock moves: its amount in so many baskets
-unfoldable pub amount_line : Kind → Component → ℕ → Line
+unfoldable pub amount_line : Kind → Component → ℕ → Effect
 amount_line kind c m =
     record {
       short = false;
-      missing = None;
+      missing = 0;
+      worth = None;
       cash = in_market c (amount_due kind c (m * c.amount.0));
-      moves = false;
+      moved = 0;
     }

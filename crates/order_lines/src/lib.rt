@@ -6,7 +6,7 @@ ghost use Rattle.flags.specs.Table.{entry, column_number, stock_moves};
 ghost use Rattle.rules.specs.Kinds.{no_cash};
 ghost use Rattle.rules.specs.Sound.{most_price};
 ghost use Rattle.rules.specs.Orders.{most_baskets};
-ghost use Rattle.order_lines.specs.Lines.{in_market, need_of, creation_line, redemption_line, amount_due, amount_line, order_line};
+ghost use Rattle.order_lines.specs.Lines.{effect_of, in_market, need_of, creation_line, redemption_line, amount_due, amount_line, order_line};
 ghost use Rattle.order_lines.specs.Ready.{Ranged};
 
 use flags::Column;
@@ -16,14 +16,21 @@ use units::Money;
 
 // What an order makes of a component.
 #[derive(Clone, Copy)]
-pub struct Line {
-    // Whether there is not enough of it.
-    pub short: bool,
-    // What missing stock is worth for which cash stands, without the premium.
-    pub missing: Option<Money>,
-    pub cash: CashByMarket,
-    // Whether stock of it moves, which takes a record.
-    pub moves: bool,
+pub enum Line {
+    // Stock, for which no cash stands: whether there is not enough of it, and how much moves.
+    Stock {
+        short: bool,
+        moved: u64,
+    },
+    // Stock of which some is missing, for which cash stands: what that is worth, without the premium, and how much moves.
+    InCash {
+        missing: u64,
+        worth: Money,
+        cash: CashByMarket,
+        moved: u64,
+    },
+    // Its amount, where no stock of it moves.
+    Amount(CashByMarket),
 }
 
 // No cash. A constant and no `Default`: `..NO_CASH` says what stands there.
@@ -89,40 +96,34 @@ impl Part {
     // Its line where no stock of it moves: its amount alone.
     #[tactic(auto, unfolding(crate::specs::Lines::amount_line))]
     fn amount_line(self, kind: Kind) -> Line
-        ensures { result ≡ amount_line kind self.component self.baskets }
+        ensures { effect_of result ≡ amount_line kind self.component self.baskets }
     {
         let amount = Money(self.baskets * self.component.amount.0);
-        Line {
-            short: false,
-            missing: None,
-            cash: self.in_market(self.amount_due(kind, amount)),
-            moves: false,
-        }
+        Line::Amount(self.in_market(self.amount_due(kind, amount)))
     }
 
     // Its line where stock of it moves in a creation, for an account that has so much of it to hand in. A redemption has a function of
     // its own: only here may cash stand for stock, so that one for both would ask for the kind three times.
     fn creation_line(self, have: u64, price: u64) -> Line
         requires { (entry self.component.flag stock_moves ≡ true) × (price ≤ most_price) }
-        ensures { result ≡ creation_line self.component have price self.baskets }
+        ensures { effect_of result ≡ creation_line self.component have price self.baskets }
     {
         let need = self.need();
-        let moves = 0 < need.min(have);
+        let moved = need.min(have);
         if have < need && self.entry(Column::ShortageInCash) {
-            let worth = Money((need - have) * price);
+            let missing = need - have;
+            let worth = Money(missing * price);
             let cash = worth.with_premium(self.component.premium);
-            return Line {
-                short: false,
-                missing: Some(worth),
+            return Line::InCash {
+                missing,
+                worth,
                 cash: self.in_market(cash),
-                moves,
+                moved,
             };
         }
-        Line {
+        Line::Stock {
             short: have < need,
-            missing: None,
-            cash: NO_CASH,
-            moves,
+            moved,
         }
     }
 
@@ -130,14 +131,12 @@ impl Part {
     #[tactic(auto, using(crate::proofs::Laws::delivered_line))]
     fn redemption_line(self, have: u64) -> Line
         requires { entry self.component.flag stock_moves ≡ true }
-        ensures { result ≡ redemption_line self.component have self.baskets }
+        ensures { effect_of result ≡ redemption_line self.component have self.baskets }
     {
         let delivered = self.need();
-        Line {
+        Line::Stock {
             short: have < delivered,
-            missing: None,
-            cash: NO_CASH,
-            moves: 0 < delivered,
+            moved: delivered,
         }
     }
 
@@ -145,7 +144,7 @@ impl Part {
     #[tactic(auto, using(crate::proofs::Laws::amount_is), unfolding(crate::specs::Lines::order_line))]
     pub fn order_line(self, kind: Kind, have: u64, price: u64) -> Line
         requires { price ≤ most_price }
-        ensures { result ≡ order_line kind self.component have price self.baskets }
+        ensures { effect_of result ≡ order_line kind self.component have price self.baskets }
     {
         if !self.entry(Column::StockMoves) {
             return self.amount_line(kind);

@@ -22,14 +22,14 @@ use Rattle.rules.specs.Lines.{column, quantity, creation_rate, redemption_rate, 
 use Rattle.rules.specs.Orders.{need, other_cash, shanghai_cash}
 use Rattle.rules.specs.Creation.{handed_in, is_short, first_short, missing, missing_worth, is_missing, creation_cash}
 use Rattle.rules.specs.Redemption.{delivered, redemption_cash, fund_lacks, first_lacking}
-use Rattle.rules.specs.Kinds.{moved_by, cash_by}
+use Rattle.rules.specs.Kinds.{no_cash, moved_by, cash_by}
+use Rattle.rules.specs.declared.CashByMarket.{CashByMarket}
 use Rattle.rules.specs.declared.Kind.{Kind}
 use Rattle.rules.specs.declared.Kind.TheVariants.{Creation, Redemption}
 use Rattle.units.specs.declared.Money.{Money}
-use Rattle.order_lines.specs.declared.Line.{Line}
 use Rattle.order_scan.specs.declared.Scan.{Scan}
-use Rattle.order_lines.specs.Lines.{missing_of, worth_of, creation_line, redemption_line, order_line, money, worth_in}
-use Rattle.order_scan.specs.Lines.{held_of, with_missing, with_cash, with_line, no_lines}
+use Rattle.order_lines.specs.Lines.{missing_of, worth_of, creation_line, redemption_line, order_line, money, worth_in, Effect}
+use Rattle.order_scan.specs.Lines.{held_of, stock_count, with_missing, with_cash, with_line, no_lines}
 use Rattle.order_scan.specs.Scans.{order_scan}
 use Rattle.order_scan.specs.Ready.{Room}
 use Rattle.order_lines.proofs.Laws.{Small, worth_in-le}
@@ -38,14 +38,19 @@ use Rattle.order_lines.proofs.Laws.{Small, worth_in-le}
 abbrev missing_below : (ℕ → Option Money) → ℕ → Option Money
 missing_below g n = then_some (any_below (λ i. is_some (g i)) n) (money (sum_below (λ i. worth_in (g i)) n))
 
+-- no more cash
+pub no_more : (c : CashByMarket) → c ≡ with_cash c no_cash
+unfolding with_cash
+no_more c = rw (add-zero c.shanghai.0, add-zero c.other.0)
+
 -- the scan of the lines below an index
-unfoldable pub scan_below : (ℕ → Line) → ℕ → Scan
+unfoldable pub scan_below : (ℕ → Effect) → ℕ → Scan
 scan_below f n =
     record {
       short = below n (first_below (λ i. (f i).short) n);
-      missing = missing_below (λ i. (f i).missing) n;
+      missing = missing_below (λ i. (f i).worth) n;
       cash = record { shanghai = money (sum_below (λ i. (f i).cash.shanghai.0) n); other = money (sum_below (λ i. (f i).cash.other.0) n) };
-      stock_records = sum_below (λ i. cond (f i).moves 1 0) n;
+      stock_records = sum_below (λ i. stock_count (f i).moved) n;
     }
 
 -- the first that passes of i + 1
@@ -87,26 +92,26 @@ missing_next g i = rw (any_more (λ k. is_some (g k)) i, sum_more (λ k. worth_i
         let none : worth ≡ 0 = sum_zero _ i (λ k l. worth_none (g k) (not_any _ i e k l)) in
         rw (none, zero-add x.0)
 
-module _ (f : ℕ → Line) where
+module _ (f : ℕ → Effect) where
   pub scan_none : no_lines ≡ scan_below f 0
   unfolding scan_below
   scan_none =
       rw (
         first_none (λ i. (f i).short),
-        any_none (λ i. is_some (f i).missing),
+        any_none (λ i. is_some (f i).worth),
         sum_none (λ i. (f i).cash.other.0),
         sum_none (λ i. (f i).cash.shanghai.0),
-        sum_none (λ i. cond (f i).moves 1 0),
+        sum_none (λ i. stock_count (f i).moved),
       )
 
   next : (i : ℕ) → with_line (scan_below f i) i (f i) ≡ scan_below f (i + 1)
   unfolding scan_below with_line with_cash
   next i =
       let short = first_next (λ k. (f k).short) i in
-      let missing = missing_next (λ k. (f k).missing) i in
+      let missing = missing_next (λ k. (f k).worth) i in
       let other = sum_more (λ k. (f k).cash.other.0) i in
       let shanghai = sum_more (λ k. (f k).cash.shanghai.0) i in
-      let records = sum_more (λ k. cond (f k).moves 1 0) i in
+      let records = sum_more (λ k. stock_count (f k).moved) i in
       λ j. record {
         short = short j;
         missing = missing j;
@@ -114,18 +119,18 @@ module _ (f : ℕ → Line) where
         stock_records = sym records j;
       }
 
-  pub scan_more : (i : ℕ) (t : Scan) (x : Line) → t ≡ scan_below f i → x ≡ f i → with_line t i x ≡ scan_below f (i + 1)
+  pub scan_more : (i : ℕ) (t : Scan) (x : Effect) → t ≡ scan_below f i → x ≡ f i → with_line t i x ≡ scan_below f (i + 1)
   scan_more i t x e g = rw (e, g) (next i)
 
   room : (n i : ℕ) → n ≤ most_components → ((k : ℕ) → k < n → Small (f k)) → i < n → Room (scan_below f i) i (f i)
   unfolding scan_below
   room n i h all l =
       let here = all i l in
-      let found = worth_in-le (any_below (λ k. is_some (f k).missing) i) _ _ (le_refl (sum_below (λ k. worth_in (f k).missing) i)) in
-      let worth = sum_le (λ k. worth_in (f k).missing) i 20_000_000_000_000_000 (λ k q. (all k (omega arith)).worth) in
+      let found = worth_in-le (any_below (λ k. is_some (f k).worth) i) _ _ (le_refl (sum_below (λ k. worth_in (f k).worth) i)) in
+      let worth = sum_le (λ k. worth_in (f k).worth) i 20_000_000_000_000_000 (λ k q. (all k (omega arith)).worth) in
       let other = sum_le (λ k. (f k).cash.other.0) i 40_000_000_000_000_000 (λ k q. (all k (omega arith)).other) in
       let inside = sum_le (λ k. (f k).cash.shanghai.0) i 40_000_000_000_000_000 (λ k q. (all k (omega arith)).shanghai) in
-      let records = sum_le (λ k. cond (f k).moves 1 0) i 1 (λ k q. cond_le (f k).moves (lit≤ tt) (lit≤ tt)) in
+      let records = sum_le (λ k. stock_count (f k).moved) i 1 (λ k q. cond_le (ltb 0 (f k).moved) (lit≤ tt) (lit≤ tt)) in
       record {
         index = omega arith;
         worth = omega (arith, found, here.worth);
@@ -134,11 +139,11 @@ module _ (f : ℕ → Line) where
         records = omega arith;
       }
 
-  pub scan_room : (n i : ℕ) (t : Scan) (x : Line) → n ≤ most_components → ((k : ℕ) → k < n → Small (f k)) → i < n → t ≡ scan_below f i → x ≡ f i → Room t i x
+  pub scan_room : (n i : ℕ) (t : Scan) (x : Effect) → n ≤ most_components → ((k : ℕ) → k < n → Small (f k)) → i < n → t ≡ scan_below f i → x ≡ f i → Room t i x
   scan_room n i t x h all l e g = rw (e, g) (room n i h all l)
 
 -- the lines of a day's components
-unfoldable pub order_lines : Kind → List Component → List ℕ → List ℕ → List ℕ → ℕ → ℕ → Line
+unfoldable pub order_lines : Kind → List Component → List ℕ → List ℕ → List ℕ → ℕ → ℕ → Effect
 order_lines kind cs s f ps m i = order_line kind (get_or cs i blank) (held_of kind s f i) (price_of ps i) m
 
 none_missing : (n : ℕ) → any_below (λ _. false) n ≡ false

@@ -10,8 +10,7 @@ use Rattle.rules.specs.declared.Counts.{Counts}
 use Rattle.layout.specs.Book.{lots_at}
 use Rattle.rules.specs.Creation.{available}
 use Rattle.rules.specs.Kinds.{by_kind, no_cash, cash_report_count}
-use Rattle.order_lines.specs.declared.Line.{Line}
-use Rattle.order_lines.specs.Lines.{money}
+use Rattle.order_lines.specs.Lines.{money, Effect}
 use Rattle.order_scan.specs.declared.Scan.{Scan}
 
 -- what there is of component i: of the account, with the stretch s, to hand in; or the old lot of the fund, with the stretch f
@@ -33,13 +32,13 @@ unfoldable pub with_cash : CashByMarket → CashByMarket → CashByMarket
 with_cash c x = record { shanghai = money (c.shanghai.0 + x.shanghai.0); other = money (c.other.0 + x.other.0) }
 
 -- a scan of i lines with one more
-unfoldable pub with_line : Scan → ℕ → Line → Scan
+unfoldable pub with_line : Scan → ℕ → Effect → Scan
 with_line t i x =
     record {
       short = option_or t.short (then_some x.short i);
-      missing = with_missing t.missing x.missing;
+      missing = with_missing t.missing x.worth;
       cash = with_cash t.cash x.cash;
-      stock_records = t.stock_records + cond x.moves 1 0;
+      stock_records = t.stock_records + stock_count x.moved;
     }
 
 abbrev pub no_lines : Scan

@@ -7,15 +7,14 @@ use Rattle.rules.specs.Lines.{component_of, price_of}
 use Rattle.rules.specs.Sound.{most_price}
 use Rattle.rules.specs.Orders.{most_baskets}
 use Rattle.rules.specs.Creation.{available}
-use Rattle.order_lines.specs.declared.Line.{Line}
-use Rattle.order_lines.specs.Lines.{worth_in}
+use Rattle.order_lines.specs.Lines.{worth_in, Effect}
 use Rattle.order_lines.specs.Ready.{Ranged}
 use Rattle.order_scan.specs.declared.Scan.{Scan}
 
 -- a scan of i lines, and one line more
-pub record Room (t : Scan) (i : ℕ) (x : Line) : Type 0 where
+pub record Room (t : Scan) (i : ℕ) (x : Effect) : Type 0 where
   pub index : i < most_components
-  pub worth : worth_in t.missing + worth_in x.missing ≤ 12_000_000_000_000_000_000
+  pub worth : worth_in t.missing + worth_in x.worth ≤ 12_000_000_000_000_000_000
   pub other : t.cash.other.0 + x.cash.other.0 ≤ 12_000_000_000_000_000_000
   pub shanghai : t.cash.shanghai.0 + x.cash.shanghai.0 ≤ 12_000_000_000_000_000_000
   pub records : t.stock_records ≤ i

@@ -6,8 +6,8 @@ ghost use Rattle.layout.specs.Book.{behind_line};
 ghost use Rattle.layout.specs.Places.{most_components};
 ghost use Rattle.rules.specs.Creation.{available};
 ghost use Rattle.rules.specs.Kinds.{all_cash};
-ghost use Rattle.order_lines.specs.Lines.{worth_in};
-ghost use Rattle.order_scan.specs.Lines.{held_of, with_missing, with_cash, with_line, no_lines, cash_count, scan_counts};
+ghost use Rattle.order_lines.specs.Lines.{worth_in, effect_of};
+ghost use Rattle.order_scan.specs.Lines.{held_of, stock_count, with_missing, with_cash, with_line, no_lines, cash_count, scan_counts};
 ghost use Rattle.order_scan.specs.Scans.{order_scan};
 ghost use Rattle.order_scan.specs.Ready.{Room, Scannable};
 
@@ -66,14 +66,13 @@ fn held_at(kind: Kind, parties: &Parties, line: usize) -> u64
 }
 
 // What is missing is worth with that of one component more.
-fn with_missing(found: Option<Money>, more: Option<Money>) -> Option<Money>
-    requires { worth_in found + worth_in more < 2 ^ 64 }
-    ensures { result ≡ with_missing found more }
+fn with_missing(found: Option<Money>, more: Money) -> Option<Money>
+    requires { worth_in found + more.0 < 2 ^ 64 }
+    ensures { result ≡ with_missing found (Some more) }
 {
-    match (found, more) {
-        (Some(x), Some(y)) => Some(x + y),
-        (None, y) => y,
-        (x, None) => x,
+    match found {
+        Some(worth) => Some(worth + more),
+        None => Some(more),
     }
 }
 
@@ -89,17 +88,40 @@ fn with_cash(cash: CashByMarket, more: CashByMarket) -> CashByMarket
     }
 }
 
-// The scan of the first i components with the next one.
-#[tactic(auto, unfolding(crate::specs::Lines::with_line))]
-fn with_line(t: Scan, i: usize, line: Line) -> Scan
-    requires { Room t i line }
-    ensures { result ≡ with_line t i line }
+// A record for stock that moved.
+fn stock_count(moved: u64) -> usize
+    ensures { result ≡ stock_count moved }
 {
-    Scan {
-        short: t.short.or(line.short.then_some(i)),
-        missing: with_missing(t.missing, line.missing),
-        cash: with_cash(t.cash, line.cash),
-        stock_records: t.stock_records + usize::from(line.moves),
+    usize::from(0 < moved)
+}
+
+// The scan of the first i components with the next one.
+#[tactic(auto, using(crate::proofs::Lines::no_more), unfolding(crate::specs::Lines::with_line))]
+fn with_line(t: Scan, i: usize, line: Line) -> Scan
+    requires { Room t i (effect_of line) }
+    ensures { result ≡ with_line t i (effect_of line) }
+{
+    match line {
+        Line::Stock { short, moved } => Scan {
+            short: t.short.or(short.then_some(i)),
+            stock_records: t.stock_records + stock_count(moved),
+            ..t
+        },
+        Line::InCash {
+            worth,
+            cash,
+            moved,
+            ..
+        } => Scan {
+            missing: with_missing(t.missing, worth),
+            cash: with_cash(t.cash, cash),
+            stock_records: t.stock_records + stock_count(moved),
+            ..t
+        },
+        Line::Amount(cash) => Scan {
+            cash: with_cash(t.cash, cash),
+            ..t
+        },
     }
 }
 

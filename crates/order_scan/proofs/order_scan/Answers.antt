@@ -8,8 +8,7 @@ use Rattle.layout.specs.declared.Component.{Component}
 use Rattle.layout.specs.Day.{Day}
 use Rattle.rules.specs.declared.Kind.{Kind}
 use Rattle.rules.specs.Lines.{price_of}
-use Rattle.order_lines.specs.declared.Line.{Line}
-use Rattle.order_lines.specs.Lines.{order_line}
+use Rattle.order_lines.specs.Lines.{Effect, order_line}
 use Rattle.order_lines.proofs.Laws.{Small, order_small}
 use Rattle.order_scan.specs.Lines.{held_of}
 use Rattle.order_scan.specs.Ready.{Scannable}
@@ -24,7 +23,7 @@ unfolding price_of
 order_line-requires c = c.requires.prices c.loop-i.i (omega (arith, c.requires.prices_size))
 
 -- the line of what the turn reads is that of the component at the loop's index
-found : (kind : Kind) (i have m : ℕ) (c : Component) (cs : List Component) (s f ps : List ℕ) (x : Line) → c ≡ get_or cs i blank → have ≡ held_of kind s f i
+found : (kind : Kind) (i have m : ℕ) (c : Component) (cs : List Component) (s f ps : List ℕ) (x : Effect) → c ≡ get_or cs i blank → have ≡ held_of kind s f i
     → x ≡ order_line kind c have (price_of ps i) m → x ≡ order_lines kind cs s f ps m i
 unfolding order_lines
 found kind i have m c cs s f ps x e h l = rw (l, h, e)
