@@ -7,7 +7,7 @@ use native.Mathlib.Omega.{arith}
 use native.Mathlib.Nat.{suc-mul}
 use lib.ListN.{length, drop, length-append, length-drop, length-set}
 use lib.Seq.{drop-drop, take-append_seam, drop-append_seam}
-use Rattle.std.specs.Prelude.{Option, Some, IfSome}
+use Rattle.std.specs.Prelude.{Option, Some, None, IfSome}
 use Rattle.sequences.specs.Checks.{Reply}
 use Rattle.sequences.specs.Stretch.{stretch_of}
 use Rattle.layout.specs.Places.{row_width}
@@ -42,7 +42,13 @@ module _ (width : ℕ) (rows rest x rest' : List ℕ) (i : ℕ) (left : rest ≡
       let both : length x + length rest' ≡ length rows - i * width = rw (← length-append, ← cut, left, length-drop) refl in
       rw full at both
 
-module _ (kept : Option Day) (d : Day) (rows : List ℕ) (w₀ : Runs) (a₀ : List ℕ) where
+-- what holds of all that an option may be holds where it stands
+pub some_all : {K : Type 0} (o : Option K) (P : K → Type 0) → ((x : K) → o ≡ Some x → P x) → IfSome o P
+some_all None P all = tt
+some_all (Some x) P all = all x refl
+
+-- `kept` is the day, where it is known to be kept sound, in the form in which the code has it at hand, and `view` what that is.
+module _ {K : Type 0} (kept : Option K) (view : K → Day) (d : Day) (rows : List ℕ) (w₀ : Runs) (a₀ : List ℕ) where
   abbrev b₀ : Batch
   b₀ = batch_in d w₀ a₀
 
@@ -52,10 +58,10 @@ module _ (kept : Option Day) (d : Day) (rows : List ℕ) (w₀ : Runs) (a₀ : L
     pub within : i ≤ rows_in rows
     pub done : run_from rows i (rows_in rows - i) (batch_in d w a) ≡ run_from rows 0 (rows_in rows) b₀
     pub same : w ≡ left_work w₀ (work_in d w)
-    pub still : (e : Day) → kept ≡ Some e → (e ≡ d) × KeptState (state_in d w)
+    pub still : (e : K) → kept ≡ Some e → (view e ≡ d) × KeptState (state_in d w)
     pub answers : length a ≡ length a₀
 
-  pub going_starts : IfSome kept (λ e. (e ≡ d) × (is_kept d w₀.book.now w₀.prices.now ≡ true)) → Going 0 rows w₀ a₀
+  pub going_starts : IfSome kept (λ e. (view e ≡ d) × (is_kept d w₀.book.now w₀.prices.now ≡ true)) → Going 0 rows w₀ a₀
   going_starts known =
       record {
         behind = refl;
@@ -67,8 +73,8 @@ module _ (kept : Option Day) (d : Day) (rows : List ℕ) (w₀ : Runs) (a₀ : L
       }
 
   module _ (i : ℕ) (rest : List ℕ) (w : Runs) (a : List ℕ) (g : Going i rest w a) where
-    pub going_sound : (e : Day) → kept ≡ Some e → is_sound e w.book.now w.prices.now ≡ true
-    going_sound e is = rw (g.still e is).0 (sound-true _ _ _ (g.still e is).1.sound)
+    pub going_sound : (e : K) → kept ≡ Some e → (view e ≡ d) × (is_sound d w.book.now w.prices.now ≡ true)
+    going_sound e is = ((g.still e is).0, sound-true _ _ _ (g.still e is).1.sound)
 
     module _ (x rest' : List ℕ) (cut : rest ≡ x ++ rest') (full : length x ≡ row_width) where
       pub going_inside : i < rows_in rows

@@ -26,12 +26,12 @@ fn rows_fit(rows: usize, answers: usize) -> bool
 // The list of calls: on a day of which it is known that every call keeps it sound, or with a test of the day in each.
 fn run_rows(
     run: &[u64],
-    kept: Option<DayView>,
+    kept: Option<&DayView>,
     work: &mut Work,
     rows: &[u64],
     answers: &mut [u64],
 ) -> Result<(), Refusal>
-    requires { IfSome kept (λ day. (day ≡ day_at run.now) × (is_kept (day_at run.now) work.old.book.now work.old.prices.now ≡ true)) }
+    requires { IfSome kept (λ day. (day.now ≡ day_at run.now) × (is_kept (day_at run.now) work.old.book.now work.old.prices.now ≡ true)) }
     ensures result_value { answer_reply result ≡ run_reply rows.now (batch_in (day_at run.now) work.old answers.old) }
     ensures work { work.new ≡ left_work work.old (ran rows.now (batch_in (day_at run.now) work.old answers.old)).work }
     ensures answers { answers.new ≡ (ran rows.now (batch_in (day_at run.now) work.old answers.old)).answers }
@@ -40,10 +40,7 @@ fn run_rows(
         return Err(Refusal::Sizes);
     }
     for (i, row) in rows.chunks_exact(layout::ROW_WIDTH).enumerate() {
-        let reply = match &kept {
-            Some(day) => driver_rows::sound_row(day, work, row),
-            None => driver_rows::row_call(run, work, row),
-        };
+        let reply = driver_rows::row_call(run, kept, work, row);
         layout::put_answer(answers, i, reply.into());
     }
     Ok(())
@@ -73,5 +70,5 @@ pub fn run(day: &[u64], work: &mut Work, rows: &[u64], answers: &mut [u64]) -> R
     ensures demand { Demand3 (state_in (day_at day.now) work.old) (events_of rows.now (batch_in (day_at day.now) work.old answers.old)) (state_in (day_at day.now) work.new) }
 {
     let kept = work.kept_day(day);
-    run_rows(day, kept, work, rows, answers)
+    run_rows(day, kept.as_ref(), work, rows, answers)
 }

@@ -3,7 +3,7 @@
 // fail. It asks for a sound day where it makes a call: a fact of the day with its book and prices, which the calls write.
 #![tactic(auto)]
 
-ghost use Rattle.std.specs.Prelude.{◌≡◌, true, ◌+◌, ◌≤◌, ◌<◌, length, Some, OnOk, IfOk, IfErr, MatchOption, false};
+ghost use Rattle.std.specs.Prelude.{◌≡◌, true, ◌+◌, ◌≤◌, ◌<◌, length, Some, IfSome, MatchOption, false};
 ghost use Rattle.layout.specs.Places.{row_width};
 ghost use Rattle.layout.specs.Day.{Day, day_at};
 ghost use Rattle.rules.specs.declared.Refusal.TheVariants.{UnsoundDay};
@@ -179,13 +179,11 @@ impl<'a> Work<'a> {
         value::reference_value(day, self.prices)
     }
 
-    // The day in a run, where it is sound with the book and the prices; else refusal 5.
-    fn sound_day<'b>(&self, run: &'b [u64]) -> Result<DayView<'b>, Refusal>
-        ensures ok { IfOk result (λ day. day ≡ day_at run.now) }
-        ensures sound { OnOk result (is_sound (day_at run.now) self.now.book.now self.now.prices.now ≡ true) }
-        ensures err { IfErr result (λ why. (why ≡ UnsoundDay) × (is_sound (day_at run.now) self.now.book.now self.now.prices.now ≡ false)) }
+    // The day in a run, where it is sound with the book and the prices.
+    fn sound_day<'b>(&self, run: &'b [u64]) -> Option<DayView<'b>>
+        ensures { MatchOption result (is_sound (day_at run.now) self.now.book.now self.now.prices.now ≡ false) (λ day. (day ≡ day_at run.now) × (is_sound (day_at run.now) self.now.book.now self.now.prices.now ≡ true)) }
     {
-        calls::sound_day(run, self.book, self.prices)
+        calls::sound_day(run, self.book, self.prices).ok()
     }
 
     // The day in a run, where it has with them what every call keeps.
@@ -196,21 +194,10 @@ impl<'a> Work<'a> {
     }
 }
 
-// The call that a row names, on a sound day; 1 where it names none.
-pub fn sound_row(day: &DayView, work: &mut Work, row: &[u64]) -> Numbers
-    requires sound { is_sound day.now work.old.book.now work.old.prices.now ≡ true }
-    requires row_len { length row.now ≡ row_width }
-    ensures result_value { reply_of result ≡ row_reply (work_in day.now work.old) (row_of row.now) }
-    ensures left { work.new ≡ left_work work.old (row_leaves (work_in day.now work.old) (row_of row.now)) }
-{
-    match call_of(row) {
-        Some(call) => make(day, work, call, row),
-        None => Numbers::from(Refusal::Sizes),
-    }
-}
-
-// The call that a row names, on any day: 5 where it is not sound, and 1 where the row names none.
-pub fn row_call(run: &[u64], work: &mut Work, row: &[u64]) -> Numbers
+// The call that a row names, on any day: 1 where the row names none, and 5 where the day is not sound. The day is tested here where it
+// is not known to be sound. The one place at which a call is made, so that a list of calls has it in its loop.
+pub fn row_call(run: &[u64], known: Option<&DayView>, work: &mut Work, row: &[u64]) -> Numbers
+    requires known { IfSome known (λ day. (day.now ≡ day_at run.now) × (is_sound (day_at run.now) work.old.book.now work.old.prices.now ≡ true)) }
     requires row_len { length row.now ≡ row_width }
     ensures result_value { reply_of result ≡ row_reply (work_in (day_at run.now) work.old) (row_of row.now) }
     ensures left { work.new ≡ left_work work.old (row_leaves (work_in (day_at run.now) work.old) (row_of row.now)) }
@@ -218,8 +205,12 @@ pub fn row_call(run: &[u64], work: &mut Work, row: &[u64]) -> Numbers
     let Some(call) = call_of(row) else {
         return Numbers::from(Refusal::Sizes);
     };
-    match work.sound_day(run) {
-        Ok(day) => make(&day, work, call, row),
-        Err(why) => Numbers::from(why),
+    let tested = match known {
+        Some(_) => None,
+        None => work.sound_day(run),
+    };
+    match known.or(tested.as_ref()) {
+        Some(day) => make(day, work, call, row),
+        None => Numbers::from(Refusal::UnsoundDay),
     }
 }

@@ -7,5 +7,5 @@ use Rattle.driver.proofs.run_rows.Given as goal
 
 abbrev pub invariant-loop-i : goal.invariant-loop-i
 invariant-loop-i l =
-    Going l.kept (day_at l.run) l.rows l.initial.work l.initial.answers l.i-iterator.count l.i-iterator.iter.rest.now l.work l.answers
+    Going l.kept (λ day. day.now) (day_at l.run) l.rows l.initial.work l.initial.answers l.i-iterator.count l.i-iterator.iter.rest.now l.work l.answers
     × (l.i-iterator.iter.size ≡ row_width)
