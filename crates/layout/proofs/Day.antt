@@ -8,20 +8,21 @@ use native.Mathlib.Decide.{dec_lt}
 use native.Mathlib.Omega.{arith}
 use lib.Dec.{ltb, eqb}
 use lib.IntN.{ℤ, nat_abs, pos, negsuc}
-use lib.ListN.{length, get_or, drop, replicate, length-drop, get_or-append, get_or-eq_default}
+use lib.ListN.{length, get_or, take, drop, replicate, get_or-append, get_or-eq_default}
 use lib.Seq.{get_or-drop, get_or-append-add, drop_at}
 use borrow.Author.Tests.{eq-eqb, ne_eqb, lt-ltb, le-ltb}
 use Rattle.sequences.specs.Below.{tabulate}
 use Rattle.sequences.proofs.Below.{table_length, table_at, table_ext}
 use Rattle.digits.specs.Digits.{cap}
 use Rattle.digits.specs.Signed.{figure_signed}
+use Rattle.digits.proofs.Put.{rest_all}
 use Rattle.digits.proofs.Read.{capped_small}
 use Rattle.digits.proofs.Signed.{signed_figure_lem}
 use Rattle.layout.specs.declared.Fund.{Fund}
 use Rattle.layout.specs.Places.{most_components, component_width, basket_width, limit_count, cash_place, limits_from, fund_from, basket_from, day_width}
 use Rattle.layout.specs.Components.{blank, component_at, places_of}
 use Rattle.layout.specs.Fund.{signed_at, signed_numbers, fund_at, fund_numbers}
-use Rattle.layout.specs.Day.{day_of, day_head_at, basket_at, blank_day, day_at, day_numbers}
+use Rattle.layout.specs.Day.{Day, day_of, day_head_at, basket_at, blank_day, day_at, day_numbers}
 use Rattle.layout.proofs.Stored.{fund-length, day-length}
 
 -- The parts of a run.
@@ -37,9 +38,22 @@ module _ (run : List ℕ) where
     unfolding day_at
     day_parts = rw (eq-eqb (length run) day_width full)
 
-    pub basket-length : length (basket_at run) ≡ basket_width
+    -- a part of a run that has a day's length is that of the day
+    pub accounts_in : get_or run 0 0 ≡ (day_at run).accounts
+    unfolding day_head_at
+    accounts_in = ap (λ (d : Day). d.accounts) day_parts
+
+    pub count_in : get_or run 1 0 ≡ (day_at run).count
+    unfolding day_head_at
+    count_in = ap (λ (d : Day). d.count) day_parts
+
+    pub fund_in : fund_at run fund_from ≡ (day_at run).fund
+    unfolding day_head_at
+    fund_in = ap (λ (d : Day). d.fund) day_parts
+
+    pub components_in : places_of (component_at (take (length run - basket_from) (drop basket_from run))) most_components ≡ (day_at run).components
     unfolding basket_at
-    basket-length = rw length-drop (omega arith)
+    components_in = rw (rest_all basket_from run) (ap (λ (d : Day). d.components) day_parts)
 
 -- A signed number.
 

@@ -10,54 +10,52 @@ use crate::funds::{fund_of, put_fund};
 use crate::{ACCOUNTS_AT, BASKET_FROM, COUNT_AT, Component, DayHead, FUND_FROM, Fund};
 use std::marker::Model;
 
-// A day where it lies: its head, and its basket. Contracts see it as the day.
+// A day where it lies, in a run of a day's length. Contracts see it as the day.
 #[derive(Drop)]
 pub struct DayView<'a> {
-    head: DayHead,
-    basket: &'a [u64],
+    run: &'a [u64],
 }
 
 impl<'a> Model for DayView<'a> {
     ghost Value = { Day };
 
-    ghost view = { λ x. day_of x.head x.basket.now };
+    ghost view = { λ x. day_at x.run.now };
 
-    ghost invariant = { λ x. length x.basket.now ≡ basket_width };
+    ghost invariant = { λ x. length x.run.now ≡ day_width };
 }
 
 impl<'a> DayView<'a> {
-    // The day of a head and a basket.
-    pub fn new(head: DayHead, basket: &'a [u64]) -> Self
-        requires { length basket.now ≡ basket_width }
-        ensures { result ≡ day_of head basket.now }
-    {
-        DayView { head, basket }
-    }
-
     // Its head.
     pub fn head(&self) -> DayHead
         ensures { result ≡ record { accounts = self.now.accounts; count = self.now.count; fund = self.now.fund } }
     {
-        self.head
+        DayHead {
+            accounts: self.accounts(),
+            count: self.count(),
+            fund: self.fund(),
+        }
     }
 
+    #[tactic(auto, using(crate::proofs::Day::accounts_in))]
     pub fn accounts(&self) -> usize
         ensures { result ≡ self.now.accounts }
     {
-        self.head.accounts
+        self.run[ACCOUNTS_AT] as usize
     }
 
     // How many components it has.
+    #[tactic(auto, using(crate::proofs::Day::count_in))]
     pub fn count(&self) -> usize
         ensures { result ≡ self.now.count }
     {
-        self.head.count
+        self.run[COUNT_AT] as usize
     }
 
+    #[tactic(auto, using(crate::proofs::Day::fund_in))]
     pub fn fund(&self) -> Fund
         ensures { result ≡ self.now.fund }
     {
-        self.head.fund
+        fund_of(self.run, FUND_FROM)
     }
 
     // Component i.
@@ -66,15 +64,16 @@ impl<'a> DayView<'a> {
         requires { i < most_components }
         ensures { result ≡ get_or self.now.components i blank }
     {
-        component_at(self.basket, i)
+        component_at(self.basket(), i)
     }
 
     // Its basket.
-    pub fn basket(&self) -> &[u64]
+    #[tactic(auto, using(crate::proofs::Day::components_in))]
+    pub fn basket(&self) -> &'a [u64]
         ensures length { length result.now ≡ basket_width }
         ensures components { places_of (component_at result.now) most_components ≡ self.now.components }
     {
-        self.basket
+        &self.run[BASKET_FROM..]
     }
 }
 
@@ -83,12 +82,7 @@ pub fn view_of(run: &[u64]) -> DayView<'_>
     requires { length run.now ≡ day_width }
     ensures { result ≡ day_at run.now }
 {
-    let head = DayHead {
-        accounts: run[ACCOUNTS_AT] as usize,
-        count: run[COUNT_AT] as usize,
-        fund: fund_of(run, FUND_FROM),
-    };
-    DayView::new(head, &run[BASKET_FROM..])
+    DayView { run }
 }
 
 // Stores components as a basket: zeros stand behind them.
