@@ -6,9 +6,7 @@ use native.Mathlib.Omega.{arith}
 use lib.ListN.{length, length-append}
 use lib.Seq.{sets, length-sets}
 use borrow.Author.Tests.{lt-ltb, le-ltb, eq-eqb, ne_eqb}
-use lib.Dec.{ltb}
-use mathlib.Core.Bool.{Bool, true, false, cond}
-use Rattle.std.specs.Bool.{then_some}
+use Rattle.std.specs.Prelude.{Option, Some, None, MatchOption}
 use Rattle.sequences.specs.Below.{join_below}
 use Rattle.sequences.proofs.Below.{join-none, join_more}
 use Rattle.sequences.proofs.Runs.{sets_append, join_grows}
@@ -27,7 +25,7 @@ use Rattle.layout.proofs.Laid.{laid_front}
 use Rattle.layout.proofs.Records.{flatten-append, flatten-length}
 use Rattle.rules.specs.Kinds.{moved_by, stock_side, rest_side, records_by}
 use Rattle.order_records.specs.declared.Out.{Out}
-use Rattle.order_records.specs.Written.{behind, written, Fits, wrote, line_record, stock_records, records_after_stock}
+use Rattle.order_records.specs.Written.{behind, written, Fits, wrote, quantity_in, line_record, stock_records, records_after_stock}
 use Rattle.order_records.specs.Ready.{Writable}
 
 -- Records written.
@@ -92,6 +90,16 @@ cash_two code side c n l = rw (ne_eqb c 0 n, le-ltb c split_size l)
 
 -- The records of stock.
 
+-- stock that moves takes one
+pub line_some : (code side q : ℕ) → 0 < q → line_record code side q ≡ record_of code side q 0 ∷ []
+unfolding line_record
+line_some code side q l = rw (lt-ltb 0 q l)
+
+-- a quantity that is told as a number above 0 or none
+pub quantity_told : {Q : Type 0} (number : Q → ℕ) (o : Option Q) (n : ℕ) → MatchOption o (n ≡ 0) (λ q. number q ≡ n) → quantity_in number o ≡ n
+quantity_told number None n told = sym told
+quantity_told number (Some q) n told = told
+
 module _ (kind : Kind) (d : Day) (s : List ℕ) (m : ℕ) where
   -- the records of the components below i
   unfoldable pub stock_below : ℕ → List Record
@@ -102,20 +110,11 @@ module _ (kind : Kind) (d : Day) (s : List ℕ) (m : ℕ) where
   stock_none = join-none _
 
   abbrev line : ℕ → List Record
-  line i = line_record (component_of d i).code (stock_side kind) (then_some (ltb 0 (moved_by kind d s m i)) (moved_by kind d s m i))
-
-  line_record_lem : (i : ℕ) → stock_record d (stock_side kind) (moved_by kind d s m) i ≡ line i
-  unfolding stock_record code_of
-  line_record_lem i = go (ltb 0 (moved_by kind d s m i))
-    where
-      go : (b : Bool) → cond b (record_of (component_of d i).code (stock_side kind) (moved_by kind d s m i) 0 ∷ []) []
-          ≡ line_record (component_of d i).code (stock_side kind) (then_some b (moved_by kind d s m i))
-      go true = refl
-      go false = refl
+  line i = line_record (component_of d i).code (stock_side kind) (moved_by kind d s m i)
 
   pub stock_more : (i : ℕ) → stock_below (i + 1) ≡ stock_below i ++ line i
-  unfolding stock_below
-  stock_more i = join_more _ i ∙ ap (λ (r : List Record). stock_below i ++ r) (line_record_lem i)
+  unfolding stock_below stock_record code_of line_record
+  stock_more i = join_more _ i
 
   pub stock_all : stock_below d.count ≡ stock_records kind d s m
   unfolding stock_below stock_records

@@ -1,5 +1,5 @@
 -- Records written to a flat run of numbers from a place on.
-use Rattle.std.specs.Prelude.{ℕ, ◌+◌, ◌*◌, ◌≤◌, List, [], ◌∷◌, ◌++◌, Option, Some, None, length}
+use Rattle.std.specs.Prelude.{ℕ, cond, ltb, ◌+◌, ◌*◌, ◌≤◌, List, [], ◌∷◌, ◌++◌, Option, Some, None, length}
 use Rattle.std.proofs.lemmas.List.Edits.{sets}
 use Rattle.sequences.specs.Below.{join_below}
 use Rattle.layout.specs.Day.{Day}
@@ -28,10 +28,14 @@ pub record Fits (rs : List Record) (o : Out) : Type 0 where
 abbrev pub wrote : List Record → Out → Out
 wrote rs o = record o { run = record o.run { now = written rs o.at o.run.now }; at = behind rs o.at }
 
+-- a quantity that moves, as a number: 0 where none does
+abbrev pub quantity_in : {Q : Type 0} → (Q → ℕ) → Option Q → ℕ
+quantity_in number None = 0
+quantity_in number (Some q) = number q
+
 -- the record of a component of whose stock so much moves, if any
-abbrev pub line_record : ℕ → ℕ → Option ℕ → List Record
-line_record code side None = []
-line_record code side (Some q) = record_of code side q 0 ∷ []
+unfoldable pub line_record : ℕ → ℕ → ℕ → List Record
+line_record code side q = cond (ltb 0 q) (record_of code side q 0 ∷ []) []
 
 -- an order's records of stock
 unfoldable pub stock_records : Kind → Day → List ℕ → ℕ → List Record

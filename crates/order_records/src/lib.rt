@@ -2,12 +2,14 @@
 #![tactic(auto)]
 
 ghost use Rattle.std.specs.Prelude.{◌≡◌, [], ◌∷◌, ◌*◌, ◌≤◌, ◌<◌, ◌^◌};
+ghost use Rattle.std.specs.Int.NonZero.{non_zero_u64_get};
 ghost use Rattle.rules.specs.Records.{side_number, record_of, cash_records};
 ghost use Rattle.rules.specs.Kinds.{stock_side, rest_side};
-ghost use Rattle.order_records.specs.Written.{Fits, wrote, line_record, records_after_stock};
+ghost use Rattle.order_records.specs.Written.{Fits, wrote, quantity_in, line_record, records_after_stock};
 
 use layout::Record;
 use rules::{CashByMarket, Kind, Side};
+use std::num::NonZeroU64;
 use units::Money;
 
 // A record whose amount is its quantity times its price. Its side is a number there, as a record read back from any run may have any.
@@ -81,13 +83,13 @@ impl<'a> Out<'a> {
     }
 
     // The record of a component of which stock moves.
-    #[tactic(auto, using(crate::proofs::Laws::wrote_none))]
-    pub fn put_line(&mut self, code: u64, side: Side, moved: Option<u64>)
-        requires { Fits (line_record code (side_number side) moved) self.old }
-        ensures { self.new ≡ wrote (line_record code (side_number side) moved) self.old }
+    #[tactic(auto, using(crate::proofs::Laws::wrote_none, crate::proofs::Laws::line_some), unfolding(crate::specs::Written::line_record))]
+    pub fn put_line(&mut self, code: u64, side: Side, moved: Option<NonZeroU64>)
+        requires { Fits (line_record code (side_number side) (quantity_in non_zero_u64_get moved)) self.old }
+        ensures { self.new ≡ wrote (line_record code (side_number side) (quantity_in non_zero_u64_get moved)) self.old }
     {
         if let Some(q) = moved {
-            self.put(record_of(code, side, q, Money(0)));
+            self.put(record_of(code, side, q.get(), Money(0)));
         }
     }
 

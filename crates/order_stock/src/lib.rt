@@ -1,7 +1,8 @@
 // Moves the stock of one component, from the account to the fund or back.
 #![tactic(auto)]
 
-ghost use Rattle.std.specs.Prelude.{◌≡◌, ◌+◌, ◌*◌, ◌≤◌, ◌<◌, ◌^◌};
+ghost use Rattle.std.specs.Prelude.{◌≡◌, ◌+◌, ◌*◌, ◌≤◌, ◌<◌, ◌^◌, MatchOption};
+ghost use Rattle.std.specs.Int.NonZero.{non_zero_u64_get};
 ghost use Rattle.sequences.specs.Stretch.{stretch_of};
 ghost use Rattle.lots.specs.Lots.{handable};
 ghost use Rattle.layout.specs.Book.{lots_at};
@@ -9,19 +10,19 @@ ghost use Rattle.rules.specs.declared.Kind.TheVariants.{Redemption};
 ghost use Rattle.rules.specs.Kinds.{fund_lots};
 ghost use Rattle.book.specs.Moved.{moved_of, line_moves};
 ghost use Rattle.book.specs.Ready.{LineReady};
-ghost use Rattle.order_stock.specs.Stock.{some_moved};
 
 use layout::Component;
 use lots::Lots;
 use rules::Kind;
+use std::num::NonZeroU64;
 
 // The stock of component `c` that an order of `m` baskets moves, for an account with the lots `x` of it. The tests kept no quantities,
 // since no scratch is lent, so that it is read off the lots again.
 #[tactic(auto, unfolding(book::specs::Moved::moved_of))]
-fn stock_moved(kind: Kind, c: Component, m: u64, x: Lots) -> Option<u64>
+fn stock_moved(kind: Kind, c: Component, m: u64, x: Lots) -> Option<NonZeroU64>
     requires quantity_bound { m * c.quantity < 2 ^ 62 }
     requires x_bound { handable x < 2 ^ 62 }
-    ensures { result ≡ some_moved (moved_of kind c m x) }
+    ensures { MatchOption result (moved_of kind c m x ≡ 0) (λ q. non_zero_u64_get q ≡ moved_of kind c m x) }
 {
     if !flags::entry_of(c.flag, flags::Column::StockMoves) {
         return None;
@@ -31,7 +32,7 @@ fn stock_moved(kind: Kind, c: Component, m: u64, x: Lots) -> Option<u64>
         Kind::Creation => needed.min(x.handable()),
         Kind::Redemption => needed,
     };
-    (0 < moved).then_some(moved)
+    NonZeroU64::new(moved)
 }
 
 // What an order of which `q` moves makes of the fund's lots.
@@ -57,17 +58,18 @@ pub fn move_line(
     a: usize,
     m: u64,
     line: usize,
-) -> Option<u64>
+) -> Option<NonZeroU64>
     requires { LineReady kind c book.old w a m line }
-    ensures value { result ≡ some_moved (moved_of kind c m (lots_at (stretch_of w book.old a) line)) }
+    ensures value { MatchOption result (moved_of kind c m (lots_at (stretch_of w book.old a) line) ≡ 0) (λ q. non_zero_u64_get q ≡ moved_of kind c m (lots_at (stretch_of w book.old a) line)) }
     ensures book { book.new ≡ line_moves kind w a line (moved_of kind c m (lots_at (stretch_of w book.old a) line)) book.old }
 {
     let x = book::lots_of(book, w, a, line);
-    let q = stock_moved(kind, c, m, x)?;
+    let moved = stock_moved(kind, c, m, x)?;
+    let q = moved.get();
     let own = book::account_lots(kind, x, q);
     book::put_lots_of(book, w, a, line, own);
     let f = book::lots_of(book, w, book::FUND, line);
     let fund = fund_lots(kind, f, q);
     book::put_lots_of(book, w, book::FUND, line, fund);
-    Some(q)
+    Some(moved)
 }

@@ -1,7 +1,7 @@
 use mathlib.Core.Path.{◌≡◌, refl, ap, ◌∙◌}
 use Rattle.layout.specs.Book.{width_of}
 use Rattle.book.proofs.Turns.{lines_none, moved_here, line_ready, lines_more}
-use Rattle.order_records.proofs.Laws.{wrote_none, wrote_then, stock_none, stock_more, stock_all, line_room}
+use Rattle.order_records.proofs.Laws.{wrote_none, wrote_then, stock_none, stock_more, stock_all, line_room, quantity_told}
 use native.Mathlib.Omega.{arith}
 use Rattle.order_settlement.proofs.settle_stock.Goals as goal
 
@@ -23,7 +23,7 @@ put_line-requires c =
     let a = c.args in
     let p = c.requires in
     let moved = moved_here a.ask.kind a.day.now _ _ _ p.account_nonzero.0 p.account_nonzero.1 _ _ c.loop-i.invariant.0 _ (c.width_of-w.ensures ∙ ap width_of c.count-count.ensures) in
-    rw (c.move_line-moved.ensures.value, c.component-c.ensures, c.stock_side-side.ensures, moved)
+    rw (quantity_told _ _ _ c.move_line-moved.ensures.value, c.component-c.ensures, c.stock_side-side.ensures, moved)
     (line_room a.ask.kind a.day.now _ _ (omega (arith, c.count-count.ensures)) p.fits c.loop-i.invariant.1)
 
 pub loop-i-preserved : goal.loop-i-preserved
@@ -34,7 +34,7 @@ loop-i-preserved c =
     let wide = c.width_of-w.ensures ∙ ap width_of c.count-count.ensures in
     let moved = moved_here a.ask.kind a.day.now _ _ _ p.account_nonzero.0 p.account_nonzero.1 _ _ l.invariant.0 _ wide in
     let book = rw c.component-c.ensures at c.move_line-moved.ensures.book in
-    let line = rw (c.move_line-moved.ensures.value, c.component-c.ensures, c.stock_side-side.ensures, moved) at c.put_line.ensures in (
+    let line = rw (quantity_told _ _ _ c.move_line-moved.ensures.value, c.component-c.ensures, c.stock_side-side.ensures, moved) at c.put_line.ensures in (
       lines_more a.ask.kind a.day.now _ _ _ p.account_nonzero.0 p.account_nonzero.1 _ _ l.invariant.0 _ wide _ _ refl book,
       rw (stock_more a.ask.kind a.day.now _ _ _) (wrote_then _ _ _ l.invariant.1 line),
     )
