@@ -1,11 +1,12 @@
 -- What the code's loops and chains of tests say: of a line's length byte by byte, and of two words and of a test at each byte.
 use Rattle.std.proofs.Common.{◌≡◌, refl, sym, ap, ap₂, ◌∙◌, ℕ, zero, suc, ◌+◌, ◌≤◌, ◌<◌, zero-le, zero-add, Bool, true, false, not, ◌&&◌, ◌||◌, eqb, eq-eqb, eqb-true, lt-ltb, le-ltb, List, [], ◌∷◌, ◌++◌, map, length, length-take, get_or, take, drop, drop_of_length-le, add-one, arith, drop-cons, Option, Some, None, MatchOption, ◌↔◌}
-use Rattle.std.proofs.lemmas.Bool.Decides.{nat_tests}
+use Rattle.std.proofs.lemmas.Bool.{and_parts, and_from}
+use Rattle.std.proofs.lemmas.Bool.Decides.{nat_tests, same_from_decides}
 use Rattle.std.specs.Char.{to_ascii_lowercase}
 use Rattle.std.specs.List.{list_all, list_any}
 use Rattle.std.specs.Cmp.Lexicographic.{pointwise}
 use native.Mathlib.Nat.{add-zero}
-use mathlib.Core.Bool.{and-true, and_assoc, and-eq-true_iff, false≢true}
+use mathlib.Core.Bool.{and-true, and_assoc, false≢true}
 use lib.Seq.{get_or-drop}
 use Rattle.sequences.specs.Every.{inside}
 use Rattle.lines.specs.Lines.{end_at, len_after, line_len, ended, first_line, lower, same_by, same_in_any_case, all_bytes}
@@ -80,10 +81,9 @@ module _ (f : ℕ → ℕ) where
   same_mapped (x ∷ a) [] = (λ e. absurd (false≢true e), λ e. absurd (omega (arith, ap length e)))
   same_mapped (x ∷ a) (y ∷ b) =
       let more = same_mapped a b in (
-        λ e. let p = (and-eq-true_iff (eqb (f x) (f y)) (same_by f a b)).0 e in
+        λ e. let p = and_parts (eqb (f x) (f y)) (same_by f a b) e in
             ap₂ (λ (h : ℕ) (t : List ℕ). h ∷ t) (eqb-true (f x) (f y) p.0) (more.0 p.1),
-        λ e. (and-eq-true_iff (eqb (f x) (f y)) (same_by f a b)).1
-            (eq-eqb (f x) (f y) (ap (λ (l : List ℕ). get_or l 0 0) e), more.1 (ap (drop 1) e)),
+        λ e. and_from _ _ (eq-eqb (f x) (f y) (ap (λ (l : List ℕ). get_or l 0 0) e)) (more.1 (ap (drop 1) e)),
       )
 
 -- lower case as the library has it
@@ -94,13 +94,8 @@ lower_is b = grind (arith, nat_tests)
 pub same_letters : (a b : List ℕ) (t : Bool) → ((t ≡ true) ↔ (map to_ascii_lowercase a ≡ map to_ascii_lowercase b)) → t ≡ same_in_any_case a b
 unfolding same_in_any_case
 same_letters a b t h =
-    let m = same_mapped to_ascii_lowercase a b in
-    by_test t (same_by to_ascii_lowercase a b) (λ e. m.1 (h.0 e)) (λ e. h.1 (m.0 e)) ∙ ap (λ (f : ℕ → ℕ). same_by f a b) (λ i b. lower_is b i)
-  where
-    by_test : (t u : Bool) → (t ≡ true → u ≡ true) → (u ≡ true → t ≡ true) → t ≡ u
-    by_test true u f g = sym (f refl)
-    by_test false true f g = g refl
-    by_test false false f g = refl
+    same_from_decides t (same_by to_ascii_lowercase a b) h (same_mapped to_ascii_lowercase a b)
+    ∙ ap (λ (f : ℕ → ℕ). same_by f a b) (λ i b. lower_is b i)
 
 -- A test at each byte.
 
