@@ -9,7 +9,7 @@ use native.Mathlib.Nat.{add-zero}
 use mathlib.Core.Bool.{and-true, and_assoc, false≢true}
 use lib.Seq.{get_or-drop}
 use Rattle.sequences.specs.Every.{inside}
-use Rattle.lines.specs.Lines.{end_at, len_after, line_len, ended, first_line, lower, same_by, same_in_any_case, all_bytes}
+use Rattle.lines.specs.Lines.{end_at, len_after, line_len, ended, lower, same_by, same, same_in_any_case, other_byte, all_bytes}
 use Rattle.lines.proofs.Laws.{line_room}
 
 -- A search for a line's end: no 0D 0A stands before i.
@@ -53,27 +53,21 @@ end_found s (Some i) h =
     let before = passed s i (omega (arith, h.1)) (λ k l. h.3 k zero-le l) in
     (omega (arith, before, line_ends s i h.1 h.2), h.1)
 
--- a line of n bytes that ends, as the part of a text that it is
-pub line_part : (s : List ℕ) (n : ℕ) → n ≡ line_len s → n < length s
-    → ((ended s ≡ true) × (take n s ≡ first_line s)) × (length (take n s) + 2 ≤ length s)
-unfolding ended first_line
-line_part s n e h =
-    let short : line_len s < length s = omega (arith, e) in (
-      (lt-ltb (line_len s) (length s) short, ap (λ (k : ℕ). take k s) e),
-      omega (arith, line_room s short, length-take n s),
-    )
+-- what the search is to know of a line that ends, as a part of its text
+pub ruleset line_parts = (nat_tests, line_room, length-take)
 
--- Two words, which are the same after f.
+-- Two words.
+
+-- byte by byte
+pub same_points : (a b : List ℕ) → pointwise eqb a b ≡ same a b
+unfolding same same_by
+same_points [] [] = refl
+same_points [] (y ∷ b) = refl
+same_points (x ∷ a) [] = refl
+same_points (x ∷ a) (y ∷ b) = rw (same_points a b)
 
 module _ (f : ℕ → ℕ) where
-  pub same_points : (a b : List ℕ) → pointwise (λ x y. eqb (f x) (f y)) a b ≡ same_by f a b
-  unfolding same_by
-  same_points [] [] = refl
-  same_points [] (y ∷ b) = refl
-  same_points (x ∷ a) [] = refl
-  same_points (x ∷ a) (y ∷ b) = rw (same_points a b)
-
-  -- they have the same letters after f
+  -- they are the same after f where they have the same letters after f
   same_mapped : (a b : List ℕ) → (same_by f a b ≡ true) ↔ (map f a ≡ map f b)
   unfolding same_by
   same_mapped [] [] = (λ e. refl, λ e. refl)
@@ -110,11 +104,11 @@ module _ (p : ℕ → Bool) where
   all_more [] b = and-true (p b)
   all_more (x ∷ s) b = rw (all_more s b) (sym (and_assoc (p x) _ _))
 
--- a search for a byte finds none where every byte is another
-pub none_found : (x : ℕ) (s : List ℕ) → not (list_any (λ b. eqb b x) s) ≡ all_bytes (λ b. not (eqb b x)) s
-unfolding all_bytes
-none_found x [] = refl
-none_found x (b ∷ r) = by_byte _ _ (eqb b x) (none_found x r)
+-- a search for 0D finds none where every byte is another
+pub none_found : (s : List ℕ) → not (list_any (λ b. eqb b 13) s) ≡ all_bytes other_byte s
+unfolding all_bytes other_byte
+none_found [] = refl
+none_found (b ∷ r) = by_byte _ _ (eqb b 13) (none_found r)
   where
     by_byte : (more rest t : Bool) → not more ≡ rest → not (t || more) ≡ not t && rest
     by_byte more rest true e = refl
