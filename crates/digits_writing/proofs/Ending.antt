@@ -1,5 +1,5 @@
 -- A number that ends a field: its parts are written from the right.
-use Rattle.std.proofs.Common.{Option, Some, ◌≡◌, refl, sym, ap, ◌∙◌, ℕ, ◌+◌, ◌-◌, ◌/◌, ◌^◌, ◌≤◌, true, List, ◌∷◌, ◌++◌, length, take, drop, set, replicate, length-take, length-drop, length-set, arith}
+use Rattle.std.proofs.Common.{Option, Some, ◌≡◌, refl, sym, ap, ◌∙◌, ℕ, ◌+◌, ◌-◌, ◌/◌, ◌^◌, ◌≤◌, true, List, ◌∷◌, ◌++◌, length, take, drop, set, replicate, length-take, length-drop, arith}
 use Rattle.std.proofs.Math.ListN.{length-replicate}
 use Rattle.std.proofs.lemmas.Grind.{common_steps}
 use borrow.Rule.Slice.PartMut.{put_mid}
@@ -66,9 +66,6 @@ module _ (f : Form) (n : ℕ) (d : List ℕ) (some : f.decimals ≡ 0 → ⊥) (
 
     pub tail_long : length tail ≡ length d
     tail_long = ap length tail_is ∙ put-length d (point + 1) (fixed f.decimals n) (omega (arith, point_room, fixed-length f.decimals n))
-
-    pub pointed_long : length (set tail point 46) ≡ length d
-    pointed_long = length-set tail point 46 ∙ tail_long
 
     pointed_is : set tail point 46 ≡ put d point (46 ∷ fixed f.decimals n)
     pointed_is =
