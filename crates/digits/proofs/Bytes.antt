@@ -1,38 +1,36 @@
 -- The bytes of a number: a blank, "-", "." or a digit.
-use mathlib.Core.Path.{◌≡◌, refl}
-use mathlib.Core.Bool.{Bool, true, false, ◌&&◌}
+use mathlib.Core.Path.{◌≡◌, refl, ◌∙◌}
+use mathlib.Core.Bool.{Bool, true, false}
 use mathlib.Core.List.{List, [], ◌∷◌, ◌++◌}
 use Prim.Native.Nat.{ℕ, zero, suc, ◌/◌, ◌^◌}
 use native.Mathlib.Omega.{arith}
 use native.Mathlib.Decide.{ℕ_discrete}
 use Rattle.std.specs.Prelude.{Option, Some, None}
+use Rattle.std.specs.List.{list_all}
+use Rattle.std.proofs.lemmas.Bool.{and_from}
+use Rattle.std.proofs.lemmas.List.Folds.{list_all-append}
 use lib.ListN.{replicate}
 use lib.Dec.{leb}
 use borrow.Author.Tests.{le-leb}
 use Rattle.digits.specs.declared.Form.{Form}
 use Rattle.digits.specs.declared.Figure.{Figure}
 use Rattle.digits.specs.Digits.{fixed, decimal, whole_text, plain_text, signed_text, number_text, all_digits}
-use Rattle.digits.proofs.Read.{both_pass, digit_bounds}
+use Rattle.digits.proofs.Read.{digit_bounds}
 use Rattle.digits.proofs.Count.{fixed_digits_lem, digits-cons, decimal_digits}
 use Rattle.digits.proofs.Write.{blanks_put, plain_free, plain_pointed, signed_below, signed_above}
 
 -- every byte is 32 or more
-unfoldable pub is_high : List ℕ → Bool
-is_high [] = true
-is_high (b ∷ r) = leb 32 b && is_high r
+abbrev pub is_high : List ℕ → Bool
+is_high s = list_all (leb 32) s
 
-pub high_append : (s t : List ℕ) → is_high s ≡ true → is_high t ≡ true → is_high (s ++ t) ≡ true
-unfolding is_high
-high_append [] t h k = k
-high_append (b ∷ r) t h k = let p = both_pass (leb 32 b) (is_high r) h in rw p.0 (high_append r t p.1 k)
+high_append : (s t : List ℕ) → is_high s ≡ true → is_high t ≡ true → is_high (s ++ t) ≡ true
+high_append s t h k = list_all-append (leb 32) s t ∙ and_from _ _ h k
 
-pub high_blanks : (k : ℕ) → is_high (replicate k 32) ≡ true
-unfolding is_high
+high_blanks : (k : ℕ) → is_high (replicate k 32) ≡ true
 high_blanks zero = refl
 high_blanks (suc k) = high_blanks k
 
 high_digits : (s : List ℕ) → all_digits s ≡ true → is_high s ≡ true
-unfolding is_high
 high_digits [] e = refl
 high_digits (b ∷ r) e =
     let p = digits-cons b r e in
@@ -45,7 +43,6 @@ whole_high None n = high_digits (decimal n) (decimal_digits n)
 whole_high (Some digits) n = high_digits (fixed digits n) (fixed_digits_lem digits n)
 
 plain_high : (f : Form) (n : ℕ) → is_high (plain_text f n) ≡ true
-unfolding is_high
 plain_high f n =
     elim (ℕ_discrete f.decimals 0) [
       | yes e ↦ rw (plain_free f n e) (whole_high f.digits n)
@@ -56,7 +53,6 @@ plain_high f n =
     ]
 
 signed_high : (f : Form) (z : Figure) (b : Bool) → z.negative ≡ b → is_high (signed_text f z) ≡ true
-unfolding is_high
 signed_high f z true n = rw (signed_below f z n) (plain_high f z.size)
 signed_high f z false n = rw (signed_above f z n) (plain_high f z.size)
 

@@ -11,7 +11,8 @@ use lib.Arith.{mod-mul, digits_div, digits_lt}
 use borrow.Author.Tests.{ne_eqb, lt-ltb, le-ltb, eqb-false}
 use Rattle.digits.specs.Digits.{fixed, tens_within, tens, decimal, is_digit, all_digits, from, spare}
 use Rattle.digits.specs.Written.{put, Written}
-use Rattle.digits.proofs.Read.{compare, both_pass, digit_yes, digit_bounds}
+use Rattle.std.proofs.lemmas.Bool.{and_parts}
+use Rattle.digits.proofs.Read.{compare, digit_yes, digit_bounds}
 use Rattle.digits.proofs.Put.{put-nil, put-before}
 
 pub power_positive : (k : ℕ) → 0 < 10 ^ k
@@ -56,7 +57,7 @@ from_shift (b ∷ r) a =
 -- a digit and those behind it
 pub digits-cons : (b : ℕ) (r : List ℕ) → all_digits (b ∷ r) ≡ true → (is_digit b ≡ true) × (all_digits r ≡ true)
 unfolding all_digits
-digits-cons b r e = both_pass (is_digit b) (all_digits r) e
+digits-cons b r e = and_parts (is_digit b) (all_digits r) e
 
 pub from_below : (s : List ℕ) → all_digits s ≡ true → from 0 s < 10 ^ length s
 unfolding from

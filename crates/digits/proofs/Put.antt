@@ -1,12 +1,13 @@
 -- Bytes written into a lent output, one write after another.
 use mathlib.Core.Path.{◌≡◌, sym, ap, ap₂, ◌∙◌}
 use mathlib.Core.List.{List, [], ◌∷◌, ◌++◌, append_assoc}
-use Prim.Native.Nat.{ℕ, suc, ◌+◌, ◌-◌, ◌≤◌, ◌<◌}
+use Prim.Native.Nat.{ℕ, ◌+◌, ◌-◌, ◌≤◌, ◌<◌}
 use native.Mathlib.Omega.{arith}
 use native.Mathlib.Numerals.{add-one}
 use native.Mathlib.Nat.{add_assoc, add-zero}
-use lib.ListN.{length, get_or, take, drop, set, length-set, length-append, length-take, length-drop, take-append-drop}
-use lib.Seq.{take_all, set_split, take-suc, set_at, length-take-le, take_at, drop_at, drop-drop, take-append-le, take-take}
+use lib.ListN.{length, take, drop, set, length-set, length-append, length-take, length-drop, take-append-drop}
+use Rattle.std.proofs.lemmas.List.{take_rest}
+use lib.Seq.{set_split, length-take-le, take_at, drop_at, drop-drop, take-append-le, take-take}
 use borrow.Rule.Slice.PartMut.{put_mid}
 use Rattle.digits.specs.Written.{put, Written}
 
@@ -57,22 +58,14 @@ put_front d at xs ys h =
     let end : at + length (xs ++ ys) ≡ at + length xs + length ys = rw length-append (omega arith) in
     rw (start, drop_at (take (at + length xs) d) rest (at + length xs) front, end, append_assoc)
 
--- one byte more, in front of what was written
-pub put-before : (d : List ℕ) (p b : ℕ) (xs : List ℕ) → p + 1 + length xs ≤ length d → set (put d (p + 1) xs) p b ≡ put d p (b ∷ xs)
-unfolding put
-put-before d p b xs h =
-    let f : p < length d = omega arith in
-    let z : List ℕ = xs ++ drop (p + 1 + length xs) d in
-    let n : p + 1 + length xs ≡ p + suc (length xs) = omega arith in
-    ap (λ (a : List ℕ). set (a ++ z) p b) (ap (λ (k : ℕ). take k d) (add-one p) ∙ take-suc d p 0 f)
-    ∙ ap (λ (a : List ℕ). set a p b) (append_assoc (take p d) (get_or d p 0 ∷ []) z)
-    ∙ set_at (take p d) (get_or d p 0) z b p (length-take-le p d (omega arith))
-    ∙ ap (λ (k : ℕ). take p d ++ b ∷ (xs ++ drop k d)) n
-
 -- a store is a `put` of one byte
 pub set-put : (d : List ℕ) (p b : ℕ) → p < length d → set d p b ≡ put d p (b ∷ [])
 unfolding put
 set-put d p b h = set_split d p b h ∙ ap (λ (k : ℕ). take p d ++ b ∷ drop k d) (sym (add-one p))
+
+-- one byte more, in front of what was written
+pub put-before : (d : List ℕ) (p b : ℕ) (xs : List ℕ) → p + 1 + length xs ≤ length d → set (put d (p + 1) xs) p b ≡ put d p (b ∷ xs)
+put-before d p b xs h = set-put (put d (p + 1) xs) p b (omega (arith, put-length d (p + 1) xs h)) ∙ put_front d p (b ∷ []) xs h
 
 -- two writes, one behind the other
 pub written_then : {d d₁ d₂ : List ℕ} {at p q : ℕ} {xs ys : List ℕ} → Written d at xs d₁ p → Written d₁ p ys d₂ q
@@ -88,7 +81,7 @@ written-length {d} {d₁} {at} {p} {xs} u h = rw u.bytes (put-length d at xs h)
 
 -- a part `&s[a..]`, as the borrow checker has it
 pub rest_all : (a : ℕ) (s : List ℕ) → take (length s - a) (drop a s) ≡ drop a s
-rest_all a s = take_all (length s - a) (drop a s) (omega (arith, length-drop a s))
+rest_all a s = take_rest s a
 
 -- what is written into a part, as the borrow checker has it
 pub written_part : (d : List ℕ) (at k : ℕ) (xs ys : List ℕ) (next : ℕ) → ys ≡ xs → k ≡ length xs → next ≡ at + k → Written d at xs (put_mid at k d ys) next

@@ -12,17 +12,7 @@ use Rattle.digits.specs.declared.Form.{Form}
 use Rattle.std.specs.Prelude.{Option, Some, None, is_none}
 use Rattle.digits.specs.Digits.{plain, blanks, minus_figure, is_plain, plain_size, has_minus, is_signed}
 use Rattle.digits.specs.Digits.{signed_figure, trimmed_by, trimmed, is_number, figure_of, size_reading, reading, below_zero, above_zero}
-use Rattle.digits.proofs.Put.{rest_all}
-
--- ---- a size behind a "-"
-
-pub minus-zero : (n : ℕ) → n ≡ 0 → None ≡ minus_figure n
-unfolding minus_figure
-minus-zero n e = rw (eq-eqb n 0 e)
-
-pub minus_some : (n : ℕ) → (n ≡ 0 → ⊥) → Some (record { negative = true; size = n }) ≡ minus_figure n
-unfolding minus_figure
-minus_some n h = rw (ne_eqb n 0 h)
+use Rattle.std.proofs.lemmas.List.{take_rest}
 
 -- ---- with and without a width
 
@@ -85,4 +75,4 @@ module _ (f : Form) (s : List ℕ) where
       → reading (is_signed f (take (length s - b) (drop b s))) (signed_figure f (take (length s - b) (drop b s)))
       ≡ reading (is_number f s) (figure_of f s)
   unfolding is_number figure_of trimmed trimmed_by
-  number_right b h e = let w = is-some f.width h in rw (rest_all b s, w.1, e)
+  number_right b h e = let w = is-some f.width h in rw (take_rest s b, w.1, e)

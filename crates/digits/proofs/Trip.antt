@@ -19,7 +19,8 @@ use Rattle.digits.specs.declared.Form.{Form}
 use Rattle.digits.specs.declared.Figure.{Figure}
 use Rattle.digits.specs.Digits.{plain, fixed, tens, decimal, whole_text, plain_text, signed_text, blanks_left, number_text, all_digits, from, spare, cap, capped}
 use Rattle.digits.specs.Digits.{is_shaped, is_whole, point_at, is_plain, plain_size, has_minus, is_signed, signed_figure, blanks, all_blank, trimmed_by, trimmed, is_number, figure_of}
-use Rattle.digits.proofs.Read.{compare, both_pass, capped_small, capped_within, capped_exact, from_grows, shaped_fixed, whole-true, whole_facts}
+use Rattle.std.proofs.lemmas.Bool.{and_parts}
+use Rattle.digits.proofs.Read.{compare, capped_small, capped_within, capped_exact, from_grows, shaped_fixed, whole-true, whole_facts}
 use Rattle.digits.proofs.Count.{fixed-length, fixed_digits_lem, from_fixed, from_shift, from_below, fixed_from, tens_wide, decimal-length, decimal_spare, decimal_digits, decimal_from, from_decimal}
 use Rattle.digits.proofs.Sign.{minus_first, minus_other}
 use Rattle.digits.specs.Fits.{Fits}
@@ -223,7 +224,7 @@ minus-cons (b ∷ r) e = ap (λ (x : ℕ). x ∷ r) (sym e)
 -- a "-" stands first only where the form has a sign
 minus_facts : (f : Form) (s : List ℕ) → has_minus f s ≡ true → (f.signed ≡ true) × (get_or s 0 0 ≡ 45)
 unfolding has_minus
-minus_facts f s e = let t = both_pass f.signed (eqb (get_or s 0 0) 45) e in (t.0, eqb-true (get_or s 0 0) 45 t.1)
+minus_facts f s e = let t = and_parts f.signed (eqb (get_or s 0 0) 45) e in (t.0, eqb-true (get_or s 0 0) 45 t.1)
 
 module _ (f : Form) (s : List ℕ) (well : is_signed f s ≡ true) where
   signed_again : (b : Bool) → has_minus f s ≡ b → (signed_figure f s).size < cap → signed_text f (signed_figure f s) ≡ s

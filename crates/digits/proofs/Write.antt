@@ -1,16 +1,16 @@
 -- Writing: how long each text is, and how it is written part by part.
 use mathlib.Core.Path.{◌≡◌, refl, sym, ap, ◌∙◌, subst}
 use mathlib.Core.Bool.{Bool, true, false, cond}
-use mathlib.Core.List.{List, [], ◌∷◌, ◌++◌, append_assoc, append-nil}
+use mathlib.Core.List.{List, [], ◌∷◌, ◌++◌, append-nil}
 use Prim.Native.Nat.{ℕ, zero, suc, ◌+◌, ◌-◌, ◌/◌, ◌^◌, ◌≤◌}
 use native.Mathlib.Omega.{arith}
 use Rattle.std.specs.Prelude.{Option, Some, None, unwrap_or}
-use lib.ListN.{length, take, drop, replicate, length-append, length-replicate, replicate-append-replicate, drop_of_length-le}
-use lib.Seq.{take_at}
+use lib.ListN.{length, drop, replicate, length-append, length-replicate}
+use Rattle.std.proofs.lemmas.List.{take-replicate, drop_all}
 use borrow.Author.Tests.{eq-eqb, ne_eqb, lt-ltb, le-ltb}
 use Rattle.digits.specs.declared.Form.{Form}
 use Rattle.digits.specs.declared.Figure.{Figure}
-use Rattle.digits.specs.Digits.{fixed, tens_within, tens, decimal, whole_text, plain_text, signed_text, blanks_left, number_text}
+use Rattle.digits.specs.Digits.{fixed, tens_within, tens, whole_text, plain_text, signed_text, blanks_left, number_text}
 use Rattle.digits.specs.Written.{put, Written}
 use Rattle.digits.proofs.Read.{compare}
 use Rattle.digits.proofs.Put.{written_then}
@@ -25,17 +25,6 @@ free_length n w h = omega (arith, decimal-length n)
 pub digits-length : (digits n : ℕ) → digits ≡ length (whole_text (Some digits) n)
 unfolding whole_text
 digits-length digits n = sym (fixed-length digits n)
-
--- all of them are digits of n
-pub whole_is : (digits : Option ℕ) (n : ℕ) → fixed (length (whole_text digits n)) n ≡ whole_text digits n
-unfolding whole_text decimal
-whole_is None n = ap (λ (k : ℕ). fixed k n) (fixed-length (suc (tens n)) n)
-whole_is (Some digits) n = ap (λ (k : ℕ). fixed k n) (fixed-length digits n)
-
-module _ (digits : Option ℕ) (n : ℕ) where
-  pub whole-put : {d d' : List ℕ} {at r : ℕ} (k : ℕ) → k ≡ length (whole_text digits n)
-      → Written d at (fixed k n) d' r → Written d at (whole_text digits n) d' r
-  whole-put {d} {d'} {at} {r} k e w = subst (λ (xs : List ℕ). Written d at xs d' r) (ap (λ (i : ℕ). fixed i n) e ∙ whole_is digits n) w
 
 within_most : (most n : ℕ) → tens_within most n ≤ most
 unfolding tens_within
@@ -68,16 +57,6 @@ module _ (f : Form) (n : ℕ) where
         ap length (plain_pointed some) ∙ length-append (whole_text f.digits (n / 10 ^ f.decimals)) (46 ∷ fixed f.decimals n)
         ∙ rw (unit, fixed-length f.decimals n) (omega arith)
 
-    pub plain-put : {d d₁ d₂ d₃ : List ℕ} {at p q r : ℕ} → at + length (plain_text f n) ≤ length d
-        → Written d at (whole_text f.digits (n / u)) d₁ p → Written d₁ p (46 ∷ []) d₂ q → Written d₂ q (fixed f.decimals n) d₃ r
-        → Written d at (plain_text f n) d₃ r
-    plain-put {d} {d₁} {d₂} {d₃} {at} {p} {q} {r} room a b c =
-        let w : List ℕ = whole_text f.digits (n / u) in
-        let l = plain-length in
-        let ab : Written d at (w ++ 46 ∷ []) d₂ q = written_then a b (omega arith) in
-        let abc = written_then ab c (omega (arith, length-append w (46 ∷ []), fixed-length f.decimals n)) in
-        rw (plain_pointed some, ← unit, ← append_assoc w (46 ∷ []) (fixed f.decimals n)) abc
-
 -- ---- with its sign
 
 module _ (f : Form) (z : Figure) where
@@ -96,13 +75,6 @@ module _ (f : Form) (z : Figure) where
       by_sign : (b : Bool) (l : List ℕ) → length (cond b (45 ∷ l) l) ≡ length l + cond b 1 0
       by_sign true l = omega arith
       by_sign false l = omega arith
-
-  pub below_put : {d d₁ d₂ : List ℕ} {at p q : ℕ} → z.negative ≡ true → at + length (signed_text f z) ≤ length d
-      → Written d at (45 ∷ []) d₁ p → Written d₁ p (plain_text f z.size) d₂ q → Written d at (signed_text f z) d₂ q
-  below_put e room a b = rw (signed_below e) (written_then a b (omega (arith, ap length (signed_below e))))
-
-  pub above_put : {d d' : List ℕ} {at q : ℕ} → z.negative ≡ false → Written d at (plain_text f z.size) d' q → Written d at (signed_text f z) d' q
-  above_put e w = rw (signed_above e) w
 
   -- ---- right in its field
 
@@ -124,19 +96,8 @@ module _ (f : Form) (z : Figure) where
 
 -- ---- in a field of blanks
 
-sum_back : (w k : ℕ) → k ≤ w → w ≡ w - k + k
-sum_back w k h = omega arith
-
 pub blanks-put : (w : ℕ) (xs : List ℕ) → length xs ≤ w → put (replicate w 32) (w - length xs) xs ≡ replicate (w - length xs) 32 ++ xs
 unfolding put
 blanks-put w xs h =
-    let parts : replicate {A = ℕ} w 32 ≡ replicate (w - length xs) 32 ++ replicate (length xs) 32 =
-    ap (λ (k : ℕ). replicate {A = ℕ} k 32) (sum_back w (length xs) h) ∙ sym (replicate-append-replicate (w - length xs) (length xs) 32)
-    in
-    let front : take (w - length xs) (replicate {A = ℕ} w 32) ≡ replicate (w - length xs) 32 =
-    ap (take (w - length xs)) parts ∙ take_at _ _ (w - length xs) (length-replicate {A = ℕ} (w - length xs) 32)
-    in
-    let none : drop (w - length xs + length xs) (replicate {A = ℕ} w 32) ≡ [] =
-    drop_of_length-le (replicate {A = ℕ} w 32) {i = w - length xs + length xs} (rw length-replicate (omega arith))
-    in
-    rw (front, none) (simp append-nil)
+    let none : drop (w - length xs + length xs) (replicate {A = ℕ} w 32) ≡ [] = drop_all (w - length xs + length xs) (replicate w 32) (rw length-replicate (omega arith)) in
+    rw (take-replicate {X = ℕ} (w - length xs) w 32 (omega arith), none) (simp append-nil)

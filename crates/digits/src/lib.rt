@@ -27,9 +27,6 @@ pub struct Figure {
 // Above every range: a number that is more is read as this.
 pub const CAP: u64 = 1_000_000_000_000_000_000;
 
-// The most decimals of a form.
-pub const MOST_DECIMALS: usize = 9;
-
 // A figure as a signed number. No `From`: it asks that the size fits, and a `TryFrom` could fail where this cannot.
 #[tactic(auto, unfolding(crate::specs::Signed::signed_of, crate::specs::Signed::minus))]
 pub fn signed_of(z: Figure) -> i64

@@ -35,9 +35,3 @@ module _ (d : List ℕ) (n : ℕ) where
           left = rw (s, v.left, pow-suc) (div-div-eq-div-mul n (10 ^ j) 10);
           long = length-set d' (i - 1) b ∙ v.long;
         }
-
-    pub last_end : i ≤ 0 → (d' ≡ fixed (length d) n) × (m ≡ n / 10 ^ length d)
-    last_end h =
-        let z : i ≡ 0 = omega arith in
-        let e : length d - i ≡ length d = omega arith in
-        (ap (λ (k : ℕ). drop k d') {x = 0} {y = i} (omega arith) ∙ v.bytes ∙ ap (λ (k : ℕ). fixed k n) e, v.left ∙ ap (λ (k : ℕ). n / 10 ^ k) e)

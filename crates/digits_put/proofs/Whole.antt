@@ -2,7 +2,7 @@
 use mathlib.Core.Path.{◌≡◌, ap, ◌∙◌, sym, subst}
 use mathlib.Core.List.{List}
 use Prim.Native.Nat.{ℕ, suc, ◌+◌, ◌-◌, ◌/◌, ◌%◌, ◌^◌, ◌≤◌, ◌<◌}
-use native.Mathlib.Nat.{div-le_self, div-add-mod', mod-lt}
+use native.Mathlib.Nat.{div-add-mod', mod-lt}
 use native.Mathlib.Omega.{arith}
 use lib.ListN.{length, set}
 use Rattle.digits.specs.Digits.{fixed, tens, decimal}
@@ -77,11 +77,6 @@ module _ (d : List ℕ) (end n : ℕ) (room : suc (tens n) ≤ end) (fits : end 
   all_start h = record { some = omega arith; whole = whole_start d end n room fits h }
 
   module _ (d' : List ℕ) (i m : ℕ) (v : AllFrom d end n d' i m) where
-    pub all_place : (i - 1 < length d') × (m ≤ n)
-    all_place =
-        let digits = v.whole.digits in
-        (omega (arith, v.whole.high, digits.long), rw digits.left (div-le_self n (10 ^ (suc (tens n) - (suc (i - 1) - start_of end n)))))
-
     ten : (m / 10 ≡ 0 → ⊥) → 10 ≤ m
     ten h = omega (arith, h, div-add-mod' m 10)
 

@@ -3,7 +3,7 @@ use Rattle.std.proofs.Common.{◌≡◌, ℕ, ◌+◌, ◌-◌, ◌*◌, ◌^◌
 use native.Mathlib.Nat.{pow-le-pow_right}
 use lib.Pow.{pow-add}
 use Rattle.digits.specs.Digits.{from, cap, capped, is_whole, size_reading}
-use Rattle.digits.proofs.Put.{rest_all}
+use Rattle.std.proofs.lemmas.List.{take_rest}
 use Rattle.digits.proofs.Read.{compare, capped_small, capped_large, size_known, whole_facts}
 use Rattle.digits.proofs.Count.{from_below}
 
@@ -33,7 +33,7 @@ module _ (digits : Option ℕ) (s : List ℕ) (k v : ℕ) (some : k < length s) 
     -- with the decimals, as the code passes them on
     pub head_room : 10 ^ length s ≤ cap → (v + 1) * 10 ^ length (take (length s - (place + 1)) (drop (place + 1) s)) ≤ cap
     head_room few =
-        let l : length (take (length s - (place + 1)) (drop (place + 1) s)) ≡ k = omega (arith, ap length (rest_all (place + 1) s), length-drop (place + 1) s) in
+        let l : length (take (length s - (place + 1)) (drop (place + 1) s)) ≡ k = omega (arith, ap length (take_rest s (place + 1)), length-drop (place + 1) s) in
         let low : (v + 1) * 10 ^ k ≤ 10 ^ place * 10 ^ k = mul-le-mul_right (10 ^ k) head_below in
         let most : 10 ^ (place + k) ≤ 10 ^ length s = pow-le-pow_right {n = 10} (omega arith) (omega arith) in
         rw l (omega (arith, low, pow-add 10 place k, most, few))

@@ -1,18 +1,19 @@
 -- A number that ends a field: its parts are written from the right.
-use Rattle.std.proofs.Common.{Option, Some, None, ◌≡◌, refl, sym, ap, ◌∙◌, ℕ, suc, ◌+◌, ◌-◌, ◌/◌, ◌^◌, ◌≤◌, true, false, List, ◌∷◌, ◌++◌, length, take, drop, set, replicate, length-take, length-drop, length-set, arith}
+use Rattle.std.proofs.Common.{Option, Some, ◌≡◌, refl, sym, ap, ◌∙◌, ℕ, ◌+◌, ◌-◌, ◌/◌, ◌^◌, ◌≤◌, true, List, ◌∷◌, ◌++◌, length, take, drop, set, replicate, length-take, length-drop, arith}
 use Rattle.std.proofs.Math.ListN.{length-replicate}
+use Rattle.std.proofs.lemmas.Grind.{common_steps}
 use borrow.Rule.Slice.PartMut.{put_mid}
 use Rattle.digits.specs.declared.Form.{Form}
 use Rattle.digits.specs.declared.Figure.{Figure}
-use Rattle.digits.specs.Digits.{fixed, tens, decimal, whole_text, plain_text, signed_text, number_text}
+use Rattle.digits.specs.Digits.{fixed, whole_text, plain_text, signed_text, number_text}
 use Rattle.digits.specs.Written.{put, Written}
 use Rattle.digits.proofs.Put.{put-length, put_front, put-before, written_part}
 use Rattle.digits.proofs.Count.{fixed-length, decimal-length}
-use Rattle.digits.proofs.Write.{plain_pointed, plain-length, signed_below, signed_above, number-length, blanks_put, blanks-put}
+use Rattle.digits.proofs.Write.{plain_free, free_put, plain_pointed, plain-length, signed_below, signed_above, signed-length, number-length, blanks_put, blanks-put}
 
 -- digits before the point: so many
 module _ (d : List ℕ) (end size n : ℕ) {digits : Option ℕ} (are : digits ≡ Some size) (room : length (whole_text digits n) ≤ end) where
-  pub fixed_room : size ≤ end
+  fixed_room : size ≤ end
   unfolding whole_text
   fixed_room = omega (arith, ap (λ (o : Option ℕ). length (whole_text o n)) are, fixed-length size n)
 
@@ -29,17 +30,11 @@ module _ (d : List ℕ) (end size n : ℕ) {digits : Option ℕ} (are : digits �
       let wide : size ≡ length (whole_text digits n) = sym (ap (λ (o : Option ℕ). length (whole_text o n)) are ∙ fixed-length size n) in
       written_part d (end - size) (end - (end - size)) (whole_text digits n) xs end same (k ∙ wide) (omega arith)
 
--- and as many as the number has
-module _ (end n : ℕ) {digits : Option ℕ} (are : digits ≡ None) where
-  pub all_room : length (whole_text digits n) ≤ end → suc (tens n) ≤ end
-  unfolding whole_text
-  all_room room = omega (arith, ap (λ (o : Option ℕ). length (whole_text o n)) are, decimal-length n)
-
-  pub all_put : {d d' : List ℕ} {r : ℕ} → Written d r (decimal n) d' end → Written d r (whole_text digits n) d' end
-  unfolding whole_text
-  all_put w = rw are w
-
 -- with decimals: they and the point are written first
+pub point_long : (f : Form) (n : ℕ) → (f.decimals ≡ 0 → ⊥)
+    → length (plain_text f n) ≡ length (whole_text f.digits (n / 10 ^ f.decimals)) + (f.decimals + 1)
+point_long f n some = plain-length f n some (10 ^ f.decimals) refl
+
 module _ (f : Form) (n : ℕ) (d : List ℕ) (some : f.decimals ≡ 0 → ⊥) (room : length (plain_text f n) ≤ length d) where
   abbrev point : ℕ
   point = length d - (f.decimals + 1)
@@ -47,8 +42,8 @@ module _ (f : Form) (n : ℕ) (d : List ℕ) (some : f.decimals ≡ 0 → ⊥) (
   abbrev whole : ℕ
   whole = n / 10 ^ f.decimals
 
-  pub point_room : (f.decimals + 1 ≤ length d) × (length (whole_text f.digits whole) ≤ point)
-  point_room = let long = plain-length f n some (10 ^ f.decimals) refl in (omega (arith, long), omega (arith, long))
+  point_room : f.decimals + 1 ≤ length d
+  point_room = omega (arith, point_long f n some)
 
   -- the place of the decimals, as the code lends it
   abbrev part : List ℕ
@@ -56,7 +51,7 @@ module _ (f : Form) (n : ℕ) (d : List ℕ) (some : f.decimals ≡ 0 → ⊥) (
 
   module _ {xs : List ℕ} (bytes : xs ≡ fixed (length part) n) {left : ℕ} (leaves : left ≡ n / 10 ^ length part) where
     part_long : length part ≡ f.decimals
-    part_long = omega (arith, point_room.0, length-take (length d - (point + 1)) (drop (point + 1) d), length-drop (point + 1) d)
+    part_long = omega (arith, point_room, length-take (length d - (point + 1)) (drop (point + 1) d), length-drop (point + 1) d)
 
     pub whole_left : left ≡ whole
     whole_left = leaves ∙ ap (λ (k : ℕ). n / 10 ^ k) part_long
@@ -66,19 +61,16 @@ module _ (f : Form) (n : ℕ) (d : List ℕ) (some : f.decimals ≡ 0 → ⊥) (
 
     tail_is : tail ≡ put d (point + 1) (fixed f.decimals n)
     tail_is =
-        let k : length d - (point + 1) ≡ length (fixed f.decimals n) = omega (arith, point_room.0, fixed-length f.decimals n) in
+        let k : length d - (point + 1) ≡ length (fixed f.decimals n) = omega (arith, point_room, fixed-length f.decimals n) in
         (written_part d (point + 1) (length d - (point + 1)) (fixed f.decimals n) xs _ (bytes ∙ ap (λ (k : ℕ). fixed k n) part_long) k refl).bytes
 
     pub tail_long : length tail ≡ length d
-    tail_long = ap length tail_is ∙ put-length d (point + 1) (fixed f.decimals n) (omega (arith, point_room.0, fixed-length f.decimals n))
-
-    pub pointed_long : length (set tail point 46) ≡ length d
-    pointed_long = length-set tail point 46 ∙ tail_long
+    tail_long = ap length tail_is ∙ put-length d (point + 1) (fixed f.decimals n) (omega (arith, point_room, fixed-length f.decimals n))
 
     pointed_is : set tail point 46 ≡ put d point (46 ∷ fixed f.decimals n)
     pointed_is =
         ap (λ (t : List ℕ). set t point 46) tail_is
-        ∙ put-before d point 46 (fixed f.decimals n) (omega (arith, point_room.0, fixed-length f.decimals n))
+        ∙ put-before d point 46 (fixed f.decimals n) (omega (arith, point_room, fixed-length f.decimals n))
 
     pub plain_written : {d' : List ℕ} {r : ℕ} → Written (set tail point 46) r (whole_text f.digits left) d' point
         → Written d r (plain_text f n) d' (length d)
@@ -86,15 +78,14 @@ module _ (f : Form) (n : ℕ) (d : List ℕ) (some : f.decimals ≡ 0 → ⊥) (
         let xs : List ℕ = whole_text f.digits whole in
         let ys : List ℕ = 46 ∷ fixed f.decimals n in
         let long : point ≡ r + length xs = w.next ∙ ap (λ (k : ℕ). r + length (whole_text f.digits k)) whole_left in
-        let all = plain-length f n some (10 ^ f.decimals) refl in
         record {
           bytes =
               w.bytes
               ∙ ap (λ (k : ℕ). put (set tail point 46) r (whole_text f.digits k)) whole_left
               ∙ ap (λ (t : List ℕ). put t r xs) (pointed_is ∙ ap (λ (p : ℕ). put d p ys) long)
-              ∙ put_front d r xs ys (omega (arith, long, point_room.0, fixed-length f.decimals n))
+              ∙ put_front d r xs ys (omega (arith, long, point_room, fixed-length f.decimals n))
               ∙ ap (put d r) (sym (plain_pointed f n some));
-          next = omega (arith, all, long, point_room.0);
+          next = omega (arith, point_long f n some, long, point_room);
         }
 
 -- the sign before it
@@ -116,13 +107,6 @@ module _ (f : Form) (z : Figure) (d : List ℕ) (room : length (signed_text f z)
       ∙ ap (put d (r - 1)) (sym (signed_below f z e))
       ∙ ap (λ (p : ℕ). put d p (signed_text f z)) place
 
-  pub no_sign : z.negative ≡ false → Written d r (plain_text f z.size) d' (length d)
-      → d' ≡ put d (length d - length (signed_text f z)) (signed_text f z)
-  no_sign e w =
-      let same = signed_above f z e in
-      let place : r ≡ length d - length (signed_text f z) = omega (arith, ap length same, w.next) in
-      w.bytes ∙ ap (put d r) (sym same) ∙ ap (λ (p : ℕ). put d p (signed_text f z)) place
-
 -- in a field of blanks
 pub right_put : (f : Form) (z : Figure) {d d' : List ℕ} {w : ℕ} → d ≡ replicate w 32 → w ≡ length (number_text f z)
     → d' ≡ put d (length d - length (signed_text f z)) (signed_text f z) → d' ≡ number_text f z
@@ -134,3 +118,10 @@ right_put f z {d} {d'} {w} blank long e =
     e
     ∙ rw (wide, blank) (blanks-put w (signed_text f z) (omega (arith, long, size)))
     ∙ ap (λ (k : ℕ). replicate k 32 ++ signed_text f z) place
+
+-- what the search is to know of a part: its size, and what writing it leaves
+pub ruleset whole_put = (fixed-length, decimal-length, fixed_put)
+
+pub ruleset plain_put = (common_steps, plain_free, free_put, fixed-length, point_long)
+
+pub ruleset signed_put = (signed-length, signed_above, sign_room, sign_put)

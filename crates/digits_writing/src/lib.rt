@@ -8,6 +8,7 @@ ghost use Rattle.digits.specs.Written.{put, Written};
 use digits::{Figure, Form};
 
 // How many digits n has after its first.
+#[tactic(auto, using(crate::proofs::Sizes::digits_counted))]
 fn more_digits(n: u64) -> usize
     ensures { (result ≡ tens n) × (result ≤ 19) }
 {
@@ -23,6 +24,7 @@ fn power(k: usize) -> u64
 }
 
 // How many digits stand before the point.
+#[tactic(auto, using(crate::proofs::Sizes::whole_sizes))]
 fn whole_size(digits: Option<usize>, n: u64) -> usize
     ensures { result ≡ length (whole_text digits n) }
 {
@@ -33,6 +35,7 @@ fn whole_size(digits: Option<usize>, n: u64) -> usize
 }
 
 // How many bytes the number takes, without its sign and its blanks. The bounds are asked here and not of `Form`: reading takes any form.
+#[tactic(auto, using(crate::proofs::Sizes::plain_sizes))]
 fn plain_size(form: Form, n: u64) -> usize
     requires { (form.decimals ≤ 9) × (unwrap_or form.digits 0 ≤ 20) }
     ensures { (result ≡ length (plain_text form n)) × (result ≤ 40) }
@@ -45,6 +48,7 @@ fn plain_size(form: Form, n: u64) -> usize
 }
 
 // How many bytes the number takes, without its blanks.
+#[tactic(auto, using(crate::proofs::Sizes::signed_sizes))]
 fn signed_size(form: Form, z: Figure) -> usize
     requires { (form.decimals ≤ 9) × (unwrap_or form.digits 0 ≤ 20) }
     ensures { (result ≡ length (signed_text form z)) × (result ≤ 41) }
@@ -53,6 +57,7 @@ fn signed_size(form: Form, z: Figure) -> usize
 }
 
 // How many bytes the field takes.
+#[tactic(auto, using(crate::proofs::Sizes::number_sizes))]
 pub fn number_size(form: Form, z: Figure) -> usize
     requires { (form.decimals ≤ 9) × (unwrap_or form.digits 0 ≤ 20) }
     ensures { result ≡ length (number_text form z) }
@@ -61,6 +66,7 @@ pub fn number_size(form: Form, z: Figure) -> usize
 }
 
 // Writes the digits of n before the point so that they end before a place, and says where they start.
+#[tactic(auto, using(crate::proofs::Ending::whole_put), unfolding(digits::specs::Digits::whole_text))]
 fn put_whole<const SMALL: bool>(
     field: &mut [u8],
     end: usize,
@@ -82,6 +88,7 @@ fn put_whole<const SMALL: bool>(
 }
 
 // Writes the number without its sign at the end of a field, and says where it starts.
+#[tactic(auto, using(crate::proofs::Ending::plain_put))]
 fn put_plain<const SMALL: bool>(field: &mut [u8], form: Form, n: u64) -> usize
     requires room { length (plain_text form n) ≤ length field.old }
     requires small { SMALL ≡ true → n < 4_294_967_296 }
@@ -110,6 +117,7 @@ fn put_size(field: &mut [u8], form: Form, n: u64) -> usize
 }
 
 // Writes the number with its sign at the end of a field; what stands before it stays.
+#[tactic(auto, using(crate::proofs::Ending::signed_put))]
 pub fn put_signed(field: &mut [u8], form: Form, z: Figure)
     requires { length (signed_text form z) ≤ length field.old }
     ensures { field.new ≡ put field.old (length field.old - length (signed_text form z)) (signed_text form z) }
@@ -121,6 +129,7 @@ pub fn put_signed(field: &mut [u8], form: Form, z: Figure)
 }
 
 // Writes the number right in its field, which is as long as its text.
+#[tactic(auto, using(crate::proofs::Sizes::number_sizes))]
 fn put_right(field: &mut [u8], form: Form, z: Figure)
     requires { length field.old ≡ length (number_text form z) }
     ensures { field.new ≡ number_text form z }
@@ -130,6 +139,7 @@ fn put_right(field: &mut [u8], form: Form, z: Figure)
 }
 
 // Writes the number's field into its place, and gives the place behind it.
+#[tactic(auto, using(digits::proofs::Put::written_part, crate::proofs::Sizes::number_sizes))]
 pub fn put_number(dst: &mut [u8], at: usize, form: Form, z: Figure) -> usize
     requires decimals_bound { (form.decimals ≤ 9) × (unwrap_or form.digits 0 ≤ 20) }
     requires z_in_bounds { at + length (number_text form z) ≤ length dst.old }

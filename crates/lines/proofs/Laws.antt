@@ -1,22 +1,18 @@
 -- Laws of specs/Lines.antt: a line in a text and as it is written, words, field lines and bytes.
 use mathlib.Core.Path.{◌≡◌, refl, sym, ap, ap₂, ◌∙◌}
-use mathlib.Core.Bool.{Bool, true, false, not, ◌&&◌, and-eq-true_iff, true≢false, false≢true}
+use mathlib.Core.Bool.{Bool, true, false, not, ◌&&◌, true≢false, false≢true}
+use Rattle.std.proofs.lemmas.Bool.{and_parts}
 use mathlib.Core.List.{List, [], ◌∷◌, ◌++◌, append_assoc}
-use Prim.Native.Nat.{ℕ, zero, suc, ◌+◌, ◌-◌, ◌≤◌, ◌<◌, zero-le}
-use native.Mathlib.Nat.{le_of_eq, add-sub_cancel_left}
+use Prim.Native.Nat.{ℕ, zero, suc, ◌+◌, ◌≤◌, ◌<◌, zero-le}
 use native.Mathlib.Numerals.{add-one}
 use native.Mathlib.Omega.{arith}
 use lib.Dec.{eqb}
-use lib.ListN.{length, get_or, take, drop, length-append, length-take, length-drop, take-append-drop}
-use lib.Seq.{length-take-le, take_all, take-append_seam, get_or-append_seam, drop-append-add, split_at}
-use borrow.Author.Tests.{lt-ltb, le-ltb, ltb-true, eq-eqb, ne_eqb, eqb-true, not-true}
+use lib.ListN.{length, get_or, take, drop, length-append, length-take, take-append-drop}
+use lib.Seq.{length-take-le, take-append_seam, get_or-append_seam, drop-append-add, split_at}
+use borrow.Author.Tests.{lt-ltb, ltb-true, eq-eqb, ne_eqb, eqb-true, not-true}
 use Rattle.sequences.specs.Every.{inside}
 use Rattle.sequences.proofs.Every.{every_none, every_more, every_at}
-use Rattle.lines.specs.Lines.{end_at, len_after, line_len, other_byte, ended, first_line, next_at, line_text, lower, same_by, same, same_in_any_case, is_named, name_byte, letter_byte, all_bytes}
-
--- both tests, where both pass
-both_true : (a b : Bool) → (a && b) ≡ true → (a ≡ true) × (b ≡ true)
-both_true a b = (and-eq-true_iff a b).0
+use Rattle.lines.specs.Lines.{end_at, len_after, line_len, other_byte, ended, first_line, line_text, lower, same_by, same, same_in_any_case, is_named, name_byte, letter_byte, all_bytes}
 
 -- A line of a text.
 
@@ -41,9 +37,9 @@ first_bytes : (b : ℕ) (r : List ℕ) (t : Bool) → (eqb b 13 && eqb (get_or r
     → (line_len r < length r → take (line_len r + 2) r ≡ take (line_len r) r ++ 13 ∷ 10 ∷ [])
     → len_after t (line_len r) < suc (length r)
     → take (len_after t (line_len r) + 2) (b ∷ r) ≡ take (len_after t (line_len r)) (b ∷ r) ++ 13 ∷ 10 ∷ []
-first_bytes b [] true e f h = absurd (false≢true (both_true (eqb b 13) false e).1)
+first_bytes b [] true e f h = absurd (false≢true (and_parts (eqb b 13) false e).1)
 first_bytes b (c ∷ r) true e f h =
-    let p = both_true (eqb b 13) (eqb c 10) e in
+    let p = and_parts (eqb b 13) (eqb c 10) e in
     ap₂ (λ (x y : ℕ). x ∷ y ∷ []) (eqb-true b 13 p.0) (eqb-true c 10 p.1)
 first_bytes b r false e f h =
     let q : line_len r + 1 + 2 ≡ suc (line_len r + 2) = omega arith in
@@ -81,31 +77,22 @@ unfolding line_len end_at all_bytes other_byte
 plain_len [] n h e p = absurd (omega arith)
 plain_len (b ∷ r) zero h e p = rw e
 plain_len (b ∷ r) (suc n) h e p =
-    let i = both_true (not (eqb b 13)) (all_bytes other_byte (take n r)) p in
+    let i = and_parts (not (eqb b 13)) (all_bytes other_byte (take n r)) p in
     let rest : line_len r ≡ n = plain_len r n (omega arith) (rw (add-one n) (rw (add-one (suc n)) at e)) i.1 in
     rw (not-true (eqb b 13) i.0, rest, add-one)
 
 -- A line as it is written, where no byte of it is 0D.
 
 -- no byte is 0D
-unfoldable pub no_cr : List ℕ → Bool
-no_cr [] = true
-no_cr (b ∷ r) = not (eqb b 13) && no_cr r
-
--- two lines without 0D, one behind the other
-pub no_cr-append : (a b : List ℕ) → no_cr a ≡ true → no_cr b ≡ true → no_cr (a ++ b) ≡ true
-unfolding no_cr
-no_cr-append [] b p q = q
-no_cr-append (x ∷ a) b p q =
-    let i = both_true (not (eqb x 13)) (no_cr a) p in
-    rw (i.0, no_cr-append a b i.1 q)
+abbrev pub no_cr : List ℕ → Bool
+no_cr l = all_bytes other_byte l
 
 -- reading what is written: the length, the end and the bytes of the line
 pub line_written : (l t : List ℕ) → no_cr l ≡ true → line_len (line_text l ++ t) ≡ length l
-unfolding line_len no_cr line_text
+unfolding line_len all_bytes other_byte line_text
 line_written [] t e = refl
 line_written (b ∷ l) t e =
-    let p = both_true (not (eqb b 13)) (no_cr l) e in
+    let p = and_parts (not (eqb b 13)) (no_cr l) e in
     rw (not-true (eqb b 13) p.0) (omega (arith, line_written l t p.1))
 
 pub ended_written : (l t : List ℕ) → no_cr l ≡ true → ended (line_text l ++ t) ≡ true
@@ -134,7 +121,7 @@ module _ (f : ℕ → ℕ) where
   same_length [] [] e = refl
   same_length [] (y ∷ b) e = absurd (false≢true e)
   same_length (x ∷ a) [] e = absurd (false≢true e)
-  same_length (x ∷ a) (y ∷ b) e = ap suc (same_length a b (both_true (eqb (f x) (f y)) (same_by f a b) e).1)
+  same_length (x ∷ a) (y ∷ b) e = ap suc (same_length a b (and_parts (eqb (f x) (f y)) (same_by f a b) e).1)
 
 -- the same bytes are one list
 pub same_is : (a b : List ℕ) → same a b ≡ true → a ≡ b
@@ -143,7 +130,7 @@ same_is [] [] e = refl
 same_is [] (y ∷ b) e = absurd (false≢true e)
 same_is (x ∷ a) [] e = absurd (false≢true e)
 same_is (x ∷ a) (y ∷ b) e =
-    let p = both_true (eqb x y) (same a b) e in
+    let p = and_parts (eqb x y) (same a b) e in
     ap₂ (λ (h : ℕ) (t : List ℕ). h ∷ t) (eqb-true x y p.0) (same_is a b p.1)
 
 -- A field line: a name, "=" and a value.
@@ -178,7 +165,7 @@ pub all_append : (p : ℕ → Bool) (a b : List ℕ) → all_bytes p a ≡ true 
 unfolding all_bytes
 all_append p [] b e f = f
 all_append p (x ∷ a) b e f =
-    let i = both_true (p x) (all_bytes p a) e in
+    let i = and_parts (p x) (all_bytes p a) e in
     rw (i.0, all_append p a b i.1 f)
 
 -- bytes that pass a test pass a weaker one
@@ -187,16 +174,13 @@ pub all_imply : (p q : ℕ → Bool) → ((b : ℕ) → p b ≡ true → q b ≡
 unfolding all_bytes
 all_imply p q f [] e = refl
 all_imply p q f (b ∷ l) e =
-    let i = both_true (p b) (all_bytes p l) e in
+    let i = and_parts (p b) (all_bytes p l) e in
     rw (f b i.0, all_imply p q f l i.1)
 
 -- bytes that pass a test which 0D does not
 pub bytes-no_cr : (p : ℕ → Bool) → p 13 ≡ false → (l : List ℕ) → all_bytes p l ≡ true → no_cr l ≡ true
-unfolding all_bytes no_cr
-bytes-no_cr p f [] e = refl
-bytes-no_cr p f (b ∷ l) e =
-    let i = both_true (p b) (all_bytes p l) e in
-    rw (ne_eqb b 13 (λ z. true≢false (sym i.0 ∙ ap p z ∙ f)), bytes-no_cr p f l i.1)
+unfolding other_byte
+bytes-no_cr p f = all_imply p other_byte (λ b e. rw (ne_eqb b 13 (λ z. true≢false (sym e ∙ ap p z ∙ f))))
 
 -- no byte of a name is 0D
 pub names-no_cr : (l : List ℕ) → all_bytes name_byte l ≡ true → no_cr l ≡ true
@@ -207,36 +191,3 @@ names-no_cr = bytes-no_cr name_byte refl
 pub letters-no_cr : (l : List ℕ) → all_bytes letter_byte l ≡ true → no_cr l ≡ true
 unfolding letter_byte inside
 letters-no_cr = bytes-no_cr letter_byte refl
-
--- The part of a text from `at` on, as a caller's loop has it: n is the length of its first line.
-
-module _ (text : List ℕ) (at n : ℕ) (e : n ≡ line_len (take (length text - at) (drop at text))) where
-  -- the part is the rest of the text
-  pub part_len : n ≡ line_len (drop at text)
-  part_len = e ∙ ap line_len (take_all _ _ (le_of_eq (length-drop at text)))
-
-  -- the line has its end where it is shorter than the rest, and only there
-  pub part_ended : n < length text - at → ended (drop at text) ≡ true
-  unfolding ended
-  part_ended h = lt-ltb (line_len (drop at text)) (length (drop at text)) (omega (arith, part_len, length-drop at text))
-
-  pub part_open : length text - at ≤ n → ended (drop at text) ≡ false
-  unfolding ended
-  part_open h = le-ltb (line_len (drop at text)) (length (drop at text)) (omega (arith, part_len, length-drop at text))
-
-  -- the line's bytes, as the caller passes them on, and the place of the next line
-  pub part_first : take (at + n - at) (drop at text) ≡ first_line (drop at text)
-  unfolding first_line
-  part_first = ap (λ (k : ℕ). take k (drop at text)) (add-sub_cancel_left at n ∙ part_len)
-
-  pub part_next : at + (n + 2) ≡ next_at text at
-  unfolding next_at
-  part_next = ap (λ (k : ℕ). at + (k + 2)) part_len
-
--- a line that has its end ends within the text
-pub part_room : (text : List ℕ) (at n : ℕ) → at ≤ length text → n ≡ line_len (take (length text - at) (drop at text))
-    → n < length text - at → at + (n + 2) ≤ length text
-part_room text at n w e h =
-    let f = part_len text at n e in
-    let l = length-drop at text in
-    omega (arith, line_room (drop at text) (omega arith))

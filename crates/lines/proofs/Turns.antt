@@ -1,14 +1,15 @@
 -- What the code's loops and chains of tests say: of a line's length byte by byte, and of two words and of a test at each byte.
 use Rattle.std.proofs.Common.{◌≡◌, refl, sym, ap, ap₂, ◌∙◌, ℕ, zero, suc, ◌+◌, ◌≤◌, ◌<◌, zero-le, zero-add, Bool, true, false, not, ◌&&◌, ◌||◌, eqb, eq-eqb, eqb-true, lt-ltb, le-ltb, List, [], ◌∷◌, ◌++◌, map, length, length-take, get_or, take, drop, drop_of_length-le, add-one, arith, drop-cons, Option, Some, None, MatchOption, ◌↔◌}
-use Rattle.std.proofs.lemmas.Bool.Decides.{nat_tests}
+use Rattle.std.proofs.lemmas.Bool.{and_parts, and_from}
+use Rattle.std.proofs.lemmas.Bool.Decides.{nat_tests, same_from_decides}
 use Rattle.std.specs.Char.{to_ascii_lowercase}
 use Rattle.std.specs.List.{list_all, list_any}
 use Rattle.std.specs.Cmp.Lexicographic.{pointwise}
 use native.Mathlib.Nat.{add-zero}
-use mathlib.Core.Bool.{and-true, and_assoc, and-eq-true_iff, false≢true}
+use mathlib.Core.Bool.{and-true, and_assoc, false≢true}
 use lib.Seq.{get_or-drop}
 use Rattle.sequences.specs.Every.{inside}
-use Rattle.lines.specs.Lines.{end_at, len_after, line_len, ended, first_line, lower, same_by, same_in_any_case, all_bytes}
+use Rattle.lines.specs.Lines.{end_at, len_after, line_len, ended, lower, same_by, same, same_in_any_case, other_byte, all_bytes}
 use Rattle.lines.proofs.Laws.{line_room}
 
 -- A search for a line's end: no 0D 0A stands before i.
@@ -52,27 +53,21 @@ end_found s (Some i) h =
     let before = passed s i (omega (arith, h.1)) (λ k l. h.3 k zero-le l) in
     (omega (arith, before, line_ends s i h.1 h.2), h.1)
 
--- a line of n bytes that ends, as the part of a text that it is
-pub line_part : (s : List ℕ) (n : ℕ) → n ≡ line_len s → n < length s
-    → ((ended s ≡ true) × (take n s ≡ first_line s)) × (length (take n s) + 2 ≤ length s)
-unfolding ended first_line
-line_part s n e h =
-    let short : line_len s < length s = omega (arith, e) in (
-      (lt-ltb (line_len s) (length s) short, ap (λ (k : ℕ). take k s) e),
-      omega (arith, line_room s short, length-take n s),
-    )
+-- what the search is to know of a line that ends, as a part of its text
+pub ruleset line_parts = (nat_tests, line_room, length-take)
 
--- Two words, which are the same after f.
+-- Two words.
+
+-- byte by byte
+pub same_points : (a b : List ℕ) → pointwise eqb a b ≡ same a b
+unfolding same same_by
+same_points [] [] = refl
+same_points [] (y ∷ b) = refl
+same_points (x ∷ a) [] = refl
+same_points (x ∷ a) (y ∷ b) = rw (same_points a b)
 
 module _ (f : ℕ → ℕ) where
-  pub same_points : (a b : List ℕ) → pointwise (λ x y. eqb (f x) (f y)) a b ≡ same_by f a b
-  unfolding same_by
-  same_points [] [] = refl
-  same_points [] (y ∷ b) = refl
-  same_points (x ∷ a) [] = refl
-  same_points (x ∷ a) (y ∷ b) = rw (same_points a b)
-
-  -- they have the same letters after f
+  -- they are the same after f where they have the same letters after f
   same_mapped : (a b : List ℕ) → (same_by f a b ≡ true) ↔ (map f a ≡ map f b)
   unfolding same_by
   same_mapped [] [] = (λ e. refl, λ e. refl)
@@ -80,10 +75,9 @@ module _ (f : ℕ → ℕ) where
   same_mapped (x ∷ a) [] = (λ e. absurd (false≢true e), λ e. absurd (omega (arith, ap length e)))
   same_mapped (x ∷ a) (y ∷ b) =
       let more = same_mapped a b in (
-        λ e. let p = (and-eq-true_iff (eqb (f x) (f y)) (same_by f a b)).0 e in
+        λ e. let p = and_parts (eqb (f x) (f y)) (same_by f a b) e in
             ap₂ (λ (h : ℕ) (t : List ℕ). h ∷ t) (eqb-true (f x) (f y) p.0) (more.0 p.1),
-        λ e. (and-eq-true_iff (eqb (f x) (f y)) (same_by f a b)).1
-            (eq-eqb (f x) (f y) (ap (λ (l : List ℕ). get_or l 0 0) e), more.1 (ap (drop 1) e)),
+        λ e. and_from _ _ (eq-eqb (f x) (f y) (ap (λ (l : List ℕ). get_or l 0 0) e)) (more.1 (ap (drop 1) e)),
       )
 
 -- lower case as the library has it
@@ -94,13 +88,8 @@ lower_is b = grind (arith, nat_tests)
 pub same_letters : (a b : List ℕ) (t : Bool) → ((t ≡ true) ↔ (map to_ascii_lowercase a ≡ map to_ascii_lowercase b)) → t ≡ same_in_any_case a b
 unfolding same_in_any_case
 same_letters a b t h =
-    let m = same_mapped to_ascii_lowercase a b in
-    by_test t (same_by to_ascii_lowercase a b) (λ e. m.1 (h.0 e)) (λ e. h.1 (m.0 e)) ∙ ap (λ (f : ℕ → ℕ). same_by f a b) (λ i b. lower_is b i)
-  where
-    by_test : (t u : Bool) → (t ≡ true → u ≡ true) → (u ≡ true → t ≡ true) → t ≡ u
-    by_test true u f g = sym (f refl)
-    by_test false true f g = g refl
-    by_test false false f g = refl
+    same_from_decides t (same_by to_ascii_lowercase a b) h (same_mapped to_ascii_lowercase a b)
+    ∙ ap (λ (f : ℕ → ℕ). same_by f a b) (λ i b. lower_is b i)
 
 -- A test at each byte.
 
@@ -115,11 +104,11 @@ module _ (p : ℕ → Bool) where
   all_more [] b = and-true (p b)
   all_more (x ∷ s) b = rw (all_more s b) (sym (and_assoc (p x) _ _))
 
--- a search for a byte finds none where every byte is another
-pub none_found : (x : ℕ) (s : List ℕ) → not (list_any (λ b. eqb b x) s) ≡ all_bytes (λ b. not (eqb b x)) s
-unfolding all_bytes
-none_found x [] = refl
-none_found x (b ∷ r) = by_byte _ _ (eqb b x) (none_found x r)
+-- a search for 0D finds none where every byte is another
+pub none_found : (s : List ℕ) → not (list_any (λ b. eqb b 13) s) ≡ all_bytes other_byte s
+unfolding all_bytes other_byte
+none_found [] = refl
+none_found (b ∷ r) = by_byte _ _ (eqb b 13) (none_found r)
   where
     by_byte : (more rest t : Bool) → not more ≡ rest → not (t || more) ≡ not t && rest
     by_byte more rest true e = refl

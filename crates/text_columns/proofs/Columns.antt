@@ -1,6 +1,6 @@
 -- The bars of a line as the code goes through its columns.
 use Prim.Native.Nat.{ℕ, ◌+◌, ◌≤◌, ◌<◌, zero-le}
-use mathlib.Core.Path.{◌≡◌, sym, ap, ◌∙◌}
+use mathlib.Core.Path.{◌≡◌, sym, ◌∙◌}
 use mathlib.Core.Bool.{Bool, true, false, and-false}
 use mathlib.Core.List.{List}
 use native.Mathlib.Omega.{arith}
@@ -13,7 +13,7 @@ use Rattle.text_rules.specs.declared.Column.{Column}
 use Rattle.text_rules.specs.Tables.{no_column, column_at}
 use Rattle.text_rules.specs.Columns.{column_width, column_start, line_width, is_row}
 use Rattle.text_rules.proofs.Tables.{start_first}
-use Rattle.text_rules.proofs.Placed.{Placed}
+use Rattle.text_rules.proofs.Placed.{Placed, column_placed}
 
 -- `is_row`: the bars before column k stand, and it starts at `at`.
 
@@ -26,17 +26,13 @@ pub record Bars (cs : List Column) (l : List ℕ) (at k : ℕ) : Type 0 where
   pub place : at ≡ column_start cs k
   pub stand : all_below (bar_at cs l) k ≡ true
 
--- the same line for the columns that are lent and for those of the contract
-pub row_same : (table cs : List Column) (l : List ℕ) → table ≡ cs → {b : Bool} → b ≡ is_row table l → b ≡ is_row cs l
-row_same table cs l e f = f ∙ ap (λ (t : List Column). is_row t l) e
-
 module _ (cs : List Column) (l : List ℕ) where
-  pub row_other : {width : ℕ} → width ≡ line_width cs → (length l ≡ width → ⊥) → false ≡ is_row cs l
+  pub row_other : (length l ≡ line_width cs → ⊥) → false ≡ is_row cs l
   unfolding is_row
-  row_other e h = rw (ne_eqb (length l) (line_width cs) (λ q. h (q ∙ sym e)))
+  row_other h = rw (ne_eqb (length l) (line_width cs) h)
 
-  pub bars_start : {width : ℕ} → width ≡ line_width cs → length l ≡ width → Bars cs l 0 0
-  bars_start e h = record { turns = zero-le; long = h ∙ e; place = sym (start_first cs); stand = all_none (bar_at cs l) }
+  pub bars_start : length l ≡ line_width cs → Bars cs l 0 0
+  bars_start h = record { turns = zero-le; long = h; place = sym (start_first cs); stand = all_none (bar_at cs l) }
 
   module _ (at k : ℕ) (v : Bars cs l at k) where
     module _ (h : k < length cs) where
@@ -66,3 +62,5 @@ module _ (cs : List Column) (l : List ℕ) where
     bars_end h =
         let e : k ≡ length cs = omega (arith, v.turns) in
         rw (eq-eqb _ _ v.long) (sym (rw e at v.stand))
+
+pub ruleset bars = (column_placed, row_other, bars_start, bar_within, bars_again, bars_missing, bars_end)

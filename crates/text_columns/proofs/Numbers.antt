@@ -9,8 +9,9 @@ use lib.ListN.{length, take, drop, length-drop}
 use Rattle.std.specs.Prelude.{Option, None}
 use Rattle.digits.specs.declared.Form.{Form}
 use Rattle.digits.specs.Digits.{blanks, cap, is_plain, plain_size, has_minus, is_signed, signed_figure, trimmed_by, trimmed, is_number, figure_of, size_reading}
-use Rattle.digits.proofs.Put.{rest_all}
+use Rattle.std.proofs.lemmas.List.{take_rest}
 use Rattle.text_rules.specs.Well.{most_width}
+use Rattle.text_columns.proofs.Cells.{cell_blank}
 use Rattle.text_columns.specs.Read.{right_form, number_size, cell_size}
 
 -- the form of what stands behind the blanks
@@ -30,7 +31,7 @@ module _ (s : List ℕ) (b : ℕ) where
 
   pub rest_few : length s ≤ most_width → 10 ^ length rest ≤ cap
   rest_few h =
-      let l : length rest ≡ length s - b = ap length (rest_all b s) ∙ length-drop b s in
+      let l : length rest ≡ length s - b = ap length (take_rest s b) ∙ length-drop b s in
       let short : length rest ≤ most_width = omega (arith, l) in
       let most : 10 ^ length rest ≤ 10 ^ most_width = pow-le-pow_right {n = 10} (omega arith) short in
       most
@@ -39,4 +40,6 @@ module _ (s : List ℕ) (b : ℕ) where
       → {r : Option ℕ} → r ≡ size_reading (is_plain (bare digits decimals) rest) (plain_size (bare digits decimals) rest)
       → r ≡ cell_size used digits decimals s
   unfolding cell_size
-  cell_number digits decimals first u e = e ∙ rw (rest_all b s, first, u) (number_bare digits decimals s)
+  cell_number digits decimals first u e = e ∙ rw (take_rest s b, first, u) (number_bare digits decimals s)
+
+pub ruleset cells = (cell_blank, rest_few, cell_number)

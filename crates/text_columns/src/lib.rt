@@ -11,6 +11,7 @@ use digits::Form;
 use text_rules::{BAR, Columns};
 
 // Whether the line has its width and its bars.
+#[tactic(auto, using(crate::proofs::Columns::bars))]
 pub fn is_row(columns: &Columns, width: usize, line: &[u8]) -> bool
     requires { width ≡ line_width columns.now }
     ensures { result ≡ is_row columns.now line.now }
@@ -46,6 +47,7 @@ fn read_blanks(s: &[u8]) -> Option<u64>
 
 // The number of a column, with so many digits, or as many as there are, and so many decimals; 0 for its blanks where it is not used, as
 // the flag table says. Its form has no width: the blanks are passed over here.
+#[tactic(auto, using(crate::proofs::Numbers::cells))]
 pub fn read_cell(used: bool, digits: Option<usize>, decimals: usize, s: &[u8]) -> Option<u64>
     requires { length s.now ≤ most_width }
     ensures { result ≡ cell_size used digits decimals s.now }

@@ -7,32 +7,16 @@ use native.Mathlib.Omega.{arith}
 use lib.Dec.{eqb}
 use lib.ListN.{length, get_or, take, drop, length-take}
 use Rattle.sequences.specs.Every.{every}
-use Rattle.sequences.proofs.Every.{every_at, inside-true, inside_facts, false_of}
-use Rattle.lines.proofs.Answers.{inside_low, inside_high}
-use Rattle.lines.specs.Lines.{same, letter_byte, all_bytes, ended, first_line}
+use Rattle.sequences.proofs.Every.{every_at, inside_facts, false_of}
+use Rattle.lines.specs.Lines.{same, ended, first_line}
 use Rattle.text_rules.specs.Head.{is_letters, letters_of, is_opening, opening_word, most_letters, letters_start, beside_letters, shortest_opening}
 use Rattle.text_rules.specs.Reading.{line_of, line_stands, letters_read}
 use Rattle.text_lines.proofs.Standing.{stands_not, stands_as}
 
 -- 1 to 8 letters or digits
-module _ (s : List ℕ) where
-  pub letters_none : length s < 1 → false ≡ is_letters s
-  unfolding is_letters
-  letters_none h = rw (inside_low 1 most_letters (length s) h)
-
-  pub letters_more : 1 ≤ length s → most_letters < length s → false ≡ is_letters s
-  unfolding is_letters
-  letters_more g h = rw (inside_high 1 most_letters (length s) g h)
-
-  pub letters_some : 1 ≤ length s → length s ≤ most_letters → all_bytes letter_byte s ≡ is_letters s
-  unfolding is_letters
-  letters_some g h = rw (inside-true 1 most_letters (length s) g h)
-
-  pub letters_count : is_letters s ≡ true → (1 ≤ length s) × (length s ≤ most_letters)
-  unfolding is_letters
-  letters_count e = inside_facts 1 most_letters (length s) ((and-eq-true_iff _ _).0 e).0
-
-pub ruleset letters_cases = (letters_none, letters_more, letters_some)
+pub letters_count : (s : List ℕ) → is_letters s ≡ true → (1 ≤ length s) × (length s ≤ most_letters)
+unfolding is_letters
+letters_count s e = inside_facts 1 most_letters (length s) ((and-eq-true_iff _ _).0 e).0
 
 -- "[ETF", letters, "]"
 module _ (l : List ℕ) where
@@ -84,3 +68,5 @@ module _ (text : List ℕ) where
     pub letters_part : is_opening line ≡ true → take (length line - 1 - letters_start) (drop letters_start line) ≡ letters_read text
     unfolding letters_read line_of
     letters_part e = rw (stands_first, e, ← is) (opening_part line)
+
+pub ruleset letters_told = (opening_room, letters_open, letters_other, letters_part)

@@ -3,14 +3,14 @@ use Prim.Native.Nat.{ℕ, ◌+◌, ◌-◌, ◌*◌, ◌/◌, ◌≤◌, ◌<◌
 use mathlib.Core.Path.{◌≡◌, refl, sym, ap, ◌∙◌}
 use mathlib.Core.Bool.{Bool, true, false, not, and-eq-true_iff}
 use mathlib.Core.List.{List}
-use native.Mathlib.Nat.{suc-mul, zero-mul, mul-le-mul_right, le-div_iff_mul-le, le_of_eq}
+use native.Mathlib.Nat.{suc-mul, zero-mul, mul-le-mul_right, le-div_iff_mul-le}
 use native.Mathlib.Numerals.{add-one}
 use native.Mathlib.Omega.{arith}
 use lib.ListN.{length, take, drop, length-drop}
 use borrow.Author.Tests.{ltb-true, eqb-true}
 use Rattle.sequences.specs.Below.{first_below}
 use Rattle.sequences.proofs.Below.{first_none, first_more, first_here}
-use Rattle.std.proofs.lemmas.List.{take_all}
+use Rattle.std.proofs.lemmas.List.{take_rest}
 use Rattle.lines.specs.Lines.{ended, first_line}
 use Rattle.lines.proofs.Laws.{first-length, line_room}
 use Rattle.text_rules.specs.declared.Column.{Column}
@@ -36,7 +36,7 @@ module _ (test : List ℕ → Bool) (text : List ℕ) (at : ℕ) where
 
 -- the text from there on, as the code has it
 pub rest_is : (text : List ℕ) (at : ℕ) → take (length text - at) (drop at text) ≡ drop at text
-rest_is text at = take_all (length text - at) (drop at text) (le_of_eq (length-drop at text))
+rest_is text at = take_rest text at
 
 module _ (test : List ℕ → Bool) (text : List ℕ) (at : ℕ) where
   pub stands_none : ended (take (length text - at) (drop at text)) ≡ false → false ≡ line_stands test text at

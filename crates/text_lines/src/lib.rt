@@ -9,7 +9,7 @@ ghost use Rattle.text_rules.specs.Reading.{line_stands, rows_from, letters_read}
 use text_rules::Columns;
 
 // Whether the letters are 1 to 8 letters or digits.
-#[tactic(auto, using(crate::proofs::Opening::letters_cases))]
+#[tactic(auto, using(std::proofs::lemmas::Bool::Decides::nat_tests), unfolding(text_rules::specs::Head::is_letters, sequences::specs::Every::inside))]
 pub fn is_letters(s: &[u8]) -> bool
     ensures { result ≡ is_letters s.now }
 {
@@ -29,6 +29,7 @@ pub fn is_opening(line: &[u8]) -> bool
 }
 
 // The letters of a text's first line, as that part of it; an empty part where the line is another: it goes on to C as place and length.
+#[tactic(auto, using(crate::proofs::Opening::letters_told))]
 pub fn letters(text: &[u8]) -> &[u8]
     ensures { result.now ≡ letters_read text.now }
 {
@@ -40,6 +41,7 @@ pub fn letters(text: &[u8]) -> &[u8]
 
 // Whether a component line with its end stands at a place of the whole text, of which the answers are places. `width` is the columns',
 // added up once for all lines. By match: a closure would have to carry what `is_row` asks of the width.
+#[tactic(auto, using(crate::proofs::Standing::stands_none, crate::proofs::Standing::stands_some))]
 fn row_stands(columns: &Columns, width: usize, text: &[u8], at: usize) -> bool
     requires columns_value { width ≡ line_width columns.now }
     requires at_in_bounds { at ≤ length text.now }
@@ -52,6 +54,7 @@ fn row_stands(columns: &Columns, width: usize, text: &[u8], at: usize) -> bool
 }
 
 // How many component lines stand from a place on, before the first line that is none.
+#[tactic(auto, using(crate::proofs::Standing::counted_start, crate::proofs::Standing::counted_again, crate::proofs::Standing::counted_end))]
 pub fn row_count(columns: &Columns, text: &[u8], start: usize) -> usize
     requires { start ≤ length text.now }
     ensures value { result ≡ rows_from columns.now text.now start }

@@ -1,8 +1,8 @@
 -- What the test of a date says.
 use mathlib.Core.Path.{◌≡◌}
-use mathlib.Core.Bool.{true, false}
+use mathlib.Core.Bool.{true}
 use Prim.Native.Nat.{ℕ, ◌/◌, ◌%◌, ◌≤◌}
-use Rattle.sequences.proofs.Every.{every_none, every_more, every_at, false_of, inside-true, inside_facts}
+use Rattle.sequences.proofs.Every.{every_at, inside_facts}
 use Rattle.text_rules.specs.Dates.{days_in, is_date}
 
 pub record DateRanges (d : ℕ) : Type 0 where
@@ -14,13 +14,6 @@ pub record DateRanges (d : ℕ) : Type 0 where
   pub day_high : d % 100 ≤ days_in (d / 10_000) (d / 100 % 100)
 
 module _ (d : ℕ) where
-  pub date_true : DateRanges d → is_date d ≡ true
-  unfolding is_date
-  date_true r =
-      every_more _ _ (inside-true 1 9_999 _ r.year_low r.year_high)
-      (every_more _ _ (inside-true 1 12 _ r.month_low r.month_high)
-      (every_more _ _ (inside-true 1 _ _ r.day_low r.day_high) every_none))
-
   pub date_sound : is_date d ≡ true → DateRanges d
   unfolding is_date
   date_sound e =
@@ -36,6 +29,3 @@ module _ (d : ℕ) where
         day_low = day.0;
         day_high = day.1;
       }
-
-  pub date_false : (DateRanges d → ⊥) → is_date d ≡ false
-  date_false h = false_of (is_date d) (λ e. h (date_sound e))

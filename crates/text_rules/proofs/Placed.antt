@@ -1,6 +1,6 @@
 -- The columns of a line as code goes through them.
-use mathlib.Core.Path.{◌≡◌, refl, sym, ap, subst, ◌∙◌}
-use mathlib.Core.Bool.{Bool, true, false, cond}
+use mathlib.Core.Path.{◌≡◌, refl, sym, ap, ◌∙◌}
+use mathlib.Core.Bool.{true, false, cond}
 use mathlib.Core.List.{List}
 use Prim.Native.Nat.{ℕ, zero, suc, ◌+◌, ◌≤◌, ◌<◌}
 use native.Mathlib.Nat.{add-zero}
@@ -80,46 +80,30 @@ module _ (cs : List Column) where
   unfolding taken_before column_start numbers_before words_before sum_below
   before_number k e = rw (add-one k, e) (taken_eq refl refl (sym (add-zero _)))
 
--- the same of the table that the columns are
-module _ (table cs : List Column) (e : table ≡ cs) (k : ℕ) (taken : Taken) (before : taken ≡ taken_before cs k) {b : Bool} (text : b ≡ is_text (get_or table k no_column).used) where
-  here : holds_text cs k ≡ b
-  unfolding holds_text column_at
-  here = ap (λ (t : List Column). is_text (get_or t k no_column).used) (sym e) ∙ sym text
-
-  width_here : (get_or table k no_column).width ≡ column_width cs k
-  unfolding column_width column_at
-  width_here = ap (λ (t : List Column). (get_or t k no_column).width) e
-
-  pub past_text : b ≡ true
-      → record { bytes = taken.bytes + ((get_or table k no_column).width + 1); numbers = taken.numbers; words = taken.words + (get_or table k no_column).width }
+-- what the k-th column adds to what those before it take, as the code adds it, and that all of it is small
+module _ (cs : List Column) (k : ℕ) {taken : Taken} (before : taken ≡ taken_before cs k) where
+  pub past_text : is_text (get_or cs k no_column).used ≡ true
+      → record { bytes = taken.bytes + ((get_or cs k no_column).width + 1); numbers = taken.numbers; words = taken.words + (get_or cs k no_column).width }
       ≡ taken_before cs (k + 1)
-  past_text q = rw (width_here, bytes_of cs k before, numbers_of cs k before, words_of cs k before) (before_text cs k (here ∙ q))
+  unfolding holds_text column_width column_at
+  past_text e = rw (bytes_of cs k before, numbers_of cs k before, words_of cs k before) (before_text cs k e)
 
-  pub past_number : b ≡ false
-      → record { bytes = taken.bytes + ((get_or table k no_column).width + 1); numbers = taken.numbers + 1; words = taken.words } ≡ taken_before cs (k + 1)
-  past_number q = rw (width_here, bytes_of cs k before, numbers_of cs k before, words_of cs k before) (before_number cs k (here ∙ q))
+  pub past_number : is_text (get_or cs k no_column).used ≡ false
+      → record { bytes = taken.bytes + ((get_or cs k no_column).width + 1); numbers = taken.numbers + 1; words = taken.words } ≡ taken_before cs (k + 1)
+  unfolding holds_text column_width column_at
+  past_number e = rw (bytes_of cs k before, numbers_of cs k before, words_of cs k before) (before_number cs k e)
 
--- all of it is small
-pub past_low : (table cs : List Column) → table ≡ cs → columns_well table ≡ true → (k : ℕ) → k < length cs → (taken : Taken) → taken ≡ taken_before cs k
-    → (taken.bytes + ((get_or table k no_column).width + 1) ≤ most_line)
-    × (taken.numbers + 1 ≤ most_line)
-    × (taken.words + (get_or table k no_column).width ≤ most_line)
-unfolding column_width column_at
-past_low table cs e well k h taken before =
-    let p = column_placed cs k (subst (λ (t : List Column). columns_well t ≡ true) e well) h in
-    let w : (get_or table k no_column).width ≡ column_width cs k = ap (λ (t : List Column). (get_or t k no_column).width) e in
-    let bytes = bytes_of cs k before in
-    let numbers = numbers_of cs k before in
-    let words = words_of cs k before in (
-      omega (arith, w, bytes, p.next, p.within, p.short),
-      omega (arith, w, numbers, numbers_low cs k, p.next, p.within, p.short),
-      omega (arith, w, words, words_low cs k, p.next, p.within, p.short),
-    )
-
--- a line ends where the column behind its last would start
-pub whole_line : (table cs : List Column) → table ≡ cs → columns_well table ≡ true → {r : ℕ} → r ≡ column_start cs (length table)
-    → (r ≡ line_width cs) × (r ≤ most_line)
-unfolding line_width
-whole_line table cs e well f =
-    let p = f ∙ ap (λ (t : List Column). column_start cs (length t)) e in
-    (p, omega (arith, p, line_short cs (subst (λ (t : List Column). columns_well t ≡ true) e well)))
+  pub past_low : columns_well cs ≡ true → k < length cs
+      → (taken.bytes + ((get_or cs k no_column).width + 1) ≤ most_line)
+      × (taken.numbers + 1 ≤ most_line)
+      × (taken.words + (get_or cs k no_column).width ≤ most_line)
+  unfolding column_width column_at
+  past_low well h =
+      let p = column_placed cs k well h in
+      let bytes = bytes_of cs k before in
+      let numbers = numbers_of cs k before in
+      let words = words_of cs k before in (
+        omega (arith, bytes, p.next, p.within, p.short),
+        omega (arith, numbers, numbers_low cs k, p.next, p.within, p.short),
+        omega (arith, words, words_low cs k, p.next, p.within, p.short),
+      )

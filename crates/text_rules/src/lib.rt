@@ -92,6 +92,7 @@ impl<'a> Columns<'a> {
     }
 
     // What the columns before column k take with column k, from what those before it take.
+    #[tactic(auto, using(crate::proofs::Placed::past_low, crate::proofs::Placed::past_text, crate::proofs::Placed::past_number))]
     pub fn past(&self, k: usize, taken: Taken) -> Taken
         requires { (k < length self.now) × (taken ≡ taken_before self.now k) }
         ensures { result ≡ taken_before self.now (k + 1) }
@@ -114,6 +115,7 @@ impl<'a> Columns<'a> {
     }
 
     // What the columns before column k take.
+    #[tactic(auto, using(crate::proofs::Placed::before_first))]
     pub fn taken_before(&self, k: usize) -> Taken
         requires { k ≤ length self.now }
         ensures { result ≡ taken_before self.now k }
@@ -134,6 +136,7 @@ impl<'a> Columns<'a> {
     }
 
     // Where column k starts.
+    #[tactic(auto, using(crate::proofs::Tables::start_line), unfolding(crate::specs::Columns::taken_before))]
     pub fn start(&self, k: usize) -> usize
         requires { k ≤ length self.now }
         ensures value { result ≡ column_start self.now k }
@@ -143,6 +146,7 @@ impl<'a> Columns<'a> {
     }
 
     // How many bytes a line has.
+    #[tactic(auto, using(crate::proofs::Well::line_short), unfolding(crate::specs::Columns::line_width))]
     pub fn width(&self) -> usize
         ensures value { result ≡ line_width self.now }
         ensures most { result ≤ most_line }

@@ -7,6 +7,7 @@ use lib.ListN.{length, replicate, length-replicate}
 use Rattle.digits.specs.declared.Figure.{Figure}
 use Rattle.digits.specs.Digits.{plain}
 use Rattle.digits.proofs.Trip.{number_read, figure_read_lem, number_width, blank_all}
+use Rattle.lines.specs.Lines.{other_byte, all_bytes}
 use Rattle.lines.proofs.Laws.{no_cr, names-no_cr}
 use Rattle.text_rules.specs.declared.Column.{Column}
 use Rattle.text_rules.specs.Columns.{Content, words_cell, number_cell, blank_cell, number_form, is_cell, cell_of, cell_text}
@@ -17,7 +18,7 @@ use Rattle.text_trip.proofs.WrittenHead.{number-no_cr}
 
 -- blanks are no 0D
 blanks-no_cr : (k : ℕ) → no_cr (replicate k 32) ≡ true
-unfolding no_cr
+unfolding all_bytes other_byte
 blanks-no_cr zero = refl
 blanks-no_cr (suc k) = blanks-no_cr k
 

@@ -1,5 +1,5 @@
 -- The lines of the head as they are written: each is free of 0D, and is the line to stand there.
-use mathlib.Core.Path.{◌≡◌, refl, ap, ◌∙◌, subst}
+use mathlib.Core.Path.{◌≡◌, refl, sym, ap, ◌∙◌, subst}
 use mathlib.Core.Bool.{true}
 use mathlib.Core.List.{List, [], ◌∷◌, ◌++◌}
 use Prim.Native.Nat.{ℕ, zero, suc, ◌+◌, ◌-◌, ◌<◌}
@@ -9,32 +9,24 @@ use native.Mathlib.Omega.{arith}
 use lib.Dec.{leb}
 use lib.ListN.{length, get_or, drop, length-append}
 use lib.Seq.{take_at, get_or_at}
-use borrow.Author.Tests.{leb-true, le-leb, lt-leb, eq-eqb, ne_eqb}
-use Rattle.sequences.specs.Every.{inside}
+use Rattle.std.proofs.lemmas.Bool.{and_parts}
+use borrow.Author.Tests.{le-leb, lt-leb, eq-eqb, ne_eqb}
 use Rattle.sequences.proofs.Every.{every_none, every_more}
 use Rattle.digits.specs.declared.Form.{Form}
 use Rattle.digits.specs.declared.Figure.{Figure}
 use Rattle.digits.specs.Digits.{number_text}
-use Rattle.digits.proofs.Read.{both_pass}
-use Rattle.digits.proofs.Bytes.{is_high, number_high}
+use Rattle.digits.proofs.Bytes.{number_high}
 use Rattle.lines.specs.Lines.{other_byte, same, is_named, all_bytes, letter_byte}
-use Rattle.lines.proofs.Laws.{no_cr, no_cr-append, bytes-no_cr, letters-no_cr, same_refl, named_written, value_written}
+use Rattle.lines.proofs.Turns.{all_is}
+use Rattle.lines.proofs.Laws.{no_cr, all_append, bytes-no_cr, letters-no_cr, same_refl, named_written, value_written}
 use Rattle.text_rules.specs.Tables.{Field, field_at}
 use Rattle.text_rules.specs.Head.{head_lines, field_name, opening_word, closing_word, is_letters, letters_of, is_opening, tag_word, is_head_line, field_line, head_line, beside_letters}
 use Rattle.text_rules.specs.Well.{fields_well}
 use Rattle.text_rules.proofs.Well.{field_well_lem}
 
--- no byte of 32 or more is 0D
-high_no_cr : (l : List ℕ) → is_high l ≡ true → no_cr l ≡ true
-unfolding is_high no_cr
-high_no_cr [] e = refl
-high_no_cr (b ∷ l) e =
-    let p = both_pass (leb 32 b) (is_high l) e in
-    rw (ne_eqb b 13 (λ z. omega (arith, leb-true 32 b p.0)), high_no_cr l p.1)
-
--- no byte of a number is 0D
+-- no byte of a number is 0D: each is 32 or more
 pub number-no_cr : (f : Form) (z : Figure) → no_cr (number_text f z) ≡ true
-number-no_cr f z = high_no_cr (number_text f z) (number_high f z)
+number-no_cr f z = bytes-no_cr (leb 32) refl (number_text f z) (sym (all_is (leb 32) (number_text f z)) ∙ number_high f z)
 
 -- Line 0.
 
@@ -63,10 +55,10 @@ module _ (letters : List ℕ) where
       (every_more _ _ (ap is_letters opening_letters ∙ e) (every_more _ _ (eq-eqb _ _ opening_last) every_none))
 
   opening-no_cr : is_letters letters ≡ true → no_cr opening_line ≡ true
-  unfolding is_letters no_cr
+  unfolding is_letters all_bytes other_byte
   opening-no_cr e =
-      no_cr-append opening_word (letters ++ closing_word) refl
-      (no_cr-append letters closing_word (letters-no_cr letters (both_pass (inside 1 8 (length letters)) (all_bytes letter_byte letters) e).1) refl)
+      all_append other_byte opening_word (letters ++ closing_word) refl
+      (all_append other_byte letters closing_word (letters-no_cr letters (and_parts _ (all_bytes letter_byte letters) e).1) refl)
 
 -- The lines of a head with these fields.
 
@@ -133,17 +125,17 @@ module _ (fs : List Field) where
     -- no byte of a line is 0D
     module _ (well : fields_well fs ≡ true) where
       name-no_cr : (k : ℕ) → k < length fs → no_cr (field_name fs k) ≡ true
-      unfolding field_name other_byte
-      name-no_cr k h = bytes-no_cr other_byte refl (field_at fs k).name (field_well_lem fs well k h).clean
+      unfolding field_name
+      name-no_cr k h = (field_well_lem fs well k h).clean
 
       field-no_cr : (k : ℕ) → k < length fs → no_cr (head_line fs letters figure (suc k)) ≡ true
-      unfolding no_cr
+      unfolding all_bytes other_byte
       field-no_cr k h =
           ap no_cr (head_field k h)
-          ∙ no_cr-append (field_name fs k) (61 ∷ number_text (field_at fs k).form (figure k)) (name-no_cr k h) (number-no_cr (field_at fs k).form (figure k))
+          ∙ all_append other_byte (field_name fs k) (61 ∷ number_text (field_at fs k).form (figure k)) (name-no_cr k h) (number-no_cr (field_at fs k).form (figure k))
 
       tag_no_cr : no_cr (head_line fs letters figure (suc (length fs))) ≡ true
-      unfolding no_cr
+      unfolding all_bytes other_byte
       tag_no_cr = ap no_cr head_tag
 
       pub head-no_cr : is_letters letters ≡ true → (k : ℕ) → k < head_lines fs → no_cr (head_line fs letters figure k) ≡ true

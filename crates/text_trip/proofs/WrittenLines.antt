@@ -8,16 +8,16 @@ use native.Mathlib.Omega.{arith}
 use lib.ListN.{length, drop, length-append}
 use lib.Seq.{drop-append_seam}
 use Rattle.sequences.specs.Below.{join_below}
-use Rattle.lines.specs.Lines.{line_len, ended, first_line, next_at, line_text}
-use Rattle.lines.proofs.Laws.{no_cr, no_cr-append, length-line_text, line_written, ended_written, first_written}
+use Rattle.lines.specs.Lines.{other_byte, all_bytes, line_len, ended, first_line, next_at, line_text}
+use Rattle.lines.proofs.Laws.{no_cr, all_append, length-line_text, line_written, ended_written, first_written}
 use Rattle.text_rules.specs.Reading.{start_of, line_of, line_stands}
 use Rattle.text_trip.proofs.Below.{parts_at}
 
 -- no byte of the parts is 0D
 pub parts-no_cr : (g : ℕ → List ℕ) (n : ℕ) → ((k : ℕ) → k < n → no_cr (g k) ≡ true) → no_cr (join_below g n) ≡ true
-unfolding join_below no_cr
+unfolding join_below all_bytes
 parts-no_cr g zero all = refl
-parts-no_cr g (suc n) all = no_cr-append (join_below g n) (g n) (parts-no_cr g n (λ k h. all k (le_step h))) (all n (lt-suc_self n))
+parts-no_cr g (suc n) all = all_append other_byte (join_below g n) (g n) (parts-no_cr g n (λ k h. all k (le_step h))) (all n (lt-suc_self n))
 
 -- the line l stands at a place of the text
 module _ (text : List ℕ) (at : ℕ) (l t : List ℕ) (clean : no_cr l ≡ true) (e : drop at text ≡ line_text l ++ t) where

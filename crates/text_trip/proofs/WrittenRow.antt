@@ -11,7 +11,8 @@ use Rattle.sequences.proofs.Below.{all_true, first_end}
 use Rattle.digits.specs.declared.Form.{Form}
 use Rattle.digits.specs.Digits.{plain, number_text}
 use Rattle.digits.specs.Fits.{Fits}
-use Rattle.lines.proofs.Laws.{no_cr, no_cr-append}
+use Rattle.lines.specs.Lines.{other_byte, all_bytes}
+use Rattle.lines.proofs.Laws.{no_cr, all_append}
 use Rattle.text_rules.specs.declared.Column.{Column}
 use Rattle.text_rules.specs.Tables.{TextForm, column_at}
 use Rattle.text_rules.specs.Columns.{column_width, column_start, line_width, holds_text, line_numbers, line_words, Content, number_cell, content_by, cell_text}
@@ -148,9 +149,9 @@ module _ (t : TextForm) (well : WellForm t) (numbers words : List ℕ) (fits : R
 
   -- no byte of it is 0D
   column-no_cr : (k : ℕ) → k < length t.columns → no_cr (column_text t numbers words k ++ 124 ∷ []) ≡ true
-  unfolding column_text no_cr
+  unfolding column_text all_bytes other_byte
   column-no_cr k h =
-      no_cr-append (column_text t numbers words k) (124 ∷ []) (cell-no_cr (column k) (cell k) (part k) (content k) (fits k h)) refl
+      all_append other_byte (column_text t numbers words k) (124 ∷ []) (cell-no_cr (column k) (cell k) (part k) (content k) (fits k h)) refl
 
   row-no_cr : no_cr row ≡ true
   unfolding row_text

@@ -13,8 +13,8 @@ use Rattle.sequences.specs.Below.{sum_below}
 use Rattle.sequences.proofs.Below.{all_at, first_here, first_end}
 use Rattle.sequences.proofs.Every.{false_of}
 use Rattle.sequences.proofs.Stretch.{within, stretch-length}
-use Rattle.lines.specs.Lines.{next_at, line_text, same, name_byte, all_bytes}
-use Rattle.lines.proofs.Laws.{no_cr, same_refl, length-line_text}
+use Rattle.lines.specs.Lines.{next_at, line_text, same, name_byte, other_byte, all_bytes}
+use Rattle.lines.proofs.Laws.{same_refl, length-line_text}
 use Rattle.text_rules.specs.Tables.{TextForm}
 use Rattle.text_rules.specs.Head.{end_word}
 use Rattle.text_rules.specs.Columns.{column_width, column_start, line_width, line_pitch, line_numbers, line_words, is_row, column_fault, numbers_read, words_read, row_text}
@@ -115,12 +115,12 @@ module _ (t : TextForm) (s : Sheet) (well : WellForm t) (fits : SheetFits t s) w
       ∙ (row_fine j h).stands
 
   end_there : (test : List ℕ → Bool) → line_stands test (sheet_text t s) (row_start t (sheet_text t s) s.count) ≡ test end_word
-  unfolding no_cr
+  unfolding all_bytes other_byte
   end_there = stands_there (sheet_text t s) (row_start t (sheet_text t s) s.count) end_word [] refl end_drop
 
   -- the text reaches to the end of the last line
   end_next : next_at (sheet_text t s) (row_start t (sheet_text t s) s.count) ≡ length (sheet_text t s)
-  unfolding no_cr line_text
+  unfolding all_bytes other_byte line_text
   end_next =
       next_there (sheet_text t s) (row_start t (sheet_text t s) s.count) end_word [] refl end_drop
       ∙ (omega (arith, ap length end_drop, length-drop (row_start t (sheet_text t s) s.count) (sheet_text t s)))

@@ -1,7 +1,7 @@
 -- `digits_reading::read_plain` meets its contract: what stands before the point is read, then the decimals are read on.
 use Rattle.std.proofs.Common.{sym, ◌∙◌, arith}
 use Rattle.digits.proofs.Read.{known_within, plain_whole, plain_short, plain_point, plain_ill, plain_known}
-use Rattle.digits.proofs.Put.{rest_all}
+use Rattle.std.proofs.lemmas.List.{take_rest}
 use Rattle.digits_reading.proofs.Few.{fewer, head_room}
 use Rattle.digits_reading.proofs.read_plain.Goals as goal
 
@@ -31,4 +31,4 @@ read_digits-requires-clause-few g c few =
 pub returns : goal.returns
 returns g c =
     let whole = sym c.read_whole-2.ensures ∙ c.in_ok-head.was in
-    c.read_digits.ensures ∙ (simp rest_all) ∙ plain_known _ _ c.if-k-eq0.false _ (omega (arith, c.if-s-k.false)) c.if-s-p-ne46.false whole
+    c.read_digits.ensures ∙ (simp take_rest) ∙ plain_known _ _ c.if-k-eq0.false _ (omega (arith, c.if-s-k.false)) c.if-s-p-ne46.false whole

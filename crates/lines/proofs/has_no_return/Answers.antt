@@ -1,9 +1,7 @@
 -- `lines::has_no_return` meets its contract: the search finds no 0D.
 use Rattle.std.proofs.Common.{◌∙◌, not, ap}
-use Rattle.lines.specs.Lines.{other_byte}
 use Rattle.lines.proofs.Turns.{none_found}
 use Rattle.lines.proofs.has_no_return.Goals as goal
 
 pub returns : goal.returns
-unfolding other_byte
-returns c = ap not c.contains.ensures.value ∙ none_found 13 c.args.s.now
+returns c = ap not c.contains.ensures.value ∙ none_found c.args.s.now
