@@ -1,15 +1,15 @@
 // The component lines of a text, by their form: what they say, read column by column.
 #![tactic(auto)]
 
-ghost use Rattle.std.specs.Prelude.{◌≡◌, true, false, ◌+◌, ◌/◌, ◌≤◌, ◌<◌, length, set};
+ghost use Rattle.std.specs.Prelude.{◌≡◌, true, false, ◌+◌, ◌-◌, ◌/◌, ◌≤◌, ◌<◌, length, get_or, set};
 ghost use Rattle.sequences.specs.Below.{below};
-ghost use Rattle.text_rules.specs.Columns.{holds_text};
+ghost use Rattle.text_rules.specs.Columns.{holds_text, used_by};
 ghost use Rattle.text_rules.specs.Tables.{column_at};
 ghost use Rattle.text_rules.specs.Well.{is_always};
 ghost use Rattle.text_rows.specs.Rows.{line_count, fault_in, column_kept, numbers_kept};
 ghost use Rattle.text_rows.specs.Turns.{words_fault, cells_fault, column_stored};
 
-use text_rules::{LineForm, Use};
+use text_rules::{Column, LineForm, Use};
 
 // The first line with a column at fault, and that column.
 #[derive(Clone, Copy, PartialEq, Eq, Debug)]
@@ -40,6 +40,24 @@ pub fn words_fault(rows: &[u8], pitch: usize, from: usize, width: usize) -> Opti
     None
 }
 
+// Whether a column with a number is used in a line, by the flag there. One that is always used reads no flag.
+#[tactic(auto, using(crate::proofs::Turns::used_always))]
+fn is_used<const ALWAYS: bool>(
+    column: Column,
+    flags: &[[bool; flags::COLUMNS]; flags::FLAGS],
+    row: &[u8],
+    flag_start: usize,
+) -> bool
+    requires always { ALWAYS ≡ true → is_always column.used ≡ true }
+    requires flag_in_bounds { flag_start < length row.now }
+    ensures { result ≡ used_by flags.now (get_or row.now flag_start 0 - 48) column.used }
+{
+    ALWAYS
+        || column
+            .used
+            .has_number(flags, text_columns::flag_digit(row[flag_start]))
+}
+
 // The first line whose column k, a number's, is at fault. The numbers before it are stored. A column that is always used has a loop of
 // its own, in which no flag is read.
 fn read_numbers_column<const ALWAYS: bool>(
@@ -60,12 +78,8 @@ fn read_numbers_column<const ALWAYS: bool>(
     let taken = columns.taken_before(k);
     let column = form.column(k);
     for (j, row) in rows.chunks_exact(line.bytes + 2).enumerate() {
-        let used = ALWAYS
-            || column
-                .used
-                .has_number(flags, text_columns::flag_digit(row[flag_start]));
         let size = text_columns::read_cell(
-            used,
+            is_used::<ALWAYS>(column, flags, row, flag_start),
             column.digits,
             column.decimals,
             &row[taken.bytes..taken.bytes + column.width],
