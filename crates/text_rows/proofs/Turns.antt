@@ -13,6 +13,7 @@ use Rattle.sequences.specs.Below.{first_below, below}
 use Rattle.sequences.proofs.Stretch.{part_within}
 use Rattle.sequences.proofs.Below.{sum_none, sum_more, sum_grows, cond_le, first-le, first_none, first_more, first_here, first_same}
 use Rattle.sequences.proofs.Below.{below-some, below-none, below_some_facts, below_none_fact, first_none_below, first_some_below}
+use Rattle.sequences.proofs.Chunks.{chunks_start, chunk_room, chunk_is, chunks_again, chunks_end, chunk_some}
 use Rattle.lines.specs.Lines.{name_byte, all_bytes}
 use Rattle.text_rules.specs.declared.Column.{Column}
 use Rattle.text_rules.specs.declared.Taken.{Taken}
@@ -95,6 +96,9 @@ module _ (rows : List ℕ) (pitch from width : ℕ) where
   pub words_end : (count j : ℕ) → first_below words_at j ≡ j → j ≡ count → None ≡ below count (words_fault rows pitch from width count)
   unfolding words_fault words_at
   words_end count j v e = first_none_below words_at count (rw e at v)
+
+-- what the search goes by there
+pub ruleset words_laws = (chunks_start, chunk_room, chunk_is, chunks_end, chunk_some, first_none, words_found, words_end)
 
 -- `read_numbers_column`: column k of the lines below j is no fault, and its numbers are stored.
 
@@ -230,26 +234,28 @@ used_always Always e flags flag = refl
 used_always (ByFlag column) e flags flag = absurd (false≢true e)
 used_always Text e flags flag = refl
 
+-- what the search goes by there
+pub ruleset number_laws = (known, pitched, pitch_low, cell_room, flag_room)
+
 -- `read_column`: words or numbers, by the column's use.
 
 pub words_cells : (t : TextForm) (rows : List ℕ) (k count : ℕ) → k < length t.columns → holds_text t.columns k ≡ true
-    → {pitch at width : ℕ} → pitch ≡ line_pitch t.columns → at ≡ column_start t.columns k → width ≡ column_width t.columns k
-    → words_fault rows pitch at width count ≡ cells_fault t rows k count
+    → cells_fault t rows k count ≡ words_fault rows (line_pitch t.columns) (column_start t.columns k) (column_width t.columns k) count
 unfolding words_fault cells_fault
-words_cells t rows k count h e p a w =
-    rw (p, a, w) (first_same _ _ count (λ j l. sym (words_wrong t rows k j h e)))
+words_cells t rows k count h e = first_same _ _ count (λ j l. words_wrong t rows k j h e)
 
 module _ (t : TextForm) (k : ℕ) {c : Column} (e : c ≡ column_at t.columns k) where
   pub holds_words : c.used ≡ Text → holds_text t.columns k ≡ true
   unfolding holds_text is_text
   holds_words f = ap (λ (x : Column). is_text x.used) (sym e) ∙ ap is_text f
 
-  pub holds_always : c.used ≡ Always → (holds_text t.columns k ≡ false) × (is_always (column_at t.columns k).used ≡ true)
-  unfolding holds_text is_text is_always
-  holds_always f = (
-    ap (λ (x : Column). is_text x.used) (sym e) ∙ ap is_text f,
-    ap (λ (x : Column). is_always x.used) (sym e) ∙ ap is_always f,
-  )
+  pub holds_always : c.used ≡ Always → holds_text t.columns k ≡ false
+  unfolding holds_text is_text
+  holds_always f = ap (λ (x : Column). is_text x.used) (sym e) ∙ ap is_text f
+
+  pub always_here : c.used ≡ Always → is_always (column_at t.columns k).used ≡ true
+  unfolding is_always
+  always_here f = ap (λ (x : Column). is_always x.used) (sym e) ∙ ap is_always f
 
   pub holds_by : {column : ℕ} → c.used ≡ ByFlag column → holds_text t.columns k ≡ false
   unfolding holds_text is_text
@@ -271,19 +277,8 @@ module _ (t : TextForm) (rows : List ℕ) (k count : ℕ) where
   abbrev pub ColumnRead : List ℕ → List ℕ → Option ℕ → Type 0
   ColumnRead run run' r = (r ≡ below count (cells_fault t rows k count)) × (run' ≡ column_stored t rows k (cells_fault t rows k count) run)
 
-  pub column_words : k < length t.columns → holds_text t.columns k ≡ true → {c : Column} → c ≡ column_at t.columns k
-      → {pitch start : ℕ} → pitch ≡ line_pitch t.columns → start ≡ column_start t.columns k
-      → {r : Option ℕ} → r ≡ below count (words_fault rows pitch start c.width count) → (run : List ℕ) → ColumnRead run run r
-  unfolding column_stored column_width
-  column_words there text e p s f run = (
-    f ∙ ap (below count) (words_cells t rows k count there text p s (ap (λ (c : Column). c.width) e)),
-    rw text,
-  )
-
-  pub column_numbers : holds_text t.columns k ≡ false → (run : List ℕ) {run' : List ℕ} {r : Option ℕ}
-      → (r ≡ below count (cells_fault t rows k count)) × (run' ≡ column_kept t rows k (cells_fault t rows k count) run) → ColumnRead run run' r
-  unfolding column_stored
-  column_numbers number run e = (e.0, e.1 ∙ rw number)
+-- what the search goes by there
+pub ruleset column_laws = (words_room, holds_words, holds_always, always_here, holds_by, words_cells)
 
 -- `read_columns`: the columns before k are read.
 

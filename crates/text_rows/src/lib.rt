@@ -28,6 +28,7 @@ fn keep_number(run: &mut [u64], q: usize, v: u64)
 }
 
 // The first of the lines, each of so many bytes, whose bytes from a place on are no words.
+#[tactic(auto, using(crate::proofs::Turns::words_laws))]
 pub fn words_fault(rows: &[u8], pitch: usize, from: usize, width: usize) -> Option<usize>
     requires { (0 < pitch) × (from + width ≤ pitch) }
     ensures { result ≡ below (length rows.now / pitch) (words_fault rows.now pitch from width (length rows.now / pitch)) }
@@ -60,6 +61,7 @@ fn is_used<const ALWAYS: bool>(
 
 // The first line whose column k, a number's, is at fault. The numbers before it are stored. A column that is always used has a loop of
 // its own, in which no flag is read.
+#[tactic(auto, using(crate::proofs::Turns::number_laws))]
 fn read_numbers_column<const ALWAYS: bool>(
     form: &LineForm,
     k: usize,
@@ -93,6 +95,7 @@ fn read_numbers_column<const ALWAYS: bool>(
 }
 
 // The first line whose column k is at fault. A number's column is stored.
+#[tactic(auto, using(crate::proofs::Turns::column_laws), unfolding(crate::specs::Rows::line_count, crate::specs::Turns::column_stored, text_rules::specs::Columns::column_width))]
 fn read_column(form: &LineForm, k: usize, rows: &[u8], run: &mut [u64]) -> Option<usize>
     requires { k < length form.now.columns }
     ensures value { result ≡ below (line_count form.now rows.now) (cells_fault form.now rows.now k (line_count form.now rows.now)) }
@@ -111,6 +114,7 @@ fn read_column(form: &LineForm, k: usize, rows: &[u8], run: &mut [u64]) -> Optio
 
 // Reads component lines, column by column, as far as the first fault. Their numbers go to the run, those of a line behind those of the
 // line before; what has no room there is dropped.
+#[tactic(auto, using(crate::proofs::Turns::pitch_some))]
 pub fn read_columns(form: &LineForm, rows: &[u8], run: &mut [u64]) -> Option<CellFault>
     ensures value { result ≡ fault_in form.now rows.now (line_count form.now rows.now) }
     ensures run_after { run.new ≡ numbers_kept form.now rows.now (line_count form.now rows.now) (length form.now.columns) run.old }

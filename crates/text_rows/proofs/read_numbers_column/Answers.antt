@@ -3,16 +3,9 @@ use mathlib.Core.Path.{refl, ◌∙◌}
 use native.Mathlib.Omega.{arith}
 use Rattle.text_rows.specs.Rows.{line_count}
 use Rattle.sequences.proofs.Chunks.{chunks_start, chunk_room, chunk_is, chunks_again, chunks_end, chunk_some}
-use Rattle.text_rows.proofs.Turns.{known, pitched, pitch_low, pitch_some, strides, placed, cell_room, cell_narrow, slot_room, flag_room}
+use Rattle.text_rows.proofs.Turns.{known, pitched, pitch_some, strides, placed, cell_narrow, slot_room}
 use Rattle.text_rows.proofs.Turns.{cell_none, cell_some, read_start, read_again, read_found, read_end}
 use Rattle.text_rows.proofs.read_numbers_column.Goals as goal
-
-pub overflow_add-line : goal.overflow_add-line
-overflow_add-line g c =
-    let cs = c.columns-columns.ensures in
-    let flag = c.before_flag-flag_start.ensures in
-    let k = known c.args.form.now c.requires.column c.flags-flags.ensures flag.within flag.value cs.well cs.value c.whole-line.ensures c.taken_before-taken.ensures c.column-column.ensures in
-    omega (arith, pitch_low k)
 
 pub loop-j-init : goal.loop-j-init
 loop-j-init g c =
@@ -22,24 +15,6 @@ loop-j-init g c =
     let items = c.enumerate-j-items.ensures in
     rw (c.into_iter-j-iterator.ensures.into_iter_gives, items.source, items.count)
     (record { known = k; given = chunks_start _ _ (c.chunks_exact.ensures.size ∙ pitched k) c.chunks_exact.ensures.rest refl; read = read_start _ _ _ _ })
-
-pub is_used-requires : goal.is_used-requires
-is_used-requires g c =
-    let v = c.loop-j.invariant in
-    record {
-      always = λ a. rw v.known.column (c.requires.always a);
-      flag_in_bounds = omega (arith, flag_room v.known, c.in-Some.ensures.steps.0.1.1, v.given.wide);
-    }
-
-pub overflow_add-taken : goal.overflow_add-taken
-overflow_add-taken g c =
-    let k = c.loop-j.invariant.known in
-    omega (arith, cell_room k, pitched k, pitch_low k)
-
-pub slice_bounds-read_cell-end : goal.slice_bounds-read_cell-end
-slice_bounds-read_cell-end g c =
-    let v = c.loop-j.invariant in
-    omega (arith, cell_room v.known, c.in-Some.ensures.steps.0.1.1, v.given.wide)
 
 pub read_cell-size-requires : goal.read_cell-size-requires
 read_cell-size-requires g c =
