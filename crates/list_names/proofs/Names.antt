@@ -52,6 +52,9 @@ module _ (text first j pitch : ℕ) (some : 0 < pitch) where
   pub line_some : first ≤ text → j < (text - first) / pitch → first + j * pitch + pitch ≤ text
   line_some h q = omega (arith, (le-div_iff_mul-le {k = pitch} {x = j + 1} {y = text - first} some).0 (omega arith), add-mul-one j pitch)
 
+-- what the search goes by where a name is looked for
+pub ruleset place_cases = (pitch_some, line_none, line_some, place_none, place_is, name_within)
+
 -- The names of a list.
 
 -- where every byte may stand in a name, no name is at fault

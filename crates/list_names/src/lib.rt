@@ -10,7 +10,7 @@ ghost use Rattle.list_rules.specs.Writing.{name_fault};
 use list_rules::{ListColumn, NAME_WIDTH, TextPart};
 
 // Where the name of the j-th component line behind a place stands; an empty part where the text has no such bytes.
-#[tactic(auto, using(crate::proofs::Names::pitch_some, crate::proofs::Names::line_none, crate::proofs::Names::line_some, crate::proofs::Names::place_none, crate::proofs::Names::place_is, crate::proofs::Names::name_within))]
+#[tactic(auto, using(crate::proofs::Names::place_cases))]
 pub fn name_place(text: &[u8], first: usize, j: usize) -> TextPart
     ensures value { result ≡ name_place text.now first j }
     ensures length_in_bounds { result.place + result.length ≤ length text.now }
