@@ -1,6 +1,6 @@
 -- Names: where the one of a component line stands, and the names of a list.
 use Prim.Native.Nat.{ℕ, zero, suc, ◌+◌, ◌-◌, ◌*◌, ◌/◌, ◌≤◌, ◌<◌}
-use mathlib.Core.Path.{◌≡◌, refl, ap, ◌∙◌}
+use mathlib.Core.Path.{◌≡◌, refl, ap}
 use mathlib.Core.Bool.{Bool, true, not, and-eq-true_iff}
 use mathlib.Core.List.{List, [], ◌∷◌}
 use native.Mathlib.Nat.{add-zero, suc-mul, le-div_iff_mul-le, div-lt_iff_lt-mul}
@@ -14,24 +14,20 @@ use Rattle.sequences.specs.Stretch.{stretch_of}
 use Rattle.sequences.proofs.Below.{first_same, first_end, first_none_below}
 use Rattle.lines.specs.Lines.{name_byte, all_bytes}
 use Rattle.text_rules.specs.declared.Column.{Column}
-use Rattle.text_rules.specs.Tables.{TextForm, column_at}
+use Rattle.text_rules.specs.Tables.{column_at}
 use Rattle.text_rules.specs.Columns.{column_width, column_start, line_width, line_pitch}
 use Rattle.list_rules.specs.declared.TextPart.{TextPart}
-use Rattle.list_rules.specs.Shanghai.{shanghai_columns, shanghai_lines, name_column, name_width}
+use Rattle.list_rules.specs.Shanghai.{shanghai_columns, name_column, name_width}
 use Rattle.list_rules.specs.Reading.{name_place}
 use Rattle.text_rows.specs.Turns.{words_fault}
 use Rattle.list_rules.specs.Writing.{name_at, name_fault}
-
--- the columns and the pitch that the code has
-pub our_columns : (form : TextForm) (columns : List Column) → form ≡ shanghai_lines → columns ≡ form.columns → columns ≡ shanghai_columns
-our_columns form columns e d = d ∙ ap (λ (t : TextForm). t.columns) e
 
 pub pitch_some : (cs : List Column) {pitch : ℕ} → pitch ≡ line_pitch cs → 0 < pitch
 unfolding line_pitch
 pitch_some cs e = omega (arith, e)
 
 -- the name stands within the line
-name_within : column_start shanghai_columns name_column + name_width ≤ line_pitch shanghai_columns
+pub name_within : column_start shanghai_columns name_column + name_width ≤ line_pitch shanghai_columns
 unfolding column_start line_width line_pitch column_width column_at shanghai_columns sum_below
 name_within = omega arith
 
@@ -45,9 +41,6 @@ module _ (text : List ℕ) (first j pitch : ℕ) (e : pitch ≡ line_pitch shang
   unfolding name_place
   place_is h f = rw (← e, le-leb (first + j * pitch + pitch) (length text) h, f)
 
-  pub place_room : first + j * pitch + pitch ≤ length text → {a : ℕ} → a ≡ column_start shanghai_columns name_column → first + j * pitch + a + name_width ≤ length text
-  place_room h f = omega (arith, name_within, e, f)
-
 add-mul-one : (j p : ℕ) → (j + 1) * p ≡ j * p + p
 add-mul-one j p = rw add-one (suc-mul j p)
 
@@ -58,6 +51,9 @@ module _ (text first j pitch : ℕ) (some : 0 < pitch) where
 
   pub line_some : first ≤ text → j < (text - first) / pitch → first + j * pitch + pitch ≤ text
   line_some h q = omega (arith, (le-div_iff_mul-le {k = pitch} {x = j + 1} {y = text - first} some).0 (omega arith), add-mul-one j pitch)
+
+-- what the search goes by where a name is looked for
+pub ruleset place_cases = (pitch_some, line_none, line_some, place_none, place_is, name_within)
 
 -- The names of a list.
 

@@ -10,6 +10,7 @@ ghost use Rattle.list_rules.specs.Writing.{name_fault};
 use list_rules::{ListColumn, NAME_WIDTH, TextPart};
 
 // Where the name of the j-th component line behind a place stands; an empty part where the text has no such bytes.
+#[tactic(auto, using(crate::proofs::Names::place_cases))]
 pub fn name_place(text: &[u8], first: usize, j: usize) -> TextPart
     ensures value { result ≡ name_place text.now first j }
     ensures length_in_bounds { result.place + result.length ≤ length text.now }
@@ -31,6 +32,7 @@ pub fn name_place(text: &[u8], first: usize, j: usize) -> TextPart
 }
 
 // That name, as the part of the text. No Option: it goes on to C as a place and a length.
+#[tactic(auto, unfolding(list_rules::specs::Reading::name_from, list_rules::specs::Reading::part_in))]
 pub fn name_from(text: &[u8], first: usize, j: usize) -> &[u8]
     ensures { result.now ≡ name_from text.now first j }
 {
@@ -41,7 +43,7 @@ pub fn name_from(text: &[u8], first: usize, j: usize) -> &[u8]
 }
 
 // The first of the names with a byte that no name has. They are gone through one by one only where there is such a byte.
-#[tactic(auto, using(crate::proofs::Names::names_fine))]
+#[tactic(auto, using(crate::proofs::Names::names_fine, crate::proofs::Names::names_words))]
 pub fn name_fault(names: &[u8]) -> Option<usize>
     ensures { result ≡ below (length names.now / name_width) (name_fault names.now (length names.now / name_width)) }
 {

@@ -1,6 +1,6 @@
 -- The component lines of a text as the code reads them, and what is found in them.
-use Prim.Native.Nat.{ℕ, ◌+◌, ◌-◌, ◌*◌, ◌/◌, ◌≤◌, ◌<◌}
-use mathlib.Core.Path.{◌≡◌, refl, ap, ap₂, ◌∙◌}
+use Prim.Native.Nat.{ℕ, ◌+◌, ◌-◌, ◌*◌, ◌≤◌, ◌<◌}
+use mathlib.Core.Path.{◌≡◌, refl, ap, ◌∙◌}
 use mathlib.Core.Bool.{Bool, true, false, cond}
 use mathlib.Core.List.{List}
 use native.Mathlib.Nat.{add-sub_cancel_left, mul-div_cancel}
@@ -38,39 +38,20 @@ module _ (text : List ℕ) where
   unfolding rows_of row_of row_start shanghai
   row_ours j h = row_in_lem _ _ _ _ _ h
 
-  -- the part of the text that the code lends, and its room
-  pub rows_part : (start count : ℕ) → start ≡ body_start shanghai text → count ≡ row_count shanghai text → (pitch : ℕ) → pitch ≡ line_pitch shanghai_columns
-      → take (start + count * pitch - start) (drop start text) ≡ rows_of text
-  unfolding rows_of
-  rows_part start count e f pitch g = rw (add-sub_cancel_left start (count * pitch), e, f, g)
+-- What the code goes by: a part of the text that it lends, and the form, the columns and the pitch that it has.
+pub record Lent (form : TextForm) (columns : List Column) (pitch start count : ℕ) (text : List ℕ) : Type 0 where
+  pub form_is : form ≡ shanghai_lines
+  pub columns_are : columns ≡ shanghai_columns
+  pub pitch_is : pitch ≡ line_pitch shanghai_columns
+  pub first : start ≡ body_start shanghai text
+  pub many : count ≡ row_count shanghai text
+  pub room : start + count * line_pitch shanghai_columns ≤ length text
 
--- the columns and the pitch that the code has
-pub our_columns : (form : TextForm) (columns : List Column) → form ≡ shanghai_lines → columns ≡ form.columns → columns ≡ shanghai_columns
-our_columns form columns e d = d ∙ ap (λ (t : TextForm). t.columns) e
-
-pub pitch_line : (columns : List Column) → line_pitch columns ≡ line_width columns + 2
-unfolding line_pitch
-pitch_line columns = refl
-
--- they are as many as the code has
-pub lines_ours : (form : TextForm) → form ≡ shanghai_lines → (part : List ℕ) (count : ℕ) → length part ≡ count * line_pitch shanghai_columns → line_count form part ≡ count
-unfolding line_count line_pitch
-lines_ours form e part count long =
-    ap (λ (t : TextForm). length part / line_pitch t.columns) e
-    ∙ ap (λ (n : ℕ). n / line_pitch shanghai_columns) long
-    ∙ mul-div_cancel count (omega arith)
-
--- What the code found and kept in these lines.
-module _ (form : TextForm) (e : form ≡ shanghai_lines) (part text : List ℕ) (g : part ≡ rows_of text) (count : ℕ) where
-  pub fault_ours_in : {fault : Option CellFault} → fault ≡ fault_in form part count → fault ≡ fault_in shanghai_lines (rows_of text) count
-  fault_ours_in h = h ∙ ap₂ (λ (t : TextForm) (l : List ℕ). fault_in t l count) e g
-
-  pub kept_ours : count ≡ row_count shanghai text → (run run' : List ℕ) → run' ≡ numbers_kept form part count (length form.columns) run → run' ≡ run_kept text run
-  unfolding run_kept
-  kept_ours c run run' h =
-      h
-      ∙ ap₂ (λ (t : TextForm) (l : List ℕ). numbers_kept t l count (length t.columns) run) e g
-      ∙ ap (λ (n : ℕ). numbers_kept shanghai_lines (rows_of text) n (length shanghai_columns) run) c
+pub lent : {form : TextForm} {columns : List Column} {pitch start count : ℕ} {text : List ℕ} → form ≡ shanghai_lines → columns ≡ form.columns → pitch ≡ line_pitch columns
+    → (start ≡ body_start shanghai text) × (count ≡ row_count shanghai text) → start + count * line_pitch shanghai_columns ≤ length text → Lent form columns pitch start count text
+lent f d p s room =
+    let ours = d ∙ ap (λ (t : TextForm). t.columns) f in
+    record { form_is = f; columns_are = ours; pitch_is = p ∙ ap line_pitch ours; first = s.0; many = s.1; room = room }
 
 -- what a test's answer says of it
 cond_none : {A : Type 0} (b : Bool) (x : A) → None ≡ cond b (Some x) None → b ≡ false
@@ -81,20 +62,45 @@ cond_some : {A : Type 0} (b : Bool) (x y : A) → Some y ≡ cond b (Some x) Non
 cond_some true x y e = (refl, cc)
 cond_some false x y e = absurd (cc)
 
--- What is found, where the code has the fault of these lines.
-module _ (text : List ℕ) (start count : ℕ) (e : start ≡ body_start shanghai text) (f : count ≡ row_count shanghai text) where
+module _ {form : TextForm} {columns : List Column} {pitch start count : ℕ} {text : List ℕ} (v : Lent form columns pitch start count text) where
+  abbrev part : List ℕ
+  part = take (start + count * pitch - start) (drop start text)
+
+  part_is : part ≡ rows_of text
+  unfolding rows_of
+  part_is = rw (add-sub_cancel_left start (count * pitch), v.first, v.many, v.pitch_is)
+
+  end_room : start + count * pitch ≤ length text
+  end_room = omega (arith, v.room, ap (λ (n : ℕ). count * n) v.pitch_is)
+
+  lines_many : line_count form part ≡ count
+  unfolding line_count line_pitch
+  lines_many =
+      rw (add-sub_cancel_left start (count * pitch), length-take-le (count * pitch) (drop start text) (omega (arith, end_room, length-drop start text)), v.pitch_is, v.form_is)
+      (mul-div_cancel count (omega arith))
+
+  -- what the code found and kept in these lines
+  fault_ours_in : {fault : Option CellFault} → fault ≡ fault_in form part (line_count form part) → fault ≡ fault_in shanghai_lines (rows_of text) count
+  fault_ours_in h = h ∙ rw (lines_many, part_is, v.form_is)
+
+  pub kept_ours : (run : List ℕ) {run' : List ℕ} → run' ≡ numbers_kept form part (line_count form part) (length form.columns) run → run' ≡ run_kept text run
+  unfolding run_kept
+  kept_ours run h = h ∙ rw (lines_many, part_is, v.form_is, v.many)
+
   row_found : fault_row shanghai_lines (rows_of text) count ≡ wrong_row shanghai text
   unfolding fault_row wrong_row shanghai
   row_found =
-      ap (first_below (λ j. ltb (column_fault shanghai_lines (row_in shanghai_columns (rows_of text) j)) (length shanghai_columns))) f
+      ap (first_below (λ j. ltb (column_fault shanghai_lines (row_in shanghai_columns (rows_of text) j)) (length shanghai_columns))) v.many
       ∙ first_same _ _ (row_count shanghai text)
       (λ j h. ap (λ (n : ℕ). ltb n (length shanghai_columns)) (ap (column_fault shanghai_lines) (row_ours text j h) ∙ fault_ours _))
 
-  pub rows_none : None ≡ fault_in shanghai_lines (rows_of text) count → None ≡ rows_found text
+  -- no column is at fault
+  pub rows_none : None ≡ fault_in form part (line_count form part) → None ≡ rows_found text
   unfolding fault_in rows_found
-  rows_none g = rw (← row_found, ← f, cond_none _ _ g)
+  rows_none g = rw (← row_found, ← v.many, cond_none _ _ (fault_ours_in g))
 
-  module _ (fault : CellFault) (g : Some fault ≡ fault_in shanghai_lines (rows_of text) count) where
+  -- one is, and its place lies within the text
+  module _ {fault : CellFault} (g : Some fault ≡ fault_in form part (line_count form part)) where
     parts : (ltb (fault_row shanghai_lines (rows_of text) count) count ≡ true)
         × (fault
         ≡ record {
@@ -102,37 +108,31 @@ module _ (text : List ℕ) (start count : ℕ) (e : start ≡ body_start shangha
           column = column_fault shanghai_lines (row_in shanghai_columns (rows_of text) (fault_row shanghai_lines (rows_of text) count));
         })
     unfolding fault_in
-    parts = cond_some _ _ _ g
+    parts = cond_some _ _ _ (fault_ours_in g)
 
     row_is : fault.row ≡ fault_row shanghai_lines (rows_of text) count
     row_is = ap (λ (x : CellFault). x.row) parts.1
 
-    pub row_low : fault.row < count
+    row_low : fault.row < count
     row_low = omega (arith, row_is, ltb-true _ _ parts.0)
+
+    pub row_room : start + fault.row * pitch + pitch ≤ length text
+    row_room = omega (arith, end_room, within pitch fault.row count row_low)
+
+    pub place_room : {at : ℕ} → at ≤ line_width columns → start + fault.row * pitch + at ≤ length text
+    unfolding line_pitch
+    place_room h = omega (arith, h, row_room, v.pitch_is, ap line_width v.columns_are)
 
     column_found : fault.column ≡ column_fault shanghai (row_of shanghai text fault.row)
     column_found =
         ap (λ (x : CellFault). x.column) parts.1
-        ∙ rw (← row_is) (ap (column_fault shanghai_lines) (row_ours text fault.row (omega (arith, f, row_low))) ∙ fault_ours _)
+        ∙ rw (← row_is) (ap (column_fault shanghai_lines) (row_ours text fault.row (omega (arith, v.many, row_low))) ∙ fault_ours _)
 
-    pub column_low : fault.column ≤ length shanghai_columns
+    pub column_low : fault.column ≤ length columns
     unfolding column_fault shanghai
-    column_low = omega (arith, column_found, first-le (wrong_cell shanghai (row_of shanghai text fault.row)) (length shanghai_columns))
+    column_low = omega (arith, column_found, first-le (wrong_cell shanghai (row_of shanghai text fault.row)) (length shanghai_columns), ap length v.columns_are)
 
-    pub row_place : (pitch at : ℕ) → pitch ≡ line_pitch shanghai_columns → at ≡ column_start shanghai_columns fault.column
-        → Some (record { row = fault.row; place = start + fault.row * pitch + at }) ≡ rows_found text
+    pub row_place : {at : ℕ} → at ≡ column_start columns fault.column → Some (record { row = fault.row; place = start + fault.row * pitch + at }) ≡ rows_found text
     unfolding rows_found column_place row_start shanghai
-    row_place pitch at p q = rw (← row_found, ← row_is, ← f, lt-ltb fault.row count row_low, e, p, q, column_found)
-
--- The places that the code computes lie within the text.
-module _ (text : List ℕ) (start count pitch : ℕ) (e : pitch ≡ line_pitch shanghai_columns) (room : start + count * line_pitch shanghai_columns ≤ length text) where
-  pub end_room : start + count * pitch ≤ length text
-  end_room = omega (arith, ap (λ (n : ℕ). count * n) e)
-
-  pub part_long : length (take (start + count * pitch - start) (drop start text)) ≡ count * line_pitch shanghai_columns
-  part_long =
-      let w : start + count * pitch - start ≡ count * pitch = omega arith in
-      rw w (length-take-le (count * pitch) (drop start text) (omega (arith, end_room, length-drop start text))) ∙ ap (λ (n : ℕ). count * n) e
-
-  pub row_room : (row : ℕ) → row < count → start + row * pitch + pitch ≤ length text
-  row_room row h = omega (arith, end_room, within pitch row count h)
+    row_place q =
+        rw (← row_found, ← row_is, ← v.many, lt-ltb fault.row count row_low, q, v.columns_are, v.first, v.pitch_is, column_found)

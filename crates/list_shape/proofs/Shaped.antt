@@ -1,53 +1,54 @@
 -- What is found of a text: a line of the head that is wrong, what stands behind the head, or the component lines.
 use Prim.Native.Nat.{ℕ, ◌+◌, ◌*◌, ◌≤◌, ◌<◌}
-use mathlib.Core.Path.{◌≡◌, refl, sym, ap, subst, ◌∙◌}
+use mathlib.Core.Path.{◌≡◌, refl, sym, ap, ◌∙◌}
 use mathlib.Core.Bool.{Bool, true, false, cond, not, ◌&&◌, false≢true}
 use mathlib.Core.List.{List}
 use native.Mathlib.Omega.{arith}
 use native.Mathlib.Nat.{le_antisymm}
 use lib.ListN.{length, drop}
 use borrow.Author.Tests.{ltb-false, lt-ltb, le-ltb}
-use Rattle.std.proofs.Common.{Result, Ok, Err}
-use Rattle.std.specs.Prelude.{MatchResult, ⊤}
+use Rattle.std.proofs.Common.{Ok, Err}
 use Rattle.sequences.specs.Checks.{reply}
 use Rattle.sequences.proofs.Below.{first-le}
 use Rattle.lines.specs.Lines.{line_len, first_line, ended, next_at, same}
 use Rattle.lines.proofs.Laws.{same_is, first-length}
+use Rattle.text_rules.specs.declared.Column.{Column}
+use Rattle.text_rules.specs.Tables.{TextForm}
 use Rattle.text_rules.specs.Columns.{line_pitch}
 use Rattle.text_rules.specs.Head.{end_word, head_lines, end_size}
 use Rattle.text_rules.specs.Reading.{start_of, line_of, line_stands, wrong_line, body_start, rows_from, row_start, row_count, end_start}
 use Rattle.text_head.specs.declared.WrongLine.{WrongLine}
 use Rattle.text_head.specs.Head.{shape_found}
-use Rattle.list_rules.specs.Shanghai.{shanghai, shanghai_fields, shanghai_columns}
-use Rattle.list_shape.specs.Shape.{Shaped}
+use Rattle.list_rules.specs.Shanghai.{shanghai, shanghai_fields, shanghai_columns, shanghai_lines}
+use Rattle.list_shape.specs.Shape.{LineWrong, RowsStand}
 use Rattle.list_shape.proofs.Checks.{line_wrong, end_missing, shape_passes, line_stops, end_stops, more_stops}
 
 -- ---- the head: its first wrong line
 abbrev stops : List ℕ → WrongLine
 stops text = record { line = wrong_line shanghai_fields text; place = start_of text (wrong_line shanghai_fields text) }
 
-module _ (text : List ℕ) (h : Result ℕ WrongLine) (e : h ≡ shape_found shanghai_fields text) where
+module _ (text : List ℕ) where
   -- a wrong line of the head
-  pub head_off : (p : WrongLine) → h ≡ Err p → Shaped text (Err p.place)
+  pub head_off : (p : WrongLine) → shape_found shanghai_fields text ≡ Err p → LineWrong text p.place
   unfolding shape_found
-  head_off p f = case (line_wrong text) refl (sym e ∙ f)
+  head_off p f = case (line_wrong text) refl f
     where
       case : (b : Bool) → line_wrong text ≡ b → cond b (Err (stops text)) (Ok (start_of text (head_lines shanghai_fields))) ≡ Err p
-          → Shaped text (Err p.place)
+          → LineWrong text p.place
       case true w g =
           let same : stops text ≡ p = cc in
           let s = line_stops text w in
           record { line_stops = s.0; place_is = s.1 ∙ ap (λ (w : WrongLine). reply 18 w.place 0) same }
-      case false w g = absurd (subst (λ (x : Result ℕ WrongLine). MatchResult x (λ _. ⊤) (λ _. ⊥)) g tt)
+      case false w g = absurd (cc)
 
   -- every line of the head stands
-  pub head_on : (p : ℕ) → h ≡ Ok p → (wrong_line shanghai_fields text ≡ head_lines shanghai_fields) × (p ≡ body_start shanghai text)
+  pub head_on : (p : ℕ) → shape_found shanghai_fields text ≡ Ok p → (wrong_line shanghai_fields text ≡ head_lines shanghai_fields) × (p ≡ body_start shanghai text)
   unfolding shape_found wrong_line body_start shanghai
-  head_on p f = case (line_wrong text) refl (sym e ∙ f)
+  head_on p f = case (line_wrong text) refl f
     where
       case : (b : Bool) → line_wrong text ≡ b → cond b (Err (stops text)) (Ok (start_of text (head_lines shanghai_fields))) ≡ Ok p
           → (wrong_line shanghai_fields text ≡ head_lines shanghai_fields) × (p ≡ start_of text (head_lines shanghai_fields))
-      case true w g = absurd (subst (λ (x : Result ℕ WrongLine). MatchResult x (λ _. ⊥) (λ _. ⊤)) g tt)
+      case true w g = absurd (cc)
       case false w g =
           let same : start_of text (head_lines shanghai_fields) ≡ p = cc in
           (le_antisymm (first-le _ (head_lines shanghai_fields)) (ltb-false _ _ w), sym same)
@@ -67,51 +68,50 @@ end_next text at h =
     and_right true b e = e
     and_right false b e = absurd (false≢true e)
 
--- ---- behind the head, where its lines stand
-module _ (text : List ℕ) (start count : ℕ) (e : wrong_line shanghai_fields text ≡ head_lines shanghai_fields) (s : start ≡ body_start shanghai text)
-    (found : count ≡ rows_from shanghai_columns text start) (pitch : ℕ) (p : pitch ≡ line_pitch shanghai_columns) where
-  count_is : count ≡ row_count shanghai text
-  unfolding row_count shanghai
-  count_is = found ∙ ap (rows_from shanghai_columns text) s
+-- ---- behind the head, where its lines stand: what the code goes by
+pub record Body (text : List ℕ) (columns : List Column) (start count pitch : ℕ) : Type 0 where
+  pub head : wrong_line shanghai_fields text ≡ head_lines shanghai_fields
+  pub columns_are : columns ≡ shanghai_columns
+  pub start_is : start ≡ body_start shanghai text
+  pub count_is : count ≡ row_count shanghai text
+  pub end_is : start + count * pitch ≡ end_start shanghai text
 
-  end : ℕ
-  end = start + count * pitch
+pub body : {text : List ℕ} {form : TextForm} {columns : List Column} {start count pitch : ℕ} → wrong_line shanghai_fields text ≡ head_lines shanghai_fields
+    → form ≡ shanghai_lines → columns ≡ form.columns → start ≡ body_start shanghai text → count ≡ rows_from columns text start → pitch ≡ line_pitch columns
+    → Body text columns start count pitch
+unfolding end_start row_start row_count shanghai
+body h f d s c p =
+    let ours = d ∙ ap (λ (t : TextForm). t.columns) f in
+    record { head = h; columns_are = ours; start_is = s; count_is = rw (c, ours, s); end_is = rw (p, c, ours, s) }
 
-  end_is : end ≡ end_start shanghai text
-  unfolding end end_start row_start shanghai
-  end_is = rw (s, count_is, p)
-
+module _ {text : List ℕ} {columns : List Column} {start count pitch : ℕ} (v : Body text columns start count pitch) where
   -- another line than ENDENDEND
-  pub shaped_end : line_stands (λ l. same l end_word) text (start + count * pitch) ≡ false → Shaped text (Err (start + count * pitch))
-  unfolding end
+  pub shaped_end : line_stands (λ l. same l end_word) text (start + count * pitch) ≡ false → LineWrong text (start + count * pitch)
   shaped_end h =
-      let m : end_missing text ≡ true = rw end_is at (ap not h) in
-      let q = end_stops text (head_passes text e) m in
-      record { line_stops = q.0; place_is = q.1 ∙ rw end_is }
+      let q = end_stops text (head_passes text v.head) (rw v.end_is at (ap not h)) in
+      record { line_stops = q.0; place_is = q.1 ∙ rw v.end_is }
 
   module _ (h : line_stands (λ l. same l end_word) text (start + count * pitch) ≡ true) where
     ends : end_missing text ≡ false
-    unfolding end
-    ends = rw end_is at (ap not h)
+    ends = rw v.end_is at (ap not h)
 
     next_is : next_at text (end_start shanghai text) ≡ start + count * pitch + end_size
-    unfolding end
-    next_is = rw (← end_is) (end_next text (start + count * pitch) h)
+    next_is = rw (← v.end_is) (end_next text (start + count * pitch) h)
 
     -- bytes behind it
-    pub shaped_behind : start + count * pitch + end_size < length text → Shaped text (Err (start + count * pitch + end_size))
+    pub shaped_behind : start + count * pitch + end_size < length text → LineWrong text (start + count * pitch + end_size)
     shaped_behind l =
-        let q = more_stops text (head_passes text e) ends (rw next_is (lt-ltb (start + count * pitch + end_size) (length text) l)) in
+        let q = more_stops text (head_passes text v.head) ends (rw next_is (lt-ltb (start + count * pitch + end_size) (length text) l)) in
         record { line_stops = q.0; place_is = q.1 ∙ rw next_is }
 
     -- every line stands
-    pub shaped_rows : start + count * line_pitch shanghai_columns ≤ length text → length text ≤ start + count * pitch + end_size
-        → Shaped text (Ok (record { start = start; count = count }))
+    pub shaped_rows : start + count * line_pitch columns ≤ length text → length text ≤ start + count * pitch + end_size
+        → RowsStand text (record { start = start; count = count })
     shaped_rows room l =
         record {
-          head_stands = e;
-          start_is = s;
-          count_is = count_is;
-          room = room;
-          lines_stand = shape_passes text (head_passes text e) ends (rw next_is (le-ltb (start + count * pitch + end_size) (length text) l));
+          head_stands = v.head;
+          start_is = v.start_is;
+          count_is = v.count_is;
+          room = rw v.columns_are at room;
+          lines_stand = shape_passes text (head_passes text v.head) ends (rw next_is (le-ltb (start + count * pitch + end_size) (length text) l));
         }

@@ -20,6 +20,7 @@ pub struct Rows {
 }
 
 // Whether ENDENDEND with its end stands at a place.
+#[tactic(auto, using(text_lines::proofs::Standing::stands_some, text_lines::proofs::Standing::stands_none))]
 fn end_stands(text: &[u8], at: usize) -> bool
     requires { at ≤ length text.now }
     ensures { result ≡ line_stands (λ l. same l end_word) text.now at }
@@ -52,6 +53,7 @@ fn body_shape(text: &[u8], start: usize) -> Result<Rows, usize>
 }
 
 // Refusal 18: the component lines, or the place of the first wrong line.
+#[tactic(auto, using(crate::proofs::Shaped::head_off, crate::proofs::Shaped::head_on))]
 pub fn shape_of(text: &[u8]) -> Result<Rows, usize>
     ensures { Shaped text.now result }
 {

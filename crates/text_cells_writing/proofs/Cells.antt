@@ -11,13 +11,17 @@ use Rattle.digits.specs.declared.Figure.{Figure}
 use Rattle.digits.specs.Digits.{plain, signed_text, blanks_left, number_text}
 use Rattle.digits.specs.Fits.{Fits}
 use Rattle.digits.specs.Written.{put}
-use Rattle.digits.proofs.Put.{put-length, growing_again}
+use Rattle.digits.proofs.Put.{put-length, written_then, growing_again}
 use Rattle.digits.proofs.Trip.{number_width}
 use Rattle.digits.proofs.Write.{blanks-put}
 use Rattle.text_rules.specs.declared.Column.{Column}
 use Rattle.text_rules.specs.Columns.{number_form}
 use Rattle.text_rules.proofs.Well.{WellColumn}
 use Rattle.text_cells_writing.specs.Cells.{used_text}
+
+-- a text written behind another
+pub put_put : (d : List ℕ) (at : ℕ) (xs ys : List ℕ) → at + length xs + length ys ≤ length d → put (put d at xs) (at + length xs) ys ≡ put d at (xs ++ ys)
+put_put d at xs ys h = (written_then {d = d} {at = at} {xs = xs} {ys = ys} (record { bytes = refl; next = refl }) (record { bytes = refl; next = refl }) h).bytes
 
 -- a cell of a line with its bar
 module _ (d : List ℕ) (at : ℕ) (xs : List ℕ) (room : at + length xs < length d) where
@@ -82,14 +86,9 @@ module _ (c : Column) (n : ℕ) (d : List ℕ) (at : ℕ) (room : at + c.width <
     part_long : length s ≡ c.width
     part_long = ap length number ∙ number-length c n well fits
 
-    pub bar_room : at + c.width < length (put_mid at (at + c.width - at) d s)
-    bar_room =
-        rw (part-put d at s (omega (arith, part_long)) {k = at + c.width - at} (omega (arith, part_long)))
-        (omega (arith, put-length d at s (omega (arith, part_long))))
-
-    pub used-put : (used : Bool) → used ≡ true → set (put_mid at (at + c.width - at) d s) (at + c.width) 124 ≡ put d at (used_text used c n)
+    pub used_put : (used : Bool) → used ≡ true → set (put_mid at (at + c.width - at) d s) (at + c.width) 124 ≡ put d at (used_text used c n)
     unfolding used_text
-    used-put used u =
+    used_put used u =
         rw u
         (ap (λ (x : List ℕ). set x (at + c.width) 124) (part-put d at s (omega (arith, part_long)) {k = at + c.width - at} (omega (arith, part_long)))
         ∙ bar_put d at s (omega (arith, part_long)) (omega (arith, part_long))

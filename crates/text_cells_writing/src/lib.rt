@@ -13,6 +13,7 @@ use digits::{Figure, Form};
 use text_rules::Column;
 
 // Writes a number into its cell, which holds only blanks. That the column is well is asked of it alone: `Columns` holds it of all.
+#[tactic(auto, using(crate::proofs::Cells::number_room, crate::proofs::Cells::number_put), unfolding(text_rules::specs::Columns::number_form))]
 fn put_number(cell: &mut [u8], column: Column, n: u64)
     requires column_value { (column_well column ≡ true) × (cell.old ≡ replicate column.width 32) }
     requires fits { Fits (number_form column) (plain n) }
@@ -29,6 +30,7 @@ fn put_number(cell: &mut [u8], column: Column, n: u64)
 
 // Writes a number into its place in a line, where the column is used, and the bar behind it. `used` and no Option: the run has the
 // column's number either way.
+#[tactic(auto, using(crate::proofs::Cells::unused_put, crate::proofs::Cells::used_put, text_rules::proofs::Well::column_facts))]
 pub fn put_cell(line: &mut [u8], at: usize, column: Column, used: bool, n: u64)
     requires column_value { (column_well column ≡ true) × (at + column.width < length line.old) }
     requires line_value { take column.width (drop at line.old) ≡ replicate column.width 32 }
@@ -45,6 +47,7 @@ pub fn put_cell(line: &mut [u8], at: usize, column: Column, used: bool, n: u64)
 }
 
 // Writes words into their place in a line, and the bar behind them.
+#[tactic(auto, using(crate::proofs::Cells::put_put))]
 pub fn put_words(line: &mut [u8], at: usize, words: &[u8])
     requires { at + length words.now < length line.old }
     ensures { line.new ≡ put line.old at (words.now ++ 124 ∷ []) }

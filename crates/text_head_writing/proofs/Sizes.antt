@@ -2,7 +2,7 @@
 use mathlib.Core.Bool.{Bool, true, false}
 use mathlib.Core.List.{List, ◌∷◌, ◌++◌}
 use mathlib.Core.Path.{◌≡◌, refl, sym, ap, subst⁻¹, ◌∙◌}
-use Prim.Native.Nat.{ℕ, ◌+◌, ◌-◌, ◌*◌, ◌/◌, ◌^◌, ◌≤◌, ◌<◌}
+use Prim.Native.Nat.{ℕ, ◌+◌, ◌-◌, ◌*◌, ◌/◌, ◌^◌, ◌≤◌, ◌<◌, min}
 use native.Mathlib.Decide.{ℕ_discrete}
 use native.Mathlib.Omega.{arith}
 use lib.ListN.{length, get_or, length-append}
@@ -20,7 +20,7 @@ use Rattle.text_rules.specs.declared.Field.{Field as LentField}
 use Rattle.text_rules.specs.Tables.{Field, field_of, fields_of, field_at}
 use Rattle.text_rules.specs.Head.{head_lines, opening_word, closing_word, tag_word, field_line, head_line, opening_rest, tag_size, most_letters}
 use Rattle.text_rules.specs.Writing.{head_text}
-use Rattle.text_rules.specs.Well.{most_decimals, most_digits, field_well, fields_well}
+use Rattle.text_rules.specs.Well.{most_decimals, most_digits, most_fields, field_well, fields_well}
 use Rattle.text_rules.proofs.Well.{field_facts, field_made, fields_few}
 use Rattle.text_head.proofs.Shape.{lent_is, fields_many}
 use Rattle.text_head_writing.specs.Lines.{array_figure, whole_head, most_head_line, most_head}
@@ -61,12 +61,24 @@ module _ (f : Field) (z : Figure) (well : field_well f ≡ true) where
   pub field_short : length (line_text (field_line f z)) ≤ most_head_line
   field_short = omega (arith, field_size, number_few, (field_facts f well).short)
 
--- ---- the field that the loop has reached
-module _ (table : List LentField) (fs : List Field) (e : fields_of table ≡ fs) (made : fields_well fs ≡ true) where
-  pub reached : (k : ℕ) (f : LentField) → k < length table → ((d : LentField) → f ≡ get_or table k d) → (field_of f ≡ field_at fs k) × (field_well (field_of f) ≡ true)
-  reached k f h is =
-      let same : field_of f ≡ field_at fs k = ap field_of (is f) ∙ lent_is table fs e k f h in
-      (same, subst⁻¹ (λ (x : Field). field_well x ≡ true) same (field_made fs made k (omega (arith, fields_many table fs e))))
+-- ---- the field that the loop over the table and the figures has reached, and its figure
+pub record Reached (fs : List Field) (figures : List Figure) (i : ℕ) (f : Field) (z : Figure) : Type 0 where
+  pub low : i < length fs
+  pub field : f ≡ field_at fs i
+  pub well : field_well f ≡ true
+  pub figure : z ≡ get_or figures i (plain 0)
+
+module _ (table : List LentField) (fs : List Field) (e : fields_of table ≡ fs) (made : fields_well fs ≡ true) (figures : List Figure) (i : ℕ) where
+  pub reached : (f : LentField) (z : Figure) → (i < length table) × (i < length figures) × ((d : LentField) → f ≡ get_or table i d) × ((d : Figure) → z ≡ get_or figures i d)
+      → Reached fs figures i (field_of f) z
+  reached f z t =
+      let low : i < length fs = omega (arith, t.0, fields_many table fs e) in
+      let same : field_of f ≡ field_at fs i = ap field_of (t.2 f) ∙ lent_is table fs e i f t.0 in
+      record { low = low; field = same; well = subst⁻¹ (λ (x : Field). field_well x ≡ true) same (field_made fs made i low); figure = t.3 (plain 0) }
+
+  -- the loop has gone through all fields: there are as many figures as fields at most
+  pub all_reached : i ≡ min (length table) (length figures) → length figures ≡ most_fields → i ≡ length fs
+  all_reached t l = omega (arith, t, fields_many table fs e, fields_few fs made)
 
 -- ---- the lines one behind the other
 module _ (fs : List Field) (letters : List ℕ) (figures : List Figure) where
@@ -91,11 +103,12 @@ module _ (fs : List Field) (letters : List ℕ) (figures : List Figure) where
   unfolding head_text head_line
   first_is = join_more _ 0 ∙ ap (λ (l : List ℕ). l ++ line 0) (join-none _)
 
-  pub field_is : (i : ℕ) (f : Field) (z : Figure) → i < length fs → f ≡ field_at fs i → z ≡ get_or figures i (plain 0) → line (i + 1) ≡ line_text (field_line f z)
+  pub field_is : {i : ℕ} {f : Field} {z : Figure} → Reached fs figures i f z → line (i + 1) ≡ line_text (field_line f z)
   unfolding head_line
-  field_is i f z h e g =
+  field_is {i} r =
+      let low = r.low in
       let back : i + 1 - 1 ≡ i = omega arith in
-      rw (e, g, ne_eqb (i + 1) 0 (λ z. omega arith), le-leb (i + 1) (length fs) (omega arith), back)
+      rw (r.field, r.figure, ne_eqb (i + 1) 0 (λ z. omega arith), le-leb (i + 1) (length fs) (omega arith), back)
 
   pub last_is : line (length fs + 1) ≡ line_text tag_word
   unfolding head_line
@@ -118,17 +131,17 @@ module _ (fs : List Field) (letters : List ℕ) (figures : List Figure) where
       ap length first_is ∙ length-line_text (opening_word ++ (letters ++ closing_word)) ∙ omega (arith, length-append letters closing_word) in
       record { size = sym first; small = omega arith }
 
-  pub sized_again : (n i m : ℕ) (f : Field) (z : Figure) → Sized n (i + 1) → i < length fs → f ≡ field_at fs i → z ≡ get_or figures i (plain 0)
-      → m ≡ length (line_text (field_line f z)) → m ≤ most_head_line → (j : ℕ) → j ≡ i + 1 → Sized (n + m) (j + 1)
-  sized_again n i m f z v low e g long most j next =
+  pub sized_again : {n i m : ℕ} {f : Field} {z : Figure} → Sized n (i + 1) → Reached fs figures i f z → m ≡ length (line_text (field_line f z)) → m ≤ most_head_line
+      → {j : ℕ} → j ≡ i + 1 → Sized (n + m) (j + 1)
+  sized_again {n} {i} {m} v r long most next =
       rw next
       (record {
-        size = rw (head_more (i + 1)) (omega (arith, v.size, long, ap length (field_is i f z low e g), length-append (lines (i + 1)) (line (i + 1))));
+        size = rw (head_more (i + 1)) (omega (arith, v.size, long, ap length (field_is r), length-append (lines (i + 1)) (line (i + 1))));
         small = omega (arith, v.small);
       })
 
-  pub sized_end : fields_well fs ≡ true → (n k : ℕ) → Sized n (k + 1) → k ≡ length fs → (n + tag_size ≡ length (whole_head fs letters figures)) × (n + tag_size ≤ most_head)
-  sized_end made n k v e = (
+  pub sized_end : fields_well fs ≡ true → {n k : ℕ} → Sized n (k + 1) → k ≡ length fs → (n + tag_size ≡ length (whole_head fs letters figures)) × (n + tag_size ≤ most_head)
+  sized_end made {n} {k} v e = (
     omega (arith, v.size, ap (λ (i : ℕ). length (lines (i + 1))) e, ap length whole_is, length-append (lines (length fs + 1)) (line_text tag_word), length-line_text tag_word),
     omega (arith, v.small, e, fields_few fs made),
   )

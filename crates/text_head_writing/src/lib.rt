@@ -1,15 +1,17 @@
 // Writes the head of a text, line by line, by a table of fields that is lent.
 #![tactic(auto)]
 
-ghost use Rattle.std.specs.Prelude.{◌≡◌, true, ◌++◌, ◌+◌, ◌≤◌, length};
+ghost use Rattle.std.specs.Prelude.{◌≡◌, true, ◌++◌, ◌+◌, ◌≤◌, length, unwrap_or};
+ghost use Rattle.digits.specs.Digits.{number_text};
 ghost use Rattle.digits.specs.Written.{Written};
 ghost use Rattle.lines.specs.Lines.{line_text};
 ghost use Rattle.text_rules.specs.Tables.{field_of};
 ghost use Rattle.text_rules.specs.Head.{opening_word, closing_word, field_line, most_letters, opening_rest};
 ghost use Rattle.text_rules.specs.Well.{field_well};
 ghost use Rattle.text_head_writing.specs.Lines.{whole_head, most_head_line, most_head};
+ghost use Rattle.text_head_writing.specs.Out.{Fits, wrote};
 
-use digits::Figure;
+use digits::{Figure, Form};
 use text_rules::{Field, Fields, MOST_FIELDS};
 
 // How many bytes the line of a field takes with its end.
@@ -34,29 +36,55 @@ pub fn head_size(fields: &Fields, letters: &[u8], figures: &[Figure; MOST_FIELDS
     n + text_rules::TAG_SIZE
 }
 
-// Writes the first line.
-fn put_opening(dst: &mut [u8], at: usize, letters: &[u8]) -> usize
-    requires { at + (length letters.now + opening_rest) ≤ length dst.old }
-    ensures { Written dst.old at (line_text (opening_word ++ (letters.now ++ closing_word))) dst.new result }
-{
-    let p = digits_put::put_bytes(dst, at, b"[ETF");
-    let q = digits_put::put_bytes(dst, p, letters);
-    digits_put::put_bytes(dst, q, b"]\r\n")
+// A run that a text is written to from front to back, and its next free place: `order_records::Out` over bytes.
+#[derive(Drop)]
+struct Out<'a> {
+    run: &'a mut [u8],
+    at: usize,
 }
 
-// Writes the line of a field.
-fn put_field(field: &Field, z: Figure, dst: &mut [u8], at: usize) -> usize
-    requires well { field_well (field_of field.now) ≡ true }
-    requires room { at + length (line_text (field_line (field_of field.now) z)) ≤ length dst.old }
-    ensures { Written dst.old at (line_text (field_line (field_of field.now) z)) dst.new result }
-{
-    let p = digits_put::put_bytes(dst, at, field.name);
-    let q = digits_put::put_byte(dst, p, b'=');
-    let r = digits_writing::put_number(dst, q, field.form, z);
-    digits_put::put_bytes(dst, r, b"\r\n")
+impl<'a> Out<'a> {
+    // Writes bytes.
+    fn put(&mut self, bytes: &[u8])
+        requires { Fits bytes.now self.old }
+        ensures { self.new ≡ wrote bytes.now self.old }
+    {
+        self.at = digits_put::put_bytes(self.run, self.at, bytes);
+    }
+
+    // Writes a number.
+    fn put_number(&mut self, form: Form, z: Figure)
+        requires form_value { (form.decimals ≤ 9) × (unwrap_or form.digits 0 ≤ 20) }
+        requires room { Fits (number_text form z) self.old }
+        ensures { self.new ≡ wrote (number_text form z) self.old }
+    {
+        self.at = digits_writing::put_number(self.run, self.at, form, z);
+    }
+
+    // Writes the first line.
+    fn put_opening(&mut self, letters: &[u8])
+        requires { Fits (line_text (opening_word ++ (letters.now ++ closing_word))) self.old }
+        ensures { self.new ≡ wrote (line_text (opening_word ++ (letters.now ++ closing_word))) self.old }
+    {
+        self.put(b"[ETF");
+        self.put(letters);
+        self.put(b"]\r\n");
+    }
+
+    // Writes the line of a field.
+    fn put_field(&mut self, field: &Field, z: Figure)
+        requires well { field_well (field_of field.now) ≡ true }
+        requires room { Fits (line_text (field_line (field_of field.now) z)) self.old }
+        ensures { self.new ≡ wrote (line_text (field_line (field_of field.now) z)) self.old }
+    {
+        self.put(field.name);
+        self.put(b"=");
+        self.put_number(field.form, z);
+        self.put(b"\r\n");
+    }
 }
 
-// Writes the head.
+// Writes the head, and gives the place behind it.
 pub fn put_head(
     fields: &Fields,
     letters: &[u8],
@@ -68,9 +96,11 @@ pub fn put_head(
     ensures { Written dst.old at (whole_head fields.now letters.now figures.now) dst.new result }
 {
     let table = fields.table();
-    let mut p = put_opening(dst, at, letters);
+    let mut out = Out { run: dst, at };
+    out.put_opening(letters);
     for (field, z) in table.iter().zip(figures) {
-        p = put_field(field, *z, dst, p);
+        out.put_field(field, *z);
     }
-    digits_put::put_bytes(dst, p, b"TAGTAG\r\n")
+    out.put(b"TAGTAG\r\n");
+    out.at
 }

@@ -11,13 +11,15 @@ use lib.Seq.{length-take-le, drop-drop}
 use Rattle.std.specs.Prelude.{Option, Some, None}
 use Rattle.sequences.specs.Below.{first_below, below}
 use Rattle.sequences.proofs.Stretch.{part_within}
-use Rattle.sequences.proofs.Below.{sum_none, sum_more, sum_grows, cond_le, first-le, first_none, first_more, first_here, first_same, below-some, below-none, below_some_facts, below_none_fact, first_none_below, first_some_below}
+use Rattle.sequences.proofs.Below.{sum_none, sum_more, sum_grows, cond_le, first-le, first_none, first_more, first_here, first_same}
+use Rattle.sequences.proofs.Below.{below-some, below-none, below_some_facts, below_none_fact, first_none_below, first_some_below}
+use Rattle.sequences.proofs.Chunks.{chunks_start, chunk_room, chunk_is, chunks_again, chunks_end, chunk_some}
 use Rattle.lines.specs.Lines.{name_byte, all_bytes}
 use Rattle.text_rules.specs.declared.Column.{Column}
 use Rattle.text_rules.specs.declared.Taken.{Taken}
 use Rattle.text_rules.specs.Tables.{TextForm, column_at}
 use Rattle.text_rules.specs.Columns.{column_start, column_width, line_width, line_pitch, holds_text, is_text, used_by, wrong_cell, numbers_before, line_numbers, taken_before, cell_read}
-use Rattle.text_rules.specs.Well.{most_line, columns_well, is_always}
+use Rattle.text_rules.specs.Well.{most_line, most_width, columns_well, is_always}
 use Rattle.text_rules.specs.declared.Use.{Use}
 use Rattle.text_rules.specs.declared.Use.TheVariants.{Always, ByFlag, Text}
 use Rattle.text_rules.proofs.Tables.{start_next, end_line}
@@ -28,7 +30,7 @@ use Rattle.text_rows.specs.declared.CellFault.{CellFault}
 use Rattle.text_rows.specs.Rows.{line_count, row_in, fault_in, lines_before, column_kept, numbers_kept}
 use Rattle.text_rows.specs.Turns.{words_fault, cells_fault, column_stored}
 use Rattle.text_lines.proofs.Standing.{lines_room, pitch_line}
-use Rattle.text_rows.proofs.Lines.{part_is, words_wrong, reading_at, reading_none, reading_some, cell_in}
+use Rattle.text_rows.proofs.Lines.{part_is, part_long, words_wrong, reading_at, reading_none, reading_some, cell_in}
 use Rattle.text_rows.proofs.Faults.{wrong_at, cells_first, lines_none, lines_more, lines-le, fault_before, fault_first, fault_same, fault_here, fault_found}
 
 -- How many numbers stand before a column.
@@ -95,6 +97,9 @@ module _ (rows : List ℕ) (pitch from width : ℕ) where
   unfolding words_fault words_at
   words_end count j v e = first_none_below words_at count (rw e at v)
 
+-- what the search goes by there
+pub ruleset words_laws = (chunks_start, chunk_room, chunk_is, chunks_end, chunk_some, first_none, words_found, words_end)
+
 -- `read_numbers_column`: column k of the lines below j is no fault, and its numbers are stored.
 
 pub record NumbersRead (t : TextForm) (rows : List ℕ) (k : ℕ) (run run' : List ℕ) (j : ℕ) : Type 0 where
@@ -141,24 +146,35 @@ module _ (t : TextForm) (rows : List ℕ) (k : ℕ) (run : List ℕ) where
 pub pitch_some : (cs : List Column) → 0 < line_pitch cs
 pitch_some cs = omega (arith, pitch_line cs)
 
--- what a whole line and the columns before column k take
-pub record Known (t : TextForm) (k : ℕ) (line taken : Taken) : Type 0 where
+-- what the code goes by: a column with a number, the flags, what a whole line and the columns before it take, and where the flag stands
+pub record Known (t : TextForm) (k : ℕ) (flags : List (List Bool)) (flag_start : ℕ) (line taken : Taken) (c : Column) : Type 0 where
   pub well : columns_well t.columns ≡ true
   pub there : k < length t.columns
+  pub number : holds_text t.columns k ≡ false
+  pub table : flags ≡ t.flags
+  pub flag_there : t.flag_at < length t.columns
+  pub flag_is : flag_start ≡ column_start t.columns t.flag_at
   pub whole : line ≡ taken_before t.columns (length t.columns)
   pub before : taken ≡ taken_before t.columns k
+  pub column : c ≡ column_at t.columns k
 
-pub known : (t : TextForm) (k : ℕ) → columns_well t.columns ≡ true → k < length t.columns → {cs : List Column} → cs ≡ t.columns → {line taken : Taken}
-    → line ≡ taken_before cs (length cs) → taken ≡ taken_before cs k → Known t k line taken
-known t k well there mine whole before =
+pub known : (t : TextForm) {k : ℕ} {flags : List (List Bool)} {flag line taken : Taken} {cs : List Column} {c : Column} → (k < length t.columns) × (holds_text t.columns k ≡ false)
+    → flags ≡ t.flags → t.flag_at < length t.columns → flag ≡ taken_before t.columns t.flag_at → columns_well t.columns ≡ true → cs ≡ t.columns
+    → line ≡ taken_before cs (length cs) → taken ≡ taken_before cs k → c ≡ column_at t.columns k → Known t k flags flag.bytes line taken c
+known t {k} here table there flag well mine whole before column =
     record {
       well = well;
-      there = there;
-      whole = whole ∙ ap (λ (c : List Column). taken_before c (length c)) mine;
-      before = before ∙ ap (λ (c : List Column). taken_before c k) mine;
+      there = here.0;
+      number = here.1;
+      table = table;
+      flag_there = there;
+      flag_is = bytes_of t.columns t.flag_at flag;
+      whole = whole ∙ ap (λ (cs : List Column). taken_before cs (length cs)) mine;
+      before = before ∙ ap (λ (cs : List Column). taken_before cs k) mine;
+      column = column;
     }
 
-module _ (t : TextForm) (k : ℕ) {line taken : Taken} (v : Known t k line taken) where
+module _ {t : TextForm} {k : ℕ} {flags : List (List Bool)} {flag_start : ℕ} {line taken : Taken} {c : Column} (v : Known t k flags flag_start line taken c) where
   pub pitched : line.bytes + 2 ≡ line_pitch t.columns
   unfolding line_width
   pitched = ap (λ (n : ℕ). n + 2) (bytes_of t.columns (length t.columns) v.whole) ∙ sym (pitch_line t.columns)
@@ -173,11 +189,15 @@ module _ (t : TextForm) (k : ℕ) {line taken : Taken} (v : Known t k line taken
   pub placed : taken.numbers ≡ numbers_before t.columns k
   placed = numbers_of t.columns k v.before
 
-  -- the cell within its line, and its number's place in the run, which is no further than the line's in the text
-  pub cell_room : {c : Column} → c ≡ column_at t.columns k → taken.bytes + c.width ≤ line_pitch t.columns
+  -- the cell and the flag within their line
+  pub cell_room : taken.bytes + c.width ≤ line_pitch t.columns
   unfolding column_width
-  cell_room e = omega (arith, ap (λ (c : Column). c.width) e, bytes_of t.columns k v.before, pitched, pitch_line t.columns, end_line t.columns k v.there)
+  cell_room = omega (arith, ap (λ (c : Column). c.width) v.column, bytes_of t.columns k v.before, pitch_line t.columns, end_line t.columns k v.there)
 
+  pub flag_room : flag_start < line_pitch t.columns
+  flag_room = omega (arith, v.flag_is, pitch_line t.columns, end_line t.columns t.flag_at v.flag_there)
+
+  -- the number's place in the run, which is no further than the line's in the text
   pub slot_room : (j : ℕ) {n : ℕ} → j * line_pitch t.columns + line_pitch t.columns ≤ n → j * line.numbers + taken.numbers ≤ n
   slot_room j h =
       let few : line.numbers + line.numbers ≤ line_pitch t.columns = rw strides (numbers_few t.columns v.well) in
@@ -185,27 +205,27 @@ module _ (t : TextForm) (k : ℕ) {line taken : Taken} (v : Known t k line taken
       let place : taken.numbers ≤ line.numbers = omega (arith, placed, strides, numbers_line t.columns k (omega (arith, v.there))) in
       omega (arith, h, less, place, mul-le-mul_left j less)
 
-  module _ (flag : t.flag_at < length t.columns) {start : Taken} (flagged : start ≡ taken_before t.columns t.flag_at) where
-    pub flag_room : start.bytes < line_pitch t.columns
-    flag_room = omega (arith, bytes_of t.columns t.flag_at flagged, pitched, pitch_line t.columns, end_line t.columns t.flag_at flag)
+  -- the cell is as narrow as its column
+  pub cell_narrow : (row : List ℕ) → line_pitch t.columns ≤ length row → length (take (taken.bytes + c.width - taken.bytes) (drop taken.bytes row)) ≤ most_width
+  cell_narrow row h =
+      omega (arith, part_long row taken.bytes c.width (omega (arith, cell_room)), (subst WellColumn (sym v.column) (column_well_lem t.columns v.well k v.there)).narrow)
 
-    -- what is read of the j-th line, by the code's own line
-    module _ (rows : List ℕ) (j : ℕ) {row : List ℕ} (is : row ≡ take (line_pitch t.columns) (drop (j * line_pitch t.columns) rows))
-        {c : Column} (e : c ≡ column_at t.columns k) (words : holds_text t.columns k ≡ false) {flags : List (List Bool)} (table : flags ≡ t.flags)
-        {digit : ℕ} (here : digit ≡ get_or row start.bytes 0 - 48) {used : Bool} (by : used ≡ used_by flags digit c.used) {size : Option ℕ}
-        (reads : size ≡ cell_size used c.digits c.decimals (take (taken.bytes + c.width - taken.bytes) (drop taken.bytes row))) where
-      reads_cell : size ≡ reading_at t (row_in t.columns rows j) k
-      reads_cell =
-          cell_in t rows k j v.well v.there words flag is (bytes_of t.columns k v.before) (bytes_of t.columns t.flag_at flagged) here {used = used}
-          (rw (← table, ← e) by) (rw (← e) reads)
+  -- what is read of the j-th line, by the code's own line
+  module _ (rows : List ℕ) (j : ℕ) {row : List ℕ} (is : row ≡ take (line_pitch t.columns) (drop (j * line_pitch t.columns) rows))
+      {used : Bool} (by : used ≡ used_by flags (get_or row flag_start 0 - 48) c.used) {size : Option ℕ}
+      (reads : size ≡ cell_size used c.digits c.decimals (take (taken.bytes + c.width - taken.bytes) (drop taken.bytes row))) where
+    reads_cell : size ≡ reading_at t (row_in t.columns rows j) k
+    reads_cell =
+        cell_in t rows k j v.well v.there v.number v.flag_there is (bytes_of t.columns k v.before) v.flag_is refl {used = used}
+        (rw (← v.table, ← v.column) by) (rw (← v.column) reads)
 
-      pub cell_none : size ≡ None → wrong_at t rows k j ≡ true
-      unfolding wrong_at
-      cell_none f = reading_none t (row_in t.columns rows j) k (sym reads_cell ∙ f)
+    pub cell_none : size ≡ None → wrong_at t rows k j ≡ true
+    unfolding wrong_at
+    cell_none f = reading_none t (row_in t.columns rows j) k (sym reads_cell ∙ f)
 
-      pub cell_some : {x : ℕ} → size ≡ Some x → (wrong_at t rows k j ≡ false) × (x ≡ cell_read t (row_in t.columns rows j) k)
-      unfolding wrong_at
-      cell_some f = reading_some t (row_in t.columns rows j) k (sym reads_cell ∙ f)
+    pub cell_some : {x : ℕ} → size ≡ Some x → (wrong_at t rows k j ≡ false) × (x ≡ cell_read t (row_in t.columns rows j) k)
+    unfolding wrong_at
+    cell_some f = reading_some t (row_in t.columns rows j) k (sym reads_cell ∙ f)
 
 -- a column that is always used, whatever the flag
 pub used_always : (u : Use) → is_always u ≡ true → (flags : List (List Bool)) (flag : ℕ) → true ≡ used_by flags flag u
@@ -214,30 +234,28 @@ used_always Always e flags flag = refl
 used_always (ByFlag column) e flags flag = absurd (false≢true e)
 used_always Text e flags flag = refl
 
--- a column is well made
-pub column_here : (t : TextForm) → columns_well t.columns ≡ true → {k : ℕ} → k < length t.columns → {c : Column} → c ≡ column_at t.columns k → WellColumn c
-column_here t well {k} h e = subst WellColumn (sym e) (column_well_lem t.columns well k h)
+-- what the search goes by there
+pub ruleset number_laws = (known, pitched, pitch_low, cell_room, flag_room)
 
 -- `read_column`: words or numbers, by the column's use.
 
 pub words_cells : (t : TextForm) (rows : List ℕ) (k count : ℕ) → k < length t.columns → holds_text t.columns k ≡ true
-    → {pitch at width : ℕ} → pitch ≡ line_pitch t.columns → at ≡ column_start t.columns k → width ≡ column_width t.columns k
-    → words_fault rows pitch at width count ≡ cells_fault t rows k count
+    → cells_fault t rows k count ≡ words_fault rows (line_pitch t.columns) (column_start t.columns k) (column_width t.columns k) count
 unfolding words_fault cells_fault
-words_cells t rows k count h e p a w =
-    rw (p, a, w) (first_same _ _ count (λ j l. sym (words_wrong t rows k j h e)))
+words_cells t rows k count h e = first_same _ _ count (λ j l. words_wrong t rows k j h e)
 
 module _ (t : TextForm) (k : ℕ) {c : Column} (e : c ≡ column_at t.columns k) where
   pub holds_words : c.used ≡ Text → holds_text t.columns k ≡ true
   unfolding holds_text is_text
   holds_words f = ap (λ (x : Column). is_text x.used) (sym e) ∙ ap is_text f
 
-  pub holds_always : c.used ≡ Always → (holds_text t.columns k ≡ false) × (is_always (column_at t.columns k).used ≡ true)
-  unfolding holds_text is_text is_always
-  holds_always f = (
-    ap (λ (x : Column). is_text x.used) (sym e) ∙ ap is_text f,
-    ap (λ (x : Column). is_always x.used) (sym e) ∙ ap is_always f,
-  )
+  pub holds_always : c.used ≡ Always → holds_text t.columns k ≡ false
+  unfolding holds_text is_text
+  holds_always f = ap (λ (x : Column). is_text x.used) (sym e) ∙ ap is_text f
+
+  pub always_here : c.used ≡ Always → is_always (column_at t.columns k).used ≡ true
+  unfolding is_always
+  always_here f = ap (λ (x : Column). is_always x.used) (sym e) ∙ ap is_always f
 
   pub holds_by : {column : ℕ} → c.used ≡ ByFlag column → holds_text t.columns k ≡ false
   unfolding holds_text is_text
@@ -259,19 +277,8 @@ module _ (t : TextForm) (rows : List ℕ) (k count : ℕ) where
   abbrev pub ColumnRead : List ℕ → List ℕ → Option ℕ → Type 0
   ColumnRead run run' r = (r ≡ below count (cells_fault t rows k count)) × (run' ≡ column_stored t rows k (cells_fault t rows k count) run)
 
-  pub column_words : k < length t.columns → holds_text t.columns k ≡ true → {c : Column} → c ≡ column_at t.columns k
-      → {pitch start : ℕ} → pitch ≡ line_pitch t.columns → start ≡ column_start t.columns k
-      → {r : Option ℕ} → r ≡ below count (words_fault rows pitch start c.width count) → (run : List ℕ) → ColumnRead run run r
-  unfolding column_stored column_width
-  column_words there text e p s f run = (
-    f ∙ ap (below count) (words_cells t rows k count there text p s (ap (λ (c : Column). c.width) e)),
-    rw text,
-  )
-
-  pub column_numbers : holds_text t.columns k ≡ false → (run : List ℕ) {run' : List ℕ} {r : Option ℕ}
-      → (r ≡ below count (cells_fault t rows k count)) × (run' ≡ column_kept t rows k (cells_fault t rows k count) run) → ColumnRead run run' r
-  unfolding column_stored
-  column_numbers number run e = (e.0, e.1 ∙ rw number)
+-- what the search goes by there
+pub ruleset column_laws = (words_room, holds_words, holds_always, always_here, holds_by, words_cells)
 
 -- `read_columns`: the columns before k are read.
 

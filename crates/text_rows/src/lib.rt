@@ -1,15 +1,15 @@
 // The component lines of a text, by their form: what they say, read column by column.
 #![tactic(auto)]
 
-ghost use Rattle.std.specs.Prelude.{◌≡◌, true, false, ◌+◌, ◌/◌, ◌≤◌, ◌<◌, length, set};
+ghost use Rattle.std.specs.Prelude.{◌≡◌, true, false, ◌+◌, ◌-◌, ◌/◌, ◌≤◌, ◌<◌, length, get_or, set};
 ghost use Rattle.sequences.specs.Below.{below};
-ghost use Rattle.text_rules.specs.Columns.{holds_text};
+ghost use Rattle.text_rules.specs.Columns.{holds_text, used_by};
 ghost use Rattle.text_rules.specs.Tables.{column_at};
 ghost use Rattle.text_rules.specs.Well.{is_always};
 ghost use Rattle.text_rows.specs.Rows.{line_count, fault_in, column_kept, numbers_kept};
 ghost use Rattle.text_rows.specs.Turns.{words_fault, cells_fault, column_stored};
 
-use text_rules::{LineForm, Use};
+use text_rules::{Column, LineForm, Use};
 
 // The first line with a column at fault, and that column.
 #[derive(Clone, Copy, PartialEq, Eq, Debug)]
@@ -28,6 +28,7 @@ fn keep_number(run: &mut [u64], q: usize, v: u64)
 }
 
 // The first of the lines, each of so many bytes, whose bytes from a place on are no words.
+#[tactic(auto, using(crate::proofs::Turns::words_laws))]
 pub fn words_fault(rows: &[u8], pitch: usize, from: usize, width: usize) -> Option<usize>
     requires { (0 < pitch) × (from + width ≤ pitch) }
     ensures { result ≡ below (length rows.now / pitch) (words_fault rows.now pitch from width (length rows.now / pitch)) }
@@ -40,8 +41,27 @@ pub fn words_fault(rows: &[u8], pitch: usize, from: usize, width: usize) -> Opti
     None
 }
 
+// Whether a column with a number is used in a line, by the flag there. One that is always used reads no flag.
+#[tactic(auto, using(crate::proofs::Turns::used_always))]
+fn is_used<const ALWAYS: bool>(
+    column: Column,
+    flags: &[[bool; flags::COLUMNS]; flags::FLAGS],
+    row: &[u8],
+    flag_start: usize,
+) -> bool
+    requires always { ALWAYS ≡ true → is_always column.used ≡ true }
+    requires flag_in_bounds { flag_start < length row.now }
+    ensures { result ≡ used_by flags.now (get_or row.now flag_start 0 - 48) column.used }
+{
+    ALWAYS
+        || column
+            .used
+            .has_number(flags, text_columns::flag_digit(row[flag_start]))
+}
+
 // The first line whose column k, a number's, is at fault. The numbers before it are stored. A column that is always used has a loop of
 // its own, in which no flag is read.
+#[tactic(auto, using(crate::proofs::Turns::number_laws))]
 fn read_numbers_column<const ALWAYS: bool>(
     form: &LineForm,
     k: usize,
@@ -60,12 +80,8 @@ fn read_numbers_column<const ALWAYS: bool>(
     let taken = columns.taken_before(k);
     let column = form.column(k);
     for (j, row) in rows.chunks_exact(line.bytes + 2).enumerate() {
-        let used = ALWAYS
-            || column
-                .used
-                .has_number(flags, text_columns::flag_digit(row[flag_start]));
         let size = text_columns::read_cell(
-            used,
+            is_used::<ALWAYS>(column, flags, row, flag_start),
             column.digits,
             column.decimals,
             &row[taken.bytes..taken.bytes + column.width],
@@ -79,6 +95,7 @@ fn read_numbers_column<const ALWAYS: bool>(
 }
 
 // The first line whose column k is at fault. A number's column is stored.
+#[tactic(auto, using(crate::proofs::Turns::column_laws), unfolding(crate::specs::Rows::line_count, crate::specs::Turns::column_stored, text_rules::specs::Columns::column_width))]
 fn read_column(form: &LineForm, k: usize, rows: &[u8], run: &mut [u64]) -> Option<usize>
     requires { k < length form.now.columns }
     ensures value { result ≡ below (line_count form.now rows.now) (cells_fault form.now rows.now k (line_count form.now rows.now)) }
@@ -97,6 +114,7 @@ fn read_column(form: &LineForm, k: usize, rows: &[u8], run: &mut [u64]) -> Optio
 
 // Reads component lines, column by column, as far as the first fault. Their numbers go to the run, those of a line behind those of the
 // line before; what has no room there is dropped.
+#[tactic(auto, using(crate::proofs::Turns::pitch_some))]
 pub fn read_columns(form: &LineForm, rows: &[u8], run: &mut [u64]) -> Option<CellFault>
     ensures value { result ≡ fault_in form.now rows.now (line_count form.now rows.now) }
     ensures run_after { run.new ≡ numbers_kept form.now rows.now (line_count form.now rows.now) (length form.now.columns) run.old }

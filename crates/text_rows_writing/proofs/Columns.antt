@@ -3,10 +3,10 @@ use mathlib.Core.Path.{◌≡◌, refl, sym, ap, ◌∙◌}
 use mathlib.Core.Bool.{Bool, true, false, cond, true≢false, false≢true}
 use mathlib.Core.List.{List, [], ◌∷◌, ◌++◌, append_assoc, append-nil}
 use Prim.Native.Nat.{ℕ, zero, suc, ◌+◌, ◌-◌, ◌≤◌, ◌<◌}
-use native.Mathlib.Nat.{sub-zero, zero-add}
+use native.Mathlib.Nat.{sub-zero}
 use native.Mathlib.Omega.{arith}
 use lib.ListN.{length, take, drop, replicate, length-append, length-drop, length-replicate, replicate-append-replicate}
-use lib.Seq.{length-take-le, take_at, drop_at, drop-drop, drop-length}
+use lib.Seq.{length-take-le, take_at, drop_at, drop-drop}
 use Rattle.sequences.specs.Below.{sum_below, join_below}
 use Rattle.sequences.proofs.Below.{sum_grows}
 use Rattle.flags.specs.Table.{entry_in}
@@ -89,13 +89,6 @@ blank_rest m w h =
     ap (λ (k : ℕ). drop w (replicate {A = ℕ} k 32)) e
     ∙ ap (drop w) (sym (replicate-append-replicate {A = ℕ} w (m - w) 32))
     ∙ drop_at (replicate {A = ℕ} w 32) (replicate (m - w) 32) w (length-replicate {A = ℕ} w 32)
-
--- a run that is all blanks
-pub all_blank_lem : (d : List ℕ) (n : ℕ) → length d ≡ n → put d 0 (replicate (length d) 32) ≡ replicate n 32
-unfolding put
-all_blank_lem d n e =
-    let none : drop (length (replicate {A = ℕ} (length d) 32)) d ≡ [] = rw length-replicate (drop-length d) in
-    rw (zero-add, none, append-nil, e)
 
 -- a text behind others, in the first of the blanks
 text_behind : (j x : List ℕ) (a m : ℕ) → length j ≡ a → length x ≤ m → put (j ++ replicate m 32) a x ≡ (j ++ x) ++ replicate (m - length x) 32

@@ -35,21 +35,28 @@ pub table_ready : {cs columns : List Column} {flag_at : ℕ} {line : Taken} → 
     → line ≡ taken_before columns (length columns) → TableReady cs flag_at line
 table_ready w f e h = record { well = w; flag = f; whole = h ∙ ap (λ (t : List Column). taken_before t (length t)) e }
 
--- a row of the table as it is lent is the form's column
-pub column_here : (t : TextForm) (k : ℕ) {table columns : List Column} → table ≡ columns → columns ≡ t.columns → get_or table k no_column ≡ column_at t.columns k
+-- column k of the table as it is lent, and what the columns before it take
+pub record AtColumn (t : TextForm) (k : ℕ) (taken : Taken) (c : Column) : Type 0 where
+  pub inside : k < length t.columns
+  pub place : taken ≡ taken_before t.columns k
+  pub column : c ≡ column_at t.columns k
+
+pub at_column : (t : TextForm) {k : ℕ} {table columns : List Column} {taken : Taken} → table ≡ columns → columns ≡ t.columns → k < length table
+    → taken ≡ taken_before t.columns k → AtColumn t k taken (get_or table k no_column)
 unfolding column_at
-column_here t k e f = ap (λ (cs : List Column). get_or cs k no_column) (e ∙ f)
+at_column t {k} e f h place =
+    record { inside = omega (arith, h, ap length (e ∙ f)); place = place; column = ap (λ (cs : List Column). get_or cs k no_column) (e ∙ f) }
 
--- whether a column holds text
-pub column_holds : (t : TextForm) (k : ℕ) {c : Column} → c ≡ column_at t.columns k → {b : Bool} → b ≡ is_text c.used → {d : Bool} → b ≡ d → holds_text t.columns k ≡ d
+-- whether it holds text
+pub holds_here : {t : TextForm} {k : ℕ} {taken : Taken} {c : Column} → AtColumn t k taken c → {b d : Bool} → b ≡ is_text c.used → b ≡ d → holds_text t.columns k ≡ d
 unfolding holds_text
-column_holds t k e f g = sym (f ∙ ap (λ (c : Column). is_text c.used) e) ∙ g
+holds_here v f g = sym (f ∙ ap (λ (c : Column). is_text c.used) v.column) ∙ g
 
-module _ (t : TextForm) {line : Taken} (whole : TableReady t.columns t.flag_at line) (run texts : List ℕ) (count : ℕ) (ready : RowsReady t run texts count) (k : ℕ) (inside : k < length t.columns)
-    {taken : Taken} (place : taken ≡ taken_before t.columns k) {c : Column} (e : c ≡ column_at t.columns k) {b : List ℕ} (v : RowsSoFar t run texts count k b) where
+module _ {t : TextForm} {line : Taken} (whole : TableReady t.columns t.flag_at line) {run texts : List ℕ} {count : ℕ} (ready : RowsReady t run texts count)
+    {k : ℕ} {taken : Taken} {c : Column} (here : AtColumn t k taken c) {b : List ℕ} (v : RowsSoFar t run texts count k b) where
   cell_room : taken.bytes + column_width t.columns k < line.bytes + 2
   unfolding taken_before line_width
-  cell_room = rw (place, whole.whole) (omega (arith, end_line t.columns k inside))
+  cell_room = rw (here.place, whole.whole) (omega (arith, end_line t.columns k here.inside))
 
   rows-length : length b ≡ count * (line.bytes + 2)
   unfolding taken_before line_width line_pitch
@@ -57,30 +64,46 @@ module _ (t : TextForm) {line : Taken} (whole : TableReady t.columns t.flag_at l
 
   -- words
   module _ (text : holds_text t.columns k ≡ true) where
-    pub words_ask : ((0 < c.width) × (taken.bytes + c.width < line.bytes + 2)) × (((length texts ≡ count * line.words) × (taken.words + c.width ≤ line.words)) × (length b ≡ count * (line.bytes + 2)))
+    pub words_ask : ((0 < c.width) × (taken.bytes + c.width < line.bytes + 2) × (line.bytes ≤ most_line))
+        × (((length texts ≡ count * line.words) × (taken.words + c.width ≤ line.words)) × (length b ≡ count * (line.bytes + 2)))
     unfolding taken_before line_words column_width
     words_ask =
-        rw e (((column_well_lem t.columns whole.well k inside).some, cell_room), ((rw whole.whole ready.words, rw (place, whole.whole) (word_room _ _ _ _ whole.well ready k inside v text)), rows-length))
+        rw here.column (
+          ((column_well_lem t.columns whole.well k here.inside).some, cell_room, line_short_lem whole),
+          ((rw whole.whole ready.words, rw (here.place, whole.whole) (word_room _ _ _ _ whole.well ready k here.inside v text)), rows-length),
+        )
 
-    pub words_turn : {b' : List ℕ} → b' ≡ lines_put (line.bytes + 2) taken.bytes (word_at c.width texts line.words taken.words) count b → RowsSoFar t run texts count (k + 1) b'
+    pub words_turn : {b' : List ℕ} → b' ≡ lines_put (line.bytes + 2) taken.bytes (word_at c.width texts line.words taken.words) count b
+        → RowsSoFar t run texts count (k + 1) b'
     unfolding taken_before line_words line_width line_pitch column_width
-    words_turn f = words_next _ _ _ _ whole.well ready k inside v text (rw (place, whole.whole, e) at f)
+    words_turn f = words_next _ _ _ _ whole.well ready k here.inside v text (rw (here.place, whole.whole, here.column) at f)
 
   -- numbers
-  module _ (number : holds_text t.columns k ≡ false) {flags : List (List Bool)} (table : flags ≡ t.flags) {flagPlace : ℕ} (flag : flagPlace ≡ numbers_before t.columns t.flag_at) where
-    pub numbers_ask : ((column_well c ≡ true) × (taken.bytes + c.width < line.bytes + 2))
+  module _ (number : holds_text t.columns k ≡ false) {flags : List (List Bool)} (table : flags ≡ t.flags) {flagPlace : ℕ}
+      (flag : flagPlace ≡ numbers_before t.columns t.flag_at) where
+    pub numbers_ask : ((column_well c ≡ true) × (taken.bytes + c.width < line.bytes + 2) × (line.bytes ≤ most_line))
         × (((length run ≡ count * line.numbers) × (flagPlace < line.numbers) × (taken.numbers < line.numbers))
-        × (((length b ≡ count * (line.bytes + 2)) × BlankAt (line.bytes + 2) taken.bytes c.width count b) × NumbersFit flags c run line.numbers flagPlace taken.numbers count))
+        × (((length b ≡ count * (line.bytes + 2)) × BlankAt (line.bytes + 2) taken.bytes c.width count b)
+        × NumbersFit flags c run line.numbers flagPlace taken.numbers count))
     unfolding taken_before line_numbers line_width line_pitch column_width columns_well
     numbers_ask =
-        rw e (
-          (all_at _ (length t.columns) ((and-eq-true_iff _ _).0 whole.well).0 k inside, cell_room),
-          rw (flag, table, place, whole.whole) (
-            (ready.numbers, flag_room _ _ _ _ whole.well ready k inside v whole.flag number, number_room _ _ _ _ whole.well ready k inside v whole.flag number),
-            ((v.long, rows_blank _ _ _ _ whole.well ready k inside v), numbers_fit _ _ _ _ whole.well ready k inside v whole.flag number),
+        rw here.column (
+          (all_at _ (length t.columns) ((and-eq-true_iff _ _).0 whole.well).0 k here.inside, cell_room, line_short_lem whole),
+          rw (flag, table, here.place, whole.whole) (
+            (
+              ready.numbers,
+              flag_room _ _ _ _ whole.well ready k here.inside v whole.flag number,
+              number_room _ _ _ _ whole.well ready k here.inside v whole.flag number,
+            ),
+            (
+              (v.long, rows_blank _ _ _ _ whole.well ready k here.inside v),
+              numbers_fit _ _ _ _ whole.well ready k here.inside v whole.flag number,
+            ),
           ),
         )
 
-    pub numbers_turn : {b' : List ℕ} → b' ≡ lines_put (line.bytes + 2) taken.bytes (number_at flags c run line.numbers flagPlace taken.numbers) count b → RowsSoFar t run texts count (k + 1) b'
+    pub numbers_turn : {b' : List ℕ} → b' ≡ lines_put (line.bytes + 2) taken.bytes (number_at flags c run line.numbers flagPlace taken.numbers) count b
+        → RowsSoFar t run texts count (k + 1) b'
     unfolding taken_before line_numbers line_width line_pitch
-    numbers_turn f = numbers_next _ _ _ _ whole.well ready k inside v whole.flag number (rw (flag, table, place, whole.whole, e) at f)
+    numbers_turn f =
+        numbers_next _ _ _ _ whole.well ready k here.inside v whole.flag number (rw (flag, table, here.place, whole.whole, here.column) at f)

@@ -9,7 +9,8 @@ ghost use Rattle.text_rows_writing.specs.Lines.{number_at, word_at, lines_put, B
 
 use text_rules::{Column, LineForm, Taken};
 
-// Writes a column of numbers into so many lines. `taken` is what the columns before it take, and `line` what all take.
+// Writes a column of numbers into so many lines. `taken` is what the columns before it take, and `line` what all take. They come beside
+// the column: these are private steps of one call, and each would take a struct of them apart.
 fn put_numbers_column(
     flags: &[[bool; flags::COLUMNS]; flags::FLAGS],
     column: Column,
@@ -96,7 +97,7 @@ pub fn put_rows(form: &LineForm, run: &[u64], texts: &[u8], rows: &mut [u8])
     ensures { rows.new ≡ rows_text form.now run.now texts.now count }
 {
     let line = form.columns().whole();
-    digits_put::put_blanks(rows, 0, rows.len());
+    rows.fill(b' ');
     put_columns(form, line, run, texts, rows);
     put_ends(line, rows);
 }

@@ -1,86 +1,44 @@
 -- `list_rows::read_rows` meets its contract: the lines are a part of the text, and the fault found in them has its place.
-use mathlib.Core.Path.{sym, ap, ◌∙◌}
-use mathlib.Core.List.{List}
+use mathlib.Core.Path.{sym, ◌∙◌}
 use native.Mathlib.Omega.{arith}
-use lib.ListN.{length}
-use Rattle.text_rules.specs.declared.Column.{Column}
-use Rattle.text_rules.specs.Columns.{line_pitch, column_start}
-use Rattle.list_rows.proofs.Rows.{our_columns, pitch_line, lines_ours, part_long, row_room, rows_part, fault_ours_in, kept_ours, row_low, column_low, row_place, rows_none}
+use Rattle.list_rows.proofs.Rows.{lent, kept_ours, rows_none, row_room, place_room, column_low, row_place}
 use Rattle.list_rows.proofs.read_rows.Goals as goal
 
 pub returns-in_err-fault : goal.returns-in_err-fault
 returns-in_err-fault c =
-    let sv = c.requires.start_value in
-    let ours = our_columns _ _ c.line_form-form.ensures c.columns-columns.ensures.value in
-    let pitch = c.pitch-pitch.ensures ∙ ap line_pitch ours in
-    let many = lines_ours _ c.line_form-form.ensures _ _ (part_long c.args.text.now c.args.start c.args.count _ pitch c.requires.shanghai_columns_in_bounds) in
-    let part = rows_part c.args.text.now _ _ sv.0 sv.1 _ pitch in
-    let found = fault_ours_in _ c.line_form-form.ensures _ _ part _ (rw many at c.read_columns.ensures.value) in
+    let v = lent c.line_form-form.ensures c.columns-columns.ensures.value c.pitch-pitch.ensures c.requires.start_value c.requires.shanghai_columns_in_bounds in
     record {
-      value = c.from_residual.ensures ∙ rows_none c.args.text.now c.args.start _ sv.0 sv.1 (sym c.in_err-fault.was ∙ found);
-      run_after = kept_ours _ c.line_form-form.ensures _ _ part _ sv.1 _ _ (rw many at c.read_columns.ensures.run_after);
+      value = c.from_residual.ensures ∙ rows_none v (sym c.in_err-fault.was ∙ c.read_columns.ensures.value);
+      run_after = kept_ours v _ c.read_columns.ensures.run_after;
     }
 
 pub overflow_mul-result : goal.overflow_mul-result
 overflow_mul-result c =
-    let sv = c.requires.start_value in
-    let ours = our_columns _ _ c.line_form-form.ensures c.columns-columns.ensures.value in
-    let pitch = c.pitch-pitch.ensures ∙ ap line_pitch ours in
-    let many = lines_ours _ c.line_form-form.ensures _ _ (part_long c.args.text.now c.args.start c.args.count _ pitch c.requires.shanghai_columns_in_bounds) in
-    let part = rows_part c.args.text.now _ _ sv.0 sv.1 _ pitch in
-    let found = fault_ours_in _ c.line_form-form.ensures _ _ part _ (rw many at c.read_columns.ensures.value) in
-    let some = sym c.in_ok-fault.was ∙ found in
-    let low = row_low c.args.text.now _ _ sv.0 sv.1 _ some in
-    let room = row_room c.args.text.now c.args.start c.args.count _ pitch c.requires.shanghai_columns_in_bounds _ low in
+    let v = lent c.line_form-form.ensures c.columns-columns.ensures.value c.pitch-pitch.ensures c.requires.start_value c.requires.shanghai_columns_in_bounds in
+    let room = row_room v (sym c.in_ok-fault.was ∙ c.read_columns.ensures.value) in
     omega arith
 
 pub overflow_add-result : goal.overflow_add-result
 overflow_add-result c =
-    let sv = c.requires.start_value in
-    let ours = our_columns _ _ c.line_form-form.ensures c.columns-columns.ensures.value in
-    let pitch = c.pitch-pitch.ensures ∙ ap line_pitch ours in
-    let many = lines_ours _ c.line_form-form.ensures _ _ (part_long c.args.text.now c.args.start c.args.count _ pitch c.requires.shanghai_columns_in_bounds) in
-    let part = rows_part c.args.text.now _ _ sv.0 sv.1 _ pitch in
-    let found = fault_ours_in _ c.line_form-form.ensures _ _ part _ (rw many at c.read_columns.ensures.value) in
-    let some = sym c.in_ok-fault.was ∙ found in
-    let low = row_low c.args.text.now _ _ sv.0 sv.1 _ some in
-    let room = row_room c.args.text.now c.args.start c.args.count _ pitch c.requires.shanghai_columns_in_bounds _ low in
+    let v = lent c.line_form-form.ensures c.columns-columns.ensures.value c.pitch-pitch.ensures c.requires.start_value c.requires.shanghai_columns_in_bounds in
+    let room = row_room v (sym c.in_ok-fault.was ∙ c.read_columns.ensures.value) in
     omega arith
 
 pub start-requires : goal.start-requires
 start-requires c =
-    let sv = c.requires.start_value in
-    let ours = our_columns _ _ c.line_form-form.ensures c.columns-columns.ensures.value in
-    let pitch = c.pitch-pitch.ensures ∙ ap line_pitch ours in
-    let many = lines_ours _ c.line_form-form.ensures _ _ (part_long c.args.text.now c.args.start c.args.count _ pitch c.requires.shanghai_columns_in_bounds) in
-    let part = rows_part c.args.text.now _ _ sv.0 sv.1 _ pitch in
-    let found = fault_ours_in _ c.line_form-form.ensures _ _ part _ (rw many at c.read_columns.ensures.value) in
-    let some = sym c.in_ok-fault.was ∙ found in
-    omega (arith, column_low c.args.text.now _ _ sv.0 sv.1 _ some, ap length ours)
+    let v = lent c.line_form-form.ensures c.columns-columns.ensures.value c.pitch-pitch.ensures c.requires.start_value c.requires.shanghai_columns_in_bounds in
+    column_low v (sym c.in_ok-fault.was ∙ c.read_columns.ensures.value)
 
 pub overflow_add-result-2 : goal.overflow_add-result-2
 overflow_add-result-2 c =
-    let sv = c.requires.start_value in
-    let ours = our_columns _ _ c.line_form-form.ensures c.columns-columns.ensures.value in
-    let pitch = c.pitch-pitch.ensures ∙ ap line_pitch ours in
-    let many = lines_ours _ c.line_form-form.ensures _ _ (part_long c.args.text.now c.args.start c.args.count _ pitch c.requires.shanghai_columns_in_bounds) in
-    let part = rows_part c.args.text.now _ _ sv.0 sv.1 _ pitch in
-    let found = fault_ours_in _ c.line_form-form.ensures _ _ part _ (rw many at c.read_columns.ensures.value) in
-    let some = sym c.in_ok-fault.was ∙ found in
-    let low = row_low c.args.text.now _ _ sv.0 sv.1 _ some in
-    let room = row_room c.args.text.now c.args.start c.args.count _ pitch c.requires.shanghai_columns_in_bounds _ low in
-    omega (arith, c.start.ensures.within, pitch_line c.columns-columns.result.now, c.pitch-pitch.ensures)
+    let v = lent c.line_form-form.ensures c.columns-columns.ensures.value c.pitch-pitch.ensures c.requires.start_value c.requires.shanghai_columns_in_bounds in
+    let room = place_room v (sym c.in_ok-fault.was ∙ c.read_columns.ensures.value) c.start.ensures.within in
+    omega arith
 
 pub returns : goal.returns
 returns c =
-    let sv = c.requires.start_value in
-    let ours = our_columns _ _ c.line_form-form.ensures c.columns-columns.ensures.value in
-    let pitch = c.pitch-pitch.ensures ∙ ap line_pitch ours in
-    let many = lines_ours _ c.line_form-form.ensures _ _ (part_long c.args.text.now c.args.start c.args.count _ pitch c.requires.shanghai_columns_in_bounds) in
-    let part = rows_part c.args.text.now _ _ sv.0 sv.1 _ pitch in
-    let found = fault_ours_in _ c.line_form-form.ensures _ _ part _ (rw many at c.read_columns.ensures.value) in
-    let some = sym c.in_ok-fault.was ∙ found in
+    let v = lent c.line_form-form.ensures c.columns-columns.ensures.value c.pitch-pitch.ensures c.requires.start_value c.requires.shanghai_columns_in_bounds in
     record {
-      value = row_place c.args.text.now _ _ sv.0 sv.1 _ some _ _ pitch (c.start.ensures.value ∙ ap (λ (cs : List Column). column_start cs c.in_ok-fault.fault.column) ours);
-      run_after = kept_ours _ c.line_form-form.ensures _ _ part _ sv.1 _ _ (rw many at c.read_columns.ensures.run_after);
+      value = row_place v (sym c.in_ok-fault.was ∙ c.read_columns.ensures.value) c.start.ensures.value;
+      run_after = kept_ours v _ c.read_columns.ensures.run_after;
     }

@@ -6,12 +6,9 @@ use lib.ListN.{length}
 use lib.Seq.{length-take-le}
 use Rattle.text_rules.specs.Columns.{line_pitch}
 use Rattle.text_rows.specs.Rows.{line_count}
-use Rattle.text_rows.proofs.Turns.{pitch_some, front_read, columns_start, columns_room, columns_fine, columns_wrong, columns_end}
+use Rattle.text_rows.proofs.Turns.{front_read, columns_start, columns_room, columns_fine, columns_wrong, columns_end}
 use Rattle.text_rows.proofs.read_columns.Goals.{in-Some, in_default}
 use Rattle.text_rows.proofs.read_columns.Goals as goal
-
-pub nonzero_div-row : goal.nonzero_div-row
-nonzero_div-row c = omega (arith, pitch_some c.columns-columns.result.now, c.pitch-pitch.ensures)
 
 pub loop-k-init : goal.loop-k-init
 unfolding line_count

@@ -1,14 +1,14 @@
 -- Each column is written where those before it end.
 use mathlib.Core.Path.{ap, ◌∙◌}
 use mathlib.Core.List.{List}
-use Prim.Native.Nat.{◌+◌, ◌<◌}
+use Prim.Native.Nat.{◌+◌}
 use native.Mathlib.Omega.{arith}
 use lib.ListN.{length}
 use Rattle.text_rules.specs.declared.Column.{Column}
 use Rattle.text_rules.specs.Columns.{taken_before}
 use Rattle.text_rules.proofs.Placed.{numbers_of}
 use Rattle.text_rows_writing.proofs.Rows.{rows_start, rows_all}
-use Rattle.text_rows_writing.proofs.Turns.{line_short_lem, column_here, column_holds, words_ask, words_turn, numbers_ask, numbers_turn}
+use Rattle.text_rows_writing.proofs.Turns.{at_column, holds_here, words_ask, words_turn, numbers_ask, numbers_turn}
 use Rattle.text_rows_writing.proofs.put_columns.Goals.{then-is_text, else-is_text}
 use Rattle.text_rows_writing.proofs.put_columns.Goals as goal
 
@@ -23,36 +23,28 @@ pub put_words_column-requires : goal.put_words_column-requires
 put_words_column-requires g c =
     let p = c.requires in
     let v = c.loop-k.invariant in
-    let inside : c.loop-k.k < length c.args.form.now.columns = omega (arith, ap length c.columns-columns.ensures.value, ap length c.table-column-items.ensures.value) in
-    let column = column_here c.args.form.now c.loop-k.k c.table-column-items.ensures.value c.columns-columns.ensures.value in
-    let text = column_holds c.args.form.now _ column c.is_text.ensures c.if-is_text.true in
-    let h = words_ask _ p.0 _ _ _ p.1.0 _ inside v.0 column v.1 text in
-    ((h.0.0, h.0.1, line_short_lem p.0), (h.1.0, h.1.1))
+    let here = at_column c.args.form.now c.table-column-items.ensures.value c.columns-columns.ensures.value c.loop-k-test.true v.0 in
+    words_ask p.0 p.1.0 here v.1 (holds_here here c.is_text.ensures c.if-is_text.true)
 
 pub put_numbers_column-requires : goal.put_numbers_column-requires
 put_numbers_column-requires g c =
     let p = c.requires in
     let v = c.loop-k.invariant in
-    let inside : c.loop-k.k < length c.args.form.now.columns = omega (arith, ap length c.columns-columns.ensures.value, ap length c.table-column-items.ensures.value) in
-    let column = column_here c.args.form.now c.loop-k.k c.table-column-items.ensures.value c.columns-columns.ensures.value in
-    let number = column_holds c.args.form.now _ column c.is_text.ensures c.if-is_text.false in
+    let here = at_column c.args.form.now c.table-column-items.ensures.value c.columns-columns.ensures.value c.loop-k-test.true v.0 in
     let flag = numbers_of _ _ c.before_flag-flag_place.ensures.value in
-    let h = numbers_ask _ p.0 _ _ _ p.1.0 _ inside v.0 column v.1 number c.flags-flags.ensures flag in
-    ((h.0.0, h.0.1, line_short_lem p.0), (h.1.0, (h.1.1.0, h.1.1.1)))
+    numbers_ask p.0 p.1.0 here v.1 (holds_here here c.is_text.ensures c.if-is_text.false) c.flags-flags.ensures flag
 
 pub loop-k-preserved : goal.loop-k-preserved
 loop-k-preserved g c =
     let p = c.requires in
     let v = c.loop-k.invariant in
-    let inside : c.loop-k.k < length c.args.form.now.columns = omega (arith, ap length c.columns-columns.ensures.value, ap length c.table-column-items.ensures.value) in
-    let column = column_here c.args.form.now c.loop-k.k c.table-column-items.ensures.value c.columns-columns.ensures.value in
+    let here = at_column c.args.form.now c.table-column-items.ensures.value c.columns-columns.ensures.value c.loop-k-test.true v.0 in
     let flag = numbers_of _ _ c.before_flag-flag_place.ensures.value in (
       c.past-taken.ensures ∙ ap (λ (cs : List Column). taken_before cs (c.loop-k.k + 1)) c.columns-columns.ensures.value,
       elim c.if-is_text.branch [
-        | then-is_text w ↦
-            words_turn _ p.0 _ _ _ p.1.0 _ inside v.0 column v.1 (column_holds c.args.form.now _ column c.is_text.ensures w.if-is_text.true) (w.rows-is ∙ w.put_words_column.ensures)
+        | then-is_text w ↦ words_turn p.0 p.1.0 here v.1 (holds_here here c.is_text.ensures w.if-is_text.true) (w.rows-is ∙ w.put_words_column.ensures)
         | else-is_text w ↦
-            numbers_turn _ p.0 _ _ _ p.1.0 _ inside v.0 column v.1 (column_holds c.args.form.now _ column c.is_text.ensures w.if-is_text.false) c.flags-flags.ensures flag
+            numbers_turn p.0 p.1.0 here v.1 (holds_here here c.is_text.ensures w.if-is_text.false) c.flags-flags.ensures flag
             (w.rows-is ∙ w.put_numbers_column.ensures)
       ],
     )

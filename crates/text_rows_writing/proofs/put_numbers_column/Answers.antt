@@ -32,29 +32,17 @@ overflow_add-j g c =
     let below = piece_below p.1.0.0 (omega (arith, p.1.0.1)) (chunk_room _ _ v.0 _ _ step.0.1) in
     rw step.1 (omega (arith, put_here v.1 below, p.0.1))
 
-pub put_cell-requires-clause-column_value : goal.put_cell-requires-clause-column_value
-put_cell-requires-clause-column_value g c =
+pub put_cell-requires : goal.put_cell-requires
+put_cell-requires g c =
     let p = c.requires in
     let v = c.loop-j.invariant in
     let step = c.in-Some.ensures.steps in
     let below = piece_below p.1.0.0 (omega (arith, p.1.0.1)) (chunk_room _ _ v.0 _ _ step.0.1) in
-    (p.0.0, rw step.1 (omega (arith, put_here v.1 below, p.0.1)))
-
-pub put_cell-requires-clause-line_value : goal.put_cell-requires-clause-line_value
-put_cell-requires-clause-line_value g c =
-    let p = c.requires in
-    let v = c.loop-j.invariant in
-    let step = c.in-Some.ensures.steps in
-    let below = piece_below p.1.0.0 (omega (arith, p.1.0.1)) (chunk_room _ _ v.0 _ _ step.0.1) in
-    rw step.1 (put_later v.1 below _ p.0.1 ∙ p.1.1.0.1 _ below)
-
-pub put_cell-requires-clause-fits : goal.put_cell-requires-clause-fits
-put_cell-requires-clause-fits g c =
-    let p = c.requires in
-    let v = c.loop-j.invariant in
-    let step = c.in-Some.ensures.steps in
-    let below = piece_below p.1.0.0 (omega (arith, p.1.0.1)) (chunk_room _ _ v.0 _ _ step.0.1) in
-    number_fits _ _ _ _ _ _ _ (chunk_is _ _ v.0 _ _ step.0.1) p.1.0.1 p.1.0.2 c.has_number-used.ensures p.1.1.1 below
+    record {
+      column_value = (p.0.0, rw step.1 (omega (arith, put_here v.1 below, p.0.1)));
+      line_value = rw step.1 (put_later v.1 below _ p.0.1 ∙ p.1.1.0.1 _ below);
+      fits = number_fits _ _ _ _ _ _ _ (chunk_is _ _ v.0 _ _ step.0.1) p.1.0.1 p.1.0.2 c.has_number-used.ensures p.1.1.1 below;
+    }
 
 pub loop-j-preserved : goal.loop-j-preserved
 loop-j-preserved g c =
