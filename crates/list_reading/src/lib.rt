@@ -124,8 +124,7 @@ pub fn name(text: &[u8], j: usize) -> &[u8]
 {
     match list_shape::shape_of(text) {
         Ok(rows) if j < rows.count => list_names::name_from(text, rows.start, j),
-        Ok(_) => &text[..0],
-        Err(_) => &text[..0],
+        _ => &text[..0],
     }
 }
 
