@@ -200,7 +200,7 @@ module _ (text : List ℕ) (r : Rows) (figures : List Figure) (s : Spelled text 
           }
 
 -- the letters' place: there are some just where the first line is an opening one
-module _ (text letters : List ℕ) (e : letters ≡ letters_read text) where
+module _ (text : List ℕ) where
   opening_some : line_stands is_opening text 0 ≡ true → 1 ≤ length (letters_read text)
   unfolding letters_read line_stands is_opening
   opening_some h =
@@ -210,17 +210,13 @@ module _ (text letters : List ℕ) (e : letters ≡ letters_read text) where
   unfolding letters_read
   opening_none h = rw h
 
-  place_cases : (b : Bool) → line_stands is_opening text 0 ≡ b → (length letters ≡ 0 → record { place = 0; length = 0 } ≡ letters_place text)
-      × (1 ≤ length letters → record { place = letters_start; length = length letters } ≡ letters_place text)
+  pub letters_none : length (letters_read text) ≡ 0 → letters_place text ≡ record { place = 0; length = 0 }
   unfolding letters_place
-  place_cases true h = ((λ n. absurd (omega (arith, opening_some h, ap length e))), λ n. rw (h, e))
-  place_cases false h = ((λ n. rw h), λ n. absurd (omega (arith, opening_none h, ap length e)))
+  letters_none n = grind (arith, opening_some)
 
-  pub letters_none : length letters ≡ 0 → record { place = 0; length = 0 } ≡ letters_place text
-  letters_none = (place_cases _ refl).0
-
-  pub letters_some : 1 ≤ length letters → record { place = letters_start; length = length letters } ≡ letters_place text
-  letters_some = (place_cases _ refl).1
+  pub letters_some : 1 ≤ length (letters_read text) → letters_place text ≡ record { place = letters_start; length = length (letters_read text) }
+  unfolding letters_place
+  letters_some n = grind (arith, opening_none)
 
 -- the components
 module _ (text : List ℕ) (r : Rows) (fields : ListFields) (s : Ranged text r fields) where

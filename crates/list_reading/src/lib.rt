@@ -102,6 +102,7 @@ pub fn letters(text: &[u8]) -> &[u8]
 }
 
 // Where they stand.
+#[tactic(auto, using(crate::proofs::Handed::letters_none, crate::proofs::Handed::letters_some))]
 pub fn letters_place(text: &[u8]) -> TextPart
     ensures { result ≡ letters_place text.now }
 {
