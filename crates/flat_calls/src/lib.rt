@@ -60,6 +60,7 @@ pub fn read(
 
 // Stores a part's place and length at the front of a run that has room for both, and hands back the length. No Option: an empty part is
 // what the C interface hands back where there is none.
+#[tactic(auto, using(crate::proofs::Parts::part_stored, crate::proofs::Parts::part_left))]
 fn keep_part(part: &mut [u64], found: TextPart) -> u64
     ensures value { result ≡ found.length }
     ensures part { part.new ≡ part_kept found part.old }
