@@ -4,10 +4,10 @@
 ghost use Rattle.std.specs.Prelude.{◌≡◌, true, ◌+◌, ◌*◌, ◌≤◌, length};
 ghost use Rattle.sequences.specs.Below.{below};
 ghost use Rattle.sequences.specs.Checks.{passes};
+ghost use Rattle.rules.specs.Replies.{count_answer_reply};
 ghost use Rattle.layout.specs.Places.{most_components};
 ghost use Rattle.text_rules.specs.Well.{most_line};
 ghost use Rattle.text_head_writing.specs.Lines.{most_head};
-ghost use Rattle.list_rules.specs.Replies.{list_reply};
 ghost use Rattle.list_rules.specs.Writing.{listed, sizes_fit, list_checks, text_of, write_fault, write_reply};
 ghost use Rattle.list_writing_tests.specs.Parts.{head_of, lines_of};
 
@@ -73,7 +73,7 @@ fn text_size(list: &Listing) -> usize
 // The answer, which changes nothing.
 #[tactic(auto, using(sequences::proofs::Below::below_some_facts, sequences::proofs::Below::below_none_fact, std::proofs::lemmas::Bool::Decides::nat_tests), unfolding(list_rules::specs::Writing::write_reply, list_rules::specs::Writing::write_checks, list_rules::specs::Writing::list_checks, sequences::specs::Checks::answering, sequences::specs::Checks::passes))]
 pub fn write_answer(list: &Listing, room: usize) -> Result<usize, Refusal>
-    ensures { list_reply result ≡ write_reply (listed list.now) room }
+    ensures { count_answer_reply result ≡ write_reply (listed list.now) room }
 {
     if !sizes_fit(list) {
         return Err(Refusal::Sizes);
