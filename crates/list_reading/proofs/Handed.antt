@@ -1,5 +1,5 @@
 -- What the code has found at each stage of reading, and the reply or the facts that follow.
-use mathlib.Core.Path.{◌≡◌, refl, sym, ap, ap₂, ◌∙◌}
+use mathlib.Core.Path.{◌≡◌, sym, ap, ap₂, ◌∙◌}
 use mathlib.Core.Bool.{Bool, true, false, not, ◌&&◌, cond, and-eq-true_iff}
 use mathlib.Core.List.{List, [], ◌++◌}
 use Prim.Native.Nat.{ℕ, ◌*◌, ◌≤◌, ◌<◌}
@@ -45,8 +45,7 @@ use Rattle.list_rows.specs.Rows.{rows_of, rows_found, run_kept}
 use Rattle.list_rows.proofs.Rows.{row_ours, fault_ours, numbers_ours}
 use Rattle.list_rules.proofs.Lent.{fields_count}
 use Rattle.list_trip.proofs.Form.{line_numbers_lem}
-use Rattle.list_trip.proofs.Names.{name_read_lem}
-use Rattle.list_trip.proofs.NamePlaces.{name_part_lem, name_at_lem}
+use Rattle.list_trip.proofs.NamePlaces.{name_found}
 use Rattle.list_shape.specs.declared.Rows.{Rows}
 use Rattle.list_shape.specs.Shape.{RowsStand, LineWrong}
 use Rattle.list_reading.specs.Outcome.{ReadOutcome}
@@ -76,9 +75,7 @@ module _ (text : List ℕ) (r : Rows) (s : RowsStand text r) where
   pub name_is : (j : ℕ) → j < r.count → name_from text r.start j ≡ name_read text j
   name_is j h =
       rw s.start_is
-      (name_part_lem text _ j (omega (arith, s.start_is, s.room, within (line_pitch shanghai_columns) j r.count h))
-      ∙ sym (name_at_lem text j)
-      ∙ sym (name_read_lem text s.lines_stand j (omega (arith, s.count_is))))
+      (name_found text s.lines_stand j (omega (arith, s.count_is)) (omega (arith, s.start_is, s.room, within (line_pitch shanghai_columns) j r.count h)))
 
   -- 19 in the head
   pub field_reply : (wrong : WrongField) (room : ℕ) → Err wrong ≡ fields_found shanghai_fields text → reply 19 wrong.place 0 ≡ read_reply text room
