@@ -1,17 +1,10 @@
 -- An answer as the paper's four numbers.
-use Rattle.std.specs.Prelude.{ℕ, ◌≡◌, Result, Ok, Err}
-use Rattle.sequences.specs.Checks.{Reply, reply}
-use Rattle.rules.specs.declared.Refusal.{Refusal}
-use Rattle.rules.specs.Replies.{refusal_reply}
+use Rattle.std.specs.Prelude.{ℕ, ◌≡◌}
+use Rattle.sequences.specs.Checks.{Reply}
 use Rattle.answers.specs.declared.Numbers.{Numbers}
 
 abbrev pub reply_of : Numbers → Reply
 reply_of n = record { number = n.number; place = n.place; value = n.value; reports = n.reports }
-
--- the answer of a call that tells a count
-abbrev pub count_answer_reply : Result ℕ Refusal → Reply
-count_answer_reply (Ok count) = reply 0 0 count
-count_answer_reply (Err why) = refusal_reply why
 
 -- three numbers are those of a reply
 pub record Told (r : Reply) (number place value : ℕ) : Type 0 where

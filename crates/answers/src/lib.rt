@@ -5,8 +5,8 @@
 ghost use Rattle.std.specs.Prelude.{◌≡◌};
 ghost use Rattle.sequences.specs.Checks.{reply};
 ghost use Rattle.layout.specs.Answers.{reply_in};
-ghost use Rattle.rules.specs.Replies.{refusal_reply, answer_reply, order_answer_reply, value_answer_reply};
-ghost use Rattle.answers.specs.Numbers.{reply_of, count_answer_reply, Told, ToldOrder};
+ghost use Rattle.rules.specs.Replies.{refusal_reply, answer_reply, order_answer_reply, value_answer_reply, count_answer_reply};
+ghost use Rattle.answers.specs.Numbers.{reply_of, Told, ToldOrder};
 
 use rules::{Counts, Refusal};
 use units::ReferenceValue;

@@ -211,6 +211,7 @@ pub extern "C" fn roffelaine_redemption_test(
 
 // The driver: a list of calls as rows, with one test of the day where every call keeps it sound.
 #[unsafe(no_mangle)]
+#[tactic(auto, using(driver::proofs::Days::batch_left))]
 pub extern "C" fn roffelaine_run(
     day: &[u64],
     book: &mut [u64],
@@ -240,6 +241,7 @@ pub extern "C" fn roffelaine_run(
 
 // The same list of calls made one by one: each tests the day, as the calls above do.
 #[unsafe(no_mangle)]
+#[tactic(auto, using(driver::proofs::Days::batch_left))]
 pub extern "C" fn roffelaine_run_public(
     day: &[u64],
     book: &mut [u64],

@@ -16,11 +16,10 @@ use Rattle.fund.proofs.Laws.{fund_sound, cash_size}
 use Rattle.list_rules.specs.declared.ListFields.{ListFields}
 use Rattle.list_rules.specs.declared.ListRead.{ListRead}
 use Rattle.rules.specs.declared.Refusal.{Refusal}
-use Rattle.rules.specs.Replies.{refusal_reply}
+use Rattle.rules.specs.Replies.{refusal_reply, count_answer_reply}
 use Rattle.rules.proofs.Replies.{is_refused}
 use Rattle.std.proofs.Common.{Result, Ok, Err}
 use Rattle.list_rules.specs.Fields.{fields_from}
-use Rattle.list_rules.specs.Replies.{list_reply}
 use Rattle.list_rules.specs.Reading.{fields_read, read_reply, run_after}
 use Rattle.list_rules.specs.Writing.{Listing, write_reply, output_after}
 use Rattle.list_rules.proofs.Ranges.{fields_sound}
@@ -131,7 +130,7 @@ module _ (fields : List ℕ) (l : Listing) (output : List ℕ) where
       record { told = told_of (sym refused); output_is = rw refused }
 
   pub write_done : length fields ≡ fields_width → (r : Result ℕ Refusal) (output' : List ℕ) → WriteOutcome l output r output'
-      → TextWritten fields l output (list_reply r).number (list_reply r).place (list_reply r).value output'
+      → TextWritten fields l output (count_answer_reply r).number (count_answer_reply r).place (count_answer_reply r).value output'
   unfolding output_after
   write_done wide r output' out =
       let same = width_fits (length fields) (write_reply l (length output)) wide in

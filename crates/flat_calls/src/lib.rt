@@ -3,8 +3,7 @@
 
 ghost use Rattle.std.specs.Prelude.{◌≡◌, cond, eqb, nat_abs, length, ◌/◌, ◌≤◌};
 ghost use Rattle.digits.specs.Digits.{cap};
-ghost use Rattle.rules.specs.Replies.{answer_reply};
-ghost use Rattle.list_rules.specs.Replies.{list_reply};
+ghost use Rattle.rules.specs.Replies.{answer_reply, count_answer_reply};
 ghost use Rattle.list_rules.specs.Reading.{name_place, letters_place};
 ghost use Rattle.list_rules.specs.Writing.{listing};
 ghost use Rattle.list_layout.specs.Run.{fields_width, fields_at, fields_numbers};
@@ -47,7 +46,7 @@ pub fn read(
     fields: &mut [u64],
     first_row: &mut u64,
 ) -> Result<usize, Refusal>
-    ensures { TextRead text.now (taking run.old fields.old first_row.old) (list_reply result).number (list_reply result).place (list_reply result).value (taking run.new fields.new first_row.new) }
+    ensures { TextRead text.now (taking run.old fields.old first_row.old) (count_answer_reply result).number (count_answer_reply result).place (count_answer_reply result).value (taking run.new fields.new first_row.new) }
 {
     if fields.len() != list_layout::FIELDS_WIDTH {
         return Err(Refusal::Sizes);
@@ -60,6 +59,7 @@ pub fn read(
 
 // Stores a part's place and length at the front of a run that has room for both, and hands back the length. No Option: an empty part is
 // what the C interface hands back where there is none.
+#[tactic(auto, using(crate::proofs::Parts::part_stored, crate::proofs::Parts::part_left))]
 fn keep_part(part: &mut [u64], found: TextPart) -> u64
     ensures value { result ≡ found.length }
     ensures part { part.new ≡ part_kept found part.old }
@@ -97,7 +97,7 @@ pub fn write(
     letters: &[u8],
     output: &mut [u8],
 ) -> Result<usize, Refusal>
-    ensures { TextWritten fields.now (listing (fields_at fields.now) run.now names.now letters.now) output.old (list_reply result).number (list_reply result).place (list_reply result).value output.new }
+    ensures { TextWritten fields.now (listing (fields_at fields.now) run.now names.now letters.now) output.old (count_answer_reply result).number (count_answer_reply result).place (count_answer_reply result).value output.new }
 {
     if fields.len() != list_layout::FIELDS_WIDTH {
         return Err(Refusal::Sizes);

@@ -27,6 +27,7 @@ fn limits_of(figures: [Figure; MOST_FIELDS]) -> [u64; layout::LIMITS]
 }
 
 // The fields that the head's figures say.
+#[tactic(auto, unfolding(list_rules::specs::Fields::fields_from))]
 pub fn fields_of(figures: [Figure; MOST_FIELDS]) -> ListFields
     requires bound { 1 ≤ (get_or figures creation_code_field (plain 0)).size }
     requires by_index { (k : ℕ) → k < field_count → (get_or figures k (plain 0)).size ≤ cap }
@@ -67,6 +68,7 @@ pub fn fields_in_range(l: ListFields) -> bool
 }
 
 // The head's figures that say the fields.
+#[tactic(auto, unfolding(list_rules::specs::Fields::figures_of, list_rules::specs::Fields::figure_at, sequences::specs::Below::tabulate))]
 pub fn figures_of(l: ListFields) -> [Figure; MOST_FIELDS]
     requires { fields_in_range l ≡ true }
     ensures { result ≡ figures_of l }
@@ -94,6 +96,7 @@ pub fn figures_of(l: ListFields) -> [Figure; MOST_FIELDS]
         Figure::from(limits[5]),
         Figure::from(limits[6]),
         Figure::from(limits[7]),
+        // Blank behind them: the array has one length for all tables of fields, since there is no heap.
         Figure::from(0u64),
         Figure::from(0u64),
         Figure::from(0u64),

@@ -27,6 +27,7 @@ const COUNT_AT: usize = PUBLISH_AT + 7;
 pub const FIELDS_WIDTH: usize = PUBLISH_AT + 8;
 
 // The fields of a run.
+#[tactic(auto, unfolding(crate::specs::Run::fields_at))]
 pub fn fields_at(run: &[u64]) -> ListFields
     requires { length run.now ≡ fields_width }
     ensures { result ≡ fields_at run.now }
@@ -45,6 +46,7 @@ pub fn fields_at(run: &[u64]) -> ListFields
 }
 
 // Stores a list's fields.
+#[tactic(auto, using(crate::proofs::Laws::fields_stored))]
 pub fn put_fields(run: &mut [u64], l: ListFields)
     requires run_len { length run.old ≡ fields_width }
     requires estimated_cash_bound { nat_abs l.fund.estimated_cash ≤ cap }

@@ -1,5 +1,5 @@
 -- What the code has found at each stage of reading, and the reply or the facts that follow.
-use mathlib.Core.Path.{◌≡◌, refl, sym, ap, ap₂, ◌∙◌}
+use mathlib.Core.Path.{◌≡◌, sym, ap, ap₂, ◌∙◌}
 use mathlib.Core.Bool.{Bool, true, false, not, ◌&&◌, cond, and-eq-true_iff}
 use mathlib.Core.List.{List, [], ◌++◌}
 use Prim.Native.Nat.{ℕ, ◌*◌, ◌≤◌, ◌<◌}
@@ -9,7 +9,7 @@ use lib.Dec.{leb, ltb, eqb}
 use lib.ListN.{length, get_or, take, drop}
 use lib.Seq.{length-take-le}
 use borrow.Author.Tests.{le-ltb, lt-ltb, lt-leb, le-leb, ltb-false, eqb-true}
-use Rattle.std.proofs.Common.{Option, Some, None, Result, Ok, Err}
+use Rattle.std.proofs.Common.{Option, Some, None, Ok, Err}
 use Rattle.sequences.specs.Every.{inside}
 use Rattle.sequences.specs.Below.{below}
 use Rattle.sequences.specs.Checks.{reply, passes}
@@ -45,8 +45,7 @@ use Rattle.list_rows.specs.Rows.{rows_of, rows_found, run_kept}
 use Rattle.list_rows.proofs.Rows.{row_ours, fault_ours, numbers_ours}
 use Rattle.list_rules.proofs.Lent.{fields_count}
 use Rattle.list_trip.proofs.Form.{line_numbers_lem}
-use Rattle.list_trip.proofs.Names.{name_read_lem}
-use Rattle.list_trip.proofs.NamePlaces.{name_part_lem, name_at_lem}
+use Rattle.list_trip.proofs.NamePlaces.{name_found}
 use Rattle.list_shape.specs.declared.Rows.{Rows}
 use Rattle.list_shape.specs.Shape.{RowsStand, LineWrong}
 use Rattle.list_reading.specs.Outcome.{ReadOutcome}
@@ -67,25 +66,6 @@ pub name_wrong : (text : List ℕ) (j place : ℕ) → LineWrong text place → 
 unfolding name_read
 name_wrong text j place w = rw w.line_stops
 
--- a choice by a test, and the choice that was made
-made_err : (b : Bool) (x : WrongField) (y : HeadFields) (wrong : WrongField) → Err wrong ≡ cond {A = Result HeadFields WrongField} b (Err x) (Ok y)
-    → (b ≡ true) × (wrong ≡ x)
-made_err true x y wrong e = (refl, cc)
-made_err false x y wrong e = absurd (cc)
-
-made_ok : (b : Bool) (x : WrongField) (y head : HeadFields) → Ok head ≡ cond {A = Result HeadFields WrongField} b (Err x) (Ok y)
-    → (b ≡ false) × (head ≡ y)
-made_ok true x y head e = absurd (cc)
-made_ok false x y head e = (refl, cc)
-
-made_some : (b : Bool) (x fault : RowFault) → Some fault ≡ cond b (Some x) None → (b ≡ true) × (fault ≡ x)
-made_some true x fault e = (refl, cc)
-made_some false x fault e = absurd (cc)
-
-made_none : (b : Bool) (x : RowFault) → None ≡ cond b (Some x) None → b ≡ false
-made_none true x e = absurd (cc)
-made_none false x e = refl
-
 module _ (text : List ℕ) (r : Rows) (s : RowsStand text r) where
   pub name_past : (j : ℕ) → r.count ≤ j → [] ≡ name_read text j
   unfolding name_read
@@ -95,33 +75,27 @@ module _ (text : List ℕ) (r : Rows) (s : RowsStand text r) where
   pub name_is : (j : ℕ) → j < r.count → name_from text r.start j ≡ name_read text j
   name_is j h =
       rw s.start_is
-      (name_part_lem text _ j (omega (arith, s.start_is, s.room, within (line_pitch shanghai_columns) j r.count h))
-      ∙ sym (name_at_lem text j)
-      ∙ sym (name_read_lem text s.lines_stand j (omega (arith, s.count_is))))
+      (name_found text s.lines_stand j (omega (arith, s.count_is)) (omega (arith, s.start_is, s.room, within (line_pitch shanghai_columns) j r.count h)))
 
   -- 19 in the head
   pub field_reply : (wrong : WrongField) (room : ℕ) → Err wrong ≡ fields_found shanghai_fields text → reply 19 wrong.place 0 ≡ read_reply text room
   unfolding fields_found
-  field_reply wrong room e =
-      let m = made_err _ _ _ wrong e in
-      ap (λ (w : WrongField). reply 19 w.place 0) m.1 ∙ reply_19_field text room s.lines_stand m.0
+  field_reply wrong room e = grind (arith, reply_19_field text room s.lines_stand)
 
   module _ (head : HeadFields) (e : Ok head ≡ fields_found shanghai_fields text) where
     fields_right : field_wrong text ≡ false
     unfolding fields_found
-    fields_right = (made_ok _ _ _ head e).0
+    fields_right = grind arith
 
     -- 19 in a component line
     pub row_reply_lem : (fault : RowFault) (room : ℕ) → Some fault ≡ rows_found text → reply 19 fault.place 0 ≡ read_reply text room
     unfolding rows_found
-    row_reply_lem fault room f =
-        let m = made_some _ _ fault f in
-        ap (λ (w : RowFault). reply 19 w.place 0) m.1 ∙ reply_19_row text room s.lines_stand fields_right m.0
+    row_reply_lem fault room f = grind (arith, reply_19_row text room s.lines_stand fields_right)
 
     module _ (f : None ≡ rows_found text) where
       row_right : row_wrong text ≡ false
       unfolding rows_found
-      row_right = made_none _ _ f
+      row_right = grind arith
 
       pub spelled : Spelled text r head.figures
       unfolding fields_found
@@ -129,7 +103,7 @@ module _ (text : List ℕ) (r : Rows) (s : RowsStand text r) where
           record {
             stand = s;
             fields_well_lem = fields_pass text fields_right row_right;
-            figures_are = ap (λ (h : HeadFields). h.figures) (made_ok _ _ _ head e).1;
+            figures_are = grind arith;
           }
 
       -- the numbers that wait in the array
@@ -172,51 +146,58 @@ module _ (text : List ℕ) (r : Rows) (figures : List Figure) (s : Spelled text 
       ∙ table_at (λ i. cond (ltb i (wrong_field shanghai_fields text)) (figure_read shanghai_fields text i) (plain 0)) most_fields k d (omega arith)
       ∙ rw (all, lt-ltb k field_count h)
 
+  abbrev pub size : ℕ → ℕ
+  size k = (get_or figures k (plain 0)).size
+
   pub figures_capped : (k : ℕ) → k < field_count → (get_or figures k (plain 0)).size ≤ cap
   unfolding figure_read
   figures_capped k h = rw (figure_at_lem k (plain 0) h) (figure_capped _ _)
 
-  pub fields_are : (fields : ListFields) → fields ≡ fields_from (λ k. get_or figures k (plain 0)) → fields ≡ fields_read text
-  unfolding fields_read
-  fields_are fields e = e ∙ fields_same _ _ (λ k h. figure_at_lem k (plain 0) h)
+  size_is : (k : ℕ) → k < field_count → size k ≡ (figure_read shanghai_fields text k).size
+  size_is k h = ap (λ (z : Figure). z.size) (figure_at_lem k (plain 0) h)
 
   -- 20
-  module _ (n : ℕ) (e : n ≡ (figure_read shanghai_fields text count_field).size) where
-    count_is : is_counted n r.count ≡ is_counted (fields_read text).count (row_count shanghai text)
-    unfolding fields_read fields_from
-    count_is = ap₂ is_counted e s.stand.count_is
+  count_is : is_counted (size count_field) r.count ≡ is_counted (fields_read text).count (row_count shanghai text)
+  unfolding fields_read fields_from
+  count_is = ap₂ is_counted (size_is count_field (omega arith)) s.stand.count_is
 
-    pub count_reply : (room : ℕ) → is_counted n r.count ≡ false → reply 20 0 0 ≡ read_reply text room
-    count_reply room h = reply_20 text room s.stand.lines_stand s.fields_well_lem (ap not (sym count_is ∙ h))
+  pub count_reply : (room : ℕ) → is_counted (size count_field) r.count ≡ false → reply 20 0 0 ≡ read_reply text room
+  count_reply room h = reply_20 text room s.stand.lines_stand s.fields_well_lem (ap not (sym count_is ∙ h))
 
-    module _ (counted : is_counted n r.count ≡ true) where
-      count_right : count_wrong text ≡ false
-      count_right = ap not (sym count_is ∙ counted)
+  module _ (counted : is_counted (size count_field) r.count ≡ true) where
+    count_right : count_wrong text ≡ false
+    count_right = ap not (sym count_is ∙ counted)
 
-      -- 2
-      pub first_reply : (room first : ℕ) → first ≡ (figure_read shanghai_fields text creation_code_field).size → first < 1 → reply 2 0 0 ≡ read_reply text room
-      first_reply room first f h =
-          reply_2 text room s.stand.lines_stand s.fields_well_lem count_right (rw (lt-leb 1 (figure_read shanghai_fields text creation_code_field).size (rw f at h)))
+    -- 2
+    pub first_reply : (room : ℕ) → size creation_code_field < 1 → reply 2 0 0 ≡ read_reply text room
+    first_reply room h =
+        reply_2 text room s.stand.lines_stand s.fields_well_lem count_right
+        (rw (lt-leb 1 (figure_read shanghai_fields text creation_code_field).size (rw (size_is creation_code_field (omega arith)) at h)))
 
-      module _ (first : ℕ) (f : first ≡ (figure_read shanghai_fields text creation_code_field).size) (low : 1 ≤ first) (fields : ListFields) (g : fields ≡ fields_read text) where
-        both_are : {b : Bool} → fields_in_range fields ≡ b → (leb 1 (figure_read shanghai_fields text creation_code_field).size && fields_in_range (fields_read text)) ≡ b
-        both_are h = rw (le-leb 1 (figure_read shanghai_fields text creation_code_field).size (rw f at low)) (rw g at h)
+    module _ (low : 1 ≤ size creation_code_field) (fields : ListFields) (g : fields ≡ fields_from (λ k. get_or figures k (plain 0))) where
+      fields_are : fields ≡ fields_read text
+      unfolding fields_read
+      fields_are = g ∙ fields_same _ _ (λ k h. figure_at_lem k (plain 0) h)
 
-        pub range_reply : (room : ℕ) → fields_in_range fields ≡ false → reply 2 0 0 ≡ read_reply text room
-        range_reply room h = reply_2 text room s.stand.lines_stand s.fields_well_lem count_right (ap not (both_are h))
+      both_are : {b : Bool} → fields_in_range fields ≡ b → (leb 1 (figure_read shanghai_fields text creation_code_field).size && fields_in_range (fields_read text)) ≡ b
+      both_are h =
+          rw (le-leb 1 (figure_read shanghai_fields text creation_code_field).size (rw (size_is creation_code_field (omega arith)) at low)) (rw fields_are at h)
 
-        pub ranged : fields_in_range fields ≡ true → Ranged text r fields
-        ranged h =
-            record {
-              stand = s.stand;
-              fields_well_lem = s.fields_well_lem;
-              fields_are = g;
-              counted = sym count_is ∙ counted;
-              ranged = both_are h;
-            }
+      pub range_reply : (room : ℕ) → fields_in_range fields ≡ false → reply 2 0 0 ≡ read_reply text room
+      range_reply room h = reply_2 text room s.stand.lines_stand s.fields_well_lem count_right (ap not (both_are h))
+
+      pub ranged : fields_in_range fields ≡ true → Ranged text r fields
+      ranged h =
+          record {
+            stand = s.stand;
+            fields_well_lem = s.fields_well_lem;
+            fields_are = fields_are;
+            counted = sym count_is ∙ counted;
+            ranged = both_are h;
+          }
 
 -- the letters' place: there are some just where the first line is an opening one
-module _ (text letters : List ℕ) (e : letters ≡ letters_read text) where
+module _ (text : List ℕ) where
   opening_some : line_stands is_opening text 0 ≡ true → 1 ≤ length (letters_read text)
   unfolding letters_read line_stands is_opening
   opening_some h =
@@ -226,17 +207,13 @@ module _ (text letters : List ℕ) (e : letters ≡ letters_read text) where
   unfolding letters_read
   opening_none h = rw h
 
-  place_cases : (b : Bool) → line_stands is_opening text 0 ≡ b → (length letters ≡ 0 → record { place = 0; length = 0 } ≡ letters_place text)
-      × (1 ≤ length letters → record { place = letters_start; length = length letters } ≡ letters_place text)
+  pub letters_none : length (letters_read text) ≡ 0 → letters_place text ≡ record { place = 0; length = 0 }
   unfolding letters_place
-  place_cases true h = ((λ n. absurd (omega (arith, opening_some h, ap length e))), λ n. rw (h, e))
-  place_cases false h = ((λ n. rw h), λ n. absurd (omega (arith, opening_none h, ap length e)))
+  letters_none n = grind (arith, opening_some)
 
-  pub letters_none : length letters ≡ 0 → record { place = 0; length = 0 } ≡ letters_place text
-  letters_none = (place_cases _ refl).0
-
-  pub letters_some : 1 ≤ length letters → record { place = letters_start; length = length letters } ≡ letters_place text
-  letters_some = (place_cases _ refl).1
+  pub letters_some : 1 ≤ length (letters_read text) → letters_place text ≡ record { place = letters_start; length = length (letters_read text) }
+  unfolding letters_place
+  letters_some n = grind (arith, opening_none)
 
 -- the components
 module _ (text : List ℕ) (r : Rows) (fields : ListFields) (s : Ranged text r fields) where

@@ -102,6 +102,7 @@ pub fn letters(text: &[u8]) -> &[u8]
 }
 
 // Where they stand.
+#[tactic(auto, using(crate::proofs::Handed::letters_none, crate::proofs::Handed::letters_some))]
 pub fn letters_place(text: &[u8]) -> TextPart
     ensures { result ≡ letters_place text.now }
 {
@@ -124,8 +125,7 @@ pub fn name(text: &[u8], j: usize) -> &[u8]
 {
     match list_shape::shape_of(text) {
         Ok(rows) if j < rows.count => list_names::name_from(text, rows.start, j),
-        Ok(_) => &text[..0],
-        Err(_) => &text[..0],
+        _ => &text[..0],
     }
 }
 

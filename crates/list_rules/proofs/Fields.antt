@@ -62,7 +62,8 @@ figures_returned : (f : ℕ → Figure) → tabulate (figure_at (fields_from f))
 unfolding tabulate figure_at fields_from
 figures_returned f = refl
 
-module _ (k : ℕ) (z : Figure) (first : k ≡ creation_code_field → 1 ≤ z.size) (sign : z.negative ≡ true → ((k ≡ estimated_cash_field) ⊎ (k ≡ cash_component_field)) × (0 < z.size)) where
+module _ (k : ℕ) (z : Figure) (first : k ≡ creation_code_field → 1 ≤ z.size)
+    (sign : z.negative ≡ true → ((k ≡ estimated_cash_field) ⊎ (k ≡ cash_component_field)) × (0 < z.size)) where
   size_returned : (b : Bool) → eqb k creation_code_field ≡ b → cond b (z.size - 1 + 1) z.size ≡ z.size
   size_returned true p = let low : 1 ≤ z.size = first (eqb-true k creation_code_field p) in omega arith
   size_returned false p = refl

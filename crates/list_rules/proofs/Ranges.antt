@@ -1,9 +1,9 @@
 -- What the test of the fields of a list says.
 use mathlib.Core.Path.{◌≡◌}
-use mathlib.Core.Bool.{true, false}
+use mathlib.Core.Bool.{true}
 use Prim.Native.Nat.{◌≤◌}
-use borrow.Author.Tests.{le-leb, leb-true}
-use Rattle.sequences.proofs.Every.{every_none, every_more, every_at, false_of}
+use borrow.Author.Tests.{leb-true}
+use Rattle.sequences.proofs.Every.{every_at}
 use Rattle.fund.specs.Fund.{cash_in_range, fund_in_range}
 use Rattle.list_rules.specs.declared.ListFields.{ListFields}
 use Rattle.text_rules.specs.Dates.{is_date}
@@ -18,30 +18,16 @@ pub record FieldRanges (l : ListFields) : Type 0 where
   pub nav_per_cu : l.nav_per_cu ≤ 99_999_999_999
   pub nav : l.nav ≤ 9_999_999
 
-module _ (l : ListFields) where
-  pub fields-true : FieldRanges l → fields_in_range l ≡ true
-  unfolding fields_in_range
-  fields-true r =
-      every_more _ _ r.fund
-      (every_more _ _ (le-leb _ _ r.publish)
-      (every_more _ _ r.trading_day
-      (every_more _ _ r.pre_trading_day
-      (every_more _ _ r.cash
-      (every_more _ _ (le-leb _ _ r.nav_per_cu) (every_more _ _ (le-leb _ _ r.nav) every_none))))))
-
-  pub fields_sound : fields_in_range l ≡ true → FieldRanges l
-  unfolding fields_in_range
-  fields_sound e =
-      let at = every_at _ e in
-      record {
-        fund = at 0;
-        publish = leb-true _ _ (at 1);
-        trading_day = at 2;
-        pre_trading_day = at 3;
-        cash = at 4;
-        nav_per_cu = leb-true _ _ (at 5);
-        nav = leb-true _ _ (at 6);
-      }
-
-  pub fields-false : (FieldRanges l → ⊥) → fields_in_range l ≡ false
-  fields-false h = false_of (fields_in_range l) (λ e. h (fields_sound e))
+pub fields_sound : (l : ListFields) → fields_in_range l ≡ true → FieldRanges l
+unfolding fields_in_range
+fields_sound l e =
+    let at = every_at _ e in
+    record {
+      fund = at 0;
+      publish = leb-true _ _ (at 1);
+      trading_day = at 2;
+      pre_trading_day = at 3;
+      cash = at 4;
+      nav_per_cu = leb-true _ _ (at 5);
+      nav = leb-true _ _ (at 6);
+    }

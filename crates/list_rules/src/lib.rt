@@ -337,6 +337,7 @@ const FIELDS: [Field<'static>; FIELD_COUNT] = [
 ];
 
 // The form as far as its component lines go.
+#[tactic(auto, using(crate::proofs::Lent::shanghai_columns_well), unfolding(crate::specs::Shanghai::shanghai_columns, flags::specs::Table::flag_table))]
 pub fn line_form() -> LineForm<'static>
     ensures { result ≡ shanghai_lines }
 {

@@ -45,7 +45,7 @@ end_short = omega arith
 
 -- A place by whether the text has as many bytes as a component line there.
 module _ (text : List ℕ) (first j : ℕ) where
-  pub name_part_lem : first + j * line_pitch shanghai_columns + line_pitch shanghai_columns ≤ length text
+  name_part_lem : first + j * line_pitch shanghai_columns + line_pitch shanghai_columns ≤ length text
       → name_from text first j ≡ take name_width (drop (first + j * line_pitch shanghai_columns + column_start shanghai_columns name_column) text)
   unfolding name_from name_place
   name_part_lem h = rw (le-leb (first + j * line_pitch shanghai_columns + line_pitch shanghai_columns) (length text) h)
@@ -60,7 +60,7 @@ unfolding name_read
 name_past text j h = rw (le-ltb j (row_count shanghai text) h, and-false)
 
 -- the name's column of the j-th, in the text
-pub name_at_lem : (text : List ℕ) (j : ℕ) → part_of shanghai_columns name_column (row_of shanghai text j)
+name_at_lem : (text : List ℕ) (j : ℕ) → part_of shanghai_columns name_column (row_of shanghai text j)
     ≡ take name_width (drop (body_start shanghai text + j * line_pitch shanghai_columns + column_start shanghai_columns name_column) text)
 unfolding part_of row_of row_start shanghai
 name_at_lem text j =
@@ -69,6 +69,12 @@ name_at_lem text j =
     (le_of_lt (end_line shanghai_columns name_column name_there))
     ∙ ap (λ (w : ℕ). take w (drop (column_start shanghai_columns name_column) (drop start text))) name_width_lem
     ∙ ap (take name_width) (drop-drop (column_start shanghai_columns name_column) start text)
+
+-- the name of a component line that fits the text, found from where those lines start
+pub name_found : (text : List ℕ) → passes (shape_checks shanghai text) ≡ true → (j : ℕ) → j < row_count shanghai text
+    → body_start shanghai text + j * line_pitch shanghai_columns + line_pitch shanghai_columns ≤ length text
+    → name_from text (body_start shanghai text) j ≡ name_read text j
+name_found text shape j h room = name_part_lem text (body_start shanghai text) j room ∙ sym (name_at_lem text j) ∙ sym (name_read_lem text shape j h)
 
 module _ (text : List ℕ) (r : Reads shanghai text) where
   -- the component lines and the last line, to the end of the text
@@ -106,10 +112,7 @@ module _ (text : List ℕ) (r : Reads shanghai text) where
   name_cases : passes (shape_checks shanghai text) ≡ true → (j : ℕ) → Dec (j < row_count shanghai text)
       → name_from text (body_start shanghai text) j ≡ name_read text j
   unfolding shanghai
-  name_cases shape j (yes h) =
-      name_part_lem text (body_start shanghai text) j (row_there j h)
-      ∙ sym (name_at_lem text j)
-      ∙ sym (name_read_lem text shape j h)
+  name_cases shape j (yes h) = name_found text shape j h (row_there j h)
   name_cases shape j (no h) =
       name_none text (body_start shanghai text) j (row_past j (omega arith))
       ∙ sym (name_past text j (omega arith))

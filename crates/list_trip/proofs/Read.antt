@@ -4,7 +4,7 @@ use mathlib.Core.Path.{◌≡◌, refl, sym, ap, ap₂, ◌∙◌}
 use mathlib.Core.Bool.{true, false, not}
 use mathlib.Core.List.{List, ◌++◌}
 use Prim.Native.Nat.{ℕ, ◌*◌, ◌<◌, min}
-use native.Mathlib.Nat.{le_refl, mul_comm}
+use native.Mathlib.Nat.{le_refl}
 use native.Mathlib.Omega.{arith}
 use lib.Dec.{ltb}
 use lib.ListN.{length}
@@ -44,17 +44,10 @@ module _ (text : List ℕ) (r : Reads text) where
   -- the run and the names have their lengths
   run_length : length (components_run text) ≡ component_width * row_count shanghai text
   unfolding components_run
-  run_length =
-      (text_again text r).run_length
-      ∙ ap (λ (w : ℕ). row_count shanghai text * w) line_numbers_lem
-      ∙ mul_comm (row_count shanghai text) component_width
+  run_length = omega (arith, rw line_numbers_lem at (text_again text r).run_length)
 
   names-length : length (names_read text) ≡ name_width * row_count shanghai text
-  names-length =
-      ap length (names_texts text r.shape)
-      ∙ (text_again text r).texts-length
-      ∙ ap (λ (w : ℕ). row_count shanghai text * w) line_words_lem
-      ∙ mul_comm (row_count shanghai text) name_width
+  names-length = rw (names_texts text r.shape) (omega (arith, rw line_words_lem at (text_again text r).texts-length))
 
   -- no name is at fault
   name_fine : (j : ℕ) → j < row_count shanghai text → all_bytes name_byte (name_at (names_read text) j) ≡ true

@@ -2,12 +2,13 @@
 use mathlib.Core.Path.{◌≡◌, refl, ap, subst}
 use mathlib.Core.Bool.{Bool, true, false, cond, ◌||◌, and-eq-true_iff}
 use mathlib.Core.List.{List, ◌++◌}
-use mathlib.Core.Logic.{◌⊎◌, inl, inr}
+use mathlib.Core.Logic.{◌⊎◌, ⊎_map}
 use Prim.Native.Nat.{ℕ, zero, suc, ◌-◌, ◌<◌}
 use native.Mathlib.Omega.{arith}
 use lib.Dec.{leb, eqb}
 use lib.ListN.{length}
 use borrow.Author.Tests.{leb-true, eqb-true}
+use Rattle.std.proofs.lemmas.Bool.{or_cases}
 use Rattle.sequences.specs.Below.{all_below}
 use Rattle.sequences.proofs.Below.{all_at}
 use Rattle.digits.specs.declared.Figure.{Figure}
@@ -45,15 +46,11 @@ module _ (fs : List Field) (letters : List ℕ) (f g : ℕ → Figure) (agree : 
   head_same n = join-same _ _ n (λ k _. ap line_text (line_same k))
 
 -- only two fields have a sign
-signed_cases : (k : ℕ) (b : Bool) → eqb k estimated_cash_field ≡ b → (b || eqb k cash_component_field) ≡ true → (k ≡ estimated_cash_field) ⊎ (k ≡ cash_component_field)
-signed_cases k true p q = inl (eqb-true k estimated_cash_field p)
-signed_cases k false p q = inr (eqb-true k cash_component_field q)
-
 signed_fields : (k : ℕ) → k < field_count → (field_at shanghai_fields k).form.signed ≡ true → (k ≡ estimated_cash_field) ⊎ (k ≡ cash_component_field)
 unfolding all_below field_at shanghai_fields
 signed_fields k h e =
     let all = all_at (λ i. cond (field_at shanghai_fields i).form.signed (eqb i estimated_cash_field || eqb i cash_component_field) true) field_count refl k h in
-    signed_cases k (eqb k estimated_cash_field) refl (rw e at all)
+    ⊎_map (eqb-true k estimated_cash_field) (eqb-true k cash_component_field) (or_cases _ _ (rw e at all))
 
 module _ (text : List ℕ) (r : Reads text) where
   field_number : (k : ℕ) → k < field_count → is_number (field_at shanghai_fields k).form (word_of shanghai_fields text k) ≡ true

@@ -8,7 +8,7 @@ use native.Mathlib.Omega.{arith}
 use lib.Dec.{ltb}
 use lib.ListN.{length}
 use lib.Seq.{take-append_seam}
-use borrow.Author.Tests.{le-ltb}
+use borrow.Author.Tests.{le-ltb, ltb-false}
 use Rattle.sequences.specs.Checks.{Reply, check, reply, is_accepted, passes}
 use Rattle.sequences.proofs.Checks.{all_passed, accepted_reply, passes_all, answered_next, answered_passed}
 use Rattle.digits.specs.Written.{put}
@@ -19,7 +19,7 @@ use Rattle.list_trip.proofs.ReadTests.{reads}
 use Rattle.list_trip.proofs.Read.{text_again, read_writes}
 
 -- a list that passes is taken by every output that its text fits
-taken : (l : Listing) (n : ℕ) → passes (list_checks l) ≡ true → length (text_of l) ≤ n → write_reply l n ≡ reply 0 0 (length (text_of l))
+pub taken : (l : Listing) (n : ℕ) → passes (list_checks l) ≡ true → length (text_of l) ≤ n → write_reply l n ≡ reply 0 0 (length (text_of l))
 unfolding write_reply write_checks
 taken l n e h =
     answered_next (list_checks l) _ _ e
@@ -31,14 +31,15 @@ rewritten text room n e h =
     let same : length (text_of (list_read text)) ≡ length text = ap length p.1 ∙ (text_again text (reads text room e)).same_length in
     taken (list_read text) n p.0 (omega arith) ∙ ap (λ (v : ℕ). reply 0 0 v) same
 
--- an accepted list passes, and its bytes in the output are its text
-module _ (l : Listing) (output : List ℕ) (e : is_accepted (write_reply l (length output)) ≡ true) where
-  list_passes : passes (list_checks l) ≡ true
-  unfolding write_reply write_checks list_checks
-  list_passes =
-      let p = all_passed (write_checks l (length output)) _ tt e in
-      passes_all (list_checks l) (p.0, (p.1.0, (p.1.1.0, tt)))
+-- an accepted list passes, and its text fits
+pub accepted_fits : (l : Listing) (n : ℕ) → is_accepted (write_reply l n) ≡ true → (passes (list_checks l) ≡ true) × (length (text_of l) ≤ n)
+unfolding write_reply write_checks list_checks
+accepted_fits l n e =
+    let p = all_passed (write_checks l n) _ tt e in
+    (passes_all (list_checks l) (p.0, (p.1.0, (p.1.1.0, tt))), ltb-false _ _ p.1.1.1.0)
 
+-- and its bytes in the output are its text
+module _ (l : Listing) (output : List ℕ) (e : is_accepted (write_reply l (length output)) ≡ true) where
   value_is : (write_reply l (length output)).value ≡ length (text_of l)
   unfolding write_reply write_checks list_checks
   value_is = ap (λ (r : Reply). r.value) (accepted_reply (write_checks l (length output)) _ tt e)
@@ -49,4 +50,4 @@ module _ (l : Listing) (output : List ℕ) (e : is_accepted (write_reply l (leng
 
 pub output_reads : OutputReads
 output_reads l output room full e h =
-    rw (text_in l output e) (written_reads l room full (list_passes l output e) h)
+    rw (text_in l output e) (written_reads l room full (accepted_fits l (length output) e).0 h)

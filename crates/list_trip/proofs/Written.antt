@@ -1,8 +1,8 @@
 -- A list that is written reads back as itself: its sheet does in the Shanghai form, and its ranges pass.
-use mathlib.Core.Path.{◌≡◌, refl, sym, ap, ap₂, ◌∙◌}
-use mathlib.Core.Bool.{Bool, true, not, ◌&&◌}
-use mathlib.Core.List.{List, [], ◌∷◌}
-use Prim.Native.Nat.{ℕ, ◌*◌, ◌≤◌, ◌<◌}
+use mathlib.Core.Path.{◌≡◌, refl, sym, ap, ◌∙◌}
+use mathlib.Core.Bool.{true, not, ◌&&◌}
+use mathlib.Core.List.{[], ◌∷◌}
+use Prim.Native.Nat.{ℕ, ◌+◌, ◌*◌, ◌≤◌, ◌<◌}
 use native.Mathlib.Nat.{le_of_eq}
 use native.Mathlib.Omega.{arith}
 use lib.Dec.{leb, ltb}
@@ -12,13 +12,9 @@ use Rattle.sequences.specs.Checks.{check, reply, passes}
 use Rattle.sequences.proofs.Every.{inside-true}
 use Rattle.sequences.proofs.Checks.{passes_all, answered_passed, answered_next}
 use Rattle.layout.specs.Places.{most_components, component_width, limit_count}
-use Rattle.layout.specs.Components.{component_at, places_of}
-use Rattle.fund.specs.Components.{component_fault}
-use Rattle.digits.specs.declared.Figure.{Figure}
 use Rattle.text_rules.specs.Reading.{row_count, shape_checks, field_checks, figure_read, letters_read}
 use Rattle.text_trip.specs.Trips.{ReadsBack}
 use Rattle.text_trip.proofs.Written.{written_reads as sheet-reads}
-use Rattle.list_rules.specs.declared.ListFields.{ListFields}
 use Rattle.list_rules.specs.Shanghai.{shanghai, shanghai_fields, field_count, creation_code_field}
 use Rattle.list_rules.specs.Fields.{figure_at, fields_in_range}
 use Rattle.list_rules.specs.Reading.{fields_read, components_run, is_counted, read_fault, range_checks, read_checks, read_reply}
@@ -68,30 +64,18 @@ module _ (l : Listing) (full : length l.fields.fund.limits ≡ limit_count) (p :
   -- no component is at fault
   no_fault : read_fault (text_of l) ≡ row_count shanghai (text_of l)
   unfolding read_fault
-  no_fault =
-      ap₂ (λ (f : ListFields) (n : ℕ). component_fault f.fund.first_code (places_of (component_at (components_run (text_of l))) n) n)
-      fields_there count_there
-      ∙ ap (λ (run : List ℕ). component_fault l.fields.fund.first_code (places_of (component_at run) l.fields.count) l.fields.count) run_there
-      ∙ p.components
-      ∙ sym count_there
+  no_fault = rw (fields_there, count_there, run_there) p.components
 
   -- as many component lines as Recordnum says
   counted : is_counted (fields_read (text_of l)).count (row_count shanghai (text_of l)) ≡ true
   unfolding is_counted
   counted =
-      ap₂ (λ (f : ListFields) (n : ℕ). is_counted f.count n) fields_there count_there
-      ∙ ap₂ (λ (a b : Bool). a && b)
-      (inside-true 1 most_components l.fields.count p.some p.few)
-      (eq-eqb l.fields.count l.fields.count refl)
+      rw (fields_there, count_there, inside-true 1 most_components l.fields.count p.some p.few) (eq-eqb l.fields.count l.fields.count refl)
 
   -- the fields are in their ranges
   in_range : (leb 1 (figure_read shanghai_fields (text_of l) creation_code_field).size && fields_in_range (fields_read (text_of l))) ≡ true
   unfolding figure_at
-  in_range =
-      ap₂ (λ (a b : Bool). a && b)
-      (le-leb 1 (figure_read shanghai_fields (text_of l) creation_code_field).size
-      (omega (arith, ap (λ (z : Figure). z.size) (figure_there creation_code_field (omega arith)))))
-      (ap fields_in_range fields_there ∙ p.ranges)
+  in_range = rw (figure_there creation_code_field (omega arith), fields_there) (rw (le-leb 1 (l.fields.fund.first_code + 1) (omega arith)) p.ranges)
 
   -- 20, 2 and 3 pass
   values_pass : passes (range_checks (text_of l)) ≡ true

@@ -1,13 +1,12 @@
 -- A list that passes, as a sheet: it fits the Shanghai form, and how long its text is.
 use mathlib.Core.Path.{◌≡◌, sym, ap, ◌∙◌, subst⁻¹}
 use mathlib.Core.Bool.{true}
-use mathlib.Core.List.{List, ◌++◌}
+use mathlib.Core.List.{List}
 use Prim.Native.Nat.{ℕ, ◌+◌, ◌*◌, ◌<◌}
-use native.Mathlib.Nat.{mul_comm}
+use native.Mathlib.Omega.{arith}
 use lib.ListN.{length, length-append}
 use Rattle.sequences.specs.Checks.{passes}
 use Rattle.sequences.specs.Stretch.{stretch_of}
-use Rattle.layout.specs.Places.{component_width}
 use Rattle.layout.specs.Components.{component_at, component_numbers}
 use Rattle.lines.specs.Lines.{line_text, name_byte, all_bytes}
 use Rattle.text_rules.specs.Head.{head_lines, end_word}
@@ -74,8 +73,8 @@ module _ (l : Listing) (e : passes (list_checks l) ≡ true) where
         letters = p.letters;
         figures = figure_fits l.fields p.ranges p.few;
         kinds = figure_kind l.fields p.ranges p.few;
-        run_length = p.run_length ∙ mul_comm component_width l.fields.count ∙ ap (λ (w : ℕ). l.fields.count * w) (sym line_numbers_lem);
-        texts-length = p.names-length ∙ mul_comm name_width l.fields.count ∙ ap (λ (w : ℕ). l.fields.count * w) (sym line_words_lem);
+        run_length = rw line_numbers_lem (omega (arith, p.run_length));
+        texts-length = rw line_words_lem (omega (arith, p.names-length));
         rows = rows_fit_lem;
       }
 
@@ -84,9 +83,4 @@ module _ (l : Listing) (e : passes (list_checks l) ≡ true) where
       ≡ length (head_text shanghai_fields l.letters (figure_at l.fields) (head_lines shanghai_fields))
       + (l.fields.count * line_pitch shanghai_columns + length (line_text end_word))
   unfolding text_of sheet_of sheet_text shanghai
-  text-length =
-      let head = head_text shanghai_fields l.letters (figure_at l.fields) (head_lines shanghai_fields) in
-      let rows = rows_text shanghai l.run l.names l.fields.count in
-      length-append head (rows ++ line_text end_word)
-      ∙ ap (λ (n : ℕ). length head + n)
-      (length-append rows (line_text end_word) ∙ ap (λ (n : ℕ). n + length (line_text end_word)) (lines_long l (passing l e)))
+  text-length = rw (length-append, length-append, lines_long l (passing l e))

@@ -1,8 +1,9 @@
 -- The component lines that are written by the code's form are the list's.
-use mathlib.Core.Path.{◌≡◌, refl, ap, ◌∙◌}
+use mathlib.Core.Path.{◌≡◌, refl, sym, ◌∙◌}
 use mathlib.Core.Bool.{true}
-use mathlib.Core.List.{List}
-use Prim.Native.Nat.{ℕ, ◌*◌}
+use Prim.Native.Nat.{ℕ, ◌*◌, ◌/◌, ◌<◌}
+use native.Mathlib.Nat.{mul-div_cancel}
+use native.Mathlib.Omega.{arith}
 use lib.ListN.{length}
 use Rattle.sequences.specs.Checks.{passes}
 use Rattle.text_rules.specs.Tables.{TextForm}
@@ -12,10 +13,8 @@ use Rattle.text_rows_writing.specs.Lines.{RowsFit}
 use Rattle.list_rules.specs.Shanghai.{shanghai, shanghai_columns, shanghai_lines}
 use Rattle.list_rules.specs.Writing.{Listing, sheet_of, list_checks}
 use Rattle.list_trip.proofs.WrittenSheet.{rows_fit_lem, sheet_fits}
-
--- the component lines of a list
-abbrev pub lines_of : Listing → List ℕ
-lines_of l = rows_text shanghai l.run l.names l.fields.count
+use Rattle.list_writing_tests.specs.Parts.{lines_of}
+use Rattle.list_writing_tests.proofs.Sizes.{lines_long}
 
 -- a component line is the same whatever the fields of the head are
 lines_ours : (l : Listing) → rows_text shanghai_lines l.run l.names l.fields.count ≡ lines_of l
@@ -36,11 +35,21 @@ module _ (l : Listing) (p : passes (list_checks l) ≡ true) where
   unfolding sheet_of shanghai
   names_long = (sheet_fits l p).texts-length
 
--- by the code's form
-module _ (form : TextForm) (e : form ≡ shanghai_lines) where
-  pub lines_lent : (l : Listing) → rows_text form l.run l.names l.fields.count ≡ lines_of l
-  lines_lent l = ap (λ (t : TextForm). rows_text t l.run l.names l.fields.count) e ∙ lines_ours l
+-- so many lines have their bytes
+pitch_some : 0 < line_pitch shanghai_columns
+unfolding line_pitch
+pitch_some = omega arith
 
-  pub rows_ask : (l : Listing) → passes (list_checks l) ≡ true → {n : ℕ} → n ≡ l.fields.count → {m : ℕ} → m ≡ l.fields.count * line_pitch shanghai_columns
-      → ((length l.run ≡ n * line_numbers form.columns) × (length l.names ≡ n * line_words form.columns)) × ((m ≡ n * line_pitch form.columns) × RowsFit form l.run l.names n)
-  rows_ask l p h long = rw (h, e) ((run_long l p, names_long l p), (long, fit_ours l p))
+-- by the code's form
+module _ (form : TextForm) (e : form ≡ shanghai_lines) (l : Listing) where
+  pub lines_lent : {n : ℕ} → n ≡ l.fields.count → rows_text form l.run l.names n ≡ lines_of l
+  lines_lent h = rw (h, e) (lines_ours l)
+
+  module _ (p : passes (list_checks l) ≡ true) {m : ℕ} (long : m ≡ length (lines_of l)) where
+    -- as many lines as there is room for
+    pub rows_counted : m / line_pitch form.columns ≡ l.fields.count
+    rows_counted = rw (long, e, ← lines_long l p _ refl) (mul-div_cancel l.fields.count pitch_some)
+
+    pub rows_ask : {n : ℕ} → n ≡ l.fields.count
+        → ((length l.run ≡ n * line_numbers form.columns) × (length l.names ≡ n * line_words form.columns)) × ((m ≡ n * line_pitch form.columns) × RowsFit form l.run l.names n)
+    rows_ask h = rw (h, e) ((run_long l p, names_long l p), (long ∙ sym (lines_long l p _ refl), fit_ours l p))

@@ -1,10 +1,10 @@
 -- What the contract of writing says.
 use Rattle.std.specs.Prelude.{ℕ, ◌≡◌, List, length, Result}
 use Rattle.rules.specs.declared.Refusal.{Refusal}
-use Rattle.list_rules.specs.Replies.{list_reply}
+use Rattle.rules.specs.Replies.{count_answer_reply}
 use Rattle.list_rules.specs.Writing.{Listing, write_reply, output_after}
 
 -- what writing a list into a lent output answers, and what it leaves of the output
 pub record WriteOutcome (l : Listing) (output : List ℕ) (r : Result ℕ Refusal) (output' : List ℕ) : Type 0 where
-  pub answer_is : list_reply r ≡ write_reply l (length output)
+  pub answer_is : count_answer_reply r ≡ write_reply l (length output)
   pub output_is : output' ≡ output_after l output

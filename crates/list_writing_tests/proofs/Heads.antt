@@ -10,7 +10,6 @@ use Rattle.digits.specs.declared.Figure.{Figure}
 use Rattle.digits.specs.Digits.{plain}
 use Rattle.text_rules.specs.Tables.{Field}
 use Rattle.text_rules.specs.Head.{head_lines}
-use Rattle.text_rules.specs.Writing.{head_text}
 use Rattle.text_rules.specs.Well.{most_fields}
 use Rattle.text_head_writing.specs.Lines.{array_figure, whole_head}
 use Rattle.list_rules.specs.declared.ListFields.{ListFields}
@@ -19,10 +18,7 @@ use Rattle.list_rules.specs.Fields.{figure_at, figures_of}
 use Rattle.list_rules.specs.Writing.{Listing}
 use Rattle.list_rules.proofs.Lent.{fields_count}
 use Rattle.list_trip.proofs.ReadFigures.{head_same}
-
--- the head of a list
-abbrev pub head_of : Listing → List ℕ
-head_of l = head_text shanghai_fields l.letters (figure_at l.fields) (head_lines shanghai_fields)
+use Rattle.list_writing_tests.specs.Parts.{head_of}
 
 -- an array has the figures of the fields
 figure_same : (fields : ListFields) (k : ℕ) → k < length shanghai_fields → array_figure (figures_of fields) k ≡ figure_at fields k

@@ -1,14 +1,15 @@
 -- How long the text of a list is.
 use mathlib.Core.Path.{◌≡◌, ap, ◌∙◌}
-use mathlib.Core.List.{List}
+use mathlib.Core.List.{List, ◌++◌}
 use mathlib.Core.Bool.{true, and-eq-true_iff}
 use Prim.Native.Nat.{ℕ, ◌+◌, ◌*◌, ◌≤◌}
 use native.Mathlib.Nat.{mul-le-mul}
 use native.Mathlib.Omega.{arith}
-use lib.ListN.{length}
+use lib.ListN.{length, length-append}
 use Rattle.sequences.specs.Checks.{passes}
 use Rattle.sequences.proofs.Every.{inside_facts}
 use Rattle.layout.specs.Places.{most_components}
+use Rattle.lines.specs.Lines.{line_text}
 use Rattle.lines.proofs.Laws.{length-line_text}
 use Rattle.text_rules.specs.Head.{is_letters, end_word, most_letters, end_size}
 use Rattle.text_rules.specs.Columns.{line_width, line_pitch}
@@ -16,12 +17,13 @@ use Rattle.text_rules.specs.Well.{most_line}
 use Rattle.text_rules.proofs.Well.{line_short}
 use Rattle.text_rules.specs.declared.Column.{Column}
 use Rattle.text_rules.specs.Tables.{TextForm}
-use Rattle.list_rules.specs.Shanghai.{shanghai_columns, shanghai_lines}
-use Rattle.list_rules.specs.Writing.{Listing, text_of, list_checks}
+use Rattle.text_rules.specs.Writing.{sheet_text}
+use Rattle.list_rules.specs.Shanghai.{shanghai, shanghai_columns, shanghai_lines}
+use Rattle.list_rules.specs.Writing.{Listing, sheet_of, text_of, list_checks}
 use Rattle.list_rules.proofs.Lent.{shanghai_columns_well}
 use Rattle.list_trip.proofs.WrittenPassing.{Passing}
 use Rattle.list_trip.proofs.WrittenSheet.{text-length}
-use Rattle.list_writing_tests.proofs.Heads.{head_of}
+use Rattle.list_writing_tests.specs.Parts.{head_of, lines_of}
 
 -- the letters are at most eight
 pub letters_few : (l : Listing) → Passing l → length l.letters ≤ most_letters
@@ -39,7 +41,15 @@ lines_low count h =
     let wide : line_width shanghai_columns + 2 ≤ most_line + 2 = omega (arith, line_short shanghai_columns shanghai_columns_well) in
     mul-le-mul h wide
 
--- the text of a list that passes, with the length of a component line as the code computes it
-pub text_size : (l : Listing) → passes (list_checks l) ≡ true → (pitch : ℕ) → pitch ≡ line_pitch shanghai_columns
-    → (head : ℕ) → head ≡ length (head_of l) → head + (l.fields.count * pitch + end_size) ≡ length (text_of l)
-text_size l e pitch f head h = omega (arith, h, ap (λ (n : ℕ). l.fields.count * n) f, text-length l e, length-line_text end_word)
+-- a text is its head, its component lines and its last line
+pub parts : (l : Listing) → length (text_of l) ≡ length (head_of l) + (length (lines_of l) + end_size)
+unfolding text_of sheet_of sheet_text shanghai
+parts l =
+    let a = length-append (head_of l) (lines_of l ++ line_text end_word) in
+    let b = length-append (lines_of l) (line_text end_word) in
+    omega (arith, a, b, length-line_text end_word)
+
+-- the component lines of a list that passes, with the length of one as the code computes it
+pub lines_long : (l : Listing) → passes (list_checks l) ≡ true → (pitch : ℕ) → pitch ≡ line_pitch shanghai_columns
+    → l.fields.count * pitch ≡ length (lines_of l)
+lines_long l e pitch f = ap (λ (n : ℕ). l.fields.count * n) f ∙ omega (arith, parts l, text-length l e, length-line_text end_word)

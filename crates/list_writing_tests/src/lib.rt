@@ -1,33 +1,35 @@
 // What writing a list answers: its tests, and how many bytes the text takes.
 #![tactic(auto)]
 
-ghost use Rattle.std.specs.Prelude.{◌≡◌, true, ◌*◌, ◌≤◌, length};
+ghost use Rattle.std.specs.Prelude.{◌≡◌, true, ◌+◌, ◌*◌, ◌≤◌, length};
 ghost use Rattle.sequences.specs.Below.{below};
 ghost use Rattle.sequences.specs.Checks.{passes};
-ghost use Rattle.layout.specs.Places.{most_components, component_width};
-ghost use Rattle.list_rules.specs.Replies.{list_reply};
-ghost use Rattle.list_rules.specs.Shanghai.{name_width};
-ghost use Rattle.list_rules.specs.Writing.{listed, list_checks, text_of, write_fault, write_reply};
-ghost use Rattle.list_writing_tests.specs.Lengths.{lengths_fit};
+ghost use Rattle.rules.specs.Replies.{count_answer_reply};
+ghost use Rattle.layout.specs.Places.{most_components};
+ghost use Rattle.text_rules.specs.Well.{most_line};
+ghost use Rattle.text_head_writing.specs.Lines.{most_head};
+ghost use Rattle.list_rules.specs.Writing.{listed, sizes_fit, list_checks, text_of, write_fault, write_reply};
+ghost use Rattle.list_writing_tests.specs.Parts.{head_of, lines_of};
 
 use list_rules::Listing;
 use rules::Refusal;
 
 // Refusal 1's test. The range comes first, so that no product is too large.
-#[tactic(auto, using(std::proofs::lemmas::Bool::Decides::nat_tests), unfolding(crate::specs::Lengths::lengths_fit, sequences::specs::Every::every, sequences::specs::Every::inside))]
-fn lengths_fit(count: usize, run: usize, names: usize) -> bool
-    ensures { result ≡ lengths_fit count run names }
+#[tactic(auto, using(std::proofs::lemmas::Bool::Decides::nat_tests), unfolding(list_rules::specs::Writing::sizes_fit, sequences::specs::Every::every, sequences::specs::Every::inside))]
+fn sizes_fit(list: &Listing) -> bool
+    ensures { result ≡ sizes_fit (listed list.now) }
 {
+    let count = list.fields.count;
     1 <= count
         && count <= layout::MOST_COMPONENTS
-        && run == layout::COMPONENT_WIDTH * count
-        && names == list_rules::NAME_WIDTH * count
+        && list.run.len() == layout::COMPONENT_WIDTH * count
+        && list.names.len() == list_rules::NAME_WIDTH * count
 }
 
 // The first component at fault, by its numbers or by its name. By cases: the least of two that may be missing is no plainer as an
 // iterator.
 fn write_fault(list: &Listing) -> Option<usize>
-    requires { (list.now.fields.count ≤ most_components) × (length list.now.run.now ≡ component_width * list.now.fields.count) × (length list.now.names.now ≡ name_width * list.now.fields.count) }
+    requires { sizes_fit (listed list.now) ≡ true }
     ensures { result ≡ below list.now.fields.count (write_fault (listed list.now)) }
 {
     let numbers = fund::run_fault(list.fields.fund.first_code, list.run, list.fields.count);
@@ -39,23 +41,41 @@ fn write_fault(list: &Listing) -> Option<usize>
     }
 }
 
+// How many bytes the head takes.
+fn head_size(list: &Listing) -> usize
+    requires { passes (list_checks (listed list.now)) ≡ true }
+    ensures value { result ≡ length (head_of (listed list.now)) }
+    ensures upper_bound { result ≤ most_head }
+{
+    let figures = list_fields::figures_of(list.fields);
+    text_head_writing::head_size(&list_rules::field_table(), list.letters, &figures)
+}
+
+// How many bytes the component lines take.
+pub fn lines_size(list: &Listing) -> usize
+    requires { passes (list_checks (listed list.now)) ≡ true }
+    ensures value { result ≡ length (lines_of (listed list.now)) }
+    ensures upper_bound { result ≤ most_components * (most_line + 2) }
+{
+    let form = list_rules::line_form();
+    list.fields.count * form.columns().pitch()
+}
+
 // How many bytes the text takes.
+#[tactic(auto, using(crate::proofs::Sizes::parts))]
 fn text_size(list: &Listing) -> usize
     requires { passes (list_checks (listed list.now)) ≡ true }
     ensures { result ≡ length (text_of (listed list.now)) }
 {
-    let figures = list_fields::figures_of(list.fields);
-    let head = text_head_writing::head_size(&list_rules::field_table(), list.letters, &figures);
-    let form = list_rules::line_form();
-    let pitch = form.columns().pitch();
-    head + (list.fields.count * pitch + text_rules::END_SIZE)
+    head_size(list) + (lines_size(list) + text_rules::END_SIZE)
 }
 
 // The answer, which changes nothing.
+#[tactic(auto, using(sequences::proofs::Below::below_some_facts, sequences::proofs::Below::below_none_fact, std::proofs::lemmas::Bool::Decides::nat_tests), unfolding(list_rules::specs::Writing::write_reply, list_rules::specs::Writing::write_checks, list_rules::specs::Writing::list_checks, sequences::specs::Checks::answering, sequences::specs::Checks::passes))]
 pub fn write_answer(list: &Listing, room: usize) -> Result<usize, Refusal>
-    ensures { list_reply result ≡ write_reply (listed list.now) room }
+    ensures { count_answer_reply result ≡ write_reply (listed list.now) room }
 {
-    if !lengths_fit(list.fields.count, list.run.len(), list.names.len()) {
+    if !sizes_fit(list) {
         return Err(Refusal::Sizes);
     }
     if !list_fields::fields_in_range(list.fields) {

@@ -1,5 +1,5 @@
 -- "Calls and what turns them back": the paper's number, place, value and count of reports for every answer.
-use Rattle.std.specs.Prelude.{cond, ⊤, Result, Ok, Err}
+use Rattle.std.specs.Prelude.{ℕ, cond, ⊤, Result, Ok, Err}
 use Rattle.units.specs.declared.ReferenceValue.{ReferenceValue}
 use Rattle.sequences.specs.Checks.{Reply, reply, is_accepted}
 use Rattle.rules.specs.declared.Refusal.{Refusal}
@@ -48,6 +48,11 @@ order_answer_reply (Err why) = refusal_reply why
 abbrev pub value_answer_reply : Result ReferenceValue Refusal → Reply
 value_answer_reply (Ok v) = reply 0 0 v.0
 value_answer_reply (Err why) = refusal_reply why
+
+-- the answer of a call that tells a count: of components that are read, or of bytes that are written
+abbrev pub count_answer_reply : Result ℕ Refusal → Reply
+count_answer_reply (Ok count) = reply 0 0 count
+count_answer_reply (Err why) = refusal_reply why
 
 -- what an accepted call leaves, and what was there where it is refused
 abbrev pub if_accepted : {A : Type 0} → Reply → A → A → A

@@ -5,6 +5,3 @@ use Rattle.list_reading.proofs.read.Goals as goal
 
 pub returns-in-Err : goal.returns-in-Err
 returns-in-Err c = outcome_refused _ _ _ (shape_reply _ _ _ c.in-Err.ensures)
-
-pub read_fields-requires : goal.read_fields-requires
-read_fields-requires c = c.in-Ok.ensures

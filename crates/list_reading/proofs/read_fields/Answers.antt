@@ -7,9 +7,6 @@ use Rattle.list_reading.proofs.read_fields.Goals as goal
 pub returns-in-Err : goal.returns-in-Err
 returns-in-Err c = outcome_refused _ _ _ (field_reply _ _ c.requires _ _ (sym c.in-Err.is ∙ c.head_fields.ensures))
 
-pub read_rows-requires : goal.read_rows-requires
-read_rows-requires c = let s = c.requires in record { start_value = (s.start_is, s.count_is); shanghai_columns_in_bounds = s.room }
-
 pub returns-in-Some : goal.returns-in-Some
 returns-in-Some c =
     outcome_refused _ _ _ (row_reply_lem _ _ c.requires _ (sym c.in-Ok.is ∙ c.head_fields.ensures) _ _ (sym c.in-Some.is ∙ c.read_rows.ensures.value))

@@ -8,25 +8,14 @@ use Rattle.list_writing.proofs.write.Goals as goal
 
 pub returns-in_err-size : goal.returns-in_err-size
 returns-in_err-size c =
-    let a = c.args in
-    let l = listed a.list.now in
+    let l = listed c.args.list.now in
     let same : c.from_residual.result ≡ Err c.in_err-size.field-0.0 = search rules in
-    subst⁻¹ (λ r. WriteOutcome l a.output.now r a.output.now) same (outcome_refused l _ _ c.in_err-size.ensures)
+    subst⁻¹ (λ r. WriteOutcome l c.args.output.now r c.args.output.now) same (outcome_refused l _ _ c.in_err-size.ensures)
 
-pub put_list-requires-clause-passing : goal.put_list-requires-clause-passing
-put_list-requires-clause-passing c =
-    let a = c.args in
-    let l = listed a.list.now in
-    (accepted_list l a.output.now _ c.in_ok-size.ensures).0
-
-pub put_list-requires-clause-room : goal.put_list-requires-clause-room
-put_list-requires-clause-room c =
-    let a = c.args in
-    let l = listed a.list.now in
-    (accepted_list l a.output.now _ c.in_ok-size.ensures).1
+pub put_list-requires : goal.put_list-requires
+put_list-requires c =
+    let p = accepted_list (listed c.args.list.now) c.args.output.now _ c.in_ok-size.ensures in
+    record { passing = p.0; room = p.1 }
 
 pub returns : goal.returns
-returns c =
-    let a = c.args in
-    let l = listed a.list.now in
-    outcome_written l _ _ c.in_ok-size.ensures _ c.put_list.ensures
+returns c = outcome_written (listed c.args.list.now) _ _ c.in_ok-size.ensures _ c.put_list.ensures

@@ -2,7 +2,7 @@
 use Prim.Native.Nat.{◌/◌}
 use lib.ListN.{length}
 use Rattle.text_rules.specs.Columns.{line_pitch}
-use Rattle.list_writing.proofs.put_list.Given as goal
+use Rattle.list_writing.proofs.put_lines.Given as goal
 
 abbrev pub ghost-put_rows : goal.ghost-put_rows
 ghost-put_rows a = length a.rows.now / line_pitch a.form.now.columns
