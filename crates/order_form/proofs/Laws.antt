@@ -21,9 +21,9 @@ use Rattle.layout.specs.Book.{width_of, width, account, head_at, head_total, cou
 use Rattle.rules.specs.declared.Kind.{Kind}
 use Rattle.rules.specs.declared.Kind.TheVariants.{Creation, Redemption}
 use Rattle.rules.specs.declared.Ask.{Ask}
-use Rattle.rules.specs.Trade.{is_investor}
 use Rattle.rules.specs.Orders.{most_baskets, baskets, whole_baskets, form_checks, switch_allows, number_of, count_of, fund_count, within_limits, permission_checks}
 use Rattle.rules.proofs.SoundDay.{SoundDay}
+use Rattle.rules.proofs.SoundAccount.{head_part}
 use Rattle.order_form.specs.declared.Counts.{Counts}
 use Rattle.order_form.specs.Form.{all_counts, own_counts, within_both, order_form, Countable}
 
@@ -47,10 +47,6 @@ module _ (d : Day) (b : List ℕ) (place : ℕ) where
   pub heads_all : heads_below d b place d.accounts ≡ head_total d b place
   unfolding heads_below head_total
   heads_all = refl
-
-  pub head_part : (a : ℕ) → a < d.accounts → head_at (account d b a) place ≤ head_total d b place
-  unfolding over head_total
-  head_part a h = sum_part (λ i. head_at (account d b i) place) d.accounts a h
 
 -- an account's place in the book
 pub slot : (d : Day) (b : List ℕ) (a : ℕ) → length b ≡ d.accounts * width d → a < d.accounts → a * width d + width d ≤ length b
@@ -98,7 +94,7 @@ module _ (d : Day) (b : List ℕ) (q : Countable d b) where
 
   pub own_most : (kind : Kind) (a : ℕ) (own : Counts) → own ≡ own_counts d b a kind → a < d.accounts → own.made ≤ ceiling
   unfolding own_counts count_of
-  own_most kind a own e h = omega (arith, ap (λ (x : Counts). x.made) e, head_part d b (counter (number_of kind)) a h, sum_most kind)
+  own_most kind a own e h = omega (arith, ap (λ (x : Counts). x.made) e, head_part d b a h (counter (number_of kind)), sum_most kind)
 
   -- with an order's units they fit
   pub all_fits : (kind : Kind) (units : ℕ) (all : Counts) → all ≡ all_counts d b kind → units ≤ 1_999_999_980 → all.made + units < 2 ^ 64
@@ -147,8 +143,3 @@ countable_head d h b e r =
       created_most = r.created_most;
       redeemed_most = r.redeemed_most;
     })
-
--- an order that passes 8 is of an account
-pub investor_in : (k a : ℕ) → 2 ≤ k → is_investor k a ≡ true → a < k
-unfolding is_investor
-investor_in k a two e = let p = inside_facts 1 (k - 1) a e in omega arith

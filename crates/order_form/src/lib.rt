@@ -91,11 +91,10 @@ pub fn order_form(head: &DayHead, book: &[u64], ask: Ask) -> Result<(), Refusal>
     requires { Countable (day_of head.now []) book.now }
     ensures { answer_reply result ≡ answered (order_form (day_of head.now []) book.now ask) 0 }
 {
-    let size = head.fund.basket_size;
     if !ranges::is_investor(head.accounts, ask.account) {
         return Err(Refusal::Account);
     }
-    if !ranges::whole_baskets(size, ask.units, ask.units / size) {
+    if !ranges::whole_baskets(head.fund.basket_size, ask.units) {
         return Err(Refusal::NotWholeBaskets);
     }
     if !ranges::switch_allows(head.fund.switch, ask.kind) {

@@ -6,13 +6,14 @@ use Rattle.std.proofs.Common.{rules}
 use Rattle.sequences.specs.Checks.{answering}
 use Rattle.rules.specs.Orders.{form_checks, permission_checks, whole_baskets, baskets, switch_allows}
 use Rattle.order_form.specs.Form.{order_form}
-use Rattle.order_form.proofs.Laws.{investor_in, units_small}
+use Rattle.rules.proofs.Accepted.{investor_facts}
+use Rattle.order_form.proofs.Laws.{units_small}
 use Rattle.order_form.proofs.order_form.Goals as goal
 
 pub limits_held-requires-clause-units_bound : goal.limits_held-requires-clause-units_bound
 unfolding whole_baskets baskets
 limits_held-requires-clause-units_bound c = (
-  investor_in _ _ c.requires.accounts_low (sym c.is_investor.ensures ∙ c.if-not-is_investor.false),
+  (investor_facts _ _ c.requires.accounts_low (sym c.is_investor.ensures ∙ c.if-not-is_investor.false)).1,
   units_small (day_of c.args.head.now []) _ c.requires.basket_high (sym c.whole_baskets.ensures ∙ c.if-not-whole_baskets.false),
 )
 
