@@ -31,10 +31,11 @@ fn add_row(totals: &mut [u64], row: &[u64]) -> bool
     ensures sums { (k : ℕ) → k < length row.now → slice_index totals.new k ≡ plus_row totals.old row.now k % 2 ^ 64 }
 {
     let mut high: u64 = 0;
-    for (j, x) in row.iter().enumerate() {
-        let t = totals[j].wrapping_add(*x);
-        totals[j] = t;
-        high |= *x | t;
+    // By place, as in `add_block`: what is written through a zip of `iter_mut` is not known behind the loop.
+    for (j, t) in totals.iter_mut().enumerate() {
+        let x = row[j];
+        *t = t.wrapping_add(x);
+        high |= x | *t;
     }
     high < TOP
 }
