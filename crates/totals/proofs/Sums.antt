@@ -1,6 +1,6 @@
 -- The totals over the rows: those of the first a rows, each below 2^62, and what one or eight rows more make of them.
-use Rattle.std.proofs.Common.{◌≡◌, ℕ, zero, suc, ◌+◌, ◌*◌, ◌%◌, ◌^◌, ◌<◌, ◌≤◌, min, Bool, true, false, ◌||◌, List, length, get_or, sym, refl, ap, ◌∙◌, ⊎_elim}
-use Rattle.std.proofs.Common.{le_of_suc-le-suc, not-suc-le-zero, add-zero, lt-suc_self, eq-or-lt_of_le, arith, leb-false}
+use Rattle.std.proofs.Common.{◌≡◌, ℕ, zero, suc, ◌+◌, ◌*◌, ◌%◌, ◌^◌, ◌<◌, ◌≤◌, min, Bool, true, false, List, length, get_or, sym, refl, ap, ◌∙◌}
+use Rattle.std.proofs.Common.{add-zero, lt-suc_self, arith, leb-false}
 use mathlib.Core.Bool.{false≢true}
 use native.Mathlib.Nat.{le_step}
 use lib.Bits.{bit_or}
