@@ -2,7 +2,7 @@ use Rattle.std.proofs.Common.{◌+◌, ◌<◌, refl, ◌∙◌, arith}
 use Rattle.sequences.specs.Stretch.{stretch_of}
 use Rattle.sequences.proofs.Chunks.{chunks_start, chunk_room, chunk_is, chunks_again}
 use Rattle.totals.proofs.Cut.{row_below, all_rows}
-use Rattle.opening.proofs.Filled.{filled_none, filled_in, filled_more, filled_all}
+use Rattle.opening.proofs.Filled.{filled_none, filled_more, filled_all}
 use Rattle.opening.proofs.open_book.Goals.{In-Some}
 use Rattle.opening.proofs.open_book.Goals as goal
 
@@ -17,15 +17,6 @@ account : (c : In-Some) → c.loop-a.a-iterator.count < c.args.accounts
 account c =
     let room = chunk_room _ _ c.loop-a.invariant.0 _ _ c.in-Some.ensures.steps.0.1 in
     row_below (c.args.count + 2) c.args.accounts _ (omega arith) (omega (arith, room, c.requires.holdings_len))
-
-pub open_part-requires : goal.open_part-requires
-open_part-requires c =
-    let v = c.loop-a.invariant in
-    let step = c.in-Some.ensures.steps in
-    record {
-      book = (c.requires.count_le_most_components.0, rw step.1 (filled_in _ _ _ _ _ (account (goal.at.open_part-requires c).In-Some) v.1));
-      held = step.0.1.1 ∙ v.0.wide;
-    }
 
 pub loop-a-preserved : goal.loop-a-preserved
 unfolding stretch_of
