@@ -2,12 +2,8 @@
 use mathlib.Core.Path.{sym, ◌∙◌}
 use native.Mathlib.Omega.{arith}
 use Rattle.rules.proofs.Accepted.{investor_facts}
-use Rattle.trades.proofs.Laws.{amount_fits, in_book}
+use Rattle.trades.proofs.Laws.{in_book}
 use Rattle.trades.proofs.trade_answer.Goals as goal
-
-pub overflow_mul-trade : goal.overflow_mul-trade
-overflow_mul-trade c =
-    omega (arith, amount_fits c.args.trade.quantity c.args.trade.price.0 (sym c.is_inside.ensures ∙ c.if-not-is_inside.false) (sym c.is_inside-2.ensures ∙ c.if-not-is_inside-2.false))
 
 pub trade_means-requires : goal.trade_means-requires
 trade_means-requires c =
