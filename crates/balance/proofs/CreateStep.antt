@@ -1,20 +1,21 @@
 -- A creation: stock and cash go to the fund, units are new, and what was handed in is what the records say.
 use mathlib.Core.Path.{◌≡◌, refl, ap, ◌∙◌}
-use mathlib.Core.Bool.{Bool, true, false, cond}
+use mathlib.Core.Bool.{Bool, cond}
 use mathlib.Core.List.{List}
-use Prim.Native.Nat.{ℕ, ◌+◌, ◌-◌, ◌≤◌, ◌<◌, min}
+use Prim.Native.Nat.{ℕ, ◌+◌, ◌-◌, ◌≤◌, ◌<◌}
 use native.Mathlib.Omega.{arith}
 use lib.Dec.{ltb}
 use lib.ListN.{length}
 use borrow.Author.Tests.{lt-ltb, le-ltb}
 use Rattle.sequences.specs.Same.{when_same}
+use Rattle.sequences.proofs.Below.{cond_le}
 use Rattle.sequences.proofs.Same.{when_same_lem, when_other}
 use Rattle.lots.specs.Lots.{hand_in_of, get_of, take_in_of, handable}
 use Rattle.layout.specs.Day.{Day}
 use Rattle.layout.specs.Book.{cash, head_at, lots_at, account}
 use Rattle.rules.specs.Lines.{code_of, moves_stock}
 use Rattle.rules.specs.declared.Kind.TheVariants.{Creation}
-use Rattle.rules.specs.Orders.{baskets, need, fund_count, shanghai_cash, other_cash}
+use Rattle.rules.specs.Orders.{baskets, fund_count, shanghai_cash, other_cash}
 use Rattle.rules.specs.Records.{side_b, side_s}
 use Rattle.layout.specs.Records.{with_records}
 use Rattle.rules.specs.declared.Rooms.{Rooms}
@@ -31,11 +32,7 @@ use Rattle.balance.proofs.StockCount.{quantity_is}
 -- what is handed in is there
 handed_there : (d : Day) (s : List ℕ) (m i : ℕ) → handed_in d s m i ≤ handable (lots_at s i)
 unfolding handed_in available
-handed_there d s m i = go (moves_stock d i)
-  where
-    go : (z : Bool) → cond z (min (need d m i) (handable (lots_at s i))) 0 ≤ handable (lots_at s i)
-    go true = omega arith
-    go false = omega arith
+handed_there d s m i = cond_le (moves_stock d i) (omega arith) (omega arith)
 
 module _ (d : Day) (b ps : List ℕ) (a units : ℕ) (rooms : Rooms) (t : Creates d b ps a units rooms) (lent : Lent) where
   abbrev m : ℕ

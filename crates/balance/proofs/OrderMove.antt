@@ -1,14 +1,14 @@
 -- An order of either kind: its account's side and the fund's, and that they keep what a list of events keeps.
 use mathlib.Core.Path.{◌≡◌, refl, sym, ap, subst, ◌∙◌}
 use mathlib.Core.List.{List}
-use Prim.Native.Nat.{ℕ, ◌+◌, ◌*◌, ◌≤◌, ◌<◌}
+use Prim.Native.Nat.{ℕ, ◌+◌, ◌≤◌, ◌<◌}
 use native.Mathlib.Decide.{ℕ_discrete, dec_lt}
 use native.Mathlib.Omega.{arith}
 use lib.ListN.{length}
 use Rattle.sequences.specs.Same.{when_same}
 use Rattle.sequences.specs.Stretch.{over, on_stretch}
 use Rattle.sequences.proofs.Same.{when_same_lem, when_other}
-use Rattle.sequences.proofs.Stretch.{within, stretch-length, Changed, changed_both, changed_over}
+use Rattle.sequences.proofs.Stretch.{stretch-length, Changed, changed_both, changed_over}
 use Rattle.lots.specs.declared.Lots.{Lots}
 use Rattle.lots.specs.Lots.{lots_total}
 use Rattle.fund.specs.Fund.{ceiling}
@@ -19,6 +19,7 @@ use Rattle.rules.specs.declared.Kind.{Kind}
 use Rattle.rules.specs.declared.Kind.TheVariants.{Creation, Redemption}
 use Rattle.rules.specs.Orders.{number_of, opposite_kind, count_of, fund_count, account_side, fund_side}
 use Rattle.rules.proofs.SoundDay.{SoundDay, Kept, sound_moved}
+use Rattle.rules.proofs.SoundAccount.{account_within}
 use Rattle.rules.proofs.Sides.{number-below, account-length, account_cash_lem, account_count, account_head, account_line, account_unit, fund-length, fund_cash_lem, fund_head, fund_line, fund_unit}
 use Rattle.rules.proofs.Accepted.{Orders}
 use Rattle.balance.specs.Calls.{State}
@@ -72,24 +73,21 @@ module _ (d : Day) (b ps : List ℕ) (kind : Kind) (a units : ℕ) (m : Move) (s
   abbrev after : State
   after = record { day = d; book = moved; prices = ps }
 
-  inside : (i : ℕ) → i < d.accounts → i * width d + width d ≤ length b
-  inside i l = rw sound.book.book_size (within (width d) i d.accounts l)
-
   first-in : 0 < d.accounts
   first-in = omega (arith, sound.own.accounts_low)
 
   wide : behind_line d.count ≤ length investor
-  wide = omega (arith, stretch-length (width d) b a (inside a order.account_in))
+  wide = omega (arith, stretch-length (width d) b a (account_within sound a order.account_in))
 
   fund_wide : behind_line d.count ≤ length fund
-  fund_wide = omega (arith, stretch-length (width d) b 0 (inside 0 first-in))
+  fund_wide = omega (arith, stretch-length (width d) b 0 (account_within sound 0 first-in))
 
   not_fund : a ≡ 0 → ⊥
   not_fund q = omega (arith, order.account_low)
 
   changed : Changed (width d) b moved 0 a fund_after investor_after
   changed =
-      changed_both (width d) b 0 a fund_side_lem investor_side not_fund (inside 0 first-in) (inside a order.account_in)
+      changed_both (width d) b 0 a fund_side_lem investor_side not_fund (account_within sound 0 first-in) (account_within sound a order.account_in)
       (λ s. fund-length d.count m.fund_component (m.fund_cash_after s) s)
       (λ s. account-length d.count kind units m.component m.unit (m.cash_after s) s)
 

@@ -8,6 +8,7 @@ use native.Mathlib.Omega.{arith}
 use lib.Dec.{ltb, eqb}
 use lib.ListN.{length}
 use borrow.Author.Tests.{eqb-true}
+use Rattle.std.proofs.lemmas.Bool.{cond_both}
 use Rattle.sequences.specs.Below.{join_below}
 use Rattle.sequences.specs.Same.{when_same}
 use Rattle.sequences.proofs.Below.{sum_zero}
@@ -24,7 +25,7 @@ use Rattle.layout.proofs.Records.{records_total}
 use Rattle.layout.proofs.Reports.{reports_total}
 use Rattle.rules.specs.Lines.{code_of}
 use Rattle.rules.specs.Records.{record_of, cash_parts, cash_records, stock_record, second_unit, shanghai_step, other_step, order_records}
-use Rattle.rules.specs.Reports.{no_group, shanghai_kind, other_kind, move_report, stock_type, present, cash_groups, cash_reports, stock_report, order_reports}
+use Rattle.rules.specs.Reports.{no_group, shanghai_kind, other_kind, present, cash_groups, cash_reports, stock_report, order_reports}
 use Rattle.balance.specs.Reported.{amounts, amounts_under, amount_of, of_kind, other_than, over_groups, group_total, CashTold}
 
 -- a number that adds up, over the records of an amount of cash
@@ -57,11 +58,7 @@ module _ (d : Day) (stock rest units : ℕ) (moved : ℕ → ℕ) (other shangha
   module _ (f : Record → ℕ) (none : (code side q : ℕ) → f (record_of code side q 0) ≡ 0) where
     stock_none : (i : ℕ) → sum_of f (stock_record d stock moved i) ≡ 0
     unfolding stock_record sum_of
-    stock_none i = go (ltb 0 (moved i))
-      where
-        go : (b : Bool) → sum_of f (cond b (record_of (code_of d i) stock (moved i) 0 ∷ []) []) ≡ 0
-        go true = omega (arith, none (code_of d i) stock (moved i))
-        go false = refl
+    stock_none i = cond_both (ltb 0 (moved i)) _ [] (λ rs. sum_of f rs ≡ 0) (λ _. omega (arith, none (code_of d i) stock (moved i))) (λ _. refl)
 
     pub records_sum : sum_of f records ≡ sum_of f (cash_records (g + other_step) rest other) + sum_of f (cash_records (g + shanghai_step) rest shanghai)
     unfolding order_records sum_of
@@ -84,11 +81,7 @@ module _ (d : Day) (stock rest units : ℕ) (moved : ℕ → ℕ) (other shangha
   module _ (f : Group → ℕ) (none : f no_group ≡ 0) (empty : (kind : ℕ) → f (group_of kind 0) ≡ 0) where
     lines_none : (i : ℕ) → sum_of (over_groups f) (stock_report d stock moved i) ≡ 0
     unfolding stock_report sum_of
-    lines_none i = go (ltb 0 (moved i))
-      where
-        go : (b : Bool) → sum_of (over_groups f) (cond b (move_report stock_type stock (code_of d i) (moved i) ∷ []) []) ≡ 0
-        go true = omega (arith, none)
-        go false = refl
+    lines_none i = cond_both (ltb 0 (moved i)) _ [] (λ rs. sum_of (over_groups f) rs ≡ 0) (λ _. omega (arith, none)) (λ _. refl)
 
     groups_sum : sum_of (over_groups f) (cash_reports rest (cash_groups other shanghai)) ≡ f (group_of shanghai_kind shanghai) + f (group_of other_kind other)
     unfolding cash_groups present sum_of
@@ -124,8 +117,7 @@ module _ (d : Day) (stock rest units : ℕ) (moved : ℕ → ℕ) (other shangha
   under code r = when_same r.code code r.amount.0
 
   neither : (b : Bool) → cond {A = ℕ} b 0 0 ≡ 0
-  neither true = refl
-  neither false = refl
+  neither b = cond_both b 0 0 (λ n. n ≡ 0) (λ _. refl) (λ _. refl)
 
   no_amount : (q : ℕ) → q * 0 ≡ 0
   no_amount q = mul-zero q

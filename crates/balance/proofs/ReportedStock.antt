@@ -7,6 +7,7 @@ use native.Mathlib.Omega.{arith}
 use lib.Dec.{ltb, eqb}
 use lib.ListN.{length, get_or, length-append, length-map, get_or-append, get_or-map}
 use borrow.Author.Tests.{le-ltb}
+use Rattle.std.proofs.lemmas.Bool.{cond_both}
 use Rattle.sequences.specs.Below.{join_below}
 use Rattle.sequences.proofs.Sums.{sum_of, sum_append, Each, each_append, each_at}
 use Rattle.fund.specs.Components.{outside_group, component_fault}
@@ -97,11 +98,7 @@ module _ (d : Day) (sound : component_fault d.fund.first_code d.components d.cou
 
   line_outside : (i : ℕ) → i < d.count → Each Outside (stock_record d stock moved i)
   unfolding stock_record Each code_of Outside
-  line_outside i h = go (ltb 0 (moved i))
-    where
-      go : (b : Bool) → Each Outside (cond b (record_of (code_of d i) stock (moved i) 0 ∷ []) [])
-      go true = ((components_fine _ _ _ sound i h).outside, tt)
-      go false = tt
+  line_outside i h = cond_both (ltb 0 (moved i)) _ [] (Each Outside) (λ _. ((components_fine _ _ _ sound i h).outside, tt)) (λ _. tt)
 
   below_outside : (n : ℕ) → n ≤ d.count → Each Outside (join_below (stock_record d stock moved) n)
   unfolding join_below Each

@@ -8,7 +8,7 @@ use lib.ListN.{length}
 use Rattle.sequences.specs.Same.{when_same}
 use Rattle.sequences.specs.Stretch.{over}
 use Rattle.sequences.proofs.Same.{when_same_lem, when_other}
-use Rattle.sequences.proofs.Stretch.{within, stretch-length, Changed, changed_both, changed_over}
+use Rattle.sequences.proofs.Stretch.{stretch-length, Changed, changed_both, changed_over}
 use Rattle.lots.specs.declared.Lots.{Lots}
 use Rattle.lots.specs.Lots.{sell_of, buy_of, lots_total}
 use Rattle.layout.specs.Places.{lines_from}
@@ -19,6 +19,7 @@ use Rattle.rules.specs.declared.Kind.TheVariants.{Creation, Redemption}
 use Rattle.rules.specs.Orders.{number_of, count_of, fund_count}
 use Rattle.rules.specs.Trade.{sell_side, buy_side, trade_moves, traded_book}
 use Rattle.rules.proofs.SoundDay.{Kept, sound_moved}
+use Rattle.rules.proofs.SoundAccount.{account_within}
 use Rattle.rules.proofs.Sides.{number-below, side-length, side_cash, side_counter, side_line, side_other}
 use Rattle.rules.proofs.Accepted.{Trades, trade_facts}
 use Rattle.rules.specs.Lent.{Lent}
@@ -60,17 +61,14 @@ module _ (d : Day) (b ps : List ℕ) (line q p seller buyer : ℕ) (t : Trades d
   abbrev to : State
   to = record { day = d; book = after; prices = ps }
 
-  -- an account's stretch lies in the book and has its width
-  inside : (a : ℕ) → a < d.accounts → a * width d + width d ≤ length b
-  inside a h = rw t.sound.book.book_size (within (width d) a d.accounts h)
-
+  -- an account's stretch has its width
   long : (a : ℕ) → a < d.accounts → behind_line line ≤ length (account d b a)
-  long a h = omega (arith, stretch-length (width d) b a (inside a h), t.line_in_lem)
+  long a h = omega (arith, stretch-length (width d) b a (account_within t.sound a h), t.line_in_lem)
 
   changed : Changed (width d) b after seller buyer (sell_side line q (q * p) (account d b seller)) (buy_side line q (q * p) (account d b buyer))
   unfolding trade_moves sell_side buy_side
   changed =
-      changed_both (width d) b seller buyer (sell_side line q (q * p)) (buy_side line q (q * p)) t.two (inside seller t.seller_in) (inside buyer t.buyer_in)
+      changed_both (width d) b seller buyer (sell_side line q (q * p)) (buy_side line q (q * p)) t.two (account_within t.sound seller t.seller_in) (account_within t.sound buyer t.buyer_in)
       (λ s. side-length (λ x. sell_of x q) line (head_at s cash + q * p) s)
       (λ s. side-length (λ x. buy_of x q) line (head_at s cash - q * p) s)
 

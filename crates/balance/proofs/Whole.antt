@@ -2,7 +2,7 @@
 use mathlib.Core.Path.{◌≡◌, sym, ap, subst, ◌∙◌}
 use mathlib.Core.Bool.{true}
 use mathlib.Core.List.{List, [], ◌∷◌}
-use Prim.Native.Nat.{ℕ, ◌+◌, ◌≤◌, ◌<◌}
+use Prim.Native.Nat.{ℕ, ◌+◌, ◌-◌, ◌≤◌, ◌<◌}
 use native.Mathlib.Decide.{ℕ_discrete}
 use native.Mathlib.Omega.{arith}
 use lib.ListN.{get_or}
@@ -19,12 +19,12 @@ use Rattle.layout.specs.Book.{width_of, head_at, lots_at, account, counter}
 use Rattle.rules.specs.Opening.{Opening, holdings_of, held_opened, opening_reply, opened_day, opened_stretch, opened_book}
 use Rattle.rules.specs.declared.Kind.{Kind}
 use Rattle.rules.specs.declared.Kind.TheVariants.{Creation, Redemption}
-use Rattle.rules.specs.Orders.{number_of, count_of, fund_count}
+use Rattle.rules.specs.Orders.{number_of, opposite_kind, count_of, fund_count}
 use Rattle.rules.proofs.OpenedDay.{opened_day_lem, opened_kept, opened_money, opened_line, opened_component, opened_account, opened_lots, opened_created, opened_redeemed, opened_counter}
 use Rattle.balance.specs.Calls.{State, Event, step, Happened}
 use Rattle.balance.specs.Counts.{counted, sold_by, bought_by, got_by, handed_in_by, created_by, redeemed_by, created_by_all, redeemed_by_all}
-use Rattle.balance.specs.Balanced.{opened, Balanced}
-use Rattle.balance.proofs.Relation.{KeptState, line_in, count_in, fund_count_in, Tally, Keeps, keeps_same, keeps_then, result_tally}
+use Rattle.balance.specs.Balanced.{opened, Within, Balanced}
+use Rattle.balance.proofs.Relation.{KeptState, line_in, count_in, fund_count_in, Tally, Rises, Keeps, keeps_same, keeps_then, result_tally}
 use Rattle.balance.proofs.Steps.{step_keeps}
 use Rattle.balance.proofs.Reported.{all_reported}
 use Rattle.balance.proofs.Limits.{KindLimits, Limits, within_less, list_limits}
@@ -120,23 +120,33 @@ module _ (o : Opening) (accepted : is_accepted (opening_reply o) ≡ true) where
         omega (arith, keeps.lots a l (omega arith) a_in l-in, ap (λ (x : Lots). x.old) x, ap (λ (x : Lots). x.bought) x, ap (λ (x : Lots). x.got) x)
 
     -- the counters of the book are the counts from events
-    all_created : fund_count_in t Creation ≡ created_by_all (opened o) es
-    all_created = omega (arith, keeps.created.fund_count_lem, none_counted_all Creation)
+    module _ {kind : Kind} {each : ℕ → ℕ} {all : ℕ} (rises : Rises (opened o) t kind each all) where
+      all_counted : fund_count_in t kind ≡ all
+      all_counted = omega (arith, rises.fund_count_lem, none_counted_all kind)
 
-    all_redeemed : fund_count_in t Redemption ≡ redeemed_by_all (opened o) es
-    all_redeemed = omega (arith, keeps.redeemed.fund_count_lem, none_counted_all Redemption)
-
-    created_is : (a : ℕ) → a < o.accounts → count_in t Creation a ≡ created_by a (opened o) es
-    created_is a i = let a_in : a < (opened_day o).accounts = omega (arith, accounts_is) in omega (arith, keeps.created.counts a a_in, none_counted Creation a a_in)
-
-    redeemed_is : (a : ℕ) → a < o.accounts → count_in t Redemption a ≡ redeemed_by a (opened o) es
-    redeemed_is a i = let a_in : a < (opened_day o).accounts = omega (arith, accounts_is) in omega (arith, keeps.redeemed.counts a a_in, none_counted Redemption a a_in)
+      each_counted : (a : ℕ) → a < o.accounts → count_in t kind a ≡ each a
+      each_counted a i = let a_in : a < (opened_day o).accounts = omega (arith, accounts_is) in omega (arith, rises.counts a a_in, none_counted kind a a_in)
 
     limit_is : (limit : ℕ) (kind : Kind) → limit_of o.fund limit (number_of kind) ≡ limit_of t.day.fund limit (number_of kind)
     limit_is limit kind = ap (λ (f : Fund). limit_of f limit (number_of kind)) (sym fund_kept)
 
     in_day : (a : ℕ) → a < o.accounts → a < t.day.accounts
     in_day a i = omega (arith, accounts_kept)
+
+    -- so what was counted passes no limit on a kind of order
+    module _ {kind : Kind} {each other_each : ℕ → ℕ} {all other_all : ℕ} (own : Rises (opened o) t kind each all) (other : Rises (opened o) t (opposite_kind kind) other_each other_all)
+        (l : KindLimits t kind) where
+      limit_held : Within (limit_of o.fund cumulative_limit (number_of kind)) all
+      limit_held = within_less (limit_is cumulative_limit kind) (omega (arith, all_counted own)) l.all
+
+      limit_each_held : (a : ℕ) → a < o.accounts → Within (limit_of o.fund cumulative_limit_each (number_of kind)) (each a)
+      limit_each_held a i = within_less (limit_is cumulative_limit_each kind) (omega (arith, each_counted own a i)) (l.each a (in_day a i))
+
+      net_held : Within (limit_of o.fund net_limit (number_of kind)) (all - other_all)
+      net_held = within_less (limit_is net_limit kind) (omega (arith, all_counted own, all_counted other)) l.net
+
+      net_each_held : (a : ℕ) → a < o.accounts → Within (limit_of o.fund net_limit_each (number_of kind)) (each a - other_each a)
+      net_each_held a i = within_less (limit_is net_limit_each kind) (omega (arith, each_counted own a i, each_counted other a i)) (l.net_each a (in_day a i))
 
     pub demand_3 : Balanced o es t
     demand_3 =
@@ -152,12 +162,12 @@ module _ (o : Opening) (accepted : is_accepted (opening_reply o) ≡ true) where
           units = omega (arith, keeps.units, opened_line o accepted o.count (omega arith), ap (line_in t) count_kept, ap (line_in (opened o)) count_is);
           sales = λ a l i j. (bounds a l i j (ℕ_discrete a 0)).0;
           handing_in = λ a l i j. (bounds a l i j (ℕ_discrete a 0)).1;
-          creation_limit = within_less (limit_is cumulative_limit Creation) (omega (arith, all_created)) limits.created.all;
-          redemption_limit = within_less (limit_is cumulative_limit Redemption) (omega (arith, all_redeemed)) limits.redeemed.all;
-          creation_limit_each = λ a i. within_less (limit_is cumulative_limit_each Creation) (omega (arith, created_is a i)) (limits.created.each a (in_day a i));
-          redemption_limit_each = λ a i. within_less (limit_is cumulative_limit_each Redemption) (omega (arith, redeemed_is a i)) (limits.redeemed.each a (in_day a i));
-          net_creation_limit = within_less (limit_is net_limit Creation) (omega (arith, all_created, all_redeemed)) limits.created.net;
-          net_redemption_limit = within_less (limit_is net_limit Redemption) (omega (arith, all_created, all_redeemed)) limits.redeemed.net;
-          net_creation_limit_each = λ a i. within_less (limit_is net_limit_each Creation) (omega (arith, created_is a i, redeemed_is a i)) (limits.created.net_each a (in_day a i));
-          net_redemption_limit_each = λ a i. within_less (limit_is net_limit_each Redemption) (omega (arith, created_is a i, redeemed_is a i)) (limits.redeemed.net_each a (in_day a i));
+          creation_limit = limit_held keeps.created keeps.redeemed limits.created;
+          redemption_limit = limit_held keeps.redeemed keeps.created limits.redeemed;
+          creation_limit_each = limit_each_held keeps.created keeps.redeemed limits.created;
+          redemption_limit_each = limit_each_held keeps.redeemed keeps.created limits.redeemed;
+          net_creation_limit = net_held keeps.created keeps.redeemed limits.created;
+          net_redemption_limit = net_held keeps.redeemed keeps.created limits.redeemed;
+          net_creation_limit_each = net_each_held keeps.created keeps.redeemed limits.created;
+          net_redemption_limit_each = net_each_held keeps.redeemed keeps.created limits.redeemed;
         }

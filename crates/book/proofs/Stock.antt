@@ -1,8 +1,8 @@
 -- The bounds of what an order of either kind moves.
 use mathlib.Core.Path.{◌≡◌, refl}
-use mathlib.Core.Bool.{Bool, true, false, cond}
-use Prim.Native.Nat.{ℕ, ◌*◌, ◌≤◌, min}
+use Prim.Native.Nat.{ℕ, ◌*◌, ◌≤◌}
 use native.Mathlib.Omega.{arith}
+use Rattle.sequences.proofs.Below.{cond_le}
 use Rattle.lots.specs.declared.Lots.{Lots}
 use Rattle.lots.specs.Lots.{handable}
 use Rattle.lots.proofs.Laws.{lots-eq}
@@ -18,25 +18,13 @@ module _ (c : Component) (m : ℕ) (x : Lots) where
   -- at most what the baskets need
   pub moved-le : (kind : Kind) → moved_of kind c m x ≤ m * c.quantity
   unfolding moved_of
-  moved-le Creation = go (Table.entry c.flag Table.stock_moves)
-    where
-      go : (t : Bool) → cond t (min (m * c.quantity) (handable x)) 0 ≤ m * c.quantity
-      go true = omega arith
-      go false = omega arith
-  moved-le Redemption = go (Table.entry c.flag Table.stock_moves)
-    where
-      go : (t : Bool) → cond t (m * c.quantity) 0 ≤ m * c.quantity
-      go true = omega arith
-      go false = omega arith
+  moved-le Creation = cond_le (Table.entry c.flag Table.stock_moves) (omega arith) (omega arith)
+  moved-le Redemption = cond_le (Table.entry c.flag Table.stock_moves) (omega arith) (omega arith)
 
   -- and on a creation at most what is there
   pub moved_there : moved_of Creation c m x ≤ handable x
   unfolding moved_of
-  moved_there = go (Table.entry c.flag Table.stock_moves)
-    where
-      go : (t : Bool) → cond t (min (m * c.quantity) (handable x)) 0 ≤ handable x
-      go true = omega arith
-      go false = omega arith
+  moved_there = cond_le (Table.entry c.flag Table.stock_moves) (omega arith) (omega arith)
 
 -- Lots of which nothing moves.
 

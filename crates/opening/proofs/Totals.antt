@@ -8,7 +8,7 @@ use native.Mathlib.Numerals.{add-one}
 use mathlib.Core.Bool.{Bool, true, false, not, cond, ◌||◌}
 use lib.Dec.{ltb}
 use lib.ListN.{length, get_or}
-use borrow.Author.Tests.{lt-ltb, le-ltb, ltb-true, eq-eqb, ne_eqb, not-true, not-false}
+use borrow.Author.Tests.{lt-ltb, le-ltb, ltb-true, not-true, not-false}
 use native.Mathlib.Nat.{eq-or-lt_of_le}
 use mathlib.Core.Logic.{⊎_elim}
 use Rattle.std.specs.List.{position_or_len}
@@ -24,6 +24,7 @@ use Rattle.sequences.proofs.Stretch.{stretch_at}
 use Rattle.totals.specs.Totals.{top, place_at, total, capped_total}
 use Rattle.totals.proofs.Sums.{capped_is}
 use Rattle.rules.specs.Opening.{cash_opened, held_opened, most_of_line, most_cash, over_at, total_fault}
+use Rattle.rules.proofs.SoundDay.{over_units, over_cash}
 use Rattle.opening.specs.Given.{totals_in, totals_of}
 
 -- a total as far as 2^62 is above a limit where the total is
@@ -99,21 +100,14 @@ module _ (n : ℕ) (t : List ℕ) (units : ℕ) where
   abbrev pub is_over : ℕ → Bool
   is_over = over_at n (totals_in t units)
 
-  pub over_line : (i : ℕ) → i < n → is_over i ≡ ltb most_of_line (get_or t (1 + i) 0)
-  unfolding over_at
-  over_line i h = rw (lt-ltb i n h)
-
   pub over_unit : is_over n ≡ (ltb most_of_line (get_or t (n + 1) 0) || ltb 0 units)
-  unfolding over_at
-  over_unit = let e : 1 + n ≡ n + 1 = omega arith in rw (le-ltb n n (omega arith), eq-eqb n n refl, e)
-
-  over_cash : is_over (n + 1) ≡ ltb most_cash (get_or t 0 0)
-  unfolding over_at
-  over_cash = rw (le-ltb (n + 1) n (omega arith), ne_eqb (n + 1) n (λ q. omega (arith, q)))
+  over_unit =
+      let e : 1 + n ≡ n + 1 = omega arith in
+      over_units n (totals_in t units) ∙ rw e
 
   pub first_of_all : (line : Option ℕ) (unit : Bool) → line ≡ below n (first_below is_over n) → unit ≡ is_over n
       → option_or (option_or line (then_some unit n)) (then_some (ltb most_cash (get_or t 0 0)) (n + 1)) ≡ below (n + 2) (total_fault n (totals_in t units))
   unfolding total_fault
   first_of_all line unit e f =
       let two : n + 1 + 1 ≡ n + 2 = omega arith in
-      rw (e, f, ← over_cash, below_on is_over n) (below_on is_over (n + 1) ∙ ap (λ (m : ℕ). below m (first_below is_over m)) two)
+      rw (e, f, ← over_cash n (totals_in t units), below_on is_over n) (below_on is_over (n + 1) ∙ ap (λ (m : ℕ). below m (first_below is_over m)) two)

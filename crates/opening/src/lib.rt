@@ -46,6 +46,7 @@ fn first_over(totals: &[u64], units: u64, count: usize) -> Option<usize>
 }
 
 // The same of the holdings. Their totals, as far as 2^62, will do: every limit is below that.
+#[tactic(auto, using(totals::proofs::Room::zeros_long, crate::proofs::Totals::fault_same))]
 fn total_fault(holdings: &[u64], accounts: usize, count: usize) -> Option<usize>
     requires { (1 ≤ accounts) × (accounts ≤ most_rows) × (count ≤ most_components) × (length holdings.now ≡ accounts * (count + 2)) }
     ensures { result ≡ below (count + 2) (total_fault count (totals_of accounts count holdings.now)) }
@@ -77,6 +78,7 @@ fn sizes_fit(given: &Given, book: usize, prices: usize, day: usize) -> bool
 }
 
 // The answer, which changes nothing.
+#[tactic(auto, using(crate::proofs::Sizes::lent_facts, crate::proofs::Answer::answer_sizes, crate::proofs::Answer::answer_fund, crate::proofs::Answer::answer_component, crate::proofs::Answer::answer_total, crate::proofs::Answer::answer_done), unfolding(rules::specs::Opening::components_opened))]
 fn opening_answer(given: &Given, book: &[u64], prices: &[u64], day: &[u64]) -> Result<(), Refusal>
     ensures { answer_reply result ≡ opening_reply (given_in given.now book.now prices.now day.now) }
 {
@@ -115,6 +117,7 @@ fn open_account(stretch: &mut [u64], held: &[u64])
 }
 
 // Account a's stretch of the book, from its part of the holdings.
+#[tactic(auto, using(sequences::proofs::Stretch::part_is), unfolding(sequences::specs::Stretch::put_stretch))]
 fn open_part(book: &mut [u64], held: &[u64], count: usize, a: usize)
     requires book { (count ≤ most_components) × (a * width_of count + width_of count ≤ length book.old) }
     requires held { length held.now ≡ count + 2 }

@@ -1,8 +1,8 @@
 -- Counters and their sums as the code reads them, what a sound day gives, and the answers test by test.
-use mathlib.Core.Path.{◌≡◌, refl, ap}
+use mathlib.Core.Path.{◌≡◌, refl, sym, ap}
 use mathlib.Core.Bool.{Bool, true, false, ◌&&◌}
 use mathlib.Core.List.{List, [], ◌∷◌}
-use Prim.Native.Nat.{ℕ, ◌+◌, ◌-◌, ◌*◌, ◌/◌, ◌%◌, ◌≤◌, ◌<◌, ◌^◌}
+use Prim.Native.Nat.{ℕ, ◌+◌, ◌*◌, ◌/◌, ◌%◌, ◌≤◌, ◌<◌, ◌^◌}
 use native.Mathlib.Nat.{div-add-mod, mul-le-mul}
 use native.Mathlib.Omega.{arith}
 use lib.Dec.{leb, eqb}
@@ -10,7 +10,7 @@ use lib.ListN.{length}
 use borrow.Author.Tests.{eqb-true}
 use Rattle.sequences.specs.Every.{every, inside}
 use Rattle.sequences.specs.Stretch.{over}
-use Rattle.sequences.proofs.Below.{sum_none, sum_more, sum_grows, sum_part}
+use Rattle.sequences.proofs.Below.{sum_none, sum_more, sum_grows}
 use Rattle.sequences.proofs.Every.{every_at, inside_facts}
 use Rattle.sequences.proofs.Stretch.{within}
 use Rattle.fund.specs.Fund.{ceiling, cumulative_limit, cumulative_limit_each, net_limit, net_limit_each}
@@ -21,9 +21,9 @@ use Rattle.layout.specs.Book.{width_of, width, account, head_at, head_total, cou
 use Rattle.rules.specs.declared.Kind.{Kind}
 use Rattle.rules.specs.declared.Kind.TheVariants.{Creation, Redemption}
 use Rattle.rules.specs.declared.Ask.{Ask}
-use Rattle.rules.specs.Trade.{is_investor}
-use Rattle.rules.specs.Orders.{most_baskets, baskets, whole_baskets, form_checks, switch_allows, number_of, count_of, fund_count, within_limits, permission_checks}
+use Rattle.rules.specs.Orders.{opposite_kind, most_baskets, baskets, whole_baskets, form_checks, switch_allows, number_of, count_of, fund_count, within_limits, permission_checks}
 use Rattle.rules.proofs.SoundDay.{SoundDay}
+use Rattle.rules.proofs.SoundAccount.{head_part}
 use Rattle.order_form.specs.declared.Counts.{Counts}
 use Rattle.order_form.specs.Form.{all_counts, own_counts, within_both, order_form, Countable}
 
@@ -48,13 +48,9 @@ module _ (d : Day) (b : List ℕ) (place : ℕ) where
   unfolding heads_below head_total
   heads_all = refl
 
-  pub head_part : (a : ℕ) → a < d.accounts → head_at (account d b a) place ≤ head_total d b place
-  unfolding over head_total
-  head_part a h = sum_part (λ i. head_at (account d b i) place) d.accounts a h
-
 -- an account's place in the book
-pub slot : (d : Day) (b : List ℕ) (a : ℕ) → length b ≡ d.accounts * width d → a < d.accounts → a * width d + width d ≤ length b
-slot d b a size h = rw size (within (width d) a d.accounts h)
+pub slot : (accounts v a w : ℕ) (b : List ℕ) → length b ≡ accounts * v → w ≡ v → a < accounts → a * w + w ≤ length b
+slot accounts v a w b size e h = rw (e, size) (within v a accounts h)
 
 -- a counter stands in an account's head
 pub counter-below : (kind : Kind) (n : ℕ) → counter (number_of kind) < width_of n
@@ -62,10 +58,8 @@ counter-below Creation n = omega arith
 counter-below Redemption n = omega arith
 
 -- an order that passes 11 is small
-pub units_small : (d : Day) (units : ℕ) → d.fund.basket_size ≤ 99_999_999 → whole_baskets most_baskets d units ≡ true → units ≤ 1_999_999_980
-unfolding whole_baskets baskets
-units_small d units high e =
-    let size = d.fund.basket_size in
+pub units_small : (size units : ℕ) → every (eqb (units % size) 0 ∷ inside 1 most_baskets (units / size) ∷ []) ≡ true → size ≤ 99_999_999 → units ≤ 1_999_999_980
+units_small size units e high =
     let at = every_at (eqb (units % size) 0 ∷ inside 1 most_baskets (units / size) ∷ []) e in
     let r = eqb-true (units % size) 0 (at 0) in
     let q = inside_facts 1 most_baskets (units / size) (at 1) in
@@ -98,14 +92,40 @@ module _ (d : Day) (b : List ℕ) (q : Countable d b) where
 
   pub own_most : (kind : Kind) (a : ℕ) (own : Counts) → own ≡ own_counts d b a kind → a < d.accounts → own.made ≤ ceiling
   unfolding own_counts count_of
-  own_most kind a own e h = omega (arith, ap (λ (x : Counts). x.made) e, head_part d b (counter (number_of kind)) a h, sum_most kind)
+  own_most kind a own e h = omega (arith, ap (λ (x : Counts). x.made) e, head_part d b a h (counter (number_of kind)), sum_most kind)
 
-  -- with an order's units they fit
-  pub all_fits : (kind : Kind) (units : ℕ) (all : Counts) → all ≡ all_counts d b kind → units ≤ 1_999_999_980 → all.made + units < 2 ^ 64
-  all_fits kind units all e h = omega (arith, all_most kind all e)
+-- with an order's units they fit
+pub all_fits : (d : Day) (b : List ℕ) (kind : Kind) (units : ℕ) (all : Counts) → all ≡ all_counts d b kind → Countable d b → units ≤ 1_999_999_980 → all.made + units < 2 ^ 64
+all_fits d b kind units all e q h = omega (arith, all_most d b q kind all e)
 
-  pub own_fits : (kind : Kind) (a units : ℕ) (own : Counts) → own ≡ own_counts d b a kind → a < d.accounts → units ≤ 1_999_999_980 → own.made + units < 2 ^ 64
-  own_fits kind a units own e l h = omega (arith, own_most kind a own e l)
+pub own_fits : (d : Day) (b : List ℕ) (kind : Kind) (a units : ℕ) (own : Counts) → own ≡ own_counts d b a kind → Countable d b → a < d.accounts → units ≤ 1_999_999_980
+    → own.made + units < 2 ^ 64
+own_fits d b kind a units own e q l h = omega (arith, own_most d b q kind a own e l)
+
+-- the counts of one account more
+module _ (d : Day) (b : List ℕ) (kind : Kind) (a : ℕ) (own : Counts) (is : own ≡ own_counts d b a kind) where
+  pub counted : (x y : ℕ) → x ≡ heads_below d b (counter (number_of kind)) a → y ≡ heads_below d b (counter (number_of (opposite_kind kind))) a
+      → (x + own.made ≡ heads_below d b (counter (number_of kind)) (a + 1)) × (y + own.reverse ≡ heads_below d b (counter (number_of (opposite_kind kind))) (a + 1))
+  unfolding own_counts count_of
+  counted x y e f = (
+    rw (e, ap (λ (c : Counts). c.made) is) (sym (heads_more d b (counter (number_of kind)) a)),
+    rw (f, ap (λ (c : Counts). c.reverse) is) (sym (heads_more d b (counter (number_of (opposite_kind kind))) a)),
+  )
+
+  -- they fit, as the sums over all do
+  pub counted_fits : (x y : ℕ) → x ≡ heads_below d b (counter (number_of kind)) a → y ≡ heads_below d b (counter (number_of (opposite_kind kind))) a
+      → Countable d b → a < d.accounts → (x + own.made ≤ ceiling) × (y + own.reverse ≤ ceiling)
+  counted_fits x y e f q h =
+      let more = counted x y e f in (
+        omega (arith, more.0, heads_grow d b (counter (number_of kind)) (a + 1) (omega arith), sum_most d b q kind),
+        omega (arith, more.1, heads_grow d b (counter (number_of (opposite_kind kind))) (a + 1) (omega arith), sum_most d b q (opposite_kind kind)),
+      )
+
+-- past the last account they are the counts of all
+pub counted_all : (d : Day) (b : List ℕ) (kind : Kind) (a : ℕ) (all : Counts) → a ≡ d.accounts → all.made ≡ heads_below d b (counter (number_of kind)) a
+    → all.reverse ≡ heads_below d b (counter (number_of (opposite_kind kind))) a → all ≡ all_counts d b kind
+unfolding all_counts fund_count heads_below head_total
+counted_all d b kind a all e p q = let m = rw e at p in let r = rw e at q in λ j. record { made = m j; reverse = r j }
 
 -- five tests all pass, in the code's order
 sorted : (a b c d e : Bool) → (((a && c) && e) && (b && d)) ≡ every (a ∷ b ∷ c ∷ d ∷ e ∷ [])
@@ -147,8 +167,3 @@ countable_head d h b e r =
       created_most = r.created_most;
       redeemed_most = r.redeemed_most;
     })
-
--- an order that passes 8 is of an account
-pub investor_in : (k a : ℕ) → 2 ≤ k → is_investor k a ≡ true → a < k
-unfolding is_investor
-investor_in k a two e = let p = inside_facts 1 (k - 1) a e in omega arith

@@ -22,6 +22,7 @@ struct Counts {
 
 // The counts of one account. `Countable` stands in four contracts, since head and book come from the caller apart: a struct of both
 // would be made for each order only to carry it.
+#[tactic(auto, unfolding(crate::specs::Form::own_counts, rules::specs::Orders::count_of))]
 fn counts_of(head: &DayHead, book: &[u64], a: usize, kind: Kind) -> Counts
     requires { Countable (day_of head.now []) book.now × (a < head.now.accounts) }
     ensures { result ≡ own_counts (day_of head.now []) book.now a kind }
@@ -36,6 +37,7 @@ fn counts_of(head: &DayHead, book: &[u64], a: usize, kind: Kind) -> Counts
 }
 
 // The counts of all accounts together, which are read by number: the one account of an order is read in the same way.
+#[tactic(auto, using(crate::proofs::Laws::heads_none, crate::proofs::Laws::counted, crate::proofs::Laws::counted_fits))]
 fn counts_of_all(head: &DayHead, book: &[u64], kind: Kind) -> Counts
     requires { Countable (day_of head.now []) book.now }
     ensures { result ≡ all_counts (day_of head.now []) book.now kind }
@@ -86,16 +88,15 @@ fn limits_held(head: &DayHead, book: &[u64], ask: Ask) -> bool
 }
 
 // The tests 8, 11, 12 and 13 of an order. They look at no component.
-#[tactic(auto, unfolding(sequences::specs::Checks::answering, crate::specs::Form::order_form, rules::specs::Orders::form_checks, rules::specs::Orders::permission_checks))]
+#[tactic(auto, using(rules::proofs::Accepted::investor_facts, crate::proofs::Laws::units_small), unfolding(sequences::specs::Checks::answering, crate::specs::Form::order_form, rules::specs::Orders::form_checks, rules::specs::Orders::permission_checks, rules::specs::Orders::whole_baskets, rules::specs::Orders::baskets, rules::specs::Orders::switch_allows))]
 pub fn order_form(head: &DayHead, book: &[u64], ask: Ask) -> Result<(), Refusal>
     requires { Countable (day_of head.now []) book.now }
     ensures { answer_reply result ≡ answered (order_form (day_of head.now []) book.now ask) 0 }
 {
-    let size = head.fund.basket_size;
     if !ranges::is_investor(head.accounts, ask.account) {
         return Err(Refusal::Account);
     }
-    if !ranges::whole_baskets(size, ask.units, ask.units / size) {
+    if !ranges::whole_baskets(head.fund.basket_size, ask.units) {
         return Err(Refusal::NotWholeBaskets);
     }
     if !ranges::switch_allows(head.fund.switch, ask.kind) {

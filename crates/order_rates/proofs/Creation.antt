@@ -16,7 +16,7 @@ use Rattle.rules.specs.Records.{side_b, side_s}
 use Rattle.rules.specs.Orders.{baskets, whole_baskets, form_checks, switch_allows, count_of, fund_count, within_limits, permission_checks}
 use Rattle.rules.specs.Creation.{handed_in, is_short, first_short, missing, missing_worth, is_missing, creation_cash, creation_due}
 use Rattle.rules.specs.Creation.{ratio_passed, creation_records, creation_reports, creation_means, creation_checks, creation_reply, creation_moves, created_book, created_lists}
-use Rattle.order_rates.proofs.Shared.{DayPair, one, other, Shared, same_need, same_shanghai, same_other, same_records, same_reports}
+use Rattle.order_rates.proofs.Shared.{DayPair, one, other, Shared, same_need, same_shanghai, same_other, same_lists}
 
 -- what a creation takes besides
 pub record ForCreation (t : DayPair) : Type 0 where
@@ -80,34 +80,30 @@ module _ (t : DayPair) (c : ForCreation t) where
     same_due = rw (same_other t c.shared same_cash, same_shanghai t c.shared same_cash)
 
   module _ (x ps : List ℕ) (units : ℕ) where
-    same_made : creation_records (one t) x ps units ≡ creation_records (other t) x ps units
-    unfolding creation_records baskets
+    same_made : (creation_records (one t) x ps units ≡ creation_records (other t) x ps units) × (creation_reports (one t) x ps units ≡ creation_reports (other t) x ps units)
+    unfolding creation_records creation_reports baskets
     same_made =
         let m = baskets (one t) units in
-        let cash = same_cash x ps m in
-        same_records t c.shared side_s side_b units (same_handed x ps m) (same_other t c.shared cash) (same_shanghai t c.shared cash)
-
-    same_told : creation_reports (one t) x ps units ≡ creation_reports (other t) x ps units
-    unfolding creation_reports baskets
-    same_told =
-        let m = baskets (one t) units in
-        let cash = same_cash x ps m in
-        same_reports t c.shared side_s side_b units (same_handed x ps m) (same_other t c.shared cash) (same_shanghai t c.shared cash)
+        same_lists t c.shared side_s side_b units (same_handed x ps m) (same_cash x ps m)
 
     same_means : (rooms : Rooms) → creation_means (one t) x ps units rooms ≡ creation_means (other t) x ps units rooms
     unfolding creation_means baskets
     same_means rooms =
         let m = baskets (one t) units in
-        rw (same_first x ps m, same_any x ps m, same_exists ps, same_ratio x ps m, same_due x ps m, same_made, same_told)
+        rw (same_first x ps m, same_any x ps m, same_exists ps, same_ratio x ps m, same_due x ps m, same_made.0, same_made.1)
 
   module _ (b ps : List ℕ) (first : is_sound (one t) b ps ≡ true) (second : is_sound (other t) b ps ≡ true) (a units : ℕ) where
     pub same_answer : (rooms : Rooms) → creation_reply (one t) b ps a units rooms ≡ creation_reply (other t) b ps a units rooms
     unfolding creation_reply creation_checks form_checks whole_baskets baskets permission_checks switch_allows within_limits fund_count count_of head_total
-    same_answer rooms = rw (first, second, same_means (account (one t) b a) ps units rooms, same_made (account (one t) b a) ps units, same_told (account (one t) b a) ps units)
+    same_answer rooms =
+        let made = same_made (account (one t) b a) ps units in
+        rw (first, second, same_means (account (one t) b a) ps units rooms, made.0, made.1)
 
-    pub same_lists : (lent : Lent) → created_lists (one t) b ps a units lent ≡ created_lists (other t) b ps a units lent
+    pub same_left : (lent : Lent) → created_lists (one t) b ps a units lent ≡ created_lists (other t) b ps a units lent
     unfolding created_lists
-    same_lists lent = rw (same_answer (rooms_in lent), same_made (account (one t) b a) ps units, same_told (account (one t) b a) ps units)
+    same_left lent =
+        let made = same_made (account (one t) b a) ps units in
+        rw (same_answer (rooms_in lent), made.0, made.1)
 
     same_moves : creation_moves (one t) ps a units b ≡ creation_moves (other t) ps a units b
     unfolding creation_moves baskets

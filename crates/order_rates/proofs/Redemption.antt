@@ -13,7 +13,7 @@ use Rattle.rules.specs.Records.{side_b, side_s}
 use Rattle.rules.specs.Orders.{baskets, whole_baskets, form_checks, switch_allows, count_of, fund_count, within_limits, permission_checks}
 use Rattle.rules.specs.Redemption.{delivered, redemption_cash, redemption_paid, units_available, fund_lacks, first_lacking}
 use Rattle.rules.specs.Redemption.{redemption_records, redemption_reports, redemption_means, redemption_checks, redemption_reply, redemption_moves, redeemed_book, redeemed_lists}
-use Rattle.order_rates.proofs.Shared.{DayPair, one, other, Shared, same_need, same_shanghai, same_other, same_records, same_reports}
+use Rattle.order_rates.proofs.Shared.{DayPair, one, other, Shared, same_need, same_shanghai, same_other, same_lists}
 
 -- what a redemption takes besides
 pub record ForRedemption (t : DayPair) : Type 0 where
@@ -43,34 +43,30 @@ module _ (t : DayPair) (c : ForRedemption t) where
     same_paid = rw (same_other t c.shared same_cash, same_shanghai t c.shared same_cash)
 
   module _ (units : ℕ) where
-    same_made : redemption_records (one t) units ≡ redemption_records (other t) units
-    unfolding redemption_records baskets
+    same_made : (redemption_records (one t) units ≡ redemption_records (other t) units) × (redemption_reports (one t) units ≡ redemption_reports (other t) units)
+    unfolding redemption_records redemption_reports baskets
     same_made =
         let m = baskets (one t) units in
-        let cash = same_cash m in
-        same_records t c.shared side_b side_s units (same_delivered m) (same_other t c.shared cash) (same_shanghai t c.shared cash)
-
-    same_told : redemption_reports (one t) units ≡ redemption_reports (other t) units
-    unfolding redemption_reports baskets
-    same_told =
-        let m = baskets (one t) units in
-        let cash = same_cash m in
-        same_reports t c.shared side_b side_s units (same_delivered m) (same_other t c.shared cash) (same_shanghai t c.shared cash)
+        same_lists t c.shared side_b side_s units (same_delivered m) (same_cash m)
 
     same_means : (x f : List ℕ) (rooms : Rooms) → redemption_means (one t) x f units rooms ≡ redemption_means (other t) x f units rooms
     unfolding redemption_means units_available baskets
     same_means x f rooms =
         let m = baskets (one t) units in
-        rw (same_lacking m f, same_paid m, same_made, same_told)
+        rw (same_lacking m f, same_paid m, same_made.0, same_made.1)
 
   module _ (b ps : List ℕ) (first : is_sound (one t) b ps ≡ true) (second : is_sound (other t) b ps ≡ true) (a units : ℕ) where
     pub same_answer : (rooms : Rooms) → redemption_reply (one t) b ps a units rooms ≡ redemption_reply (other t) b ps a units rooms
     unfolding redemption_reply redemption_checks form_checks whole_baskets baskets permission_checks switch_allows within_limits fund_count count_of head_total
-    same_answer rooms = rw (first, second, same_means units _ _ rooms, same_made units, same_told units)
+    same_answer rooms =
+        let made = same_made units in
+        rw (first, second, same_means units _ _ rooms, made.0, made.1)
 
-    pub same_lists : (lent : Lent) → redeemed_lists (one t) b ps a units lent ≡ redeemed_lists (other t) b ps a units lent
+    pub same_left : (lent : Lent) → redeemed_lists (one t) b ps a units lent ≡ redeemed_lists (other t) b ps a units lent
     unfolding redeemed_lists
-    same_lists lent = rw (same_answer (rooms_in lent), same_made units, same_told units)
+    same_left lent =
+        let made = same_made units in
+        rw (same_answer (rooms_in lent), made.0, made.1)
 
     same_moves : redemption_moves (one t) a units b ≡ redemption_moves (other t) a units b
     unfolding redemption_moves baskets

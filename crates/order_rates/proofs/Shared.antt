@@ -46,18 +46,14 @@ module _ (t : DayPair) (s : Shared t) where
   unfolding other_cash
   same_other h = ap (λ (x : ℕ → ℕ). sum_below x t.count) (fun_ext (λ i. rw (s.columns shanghai i, h)))
 
-  -- the records, where what moved and both kinds of cash are the same
-  pub same_records : (stock_side rest_side units : ℕ) {f g : ℕ → ℕ} → f ≡ g → {c c' x x' : ℕ} → c ≡ c' → x ≡ x'
-      → order_records (one t) stock_side rest_side units f c x ≡ order_records (other t) stock_side rest_side units g c' x'
-  unfolding order_records stock_record
-  same_records stock_side rest_side units {f} {g} h p q =
-      let stock : stock_record (one t) stock_side f ≡ stock_record (other t) stock_side g = fun_ext (λ i. rw (s.codes i, h)) in
-      rw (stock, p, q)
-
-  -- and the reports
-  pub same_reports : (stock_side rest_side units : ℕ) {f g : ℕ → ℕ} → f ≡ g → {c c' x x' : ℕ} → c ≡ c' → x ≡ x'
-      → order_reports (one t) stock_side rest_side units f c x ≡ order_reports (other t) stock_side rest_side units g c' x'
-  unfolding order_reports stock_report
-  same_reports stock_side rest_side units {f} {g} h p q =
-      let stock : stock_report (one t) stock_side f ≡ stock_report (other t) stock_side g = fun_ext (λ i. rw (s.codes i, h)) in
-      rw (stock, p, q)
+  -- the records and the reports, where what moved and each component's cash are the same
+  pub same_lists : (stock_side rest_side units : ℕ) {f g x y : ℕ → ℕ} → f ≡ g → x ≡ y
+      → (order_records (one t) stock_side rest_side units f (other_cash (one t) x) (shanghai_cash (one t) x)
+      ≡ order_records (other t) stock_side rest_side units g (other_cash (other t) y) (shanghai_cash (other t) y))
+      × (order_reports (one t) stock_side rest_side units f (other_cash (one t) x) (shanghai_cash (one t) x)
+      ≡ order_reports (other t) stock_side rest_side units g (other_cash (other t) y) (shanghai_cash (other t) y))
+  unfolding order_records stock_record order_reports stock_report
+  same_lists stock_side rest_side units {f} {g} h cash =
+      let records : stock_record (one t) stock_side f ≡ stock_record (other t) stock_side g = fun_ext (λ i. rw (s.codes i, h)) in
+      let reports : stock_report (one t) stock_side f ≡ stock_report (other t) stock_side g = fun_ext (λ i. rw (s.codes i, h)) in
+      (rw (records, same_other cash, same_shanghai cash), rw (reports, same_other cash, same_shanghai cash))

@@ -56,7 +56,7 @@ discounts_leave_creations d e b ps first second s account units lent =
     carried _ d e s b ps _ lent
     (record {
       answer = creation.same_answer _ takes b ps first sound account units (rooms_in lent);
-      lists = creation.same_lists _ takes b ps first sound account units lent;
+      lists = creation.same_left _ takes b ps first sound account units lent;
       book = creation.same_book _ takes b ps first sound account units (rooms_in lent);
     })
 
@@ -73,6 +73,6 @@ premiums_leave_redemptions d e b ps first second s account units lent =
     carried _ d e s b ps _ lent
     (record {
       answer = redemption.same_answer _ takes b ps first sound account units (rooms_in lent);
-      lists = redemption.same_lists _ takes b ps first sound account units lent;
+      lists = redemption.same_left _ takes b ps first sound account units lent;
       book = redemption.same_book _ takes b ps first sound account units (rooms_in lent);
     })

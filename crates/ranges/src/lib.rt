@@ -25,13 +25,14 @@ pub fn is_investor(accounts: usize, a: usize) -> bool
     (1..accounts).contains(&a)
 }
 
-// Whether so many units are a whole count of baskets from 1 to the most; `m` is the count with what is left over dropped, which the
-// caller has at hand. A size above 0 is a clause, here and in `fund`, which tests it before it divides.
-pub fn whole_baskets(size: u64, units: u64, m: u64) -> bool
-    requires { (0 < size) × (m ≡ units / size) }
+// Whether so many units are a whole count of baskets from 1 to the most. A size above 0 is a clause, here and in `fund`, which tests it
+// before it divides.
+#[tactic(auto, using(std::proofs::lemmas::Bool::Decides::nat_tests), unfolding(sequences::specs::Every::every))]
+pub fn whole_baskets(size: u64, units: u64) -> bool
+    requires { 0 < size }
     ensures { result ≡ every (eqb (units % size) 0 ∷ inside 1 most_baskets (units / size) ∷ []) }
 {
-    m * size == units && is_inside(1, rules::MOST_BASKETS, m)
+    units % size == 0 && is_inside(1, rules::MOST_BASKETS, units / size)
 }
 
 // Whether the switch, a number as it lies in a run, allows a kind of order: 1 both, 2 creation only, 3 redemption only.

@@ -30,11 +30,9 @@ use Rattle.rules.specs.Redemption.{delivered, fund_lacks, first_lacking, units_a
 use Rattle.rules.proofs.SoundDay.{SoundDay, sound_facts}
 
 -- an account other than the fund
-pub investor_facts : (d : Day) (a : ℕ) → 2 ≤ d.accounts → is_investor d.accounts a ≡ true → (0 < a) × (a < d.accounts)
+pub investor_facts : (accounts a : ℕ) → 2 ≤ accounts → is_investor accounts a ≡ true → (0 < a) × (a < accounts)
 unfolding is_investor
-investor_facts d a two e =
-    let p = inside_facts 1 (d.accounts - 1) a e in
-    (p.0, omega arith)
+investor_facts accounts a two e = let p = inside_facts 1 (accounts - 1) a e in (p.0, omega arith)
 
 pub record Prices (d : Day) (b ps : List ℕ) (line price : ℕ) : Type 0 where
   pub sound : SoundDay d b ps
@@ -76,8 +74,8 @@ trade_facts d b ps line q price seller buyer e =
     let sound = sound_facts d b ps (not-false _ p.0) in
     let qs = inside_facts 1 999_999_999 q (not-false _ p.1.1.0) in
     let prices = inside_facts 1 most_price price (not-false _ p.1.1.1.0) in
-    let sells = investor_facts d seller sound.own.accounts_low (not-false _ p.1.1.1.1.0) in
-    let buys = investor_facts d buyer sound.own.accounts_low (not-false _ p.1.1.1.1.1.0) in
+    let sells = investor_facts d.accounts seller sound.own.accounts_low (not-false _ p.1.1.1.1.0) in
+    let buys = investor_facts d.accounts buyer sound.own.accounts_low (not-false _ p.1.1.1.1.1.0) in
     record {
       sound = sound;
       line_in_lem = ltb-false _ _ p.1.0;
@@ -120,7 +118,7 @@ pub order_facts : (d : Day) (b : List ℕ) (kind : Kind) (a units : ℕ) → 2 �
     → within_limits d b kind a units ≡ true → Orders d b kind a units
 unfolding whole_baskets within_limits
 order_facts d b kind a units two i w l =
-    let who = investor_facts d a two i in
+    let who = investor_facts d.accounts a two i in
     let whole = every_at (eqb (units % d.fund.basket_size) 0 ∷ inside 1 most_baskets (baskets d units) ∷ []) w in
     let count = inside_facts 1 most_baskets (baskets d units) (whole 1) in
     let at =

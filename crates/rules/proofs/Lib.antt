@@ -1,5 +1,6 @@
 pub mod Replies
 pub mod SoundDay
+pub mod SoundAccount
 pub mod OpenedDay
 pub mod Sides
 pub mod Accepted

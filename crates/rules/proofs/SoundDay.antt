@@ -1,6 +1,6 @@
 -- What refusal 5 says of a day, fact by fact.
 use mathlib.Core.Path.{◌≡◌, refl, sym, ap, subst⁻¹, ◌∙◌}
-use mathlib.Core.Bool.{Bool, true, false, not, ◌||◌, true≢false}
+use mathlib.Core.Bool.{Bool, true, false, not, ◌||◌}
 use mathlib.Core.List.{List, [], ◌∷◌}
 use Prim.Native.Nat.{ℕ, ◌+◌, ◌-◌, ◌*◌, ◌≤◌, ◌<◌}
 use native.Mathlib.Decide.{dec_lt, ℕ_discrete}
@@ -8,6 +8,7 @@ use native.Mathlib.Omega.{arith}
 use lib.Dec.{leb, ltb, eqb}
 use lib.ListN.{length}
 use borrow.Author.Tests.{le-leb, leb-true, lt-ltb, le-ltb, ltb-false, eq-eqb, ne_eqb, eqb-true, not-false}
+use Rattle.std.proofs.lemmas.Bool.{or_parts}
 use Rattle.sequences.specs.Below.{all_below}
 use Rattle.sequences.proofs.Below.{all_at, all_true, first_all, first_end, first_stops}
 use Rattle.sequences.proofs.Every.{every_at, every_more, every_none, inside_facts, inside-true}
@@ -73,14 +74,6 @@ module _ (fund : Fund) (cs : List Component) (n : ℕ) where
 
 -- Refusal 4: totals.
 
-or_false_left : (a b : Bool) → (a || b) ≡ false → a ≡ false
-or_false_left true b e = e
-or_false_left false b e = refl
-
-or_false-right : (a b : Bool) → (a || b) ≡ false → b ≡ false
-or_false-right true b e = absurd (true≢false e)
-or_false-right false b e = e
-
 module _ (n : ℕ) (t : DayTotals) where
   pub over_line : (l : ℕ) → l < n → over_at n t l ≡ ltb most_of_line (t.line l)
   unfolding over_at
@@ -100,10 +93,10 @@ module _ (n : ℕ) (t : DayTotals) where
   unfolding total_checks total_fault
   totals_facts p =
       let all = first_all (over_at n t) (n + 2) (first_stops (over_at n t) (n + 2) p.0) in
-      let at_n = sym over_units ∙ all n (omega arith) in
-      let none : t.fund_units ≤ 0 = ltb-false 0 t.fund_units (or_false-right (ltb t.units_most (t.line n)) (ltb 0 t.fund_units) at_n) in (
+      let at_n = or_parts _ _ (sym over_units ∙ all n (omega arith)) in
+      let none : t.fund_units ≤ 0 = ltb-false 0 t.fund_units at_n.1 in (
         (λ l h. ltb-false most_of_line (t.line l) (sym (over_line l h) ∙ all l (omega arith))),
-        ltb-false t.units_most (t.line n) (or_false_left (ltb t.units_most (t.line n)) (ltb 0 t.fund_units) at_n),
+        ltb-false t.units_most (t.line n) at_n.0,
         omega arith,
         ltb-false most_cash t.cash_total (sym over_cash ∙ all (n + 1) (omega arith)),
       )

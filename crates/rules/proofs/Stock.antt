@@ -7,6 +7,7 @@ use native.Mathlib.Omega.{arith}
 use lib.Dec.{ltb}
 use lib.ListN.{length}
 use borrow.Author.Tests.{ltb-false}
+use Rattle.std.proofs.lemmas.Bool.{cond_both}
 use Rattle.sequences.specs.Below.{sum_below, join_below}
 use Rattle.sequences.specs.Same.{when_same}
 use Rattle.sequences.proofs.Below.{sum_only, cond_le}
@@ -56,11 +57,10 @@ module _ (d : Day) (v : Record → ℕ) (sound : component_fault d.fund.first_co
 
   stock_elsewhere : (side : ℕ) (moved : ℕ → ℕ) (i : ℕ) → i < d.count → (i ≡ l → ⊥) → tally v (code_of d l) (stock_record d side moved i) ≡ 0
   unfolding stock_record sum_of code_of
-  stock_elsewhere side moved i h n = go (ltb 0 (moved i))
-    where
-      go : (b : Bool) → tally v (code_of d l) (cond b (record_of (code_of d i) side (moved i) 0 ∷ []) []) ≡ 0
-      go true = omega (arith, when_other (code_of d i) (code_of d l) (v (record_of (code_of d i) side (moved i) 0)) (codes_differ _ _ _ sound i l h inside n))
-      go false = refl
+  stock_elsewhere side moved i h n =
+      cond_both (ltb 0 (moved i)) (record_of (code_of d i) side (moved i) 0 ∷ []) [] (λ rs. tally v (code_of d l) rs ≡ 0)
+      (λ _. tally_one v (code_of d l) (record_of (code_of d i) side (moved i) 0) (codes_differ _ _ _ sound i l h inside n))
+      (λ _. refl)
 
   -- of all the records of an order only the component's own counts
   pub tally_order : (side rest units : ℕ) (moved : ℕ → ℕ) (other shanghai : ℕ)
@@ -93,11 +93,9 @@ module _ (d : Day) (v : Record → ℕ) (sound : component_fault d.fund.first_co
 module _ (d : Day) (sound : component_fault d.fund.first_code d.components d.count ≡ d.count) (l : ℕ) (inside : l < d.count) (side rest units : ℕ)
     (moved : ℕ → ℕ) (other shanghai : ℕ) where
   pub stock_moved : tally (λ r. r.quantity) (code_of d l) (order_records d side rest units moved other shanghai) ≡ moved l
-  stock_moved = tally_order d (λ r. r.quantity) sound l inside side rest units moved other shanghai ∙ go (ltb 0 (moved l)) refl
-    where
-      go : (b : Bool) → ltb 0 (moved l) ≡ b → cond b (moved l) 0 ≡ moved l
-      go true p = refl
-      go false p = omega (arith, ltb-false 0 (moved l) p)
+  stock_moved =
+      tally_order d (λ r. r.quantity) sound l inside side rest units moved other shanghai
+      ∙ cond_both (ltb 0 (moved l)) (moved l) 0 (λ n. n ≡ moved l) (λ _. refl) (λ e. omega (arith, ltb-false 0 (moved l) e))
 
   pub stock_once : tally (λ r. 1) (code_of d l) (order_records d side rest units moved other shanghai) ≤ 1
   stock_once = rw (tally_order d (λ r. 1) sound l inside side rest units moved other shanghai) (cond_le (ltb 0 (moved l)) (omega arith) (omega arith))

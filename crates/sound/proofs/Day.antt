@@ -29,7 +29,7 @@ use Rattle.rules.specs.Sound.{is_sound, is_kept, most_units}
 use Rattle.rules.proofs.SoundDay.{DaySizes, SoundDay, sound_facts, sound-true, Kept, kept_facts, kept_true}
 use Rattle.totals.specs.Totals.{place_at, total}
 use Rattle.sound.specs.Parts.{most_of, line_of, price_fits, room_left, stretch_still, totals_fit}
-use Rattle.sound.proofs.Limits.{Fits, Still, still_true, still_facts, fits-true, fits_facts, most_line_lem, most_unit, line-true, line_facts, line_still_lem, still_line}
+use Rattle.sound.proofs.Limits.{Fits, Still, still_true, still_facts, fits_true, fits_facts, most_line_lem, most_unit, line-true, line_facts, line_still_lem, still_line}
 
 -- the search for a fault in a day's places looks at the first n only
 pub fault_places : (g : ℕ) (f : ℕ → Component) (n : ℕ) → n ≤ most_components → component_fault g (places_of f n) n ≡ component_fault g (places_of f most_components) n
@@ -195,7 +195,7 @@ module _ (d : Day) (b ps basket : List ℕ) {f : Fund} {accounts n : ℕ} (sizes
       (every_more _ _ (none_true s.own.components)
       (every_more _ _ (rw own.prices_size (day_prices s))
       (every_more _ _ (rw e (still_true _ _ (day_still s)))
-      (every_more _ _ (rw (a, e) (fits-true _ _ (day_fits s))) every_none)))))
+      (every_more _ _ (rw (a, e) (fits_true _ _ (day_fits s))) every_none)))))
       (λ t.
       let at = every_at _ t in
       sound-true d b ps

@@ -7,7 +7,8 @@ use native.Mathlib.Omega.{arith}
 use lib.Dec.{ltb, leb}
 use lib.ListN.{get_or}
 use borrow.Author.Tests.{le-leb, leb-true, lt-ltb, le-ltb, eq-eqb, eqb-true}
-use Rattle.totals.specs.Totals.{top}
+use Rattle.totals.specs.Totals.{top, total, capped_total}
+use Rattle.totals.proofs.Sums.{capped_is}
 use Rattle.sequences.specs.Below.{all_below}
 use Rattle.sequences.proofs.Below.{all_at, all_true, all_more, cond_le}
 use Rattle.sequences.proofs.Every.{every_at, every_more, every_none, false_of, same_test}
@@ -54,9 +55,9 @@ module _ (n : ℕ) (t : ℕ → ℕ) where
   unfolding line_fits
   line_facts l e = leb-true _ _ e
 
-  pub fits-true : Fits n t → totals_fit n t ≡ true
+  pub fits_true : Fits n t → totals_fit n t ≡ true
   unfolding totals_fit
-  fits-true f =
+  fits_true f =
       every_more _ _ (le-leb _ _ f.money)
       (every_more _ _ (le-leb _ _ f.created_most)
       (every_more _ _ (le-leb _ _ f.redeemed_most) (every_more _ _ (all_true (line_fits n t) (n + 1) f.lines) every_none)))
@@ -129,6 +130,16 @@ module _ (n : ℕ) (t u : ℕ → ℕ) (capped : (k : ℕ) → k < width_of n �
     omega (arith, line_facts n t n (f.lines n (omega arith)), most_le n n, capped (line_from n) (omega arith), capped (line_from n + 1) (omega arith), capped (line_from n + 2) (omega arith)),
     omega (arith, f.created_most, capped created (omega arith)),
   )
+
+-- what the room is reckoned with: the totals of the units and of `created` of a book that fits are not capped; the width w is that of n components
+pub room_totals : (b : List ℕ) (accounts n w : ℕ) → w ≡ width_of n → totals_fit n (total b (width_of n) accounts) ≡ true
+    → (line_of (capped_total b w accounts) n ≡ line_of (total b (width_of n) accounts) n)
+    × (capped_total b w accounts created ≡ total b (width_of n) accounts created)
+    × (total b (width_of n) accounts created ≤ ceiling)
+room_totals b accounts n w e fits =
+    let f = fits_facts n (total b (width_of n) accounts) fits in
+    let u = units_capped n _ _ (λ k h. capped_is b (width_of n) accounts k) f in
+    rw e (u.0, u.1, f.created_most)
 
 -- The fund's stretch.
 

@@ -63,6 +63,7 @@ fn rows_of(book: &[u64], accounts: usize, n: usize) -> Rows<'_>
 
 // Whether the totals of a book, as far as 2^62, are within their limits, which are all below that. They stand in room for the widest row,
 // since the library has no heap.
+#[tactic(auto, using(totals::proofs::Room::zeros_long, totals::proofs::Sums::capped_le))]
 fn book_fits(book: &Rows, n: usize) -> bool
     requires { (n ≤ most_components) × (book.now.rows ≤ most_rows) × (book.now.width ≡ width_of n) }
     ensures { result ≡ totals_fit n (total book.now.run.now (width_of n) book.now.rows) }
@@ -122,6 +123,7 @@ pub fn sizes_fit(accounts: usize, n: usize, book: usize, prices: usize) -> bool
 }
 
 // Refusal 5's test.
+#[tactic(auto, using(rules::proofs::SoundDay::sizes_facts, crate::proofs::Limits::sizes_first, crate::proofs::Day::unsound, rules::proofs::SoundDay::sizes_true, rules::proofs::SoundDay::sound_sizes))]
 pub fn is_sound(day: &DayView, book: &[u64], prices: &[u64]) -> bool
     ensures { result ≡ is_sound day.now book.now prices.now }
 {
@@ -140,6 +142,7 @@ pub fn is_sound(day: &DayView, book: &[u64], prices: &[u64]) -> bool
 }
 
 // Whether there is room for all the units that the ceiling still lets be created.
+#[tactic(auto, using(crate::proofs::Limits::room_totals), unfolding(crate::specs::Parts::room_left))]
 fn room_left(book: &Rows, n: usize) -> bool
     requires { (n ≤ most_components) × (book.now.width ≡ width_of n) × (totals_fit n (total book.now.run.now (width_of n) book.now.rows) ≡ true) }
     ensures { result ≡ room_left n (total book.now.run.now (width_of n) book.now.rows) }
@@ -153,6 +156,7 @@ fn room_left(book: &Rows, n: usize) -> bool
 }
 
 // What every call keeps: sound, with that room.
+#[tactic(auto, using(rules::proofs::SoundDay::sound_facts, crate::proofs::Limits::fits_true, crate::proofs::Day::day_fits, crate::proofs::Day::kept_room, crate::proofs::Day::unkept_unsound))]
 pub fn is_kept(day: &DayView, book: &[u64], prices: &[u64]) -> bool
     ensures { result ≡ is_kept day.now book.now prices.now }
 {

@@ -2,3 +2,4 @@ pub mod Top
 pub mod Cut
 pub mod Pass
 pub mod Sums
+pub mod Room

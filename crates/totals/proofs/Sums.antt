@@ -1,41 +1,26 @@
 -- The totals over the rows: those of the first a rows, each below 2^62, and what one or eight rows more make of them.
-use Rattle.std.proofs.Common.{◌≡◌, ℕ, zero, suc, ◌+◌, ◌*◌, ◌%◌, ◌^◌, ◌<◌, ◌≤◌, min, Bool, true, false, ◌||◌, List, length, get_or, sym, refl, ap, ◌∙◌, ⊎_elim}
-use Rattle.std.proofs.Common.{le_of_suc-le-suc, not-suc-le-zero, add-zero, lt-suc_self, eq-or-lt_of_le, arith, leb-false}
+use Rattle.std.proofs.Common.{◌≡◌, ℕ, zero, suc, ◌+◌, ◌*◌, ◌%◌, ◌^◌, ◌<◌, ◌≤◌, min, Bool, true, false, List, length, get_or, sym, refl, ap, ◌∙◌}
+use Rattle.std.proofs.Common.{add-zero, lt-suc_self, arith, leb-false}
 use mathlib.Core.Bool.{false≢true}
 use native.Mathlib.Nat.{le_step}
 use lib.Bits.{bit_or}
 use borrow.Author.Tests.{lt-leb}
 use Rattle.sequences.specs.Below.{sum_below, any_below}
-use Rattle.sequences.proofs.Below.{sum_none, sum_more, sum_same, sum_grows}
+use Rattle.std.proofs.lemmas.Bool.{or_from}
+use Rattle.sequences.proofs.Below.{sum_none, sum_more, sum_same, sum_grows, any_here}
+use Rattle.sequences.proofs.Every.{false_of}
 use Rattle.sequences.proofs.Stretch.{within}
 use Rattle.totals.specs.Totals.{top, quick_most, plus_row, plus_block, reaches, place_at, total, capped_total, Low}
 use Rattle.totals.proofs.Top.{or_zero_left, or_zero_right}
 
-or_left : (a b : Bool) → (a || b) ≡ false → a ≡ false
-or_left true b e = e
-or_left false b e = refl
-
-or_right : (a b : Bool) → (a || b) ≡ false → b ≡ false
-or_right true b e = absurd (false≢true (sym e))
-or_right false b e = e
-
-both_off : (a b : Bool) → a ≡ false → b ≡ false → (a || b) ≡ false
-both_off a b e f = ap (λ (x : Bool). x || b) e ∙ f
-
 -- none passes
 any_off : (f : ℕ → Bool) (n : ℕ) → any_below f n ≡ false → (k : ℕ) → k < n → f k ≡ false
-unfolding any_below
-any_off f zero e k l = absurd (not-suc-le-zero l)
-any_off f (suc n) e k l =
-    ⊎_elim
-    (λ q. ap f q ∙ or_right (any_below f n) (f n) e)
-    (λ h. any_off f n (or_left (any_below f n) (f n) e) k h)
-    (eq-or-lt_of_le (le_of_suc-le-suc l))
+any_off f n e k l = false_of (f k) (λ q. false≢true (sym e ∙ any_here f n k l q))
 
 off_any : (f : ℕ → Bool) (n : ℕ) → ((k : ℕ) → k < n → f k ≡ false) → any_below f n ≡ false
 unfolding any_below
 off_any f zero e = refl
-off_any f (suc n) e = both_off (any_below f n) (f n) (off_any f n (λ k h. e k (le_step h))) (e n (lt-suc_self n))
+off_any f (suc n) e = or_from _ _ (off_any f n (λ k h. e k (le_step h))) (e n (lt-suc_self n))
 
 -- no total reaches 2^62
 module _ (f : ℕ → ℕ) (w : ℕ) where

@@ -24,6 +24,7 @@ pub struct Rows<'a> {
 }
 
 // Adds a row to the totals. False where a total reaches 2^62, which is seen on the number added where the total wraps.
+#[tactic(auto, using(sequences::proofs::Below::any_none))]
 fn add_row(totals: &mut [u64], row: &[u64]) -> bool
     requires same_width { length row.now ≡ length totals.old }
     requires low { Low (length row.now) totals.old }
@@ -31,16 +32,18 @@ fn add_row(totals: &mut [u64], row: &[u64]) -> bool
     ensures sums { (k : ℕ) → k < length row.now → slice_index totals.new k ≡ plus_row totals.old row.now k % 2 ^ 64 }
 {
     let mut high: u64 = 0;
-    for (j, x) in row.iter().enumerate() {
-        let t = totals[j].wrapping_add(*x);
-        totals[j] = t;
-        high |= *x | t;
+    // By place, as in `add_block`: what is written through a zip of `iter_mut` is not known behind the loop.
+    for (j, t) in totals.iter_mut().enumerate() {
+        let x = row[j];
+        *t = t.wrapping_add(x);
+        high |= x | *t;
     }
     high < TOP
 }
 
 // Of the eight numbers at a place of a block's rows: their sum, wrapped, and the bits from 2^56 on that one of them has. The bits are
 // shifted down, so that the compiler does not chain the ors of one place to those of the next.
+#[tactic(auto, using(crate::proofs::Sums::total_none))]
 fn column(block: &[u64], width: usize, place: usize) -> (u64, u64)
     requires { (place < width) × (length block.now ≡ 8 * width) }
     ensures sum { result.0 ≡ total block.now width 8 place % 2 ^ 64 }
@@ -122,6 +125,7 @@ impl<'a> Rows<'a> {
     }
 
     // Fills the totals place by place.
+    #[tactic(auto, using(crate::proofs::Sums::capped_whole))]
     fn total_by_place(&self, totals: &mut [u64])
         requires { length totals.old ≡ self.now.width }
         ensures { (k : ℕ) → k < self.now.width → slice_index totals.new k ≡ capped_total self.now.run.now self.now.width self.now.rows k }
@@ -133,6 +137,7 @@ impl<'a> Rows<'a> {
 
     // Fills the totals, zeros at first, with those of all rows, each as far as 2^62. They are summed place by place only where one
     // reaches it.
+    #[tactic(auto, using(crate::proofs::Sums::counted_all, crate::proofs::Sums::counted_capped))]
     pub fn fill(&self, totals: &mut [u64])
         requires { (length totals.old ≡ self.now.width) × (self.now.rows ≤ most_rows) × ((k : ℕ) → k < self.now.width → slice_index totals.old k ≡ 0) }
         ensures { (k : ℕ) → k < self.now.width → slice_index totals.new k ≡ capped_total self.now.run.now self.now.width self.now.rows k }

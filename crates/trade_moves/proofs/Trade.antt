@@ -2,21 +2,14 @@
 use mathlib.Core.Path.{◌≡◌, ◌∙◌}
 use mathlib.Core.List.{List}
 use Prim.Native.Nat.{ℕ, ◌+◌, ◌-◌, ◌*◌, ◌^◌, ◌≤◌, ◌<◌}
-use native.Mathlib.Nat.{add-sub_cancel_left}
-use lib.ListN.{length, take, drop}
-use borrow.Rule.Slice.PartMut.{put_mid}
-use Rattle.sequences.specs.Stretch.{stretch_of, put_stretch, on_stretch}
+use lib.ListN.{length}
+use Rattle.sequences.specs.Stretch.{stretch_of, on_stretch}
 use Rattle.sequences.proofs.Stretch.{stretch-length, stretch-put-other}
 use Rattle.lots.specs.Lots.{sell_of, buy_of}
 use Rattle.layout.specs.Book.{cash, head_at, put_head, lots_at, put_lots, on_line, width_of}
 use Rattle.rules.specs.Trade.{sell_side, buy_side}
 use Rattle.rules.proofs.Sides.{side-length}
 use Rattle.book.specs.Ready.{Tradable}
-
--- what comes back from the part lent stands in its place
-pub part_put : (w a : ℕ) (f : List ℕ → List ℕ) (b s : List ℕ) → s ≡ f (take (a * w + w - a * w) (drop (a * w) b)) → put_mid (a * w) (a * w + w - a * w) b s ≡ on_stretch w a f b
-unfolding stretch_of put_stretch
-part_put w a f b s e = rw (e, add-sub_cancel_left)
 
 sell_side-length : (line q m : ℕ) (s : List ℕ) → length (sell_side line q m s) ≡ length s
 unfolding sell_side

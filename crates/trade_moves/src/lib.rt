@@ -11,6 +11,7 @@ use lots::Lots;
 use rules::Trade;
 
 // Stores the lots of a line and the cash of account `a`.
+#[tactic(auto, using(book::proofs::Sides::middle_put, sequences::proofs::Stretch::part_is), unfolding(layout::specs::Book::put_head))]
 fn put_side(book: &mut [u64], width: usize, a: usize, line: usize, lots: Lots, cash: u64)
     requires account { a * width + width ≤ length book.old }
     requires line { behind_line line ≤ width }
@@ -23,6 +24,7 @@ fn put_side(book: &mut [u64], width: usize, a: usize, line: usize, lots: Lots, c
 }
 
 // Both sides of a trade, in a fund of `count` components.
+#[tactic(auto, using(crate::proofs::Trade::sold_side, crate::proofs::Trade::bought_side, crate::proofs::Trade::buyer_ready), unfolding(rules::specs::Trade::trade_moves))]
 pub fn move_trade(book: &mut [u64], count: usize, trade: Trade)
     requires { Tradable count book.old trade.line trade.quantity trade.price.0 trade.seller trade.buyer }
     ensures { book.new ≡ trade_moves count trade.line trade.quantity trade.price.0 trade.seller trade.buyer book.old }

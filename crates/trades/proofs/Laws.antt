@@ -1,27 +1,25 @@
 -- What an accepted price and an accepted trade have passed, and what a sound day gives them.
-use mathlib.Core.Path.{◌≡◌, refl, sym, ap}
+use mathlib.Core.Path.{◌≡◌, refl, sym}
 use mathlib.Core.Bool.{true}
 use mathlib.Core.List.{List}
-use Prim.Native.Nat.{ℕ, ◌+◌, ◌-◌, ◌*◌, ◌≤◌, ◌<◌}
+use Prim.Native.Nat.{ℕ, ◌+◌, ◌*◌, ◌≤◌, ◌<◌}
 use native.Mathlib.Nat.{mul-le-mul}
-use native.Mathlib.Decide.{dec_lt}
 use native.Mathlib.Omega.{arith}
 use lib.ListN.{length}
 use borrow.Author.Tests.{leb-false, ltb-false, eqb-false, not-false}
 use Rattle.sequences.specs.Every.{inside}
 use Rattle.sequences.specs.Checks.{reply, answered}
-use Rattle.sequences.specs.Stretch.{stretch_of, over}
-use Rattle.sequences.proofs.Below.{sum_part}
 use Rattle.sequences.proofs.Every.{inside_facts}
 use Rattle.sequences.proofs.Checks.{all_passed}
 use Rattle.sequences.proofs.Stretch.{within}
-use Rattle.lots.specs.Lots.{lots_total}
 use Rattle.layout.specs.Day.{Day}
-use Rattle.layout.specs.Book.{cash, width_of, head_at, lots_at, head_total, line_total}
-use Rattle.rules.specs.Sound.{most_price, most_units}
+use Rattle.layout.specs.Book.{cash, width_of}
+use Rattle.rules.specs.Sound.{most_price}
 use Rattle.rules.specs.Price.{price_checks}
-use Rattle.rules.specs.Trade.{is_investor, trade_checks, trade_means}
+use Rattle.rules.specs.Trade.{trade_checks, trade_means}
+use Rattle.rules.proofs.Accepted.{investor_facts}
 use Rattle.rules.proofs.SoundDay.{SoundDay}
+use Rattle.rules.proofs.SoundAccount.{head_part, account_line_most}
 use Rattle.rules.proofs.Replies.{is_accepted_lem}
 use Rattle.book.specs.Ready.{Tradable}
 use Rattle.trades.specs.Fits.{BookFits}
@@ -35,10 +33,6 @@ priced_line n line p e = leb-false _ _ (all_passed (price_checks n line p) _ tt 
 pub in_book : {k n : ℕ} {b : List ℕ} → BookFits k n b → (a : ℕ) → a < k → a * width_of n + width_of n ≤ length b
 in_book {k} {n} f a h = rw f.size (within (width_of n) a k h)
 
-pub investor_in : (k a : ℕ) → 2 ≤ k → is_investor k a ≡ true → (0 < a) × (a < k)
-unfolding is_investor
-investor_in k a two e = let p = inside_facts 1 (k - 1) a e in (p.0, omega arith)
-
 -- the amount of a trade fits 64 bits
 pub amount_fits : (q p : ℕ) → inside 1 999_999_999 q ≡ true → inside 1 most_price p ≡ true → q * p ≤ 9_999_998_990_000_001
 amount_fits q p e f = mul-le-mul {m₂ = 9_999_999} (inside_facts 1 999_999_999 q e).1 (inside_facts 1 most_price p f).1
@@ -51,8 +45,8 @@ tradable k n b line q p seller buyer f e =
     let line_in_lem : line ≤ n = ltb-false _ _ t.0 in
     let qs = inside_facts 1 999_999_999 q (not-false _ t.1.0) in
     let amount = amount_fits q p (not-false _ t.1.0) (not-false _ t.1.1.0) in
-    let sells = investor_in k seller f.accounts_low (not-false _ t.1.1.1.0) in
-    let buys = investor_in k buyer f.accounts_low (not-false _ t.1.1.1.1.0) in
+    let sells = investor_facts k seller f.accounts_low (not-false _ t.1.1.1.0) in
+    let buys = investor_facts k buyer f.accounts_low (not-false _ t.1.1.1.1.0) in
     record {
       count_high = f.count_high;
       line_in_lem = line_in_lem;
@@ -66,20 +60,13 @@ tradable k n b line q p seller buyer f e =
     }
 
 -- a sound day gives the fits: what one account has is at most the total
-line_most : (d : Day) (b ps : List ℕ) → SoundDay d b ps → (l : ℕ) → l ≤ d.count → Dec (l < d.count) → line_total d b l ≤ most_units
-line_most d b ps s l i (yes h) = omega (arith, s.book.lines l h)
-line_most d b ps s l i (no n) =
-    let e : l ≡ d.count = omega arith in
-    omega (arith, ap (line_total d b) e, s.book.units)
-
 pub sound_fits : (d : Day) (b ps : List ℕ) → SoundDay d b ps → BookFits d.accounts d.count b
-unfolding line_total head_total over
 sound_fits d b ps s =
     record {
       accounts_low = s.own.accounts_low;
       accounts_high = s.own.accounts_high;
       count_high = s.own.count_high;
       size = s.book.book_size;
-      lots = λ a l h i. omega (arith, line_most d b ps s l i (dec_lt l d.count), sum_part (λ a. lots_total (lots_at (stretch_of (width_of d.count) b a) l)) d.accounts a h);
-      money = λ a h. omega (arith, s.book.money, sum_part (λ a. head_at (stretch_of (width_of d.count) b a) cash) d.accounts a h);
+      lots = λ a l h i. account_line_most s a h l i;
+      money = λ a h. omega (arith, s.book.money, head_part d b a h cash);
     }

@@ -34,6 +34,7 @@ fn price_answer(count: usize, line: usize, price: u64) -> Result<(), Refusal>
 }
 
 // The price call on a sound day.
+#[tactic(auto, using(rules::proofs::Replies::leaves_after, crate::proofs::Laws::priced_line))]
 pub fn set_price(count: usize, prices: &mut [u64], line: usize, price: u64) -> Result<(), Refusal>
     requires { length prices.old ≡ count }
     ensures result_value { answer_reply result ≡ answered (price_checks count line price) 0 }
@@ -63,7 +64,7 @@ fn trade_means(count: usize, book: &[u64], trade: Trade, amount: Money) -> Resul
 }
 
 // The tests of a trade.
-#[tactic(auto, unfolding(sequences::specs::Checks::answering, rules::specs::Trade::trade_checks))]
+#[tactic(auto, using(crate::proofs::Laws::amount_fits, rules::proofs::Accepted::investor_facts, crate::proofs::Laws::in_book), unfolding(sequences::specs::Checks::answering, rules::specs::Trade::trade_checks))]
 fn trade_answer(accounts: usize, count: usize, book: &[u64], trade: Trade) -> Result<(), Refusal>
     requires { BookFits accounts count book.now }
     ensures { answer_reply result ≡ answered (trade_checks accounts count book.now trade.line trade.quantity trade.price.0 trade.seller trade.buyer) 0 }
@@ -90,6 +91,7 @@ fn trade_answer(accounts: usize, count: usize, book: &[u64], trade: Trade) -> Re
 }
 
 // The trade on a sound day.
+#[tactic(auto, using(rules::proofs::Replies::leaves_after, crate::proofs::Laws::tradable))]
 pub fn trade(accounts: usize, count: usize, book: &mut [u64], trade: Trade) -> Result<(), Refusal>
     requires { BookFits accounts count book.old }
     ensures result_value { answer_reply result ≡ answered (trade_checks accounts count book.old trade.line trade.quantity trade.price.0 trade.seller trade.buyer) 0 }

@@ -2,23 +2,21 @@
 use mathlib.Core.Path.{◌≡◌, refl, sym, ◌∙◌}
 use mathlib.Core.Bool.{Bool, true, false, cond, not}
 use mathlib.Core.List.{List, [], ◌∷◌}
-use Prim.Native.Nat.{ℕ, ◌+◌, ◌-◌, ◌*◌, ◌≤◌, ◌<◌}
+use Prim.Native.Nat.{ℕ, ◌+◌, ◌≤◌, ◌<◌}
 use native.Mathlib.Nat.{le_trans}
 use native.Mathlib.Omega.{arith}
 use lib.Dec.{leb, lit≤}
-use borrow.Author.Tests.{le-leb, lt-leb}
 use Rattle.sequences.specs.Below.{sum_below, any_below}
 use Rattle.sequences.specs.Every.{every}
 use Rattle.sequences.specs.Checks.{reply, answering, answered}
 use Rattle.sequences.proofs.Below.{sum_le, sum_more, any_more, any_here, cond_le}
-use Rattle.units.specs.Units.{rounded}
 use Rattle.units.proofs.Laws.{under}
 use Rattle.flags.specs.Table.{entry, priced}
 use Rattle.layout.specs.declared.Component.{Component}
 use Rattle.fund.proofs.Laws.{fund_sound, components_fine}
 use Rattle.layout.specs.Day.{Day}
 use Rattle.rules.specs.Lines.{component_of, column, quantity, creation_amount, price_of}
-use Rattle.rules.specs.Value.{worth_at, lacks_price, cash_taken, worth_before, reference_value, has_value, value_checks}
+use Rattle.rules.specs.Value.{worth_at, lacks_price, cash_added, cash_taken, worth_before, reference_value, has_value, value_checks}
 use Rattle.rules.proofs.SoundDay.{SoundDay}
 use Rattle.value.specs.Worth.{worth, lacks, value_from, Countable, Priceable}
 
@@ -73,25 +71,12 @@ module _ (d : Day) (ps : List ℕ) where
   chosen false x = refl
 
   -- where none is, the sum decides
-  pub priced_all : any_below (lacks_price d ps) d.count ≡ false
-      → value_from (worth_before d ps) (cash_taken d.fund.estimated_cash) d.fund.basket_size ≡ answered (value_checks d ps) (reference_value d ps)
-  unfolding value_from value_checks has_value reference_value answering every
-  priced_all none =
-      rw none
+  pub priced_all : (i sum added taken size : ℕ) → i ≡ d.count → any_below (lacks_price d ps) i ≡ false → sum ≡ sum_below (worth_at d ps) i
+      → added ≡ cash_added d.fund.estimated_cash → taken ≡ cash_taken d.fund.estimated_cash → size ≡ d.fund.basket_size
+      → value_from (sum + added) taken size ≡ answered (value_checks d ps) (reference_value d ps)
+  unfolding value_from value_checks has_value reference_value worth_before answering every
+  priced_all i sum added taken size all none is plus less basket =
+      rw (is, plus, less, basket, all, rw all at none)
       (chosen
       (every (leb (cash_taken d.fund.estimated_cash) (worth_before d ps) ∷ leb (reference_value d ps) 9_999_999 ∷ []))
       (reference_value d ps))
-
--- the last step: the sum is negative, the value is too high, or it stands
-module _ (before taken size : ℕ) where
-  pub value_negative : before < taken → reply 14 0 0 ≡ value_from before taken size
-  unfolding value_from every
-  value_negative h = simp (lt-leb taken before h)
-
-  pub value_high : (v : ℕ) → v ≡ rounded (10 * (before - taken)) size → taken ≤ before → 9_999_999 < v → reply 14 0 0 ≡ value_from before taken size
-  unfolding value_from every
-  value_high v e h l = simp (le-leb taken before h, ← e, lt-leb v 9_999_999 l)
-
-  pub value_stands : (v : ℕ) → v ≡ rounded (10 * (before - taken)) size → taken ≤ before → v ≤ 9_999_999 → reply 0 0 v ≡ value_from before taken size
-  unfolding value_from every
-  value_stands v e h l = simp (le-leb taken before h, ← e, le-leb v 9_999_999 l)

@@ -15,26 +15,16 @@ unfolding cash_in_range
 small (pos n) h = leb-true n 9_999_999_999 h
 small (negsuc n) h = omega (arith, ltb-true n 999_999_999 h)
 
--- both are ten times the size, by the sign
-pub added_below : (e : ℤ) → lt_z e (pos 0) ≡ true → 0 ≡ cash_added e
-unfolding cash_added
-added_below (pos n) t = absurd (not-suc-le-zero (ltb-true n 0 t))
-added_below (negsuc n) t = refl
+-- what is added and what is taken: one is ten times the size, by the sign, and the other is 0
+pub parts_below : (e : ℤ) → lt_z e (pos 0) ≡ true → (0 ≡ cash_added e) × (10 * nat_abs e ≡ cash_taken e)
+unfolding cash_added cash_taken
+parts_below (pos n) t = absurd (not-suc-le-zero (ltb-true n 0 t))
+parts_below (negsuc n) t = (refl, refl)
 
-pub added_above : (e : ℤ) → lt_z e (pos 0) ≡ false → 10 * nat_abs e ≡ cash_added e
-unfolding cash_added
-added_above (pos n) t = refl
-added_above (negsuc n) t = absurd (true≢false t)
-
-pub taken_below : (e : ℤ) → lt_z e (pos 0) ≡ true → 10 * nat_abs e ≡ cash_taken e
-unfolding cash_taken
-taken_below (pos n) t = absurd (not-suc-le-zero (ltb-true n 0 t))
-taken_below (negsuc n) t = refl
-
-pub taken_above : (e : ℤ) → lt_z e (pos 0) ≡ false → 0 ≡ cash_taken e
-unfolding cash_taken
-taken_above (pos n) t = refl
-taken_above (negsuc n) t = absurd (true≢false t)
+pub parts_above : (e : ℤ) → lt_z e (pos 0) ≡ false → (10 * nat_abs e ≡ cash_added e) × (0 ≡ cash_taken e)
+unfolding cash_added cash_taken
+parts_above (pos n) t = (refl, refl)
+parts_above (negsuc n) t = absurd (true≢false t)
 
 pub added_small : (e : ℤ) → cash_in_range e ≡ true → cash_added e ≤ 99_999_999_990
 unfolding cash_added cash_in_range

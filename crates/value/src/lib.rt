@@ -40,7 +40,7 @@ fn lacks_price(c: Component, price: u64) -> bool
 }
 
 // What the estimated cash adds to the sum, and what it takes from it. All that computes with signed numbers.
-#[tactic(auto, using(crate::proofs::Sign::small))]
+#[tactic(auto, using(crate::proofs::Sign::small, crate::proofs::Sign::parts_below, crate::proofs::Sign::parts_above))]
 fn cash_parts(e: i64) -> (Money, Money)
     requires { cash_in_range e ≡ true }
     ensures added { result.0.0 ≡ cash_added e }
@@ -66,6 +66,7 @@ fn per_unit(basket: Money, size: u64) -> ReferenceValue
 
 // The answer from the sum of the components and what the estimated cash adds to it and takes from it: here alone money is taken away, and
 // behind a test, so that it has no `Sub`.
+#[tactic(auto, using(std::proofs::lemmas::Bool::Decides::nat_tests), unfolding(crate::specs::Worth::value_from, sequences::specs::Every::every, sequences::specs::Checks::answering))]
 fn value_with(sum: Money, added: Money, taken: Money, size: u64) -> Result<ReferenceValue, Refusal>
     requires { (sum.0 + added.0 ≤ 400_000_000_000_000_000) × (1 ≤ size) × (size ≤ 99_999_999) }
     ensures { value_answer_reply result ≡ value_from (sum.0 + added.0) taken.0 size }
@@ -82,6 +83,7 @@ fn value_with(sum: Money, added: Money, taken: Money, size: u64) -> Result<Refer
 }
 
 // Refusal 14, or the value. It looks at the day and the prices only.
+#[tactic(auto, using(sequences::proofs::Below::sum_none, sequences::proofs::Below::any_none, crate::proofs::Laws::priced_next, crate::proofs::Laws::sum_next, crate::proofs::Laws::sum_small, crate::proofs::Laws::unpriced, crate::proofs::Laws::priced_all, crate::proofs::Sign::added_small), unfolding(rules::specs::Lines::price_of))]
 pub fn reference_value(day: &DayView, prices: &[u64]) -> Result<ReferenceValue, Refusal>
     requires { Priceable day.now prices.now }
     ensures { value_answer_reply result ≡ answered (value_checks day.now prices.now) (reference_value day.now prices.now) }

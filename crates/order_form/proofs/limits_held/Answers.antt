@@ -7,14 +7,14 @@ use Rattle.order_form.proofs.limits_held.Goals.{then-within_both, else-within_bo
 use Rattle.order_form.proofs.limits_held.Goals as goal
 
 pub within_both-requires : goal.within_both-requires
-within_both-requires c = all_fits _ _ c.requires.countable _ _ _ c.counts_of_all-all.ensures c.requires.units_bound.1
+within_both-requires c = all_fits _ _ _ _ _ c.counts_of_all-all.ensures c.requires.countable c.requires.units_bound.1
 
 pub overflow_add-all : goal.overflow_add-all
-overflow_add-all c = omega (arith, all_fits _ _ c.requires.countable _ _ _ c.counts_of_all-all.ensures c.requires.units_bound.1)
+overflow_add-all c = omega (arith, all_fits _ _ _ _ _ c.counts_of_all-all.ensures c.requires.countable c.requires.units_bound.1)
 
 pub within_both-requires-then-all-ask-le-CEILING : goal.within_both-requires-then-all-ask-le-CEILING
 within_both-requires-then-all-ask-le-CEILING c =
-    own_fits _ _ c.requires.countable _ _ _ _ c.counts_of-own.ensures c.requires.units_bound.0 c.requires.units_bound.1
+    own_fits _ _ _ _ _ _ c.counts_of-own.ensures c.requires.countable c.requires.units_bound.0 c.requires.units_bound.1
 
 pub returns-then-all-ask-le-CEILING : goal.returns-then-all-ask-le-CEILING
 returns-then-all-ask-le-CEILING c =

@@ -1,13 +1,12 @@
 -- `sound::book_fits` meets its contract: the book's totals fit just where they do as far as 2^62.
-use Rattle.std.proofs.Common.{◌≡◌, ℕ, ◌<◌, min, List, length, get_or, ◌∙◌, get_or-take, arith}
-use Rattle.std.proofs.Math.ListN.{replicate, get_or-replicate}
-use Rattle.std.proofs.lemmas.List.{length-take-le}
+use Rattle.std.proofs.Common.{◌≡◌, ℕ, ◌<◌, min, List, get_or, ◌∙◌, arith}
 use Rattle.sequences.proofs.Every.{same_test}
-use Rattle.totals.specs.Totals.{widest, top, number_at, total, capped_total}
-use Rattle.totals.proofs.Sums.{capped_is, capped_le}
+use Rattle.totals.specs.Totals.{top, number_at, total, capped_total}
+use Rattle.totals.proofs.Sums.{capped_is}
+use Rattle.totals.proofs.Room.{zeros_long, zeros_at}
 use Rattle.layout.specs.Book.{width_of}
 use Rattle.sound.specs.Parts.{totals_fit}
-use Rattle.sound.proofs.Limits.{fits-true, fits_facts, capped_fits, fits_capped}
+use Rattle.sound.proofs.Limits.{fits_true, fits_facts, capped_fits, fits_capped}
 use Rattle.sound.proofs.book_fits.Goals as goal
 
 -- t holds the totals of a book of n components as far as 2^62
@@ -19,23 +18,11 @@ module _ (b : List ℕ) (accounts n : ℕ) (t : List ℕ) (sums : (k : ℕ) → 
   unfolding number_at
   same-fit =
       same_test _ _
-      (λ f. fits-true _ _ (fits_capped n _ (number_at t) capped (fits_facts n (number_at t) f)))
-      (λ f. fits-true n (number_at t) (capped_fits n _ _ capped (fits_facts _ _ f)))
+      (λ f. fits_true _ _ (fits_capped n _ (number_at t) capped (fits_facts n (number_at t) f)))
+      (λ f. fits_true n (number_at t) (capped_fits n _ _ capped (fits_facts _ _ f)))
 
 pub fill-requires : goal.fill-requires
-fill-requires c = (
-  length-take-le c.args.book.now.width (replicate widest 0) (omega arith),
-  c.requires.1,
-  (λ k h. get_or-take c.args.book.now.width (replicate widest 0) k 0 h ∙ get_or-replicate widest k 0 0 (omega arith)),
-)
-
-pub totals_fit-requires : goal.totals_fit-requires
-totals_fit-requires c =
-    let long : length c.fill.new.totals ≡ c.args.book.now.width = c.fill.auto.totals ∙ length-take-le c.args.book.now.width (replicate widest 0) (omega arith) in (
-      c.requires.0,
-      long ∙ c.requires.2,
-      (λ k h. omega (arith, c.fill.ensures k (omega (arith, h, long)), capped_le c.args.book.now.run.now c.args.book.now.width c.args.book.now.rows k)),
-    )
+fill-requires c = (zeros_long _ (omega arith), c.requires.1, zeros_at _ (omega arith))
 
 pub returns : goal.returns
 returns c = c.totals_fit.ensures ∙ same-fit _ _ _ c.fill.new.totals (rw c.requires.2 at c.fill.ensures)

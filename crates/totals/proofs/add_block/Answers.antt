@@ -1,11 +1,8 @@
-use Rattle.std.proofs.Common.{◌≡◌, ℕ, ◌+◌, ◌%◌, ◌^◌, get_or, ap, ◌∙◌, le_refl, length, not-suc-le-zero, arith}
+use Rattle.std.proofs.Common.{◌≡◌, ℕ, ◌+◌, ◌%◌, ◌^◌, get_or, ap, ◌∙◌, le_refl, length, arith}
 use Rattle.totals.specs.Totals.{plus_block, total}
 use Rattle.totals.proofs.Top.{add_wrapped}
-use Rattle.totals.proofs.Pass.{pass_none, pass_more, small_more}
+use Rattle.totals.proofs.Pass.{pass_more, small_more}
 use Rattle.totals.proofs.add_block.Goals as goal
-
-pub loop-j-init : goal.loop-j-init
-loop-j-init c = (pass_none _ _, (λ _ k l. absurd (not-suc-le-zero l)))
 
 pub loop-j-preserved : goal.loop-j-preserved
 unfolding plus_block
@@ -20,6 +17,3 @@ loop-j-preserved c =
       pass_more l.invariant.0 _ (omega arith) t,
       small_more sums l.j l.high c.column-sum.result.1 l.invariant.1 c.column-sum.ensures.low,
     )
-
-pub returns : goal.returns
-returns c = record { small = λ z k h. c.loop-j.invariant.1 z k (omega (arith, h)); sums = λ k h. c.loop-j.invariant.0.done k (omega (arith, h)) }

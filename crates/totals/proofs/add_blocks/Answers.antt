@@ -1,22 +1,22 @@
-use Rattle.std.proofs.Common.{rules, ◌≡◌, ℕ, ◌*◌, ◌/◌, ◌<◌, get_or, length, ap, ◌∙◌, zero-le, length-append, arith}
+use Rattle.std.proofs.Common.{rules, ◌≡◌, ℕ, ◌*◌, ◌/◌, ◌<◌, get_or, length, refl, ap, ◌∙◌, zero-le, length-append, arith}
 use Rattle.std.proofs.Math.ListN.{replicate, get_or-replicate}
+use Rattle.sequences.proofs.Chunks.{chunks_start, chunks_again}
 use Rattle.totals.specs.Totals.{total}
-use Rattle.totals.proofs.Cut.{Piece, cut_none, cut_piece, cut_all, all_blocks}
+use Rattle.totals.proofs.Cut.{chunk_at, all_blocks}
 use Rattle.totals.proofs.Sums.{Counted, quick_none, quick_block, quick_end, counted_none, counted_low}
 use Rattle.totals.proofs.add_blocks.Goals as goal
 
 pub loop-block-init : goal.loop-block-init
-loop-block-init c = (cut_none _ _ _ (cc) (cc), quick_none _ _ _ c.requires.3)
+loop-block-init c = (chunks_start _ _ (cc) (cc) refl, quick_none _ _ _ c.requires.3)
 
 pub loop-block-preserved : goal.loop-block-preserved
 loop-block-preserved c =
-    let a = c.args.rows.now in
     let l = c.loop-block in
-    let p : Piece a.run.now (8 * a.width) (length l.yielded) c.in-Some.block.now c.next.new.self =
-    cut_piece l.invariant.0 _ _ (omega arith) c.in-Some.block c.in-Some.is c.next.ensures.steps in
+    let v = l.invariant.0 in
+    let step = c.in-Some.ensures.steps in
     rw length-append (
-      p.next,
-      quick_block (length l.yielded) l.invariant.1 _ _ c.add_block-high.result (l.auto.totals ∙ c.requires.1) p.same
+      chunks_again _ _ v _ _ step.1 step.0 refl,
+      quick_block (length l.yielded) l.invariant.1 _ _ c.add_block-high.result (l.auto.totals ∙ c.requires.1) (chunk_at v _ _ step.1)
           c.add_block-high.ensures.small c.add_block-high.ensures.sums,
     )
 
@@ -24,8 +24,7 @@ pub returns-then-high-eq0 : goal.returns-then-high-eq0
 returns-then-high-eq0 c =
     let a = c.args.rows.now in
     let l = c.loop-block in
-    let all : length l.yielded * 8 ≡ a.rows / 8 * 8 =
-    all_blocks a.width a.rows _ (omega (arith, l.invariant.0.taken, a.whole)) (omega (arith, cut_all l.invariant.0 _ _ c.in-None.is c.next.ensures.steps, a.whole)) in
+    let all : length l.yielded * 8 ≡ a.rows / 8 * 8 = all_blocks a.width a.rows l.invariant.0 a.whole c.in-None.ensures.steps.1.0 in
     let q : Counted l.totals a.run.now a.width (length l.yielded * 8) = quick_end l.invariant.1 c.if-high-eq0.true (omega (arith, all)) in
     record { upper_bound = omega arith; sums = λ k h. q.same k h ∙ ap (λ (n : ℕ). total a.run.now a.width n k) all; low = counted_low q }
 

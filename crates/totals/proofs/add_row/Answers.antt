@@ -1,13 +1,9 @@
-use Rattle.std.proofs.Common.{◌≡◌, ℕ, ◌<◌, ◌+◌, ◌%◌, ◌^◌, get_or, sym, ap, le_refl, length, arith}
+use Rattle.std.proofs.Common.{◌≡◌, ℕ, ◌<◌, ◌+◌, ◌%◌, ◌^◌, get_or, ap, le_refl, length, arith}
 use lib.Bits.{bit_or}
-use Rattle.sequences.proofs.Below.{any_none}
-use Rattle.totals.specs.Totals.{plus_row, reaches}
+use Rattle.totals.specs.Totals.{plus_row}
 use Rattle.totals.proofs.Top.{or_one}
-use Rattle.totals.proofs.Pass.{pass_none, pass_more, seen_more, seen_end}
+use Rattle.totals.proofs.Pass.{pass_more, seen_more}
 use Rattle.totals.proofs.add_row.Goals as goal
-
-pub loop-j-init : goal.loop-j-init
-loop-j-init c = (pass_none _ _, sym (any_none (reaches _)))
 
 pub loop-j-preserved : goal.loop-j-preserved
 unfolding plus_row
@@ -21,8 +17,3 @@ loop-j-preserved c =
       seen_more _ l.j l.high (bit_or l.high (bit_or x t)) l.invariant.1
           (or_one l.high (get_or c.args.totals.now l.j 0) x t (c.requires.low l.j i) e),
     )
-
-pub returns : goal.returns
-returns c =
-    let l = c.loop-j in
-    record { value = seen_end _ l.j l.high _ l.invariant.1 (omega arith) (omega arith); sums = λ k h. l.invariant.0.done k (omega arith) }

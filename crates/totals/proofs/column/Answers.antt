@@ -1,12 +1,7 @@
 use Rattle.std.proofs.Common.{◌+◌, ◌*◌, get_or, arith}
 use Rattle.totals.proofs.Top.{or_sides}
-use Rattle.totals.proofs.Sums.{total_none, total_more}
+use Rattle.totals.proofs.Sums.{total_more}
 use Rattle.totals.proofs.column.Goals as goal
-
-pub loop-i-init : goal.loop-i-init
-loop-i-init c =
-    let none = total_none c.args.block.now c.args.width c.args.place in
-    (omega (arith, none), (λ m h. omega (arith, none)))
 
 pub loop-i-preserved : goal.loop-i-preserved
 loop-i-preserved c =

@@ -1,5 +1,5 @@
--- The loop's invariant: no component below `i` lacks its price, and `sum` is what those
--- components are worth.
+-- `value::reference_value` meets its contract. The loop's invariant: no component below `i` lacks its price, and `sum` is what those
+-- components are worth. Past the loop the sum decides.
 use mathlib.Core.Path.{◌≡◌}
 use mathlib.Core.Bool.{false}
 use Rattle.sequences.specs.Below.{sum_below, any_below}
