@@ -58,6 +58,15 @@ fn cash_held(kind: Kind, parties: &Parties) -> u64
     }
 }
 
+// M, how many baskets an order for so many units is of.
+#[tactic(auto, unfolding(rules::specs::Orders::baskets))]
+pub fn baskets_in(day: &DayView, units: u64) -> u64
+    requires { 0 < day.now.fund.basket_size }
+    ensures { result ≡ baskets day.now units }
+{
+    units / day.fund().basket_size
+}
+
 // The third stage of an order between two parties: stock first, then the ratio, then cash and room.
 pub fn order_means(
     day: &DayView,
@@ -73,7 +82,7 @@ pub fn order_means(
     ensures cash { IfOk result (λ accepted. accepted.cash ≡ asked_cash day.now parties.now.account.now prices.now ask) }
 {
     let n = day.count();
-    let m = ask.units / day.fund().basket_size;
+    let m = baskets_in(day, ask.units);
     let t = order_scan::order_scan(ask.kind, day, parties, prices, m);
     let held = cash_held(ask.kind, parties);
     let due = t.cash.total();
