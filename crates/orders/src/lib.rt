@@ -67,6 +67,7 @@ pub fn order_tested(
 }
 
 // An order: its tests, and where they accept it its records, moves and reports.
+#[tactic(auto, using(rules::proofs::Replies::refused))]
 pub fn order(
     day: &DayView,
     book: &mut [u64],

@@ -25,16 +25,6 @@ report-requires c =
     let r = order_reports_lem _ _ _ _ (lent_in c.args.lists.now) c.requires.prices_value _ made _ c.baskets_in-m.ensures _ c.in_ok-accepted.ensures.cash _ c.settle.ensures.list in
     record { cash_bound = r.0; reports_in_bounds = r.1 }
 
-pub returns-in_err-accepted : goal.returns-in_err-accepted
-returns-in_err-accepted c =
-    let p = err_from_is_err_and c.from_residual.result c.from_residual.ensures.1 in
-    let stopped = ap accepted_reply (sym c.in_err-accepted.was) ∙ (rw c.rooms.ensures at c.order_tested.ensures.answer_value) in
-    record {
-      result_value = rw (p.1, p.2) stopped;
-      book = leaves_before _ _ _ _ stopped;
-      lists = ap (left_in c.args.lists.now) (leaves_before _ _ _ _ stopped);
-    }
-
 pub returns : goal.returns
 returns c =
     let made = ap accepted_reply (sym c.in_ok-accepted.was) ∙ (rw c.rooms.ensures at c.order_tested.ensures.answer_value) in
