@@ -51,6 +51,7 @@ fn flat_order(
 }
 
 // Creates or redeems units, by the kind of order; the records and the reports to both parties go to the lent lists.
+#[tactic(auto, using(crate::proofs::Room::lent_most))]
 pub fn order(
     day: &[u64],
     book: &mut [u64],

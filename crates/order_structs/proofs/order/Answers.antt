@@ -7,14 +7,8 @@ use Rattle.std.specs.Prelude.{Ok, Err, length}
 use Rattle.std.proofs.lemmas.Grind.{common_steps}
 use Rattle.std.proofs.lemmas.Result.{err_from_is_err_and}
 use Rattle.order_structs.proofs.Room.{lent_bound}
-use Rattle.order_structs.proofs.Laws.{settling, first_is, none_made}
+use Rattle.order_structs.proofs.Laws.{settling, fillable, first_is, none_made}
 use Rattle.order_structs.proofs.order.Goals as goal
-
-pub overflow_mul-lent : goal.overflow_mul-lent
-overflow_mul-lent c = record { fits = omega (arith, lent_bound _ _ c.records_lent-lent.ensures) }
-
-pub slice_bounds-flat-end : goal.slice_bounds-flat-end
-slice_bounds-flat-end c = omega (arith, lent_bound _ _ c.records_lent-lent.ensures)
 
 pub slice_bounds-run-end : goal.slice_bounds-run-end
 slice_bounds-run-end c = sym (length-take-le _ _ (omega (arith, lent_bound _ _ c.records_lent-lent.ensures)))
@@ -34,7 +28,7 @@ fill-requires c =
     let o = c.in_ok-counts.ensures in
     let both =
     settling _ _ _ _ (length a.list.now) _ (Ok c.in_ok-counts.counts) _ _ _ _ _ a.investor.now a.fund.now c.records_lent-lent.ensures refl o.result_value o.book o.lists in
-    (both.0.listed, grind (arith, common_steps, both.0.held))
+    fillable _ _ _ _ _ _ _ _ both.0 (grind (arith, common_steps))
 
 pub returns : goal.returns
 returns c =

@@ -1,5 +1,5 @@
 -- `order_tests::order_means` meets its contract: the scan has what the tests look at, and the cash of an order that is made.
-use mathlib.Core.Path.{refl, sym, ap, ◌∙◌}
+use mathlib.Core.Path.{sym, ap, ◌∙◌}
 use native.Mathlib.Omega.{arith}
 use Rattle.std.proofs.lemmas.Result.{err_from_is_err_and}
 use Rattle.rules.specs.Replies.{answer_reply, order_answer_reply}

@@ -1,12 +1,11 @@
 -- `orders::order` meets its contract: the tests have the answer, and only an accepted order is written, moved and reported.
 use mathlib.Core.Path.{refl, sym, ap, ◌∙◌}
 use native.Mathlib.Omega.{arith}
-use Rattle.std.proofs.lemmas.Result.{err_from_is_err_and}
 use Rattle.fund.proofs.Laws.{fund_sound}
 use Rattle.order_tests.specs.Tests.{accepted_reply}
 use Rattle.rules.specs.Lists.{lent_in, left_in}
 use Rattle.rules.proofs.SoundDay.{sound_facts}
-use Rattle.rules.proofs.Replies.{leaves_after, leaves_before}
+use Rattle.rules.proofs.Replies.{leaves_after}
 use Rattle.orders.proofs.Laws.{order_makes, order_reports_lem, order_made}
 use Rattle.orders.proofs.order.Goals as goal
 

@@ -1,6 +1,4 @@
 -- `orders::order_stage` meets its contract: the parts are the account's stretch and the fund's.
-use mathlib.Core.Path.{ap, ◌∙◌}
-use Rattle.layout.specs.Book.{width_of}
 use Rattle.orders.proofs.Laws.{sound, order, fund, inside, first, stage_asks, prices_ask, units_ask}
 use Rattle.orders.proofs.order_stage.Goals as goal
 
