@@ -4,6 +4,7 @@ use mathlib.Core.Bool.{Bool, true, false, cond, false≢true}
 use mathlib.Core.List.{List, [], ◌++◌, append_assoc}
 use Prim.Native.Nat.{ℕ, ◌*◌, ◌≤◌, ◌<◌}
 use native.Mathlib.Omega.{arith}
+use Rattle.std.proofs.lemmas.Grind.{common_steps}
 use lib.ListN.{length, get_or, take, drop}
 use lib.Seq.{length-take-le, drop-append_seam}
 use Rattle.sequences.specs.Below.{tabulate}
@@ -28,7 +29,7 @@ use Rattle.rules.specs.Redemption.{redemption_reply}
 use Rattle.rules.specs.Kinds.{asked_records, asked_reports, counts_by, asked_checks, asked_reply, asked_book, with_asked, asked_lists}
 use Rattle.rules.proofs.Accepted.{creation_facts, creation_made, redemption_facts, redemption_made}
 use Rattle.rules.proofs.Asked.{by_ask}
-use Rattle.rules.proofs.Replies.{is_accepted_lem, is_refused}
+use Rattle.rules.proofs.Replies.{refused}
 use Rattle.order_structs.specs.Made.{records_of, at_front, rooms_beside, made_records, made_reports}
 use Rattle.order_structs.specs.Settling.{most_records, lent_records, made_count, Settling}
 use Rattle.record_writer.specs.Stored.{with_first}
@@ -58,12 +59,11 @@ none_read flat = refl
 
 -- a refused answer has no records, and an accepted one the count in the reply
 count_none : (x : Result Counts Refusal) (r : Reply) → order_answer_reply x ≡ r → is_accepted r ≡ false → made_count x ≡ 0
-count_none (Ok n) r e f = absurd (false≢true (sym f ∙ is_accepted_lem _ r refl e))
-count_none (Err why) r e f = refl
+unfolding is_accepted
+count_none x r e f = grind arith
 
 count_made : (x : Result Counts Refusal) (r : Reply) → order_answer_reply x ≡ r → is_accepted r ≡ true → made_count x ≡ r.value
-count_made (Ok n) r e f = ap (λ (z : Reply). z.value) e
-count_made (Err why) r e f = absurd (false≢true (sym (is_refused why r e) ∙ f))
+count_made x r e f = grind (arith, refused)
 
 module _ (d : Day) (b ps : List ℕ) (ask : Ask) where
   -- an accepted reply has the count of its records, and they have room
@@ -122,15 +122,8 @@ module _ (d : Day) (b ps : List ℕ) (ask : Ask) where
 
     -- its reports stand in their lists
     reporting : lent_of left toInvestor toFund ≡ asked_lists d b ps ask lent → (toInvestor, toFund) ≡ made_reports d b ps ask rooms investor fund
-    unfolding made_reports with_order
-    reporting lists = go (is_accepted (asked_reply d b ps ask rooms)) refl
-      where
-        both : Lent → List ℕ × List ℕ
-        both l = (l.investor, l.fund)
-
-        go : (x : Bool) → is_accepted (asked_reply d b ps ask rooms) ≡ x → (toInvestor, toFund) ≡ made_reports d b ps ask rooms investor fund
-        go true e = rw e (ap both (lists_by true e lists))
-        go false e = rw e (ap both (lists_by false e lists))
+    unfolding made_reports asked_lists with_order
+    reporting lists = grind (arith, same, lists)
 
     pub settling : order_answer_reply answer ≡ asked_reply d b ps ask (rooms_in lent) → after ≡ asked_book d b ps ask (rooms_in lent)
         → lent_of left toInvestor toFund ≡ asked_lists d b ps ask lent
@@ -171,19 +164,7 @@ module _ (d : Day) (b ps : List ℕ) (ask : Ask) where
     -- the records of the flat run are the order's
     pub first_is : (list : List Record) → with_first (made_count answer) flat list ≡ made_records d b ps ask rooms list
     unfolding with_first made_records
-    first_is list = go (is_accepted (asked_reply d b ps ask rooms)) refl
-      where
-        counted : (made_count answer) ≡ length (tabulate (record_at flat) (made_count answer))
-        counted = sym (table_length (record_at flat) (made_count answer))
-
-        go : (x : Bool) → is_accepted (asked_reply d b ps ask rooms) ≡ x
-            → tabulate (record_at flat) (made_count answer) ++ drop (made_count answer) list ≡ if_accepted (asked_reply d b ps ask rooms) (at_front (records_of d b ps ask) list) list
-        go true h =
-            let rs : tabulate (record_at flat) (made_count answer) ≡ records_of d b ps ask = rw h at t.records in
-            rw (h, rs, counted ∙ ap length rs)
-        go false h =
-            let none : tabulate (record_at flat) (made_count answer) ≡ [] = rw h at t.records in
-            rw (h, none, counted ∙ ap length none)
+    first_is list = grind (arith, common_steps, table_length, t.records)
 
     -- a refused order leaves the list of records as it was
     pub none_made : made_count answer ≡ 0 → (list : List Record) → list ≡ made_records d b ps ask rooms list
