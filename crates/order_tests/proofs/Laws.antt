@@ -41,7 +41,7 @@ ratio_numbered d ps m None = tt
 ratio_numbered d ps m (Some worth) = tt
 
 -- the answer of two stages, by what the first answers
-staged : (cs ds : List Check) (r : Reply) → T (numbered cs) → answering (cs ++ ds) r ≡ if_accepted (answered cs 0) (answering ds r) (answered cs 0)
+pub staged : (cs ds : List Check) (r : Reply) → T (numbered cs) → answering (cs ++ ds) r ≡ if_accepted (answered cs 0) (answering ds r) (answered cs 0)
 staged cs ds r n = go (is_accepted (answered cs 0)) refl
   where
     go : (b : Bool) → is_accepted (answered cs 0) ≡ b → answering (cs ++ ds) r ≡ if_accepted (answered cs 0) (answering ds r) (answered cs 0)

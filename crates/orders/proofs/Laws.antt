@@ -1,7 +1,7 @@
 -- From a sound day and an order's form to what its third stage, its records and its move ask.
 use mathlib.Core.Path.{◌≡◌, refl, sym, ap, ◌∙◌}
 use mathlib.Core.Bool.{true}
-use mathlib.Core.List.{List, ◌++◌, map, append_assoc}
+use mathlib.Core.List.{List, [], ◌++◌, map, append_assoc}
 use Prim.Native.Nat.{ℕ, ◌+◌, ◌-◌, ◌*◌, ◌≤◌, ◌<◌, ◌^◌}
 use native.Mathlib.Omega.{arith}
 use lib.ListN.{length}
@@ -11,7 +11,7 @@ use Rattle.sequences.specs.Checks.{Check, Reply, reply, answered, is_accepted}
 use Rattle.sequences.proofs.Checks.{all_passed}
 use Rattle.sequences.proofs.Stretch.{within}
 use Rattle.fund.proofs.Laws.{FundRanges, fund_sound}
-use Rattle.layout.specs.Day.{Day}
+use Rattle.layout.specs.Day.{Day, day_of}
 use Rattle.rules.specs.declared.Ask.{Ask}
 use Rattle.rules.specs.declared.CashByMarket.{CashByMarket}
 use Rattle.rules.specs.declared.Rooms.{Rooms}
@@ -24,9 +24,8 @@ use Rattle.layout.specs.Places.{record_width, report_width}
 use Rattle.layout.specs.Records.{record_numbers, with_records}
 use Rattle.layout.specs.Reports.{with_reports}
 use Rattle.layout.proofs.Laid.{with_length}
-use Rattle.rules.specs.declared.Refusal.{Refusal}
 use Rattle.layout.specs.Book.{width_of, account}
-use Rattle.rules.specs.Replies.{refusal_reply, made_reply}
+use Rattle.rules.specs.Replies.{made_reply, if_accepted}
 use Rattle.rules.specs.Sound.{is_sound}
 use Rattle.rules.specs.Orders.{baskets, form_checks, permission_checks}
 use Rattle.rules.specs.Creation.{available, creation_due, creation_checks, creation_reply}
@@ -36,7 +35,7 @@ use Rattle.rules.specs.Kinds.{asked_cash, asked_records, asked_reports, counts_b
 use Rattle.rules.proofs.SoundDay.{SoundDay, sound_facts}
 use Rattle.rules.proofs.Accepted.{Orders, Listed, order_facts, creation_facts, creation_made, redemption_facts, redemption_made}
 use Rattle.rules.proofs.Reports.{report_count}
-use Rattle.rules.proofs.Replies.{is_accepted_lem, on_sound, stage_passed, stage_stopped}
+use Rattle.rules.proofs.Replies.{is_accepted_lem, on_sound}
 use Rattle.rules.proofs.Asked.{by_ask, asked_records_lem, asked_reports_lem, asked_moves_lem}
 use Rattle.book.specs.Ready.{OrderReady}
 use Rattle.book.proofs.Ready.{creation_ready, redemption_ready}
@@ -46,6 +45,8 @@ use Rattle.order_reports.specs.Told.{told_reports}
 use Rattle.order_reports.proofs.Order.{record_count, investor_told, fund_told}
 use Rattle.order_tests.specs.Tests.{means_answer}
 use Rattle.order_form.specs.Form.{order_form}
+use Rattle.order_form.proofs.Laws.{form_of_day}
+use Rattle.order_tests.proofs.Laws.{staged}
 use Rattle.value.specs.Worth.{Priceable}
 use Rattle.value.proofs.Laws.{priceable}
 use Rattle.order_scan.specs.Ready.{Scannable}
@@ -98,14 +99,14 @@ module _ (d : Day) (b ps : List ℕ) (rooms : Rooms) where
       (λ a units. simp append_assoc)
       (λ a units. simp append_assoc)
 
-  module _ (ask : Ask) where
-    pub form_passed : reply 0 0 0 ≡ answered (form ask) 0 → means_answer d (account d b ask.account) (account d b 0) ps ask rooms ≡ asked_answer d b ps ask rooms
-    unfolding asked_answer means_answer order_form form_checks permission_checks
-    form_passed e = rw (stages ask) (stage_passed (form ask) _ _ tt e)
+  pub asked_staged : (ask : Ask)
+      → asked_answer d b ps ask rooms ≡ if_accepted (answered (form ask) 0) (means_answer d (account d b ask.account) (account d b 0) ps ask rooms) (answered (form ask) 0)
+  unfolding asked_answer means_answer order_form form_checks permission_checks
+  asked_staged ask = rw (stages ask) (staged (form ask) (means ask) _ tt)
 
-    pub form_stopped : (why : Refusal) → refusal_reply why ≡ answered (form ask) 0 → refusal_reply why ≡ asked_answer d b ps ask rooms
-    unfolding asked_answer
-    form_stopped why e = rw (stages ask) (stage_stopped (form ask) _ _ why e)
+-- the form of an order looks at the day's head alone
+pub form_is : (d : Day) (b : List ℕ) (ask : Ask) → order_form d b ask ≡ order_form (day_of (record { accounts = d.accounts; count = d.count; fund = d.fund }) []) b ask
+form_is d b ask = sym (form_of_day d _ b ask refl)
 
 -- what an accepted order has
 record Accepted (d : Day) (b ps : List ℕ) (rooms : Rooms) (ask : Ask) : Type 0 where

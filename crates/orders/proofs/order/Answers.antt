@@ -24,14 +24,10 @@ report-requires c =
     let r = order_reports_lem _ _ _ _ (lent_in c.args.lists.now) c.requires.prices_value _ made _ c.baskets_in-m.ensures _ c.in_ok-accepted.ensures.cash _ c.settle.ensures.list in
     record { cash_bound = r.0; reports_in_bounds = r.1 }
 
-pub returns : goal.returns
-returns c =
+pub returns-clause-lists : goal.returns-clause-lists
+returns-clause-lists c =
     let made = ap accepted_reply (sym c.in_ok-accepted.was) ∙ (rw c.rooms.ensures at c.order_tested.ensures.answer_value) in
     let done =
     order_made _ _ _ _ (lent_in c.args.lists.now) c.requires.prices_value _ made _ c.baskets_in-m.ensures _ c.in_ok-accepted.ensures.cash _ c.settle.ensures.list _ _ _
     c.settle.ensures.book c.report.ensures.investor c.report.ensures.fund in
-    record {
-      result_value = made;
-      book = done.0 ∙ leaves_after _ _ _ _ refl made;
-      lists = ap (left_in c.args.lists.now) (done.1 ∙ leaves_after _ _ _ _ refl made);
-    }
+    ap (left_in c.args.lists.now) (done.1 ∙ leaves_after _ _ _ _ refl made)
