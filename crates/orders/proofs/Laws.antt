@@ -7,7 +7,7 @@ use native.Mathlib.Omega.{arith}
 use lib.ListN.{length}
 use borrow.Author.Tests.{not-false}
 use Rattle.sequences.specs.Below.{join_below}
-use Rattle.sequences.specs.Checks.{Check, Reply, reply, answered, is_accepted}
+use Rattle.sequences.specs.Checks.{Check, Reply, answered, is_accepted}
 use Rattle.sequences.proofs.Checks.{all_passed}
 use Rattle.sequences.proofs.Stretch.{within}
 use Rattle.fund.proofs.Laws.{FundRanges, fund_sound}
@@ -30,13 +30,13 @@ use Rattle.rules.specs.Sound.{is_sound}
 use Rattle.rules.specs.Orders.{baskets, form_checks, permission_checks}
 use Rattle.rules.specs.Creation.{available, creation_due, creation_checks, creation_reply}
 use Rattle.rules.specs.Redemption.{redemption_paid, redemption_checks, redemption_reply}
-use Rattle.rules.specs.Kinds.{all_cash, cash_by, order_moves, moved_by, stock_side, rest_side, records_by, reports_by, cash_report_count}
-use Rattle.rules.specs.Kinds.{asked_cash, asked_records, asked_reports, counts_by, asked_counts, asked_means, asked_checks, asked_reply, asked_moves, with_asked}
+use Rattle.rules.specs.Kinds.{all_cash, cash_by, moved_by, stock_side, rest_side, records_by, reports_by, cash_report_count}
+use Rattle.rules.specs.Kinds.{asked_cash, asked_records, asked_reports, counts_by, asked_counts, asked_means, asked_checks, asked_reply, with_asked}
 use Rattle.rules.proofs.SoundDay.{SoundDay, sound_facts}
 use Rattle.rules.proofs.Accepted.{Orders, Listed, order_facts, creation_facts, creation_made, redemption_facts, redemption_made}
 use Rattle.rules.proofs.Reports.{report_count}
 use Rattle.rules.proofs.Replies.{is_accepted_lem, on_sound}
-use Rattle.rules.proofs.Asked.{by_ask, asked_records_lem, asked_reports_lem, asked_moves_lem}
+use Rattle.rules.proofs.Asked.{by_ask, asked_records_lem, asked_reports_lem}
 use Rattle.book.specs.Ready.{OrderReady}
 use Rattle.book.proofs.Ready.{creation_ready, redemption_ready}
 use Rattle.order_records.specs.Ready.{Writable}
@@ -192,16 +192,16 @@ module _ (d : Day) (b ps : List ℕ) (ask : Ask) (lent : Lent) (whole : is_sound
       (omega (arith, counted, facts.listed.investor), omega (arith, counted, facts.listed.fund)),
     )
 
-    pub order_made : (after own other : List ℕ) → after ≡ order_moves ask.kind d ask.account ask.units m (all_cash c) b
+    pub order_lists : (own other : List ℕ)
         → own ≡ with_reports (told_reports (stock_side ask.kind) (rest_side ask.kind) written (counts.reports - cash_report_count c - 1) c) lent.investor
         → other ≡ with_reports (told_reports (rest_side ask.kind) (stock_side ask.kind) written (counts.reports - cash_report_count c - 1) c) lent.fund
-        → (after ≡ asked_moves d ps ask b) × (lent_of written own other ≡ with_asked d b ps ask lent)
+        → lent_of written own other ≡ with_asked d b ps ask lent
     unfolding with_order
-    order_made after own other e i f =
+    order_lists own other i f =
         let n : counts.reports - cash_report_count c - 1 ≡ stocked = omega (arith, told) in
         let to-investor : own ≡ with_reports (asked_reports d s ps ask) lent.investor =
         i ∙ rw (n, w, investor_told ask.kind d s ask.units m c lent.records, reports) in
         let to-fund : other ≡ with_reports (map opposite (asked_reports d s ps ask)) lent.fund =
         f ∙ rw (n, w, fund_told ask.kind d s ask.units m c lent.records, reports) in
         let all = w ∙ ap (λ (rs : List Record). with_records rs lent.records) records in
-        (e ∙ rw (in-baskets, paid) (asked_moves_lem d b ps ask), λ j. record { records = all j; investor = to-investor j; fund = to-fund j })
+        λ j. record { records = all j; investor = to-investor j; fund = to-fund j }

@@ -1,16 +1,15 @@
 -- `orders::order` meets its contract: the tests have the answer, and only an accepted order is written, moved and reported.
 use mathlib.Core.Path.{refl, sym, ap, ◌∙◌}
-use native.Mathlib.Omega.{arith}
 use Rattle.fund.proofs.Laws.{fund_sound}
 use Rattle.order_tests.specs.Tests.{accepted_reply}
 use Rattle.rules.specs.Lists.{lent_in, left_in}
 use Rattle.rules.proofs.SoundDay.{sound_facts}
 use Rattle.rules.proofs.Replies.{leaves_after}
-use Rattle.orders.proofs.Laws.{order_makes, order_reports_lem, order_made}
+use Rattle.orders.proofs.Laws.{order_makes, order_reports_lem, order_lists}
 use Rattle.orders.proofs.order.Goals as goal
 
 pub baskets_in-m-requires : goal.baskets_in-m-requires
-baskets_in-m-requires c = omega (arith, (fund_sound _ (sound_facts _ _ _ c.requires.prices_value).own.fund_fields).size_low)
+baskets_in-m-requires c = (fund_sound _ (sound_facts _ _ _ c.requires.prices_value).own.fund_fields).size_low
 
 pub settle-requires : goal.settle-requires
 settle-requires c =
@@ -27,7 +26,6 @@ report-requires c =
 pub returns-clause-lists : goal.returns-clause-lists
 returns-clause-lists c =
     let made = ap accepted_reply (sym c.in_ok-accepted.was) ∙ (rw c.rooms.ensures at c.order_tested.ensures.answer_value) in
-    let done =
-    order_made _ _ _ _ (lent_in c.args.lists.now) c.requires.prices_value _ made _ c.baskets_in-m.ensures _ c.in_ok-accepted.ensures.cash _ c.settle.ensures.list _ _ _
-    c.settle.ensures.book c.report.ensures.investor c.report.ensures.fund in
-    ap (left_in c.args.lists.now) (done.1 ∙ leaves_after _ _ _ _ refl made)
+    let lists = order_lists _ _ _ _ (lent_in c.args.lists.now) c.requires.prices_value _ made _ c.baskets_in-m.ensures _ c.in_ok-accepted.ensures.cash _ c.settle.ensures.list _ _
+    c.report.ensures.investor c.report.ensures.fund in
+    ap (left_in c.args.lists.now) (lists ∙ leaves_after _ _ _ _ refl made)
