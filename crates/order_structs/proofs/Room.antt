@@ -1,23 +1,21 @@
 -- An order on a sound day has no more records than the most, so that a flat run with room for the most serves a list of any length.
 use mathlib.Core.Path.{◌≡◌, refl, sym, ◌∙◌}
-use mathlib.Core.Bool.{Bool, true, false, cond}
+use mathlib.Core.Bool.{Bool, true, false}
 use mathlib.Core.List.{List, [], ◌∷◌, ◌++◌}
-use Prim.Native.Nat.{ℕ, ◌+◌, ◌/◌, ◌%◌, ◌≤◌, min}
+use Prim.Native.Nat.{ℕ, ◌+◌, ◌≤◌}
 use native.Mathlib.Omega.{arith}
-use lib.Dec.{ltb, leb, eqb, lit≤}
+use Rattle.std.proofs.lemmas.Grind.{common_steps}
+use Rattle.std.proofs.lemmas.Bool.Decides.{nat_tests}
+use lib.Dec.{leb}
 use lib.ListN.{length, length-append, length-map}
-use borrow.Author.Tests.{le-leb, lt-leb, leb-true, leb-false}
 use Rattle.sequences.specs.Below.{join_below}
 use Rattle.sequences.proofs.Below.{join-le}
-use Rattle.units.specs.Units.{split_size}
 use Rattle.layout.specs.Places.{most_components}
 use Rattle.layout.specs.Day.{Day}
-use Rattle.layout.specs.declared.Record.{Record}
 use Rattle.layout.specs.Book.{account}
 use Rattle.rules.specs.declared.Ask.{Ask}
 use Rattle.rules.specs.declared.Rooms.{Rooms}
 use Rattle.rules.specs.declared.Counts.{Counts}
-use Rattle.rules.specs.Lines.{code_of}
 use Rattle.rules.specs.Records.{second_unit, shanghai_step, other_step, record_of, cash_parts, cash_records, stock_record, order_records}
 use Rattle.rules.specs.Lent.{too_short}
 use Rattle.rules.specs.Sound.{is_sound}
@@ -32,12 +30,7 @@ use Rattle.order_structs.specs.Settling.{most_records, lent_records}
 
 parts_few : (c : ℕ) → length (cash_parts c) ≤ 2
 unfolding cash_parts
-parts_few c = go (eqb c 0) (ltb c split_size)
-  where
-    go : (x y : Bool) → length {A = ℕ × ℕ} (cond x [] (cond y ((1, c) ∷ []) ((split_size, c / split_size) ∷ (1, c % split_size) ∷ []))) ≤ 2
-    go true y = lit≤ tt
-    go false true = lit≤ tt
-    go false false = lit≤ tt
+parts_few c = grind (arith, common_steps)
 
 cash_few : (code side c : ℕ) → length (cash_records code side c) ≤ 2
 unfolding cash_records
@@ -45,11 +38,7 @@ cash_few code side c = omega (arith, length-map (cash_parts c) (λ part. record_
 
 line_few : (d : Day) (side : ℕ) (moved : ℕ → ℕ) (i : ℕ) → length (stock_record d side moved i) ≤ 1
 unfolding stock_record
-line_few d side moved i = go (ltb 0 (moved i))
-  where
-    go : (x : Bool) → length {A = Record} (cond x (record_of (code_of d i) side (moved i) 0 ∷ []) []) ≤ 1
-    go true = lit≤ tt
-    go false = lit≤ tt
+line_few d side moved i = grind (arith, common_steps)
 
 records_few : (d : Day) (side rest units : ℕ) (moved : ℕ → ℕ) (other shanghai : ℕ) → d.count ≤ most_components → length (order_records d side rest units moved other shanghai) ≤ most_records
 unfolding order_records
@@ -95,11 +84,7 @@ lent_rooms rooms = record { records = lent_records rooms.records; investor = roo
 
 same_test : (room n : ℕ) → n ≤ most_records → leb n (lent_records room) ≡ leb n room
 unfolding lent_records
-same_test room n h = go (leb n room) refl
-  where
-    go : (x : Bool) → leb n room ≡ x → leb n (min room most_records) ≡ leb n room
-    go true e = le-leb n (min room most_records) (omega (arith, h, leb-true n room e)) ∙ sym e
-    go false e = lt-leb n (min room most_records) (omega (arith, leb-false n room e)) ∙ sym e
+same_test room n h = grind (arith, nat_tests)
 
 same_short : (rooms : Rooms) (counts : Counts) → counts.records ≤ most_records → too_short (lent_rooms rooms) counts ≡ too_short rooms counts
 unfolding too_short

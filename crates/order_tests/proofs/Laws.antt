@@ -1,33 +1,29 @@
 -- The answers of the third stage, test by test.
 use mathlib.Core.Path.{◌≡◌, refl, sym, ap, ◌∙◌}
 use mathlib.Core.Bool.{Bool, true, false, cond, not, ◌&&◌}
+use Rattle.rules.specs.declared.Kind.{Kind}
 use mathlib.Core.List.{List, ◌∷◌, ◌++◌}
-use Rattle.std.specs.Prelude.{Option, Some, None, Ok, Err}
+use Rattle.std.specs.Prelude.{Option, Some, None}
 use Rattle.std.specs.Bool.{then_some}
-use Prim.Native.Nat.{ℕ, ◌≤◌, ◌<◌}
+use Prim.Native.Nat.{ℕ, ◌≤◌}
 use lib.Dec.{T, ltb}
-use borrow.Author.Tests.{lt-ltb, le-ltb}
-use Rattle.sequences.specs.Checks.{Check, Reply, check, reply, answering, answered}
+use Rattle.sequences.specs.Checks.{Check, Reply, check, reply, answering, answered, is_accepted}
 use Rattle.sequences.specs.Below.{sum_below, below}
-use Rattle.sequences.proofs.Checks.{numbered}
+use Rattle.sequences.proofs.Checks.{numbered, answered_next, answered_stop, accepted_passes, refused_stops}
 use Rattle.units.specs.declared.Money.{Money}
-use Rattle.units.specs.declared.ReferenceValue.{ReferenceValue}
 use Rattle.units.specs.Units.{ratio_bound}
 use Rattle.layout.specs.Places.{most_components}
 use Rattle.layout.specs.Day.{Day}
 use Rattle.rules.specs.declared.Ask.{Ask}
-use Rattle.rules.specs.declared.Refusal.{Refusal}
 use Rattle.layout.specs.Book.{cash, head_at}
 use Rattle.rules.specs.declared.Rooms.{Rooms}
 use Rattle.rules.specs.declared.Counts.{Counts}
-use Rattle.rules.specs.Replies.{refusal_reply, made_reply, value_answer_reply}
+use Rattle.rules.specs.Replies.{made_reply, if_accepted}
 use Rattle.rules.specs.Orders.{baskets}
 use Rattle.rules.specs.Creation.{available, first_short, missing_worth, is_missing, creation_due, ratio_passed, creation_means}
 use Rattle.rules.specs.Redemption.{first_lacking, units_available, redemption_paid, redemption_means}
-use Rattle.rules.specs.Value.{reference_value, has_value, value_checks}
-use Rattle.value.proofs.Answers.{worth_facts, refused_facts}
+use Rattle.rules.specs.Value.{reference_value, has_value}
 use Rattle.rules.specs.Kinds.{creation_of, redemption_of, by_kind, all_cash, cash_by, asked_cash, asked_records, asked_reports, counts_by, asked_means}
-use Rattle.rules.proofs.Replies.{stage_passed, stage_stopped}
 use Rattle.rules.proofs.Asked.{by_ask}
 use Rattle.order_scan.specs.declared.Scan.{Scan}
 use Rattle.order_scan.specs.Lines.{scan_counts}
@@ -44,26 +40,13 @@ unfolding ratio_tests
 ratio_numbered d ps m None = tt
 ratio_numbered d ps m (Some worth) = tt
 
--- 14 and 15, where something is missing
-module _ (d : Day) (ps : List ℕ) (m : ℕ) (worth : Money) where
-  pub ratio_no_value : (why : Refusal) → value_answer_reply (Err why) ≡ answered (value_checks d ps) (reference_value d ps)
-      → refusal_reply why ≡ answered (ratio_tests d ps m (Some worth)) 0
-  unfolding value_checks answering ratio_tests
-  ratio_no_value why e = rw (refused_facts d ps why e) (rw (refused_facts d ps why e) at e)
-
-  -- the value v is the day's, and the bound that it sets
-  module _ (v : ReferenceValue) (is : value_answer_reply (Ok v) ≡ answered (value_checks d ps) (reference_value d ps)) (bound : ℕ)
-      (set : bound ≡ ratio_bound m d.fund.basket_size v.0 d.fund.max_cash_ratio.0) where
-    same : ratio_bound m d.fund.basket_size (reference_value d ps) d.fund.max_cash_ratio.0 ≡ bound
-    same = ap (λ (x : ℕ). ratio_bound m d.fund.basket_size x d.fund.max_cash_ratio.0) (sym (worth_facts d ps v is).1) ∙ sym set
-
-    pub ratio_over : bound < worth.0 → reply 15 0 0 ≡ answered (ratio_tests d ps m (Some worth)) 0
-    unfolding answering ratio_tests
-    ratio_over h = simp ((worth_facts d ps v is).0, same, lt-ltb bound worth.0 h)
-
-    pub ratio_within : worth.0 ≤ bound → reply 0 0 0 ≡ answered (ratio_tests d ps m (Some worth)) 0
-    unfolding answering ratio_tests
-    ratio_within h = simp ((worth_facts d ps v is).0, same, le-ltb bound worth.0 h)
+-- the answer of two stages, by what the first answers
+pub staged : (cs ds : List Check) (r : Reply) → T (numbered cs) → answering (cs ++ ds) r ≡ if_accepted (answered cs 0) (answering ds r) (answered cs 0)
+staged cs ds r n = go (is_accepted (answered cs 0)) refl
+  where
+    go : (b : Bool) → is_accepted (answered cs 0) ≡ b → answering (cs ++ ds) r ≡ if_accepted (answered cs 0) (answering ds r) (answered cs 0)
+    go true e = rw e (answered_next cs ds r (accepted_passes cs _ n e))
+    go false e = rw e (answered_stop cs ds r _ (refused_stops cs 0 e))
 
 -- a test at the first place below n, and the tests of what is missing, as the rules write them
 module _ (cs : List Check) (r : Reply) where
@@ -86,18 +69,29 @@ module _ (cs : List Check) (r : Reply) where
   of_missing d ps m true worth = refl
   of_missing d ps m false worth = refl
 
--- the tests of an ask, with counts of records and reports, are the rules' third stage
-module _ (d : Day) (s f ps : List ℕ) (rooms : Rooms) where
+-- the tests of an ask, from a scan of it, are the rules' third stage
+module _ (d : Day) (s f ps : List ℕ) where
   abbrev scan : Ask → Scan
   scan ask = order_scan ask.kind d s f ps (baskets d ask.units)
 
+  abbrev stock_of : Ask → List Check
+  stock_of ask = stock_tests ask.kind (available s d.count) ask.units (scan ask).short
+
+  abbrev ratio_of : Ask → List Check
+  ratio_of ask = ratio_tests d ps (baskets d ask.units) (scan ask).missing
+
+  abbrev last_of : Ask → Rooms → Counts → List Check
+  last_of ask rooms counts = last_tests (cash_number ask.kind) (cash_place ask.kind d.count) (head_at (by_kind ask.kind s f) cash) (all_cash (scan ask).cash) rooms counts
+
+  abbrev rest_answer : Ask → Rooms → Reply
+  rest_answer ask rooms = answering (last_of ask rooms (scan_counts (scan ask))) (made_reply (scan_counts (scan ask)))
+
+module _ (d : Day) (s f ps : List ℕ) (rooms : Rooms) where
   abbrev last : Ask → List Check
-  last ask =
-      last_tests (cash_number ask.kind) (cash_place ask.kind d.count) (head_at (by_kind ask.kind s f) cash) (all_cash (scan ask).cash) rooms (counts_by d s ps ask)
+  last ask = last_of d s f ps ask rooms (counts_by d s ps ask)
 
   abbrev tests : Ask → List Check
-  tests ask =
-      stock_tests ask.kind (available s d.count) ask.units (scan ask).short ++ (ratio_tests d ps (baskets d ask.units) (scan ask).missing ++ last ask)
+  tests ask = stock_of d s f ps ask ++ (ratio_of d s f ps ask ++ last ask)
 
   tests_are : (r : Reply) (ask : Ask) → answering (tests ask) r ≡ answering (asked_means d s f ps ask rooms) r
   unfolding answering stock_tests ratio_tests last_tests cash_number cash_place order_scan cash_by available units_available asked_records asked_reports counts_by asked_means
@@ -109,51 +103,33 @@ module _ (d : Day) (s f ps : List ℕ) (rooms : Rooms) where
       let m = baskets d units in
       let first = first_short d s m in
       let missing = of_missing (last ask) r d ps m (is_missing d s m) (record { 0 = sum_below (missing_worth d s ps m) d.count }) in
-      at_first (ratio_tests d ps m (scan ask).missing ++ last ask) r d.count first 9 ∙ ap (λ (x : Reply). cond (ltb first d.count) (reply 9 first 0) x) missing)
+      at_first (ratio_tests d ps m (scan d s f ps ask).missing ++ last ask) r d.count first 9 ∙ ap (λ (x : Reply). cond (ltb first d.count) (reply 9 first 0) x) missing)
       (λ a units.
       let first = first_lacking d f (baskets d units) in
       ap (λ (x : Reply). cond (ltb (available s d.count) units) (reply 9 0 0) x) (at_first (last (redemption_of a units)) r d.count first 17))
 
--- and so stage by stage from a scan t, for m that is the order's count of baskets
-module _ (d : Day) (s f ps : List ℕ) (ask : Ask) (m : ℕ) (t : Scan) (rooms : Rooms) (scanned : t ≡ order_scan ask.kind d s f ps m) (whole : m ≡ baskets d ask.units) where
-  abbrev stock : List Check
-  stock = stock_tests ask.kind (available s d.count) ask.units t.short
+-- the answer of the third stage: of its tests of stock, then of the ratio, and then of the rest
+pub means_staged : (d : Day) (s f ps : List ℕ) (ask : Ask) (rooms : Rooms)
+    → means_answer d s f ps ask rooms
+    ≡ if_accepted (answered (stock_of d s f ps ask) 0) (if_accepted (answered (ratio_of d s f ps ask) 0) (rest_answer d s f ps ask rooms) (answered (ratio_of d s f ps ask) 0))
+    (answered (stock_of d s f ps ask) 0)
+unfolding means_answer
+means_staged d s f ps ask rooms =
+    let stock = stock_of d s f ps ask in
+    let ratio = ratio_of d s f ps ask in
+    let r = made_reply (counts_by d s ps ask) in
+    rw (scan_counts_lem d s f ps ask)
+    (sym (tests_are d s f ps rooms r ask)
+    ∙ staged stock (ratio ++ last d s f ps rooms ask) r (stock_numbered ask.kind (available s d.count) ask.units (scan d s f ps ask).short)
+    ∙ ap (λ (x : Reply). if_accepted (answered stock 0) x (answered stock 0))
+    (staged ratio (last d s f ps rooms ask) r (ratio_numbered d ps (baskets d ask.units) (scan d s f ps ask).missing)))
 
-  abbrev ratio : List Check
-  ratio = ratio_tests d ps m t.missing
+-- the cash of an order is its scan's, and a scan's sums fit
+pub scan_cash : (d : Day) (s f ps : List ℕ) (ask : Ask) → (order_scan ask.kind d s f ps (baskets d ask.units)).cash ≡ asked_cash d s ps ask
+unfolding order_scan asked_cash
+scan_cash d s f ps ask = refl
 
-  abbrev last_of : ℕ → ℕ → ℕ → Rooms → Counts → List Check
-  last_of n held due rooms counts = last_tests (cash_number ask.kind) (cash_place ask.kind n) held due rooms counts
-
-  abbrev behind : List Check
-  behind = last_of d.count (head_at (by_kind ask.kind s f) cash) (all_cash t.cash) rooms (scan_counts t)
-
-  means_done : answering (stock ++ (ratio ++ behind)) (made_reply (scan_counts t)) ≡ means_answer d s f ps ask rooms
-  unfolding means_answer
-  means_done = rw (scanned, whole, scan_counts_lem d s f ps ask) (tests_are d s f ps rooms _ ask)
-
-  pub stock_stops : (why : Refusal) → refusal_reply why ≡ answered stock 0 → refusal_reply why ≡ means_answer d s f ps ask rooms
-  stock_stops why e = stage_stopped stock _ _ why e ∙ means_done
-
-  module _ (there : reply 0 0 0 ≡ answered stock 0) where
-    pub ratio_stops : (why : Refusal) → refusal_reply why ≡ answered ratio 0 → refusal_reply why ≡ means_answer d s f ps ask rooms
-    ratio_stops why e =
-        stage_stopped ratio behind (made_reply (scan_counts t)) why e ∙ stage_passed stock _ _ (stock_numbered ask.kind (available s d.count) ask.units t.short) there ∙ means_done
-
-    pub means_last : reply 0 0 0 ≡ answered ratio 0 → {n held due : ℕ} {counts : Counts} {x : Reply}
-        → n ≡ d.count → held ≡ head_at (by_kind ask.kind s f) cash → due ≡ all_cash t.cash → counts ≡ scan_counts t
-        → x ≡ answering (last_of n held due rooms counts) (made_reply counts) → x ≡ means_answer d s f ps ask rooms
-    means_last within en eh ed ec e =
-        e
-        ∙ rw (en, eh, ed, ec) (stage_passed ratio behind (made_reply (scan_counts t)) (ratio_numbered d ps m t.missing) within)
-        ∙ stage_passed stock _ _ (stock_numbered ask.kind (available s d.count) ask.units t.short) there
-        ∙ means_done
-
-  pub means_cash : t.cash ≡ asked_cash d s ps ask
-  unfolding order_scan asked_cash
-  means_cash = rw (scanned, whole)
-
-  -- and its sums fit
-  pub means_fit : Scannable d s f ps m → (t.stock_records ≤ most_components) × (all_cash t.cash ≤ 12_000_000_000_000_000_000)
-  unfolding order_scan
-  means_fit r = rw scanned (scan_records-le ask.kind d s f ps m r.count, cash_fits ask.kind d s f ps m r)
+pub scan_fits : (kind : Kind) (d : Day) (s f ps : List ℕ) (m : ℕ) → Scannable d s f ps m
+    → ((order_scan kind d s f ps m).stock_records ≤ most_components) × (all_cash (order_scan kind d s f ps m).cash ≤ 12_000_000_000_000_000_000)
+unfolding order_scan
+scan_fits kind d s f ps m r = (scan_records-le kind d s f ps m r.count, cash_fits kind d s f ps m r)

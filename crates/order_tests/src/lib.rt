@@ -25,6 +25,7 @@ pub struct Accepted {
 }
 
 // The tests 14 and 15: nothing is asked where nothing is missing.
+#[tactic(auto, using(value::proofs::Answers::value_range, rules::proofs::Replies::refused, std::proofs::lemmas::Bool::Decides::nat_tests), unfolding(crate::specs::Tests::ratio_tests, rules::specs::Value::value_checks, sequences::specs::Checks::answering, sequences::specs::Checks::is_accepted))]
 fn ratio_answer(
     day: &DayView,
     prices: &[u64],
@@ -58,7 +59,17 @@ fn cash_held(kind: Kind, parties: &Parties) -> u64
     }
 }
 
+// M, how many baskets an order for so many units is of.
+#[tactic(auto, unfolding(rules::specs::Orders::baskets))]
+pub fn baskets_in(day: &DayView, units: u64) -> u64
+    requires { 0 < day.now.fund.basket_size }
+    ensures { result ≡ baskets day.now units }
+{
+    units / day.fund().basket_size
+}
+
 // The third stage of an order between two parties: stock first, then the ratio, then cash and room.
+#[tactic(auto, using(crate::proofs::Laws::means_staged, crate::proofs::Laws::scan_cash, crate::proofs::Laws::scan_fits, rules::proofs::Replies::refused), unfolding(sequences::specs::Checks::is_accepted))]
 pub fn order_means(
     day: &DayView,
     parties: &Parties,
@@ -73,7 +84,7 @@ pub fn order_means(
     ensures cash { IfOk result (λ accepted. accepted.cash ≡ asked_cash day.now parties.now.account.now prices.now ask) }
 {
     let n = day.count();
-    let m = ask.units / day.fund().basket_size;
+    let m = baskets_in(day, ask.units);
     let t = order_scan::order_scan(ask.kind, day, parties, prices, m);
     let held = cash_held(ask.kind, parties);
     let due = t.cash.total();

@@ -1,17 +1,17 @@
 -- From a sound day and an order's form to what its third stage, its records and its move ask.
 use mathlib.Core.Path.{◌≡◌, refl, sym, ap, ◌∙◌}
 use mathlib.Core.Bool.{true}
-use mathlib.Core.List.{List, ◌++◌, map, append_assoc}
+use mathlib.Core.List.{List, [], ◌++◌, map, append_assoc}
 use Prim.Native.Nat.{ℕ, ◌+◌, ◌-◌, ◌*◌, ◌≤◌, ◌<◌, ◌^◌}
 use native.Mathlib.Omega.{arith}
 use lib.ListN.{length}
 use borrow.Author.Tests.{not-false}
 use Rattle.sequences.specs.Below.{join_below}
-use Rattle.sequences.specs.Checks.{Check, Reply, reply, answered, is_accepted}
+use Rattle.sequences.specs.Checks.{Check, Reply, answered, is_accepted}
 use Rattle.sequences.proofs.Checks.{all_passed}
 use Rattle.sequences.proofs.Stretch.{within}
 use Rattle.fund.proofs.Laws.{FundRanges, fund_sound}
-use Rattle.layout.specs.Day.{Day}
+use Rattle.layout.specs.Day.{Day, day_of}
 use Rattle.rules.specs.declared.Ask.{Ask}
 use Rattle.rules.specs.declared.CashByMarket.{CashByMarket}
 use Rattle.rules.specs.declared.Rooms.{Rooms}
@@ -24,20 +24,19 @@ use Rattle.layout.specs.Places.{record_width, report_width}
 use Rattle.layout.specs.Records.{record_numbers, with_records}
 use Rattle.layout.specs.Reports.{with_reports}
 use Rattle.layout.proofs.Laid.{with_length}
-use Rattle.rules.specs.declared.Refusal.{Refusal}
 use Rattle.layout.specs.Book.{width_of, account}
-use Rattle.rules.specs.Replies.{refusal_reply, made_reply}
+use Rattle.rules.specs.Replies.{made_reply, if_accepted}
 use Rattle.rules.specs.Sound.{is_sound}
 use Rattle.rules.specs.Orders.{baskets, form_checks, permission_checks}
 use Rattle.rules.specs.Creation.{available, creation_due, creation_checks, creation_reply}
 use Rattle.rules.specs.Redemption.{redemption_paid, redemption_checks, redemption_reply}
-use Rattle.rules.specs.Kinds.{all_cash, cash_by, order_moves, moved_by, stock_side, rest_side, records_by, reports_by, cash_report_count}
-use Rattle.rules.specs.Kinds.{asked_cash, asked_records, asked_reports, counts_by, asked_counts, asked_means, asked_checks, asked_reply, asked_moves, with_asked}
+use Rattle.rules.specs.Kinds.{all_cash, cash_by, moved_by, stock_side, rest_side, records_by, reports_by, cash_report_count}
+use Rattle.rules.specs.Kinds.{asked_cash, asked_records, asked_reports, counts_by, asked_counts, asked_means, asked_checks, asked_reply, with_asked}
 use Rattle.rules.proofs.SoundDay.{SoundDay, sound_facts}
 use Rattle.rules.proofs.Accepted.{Orders, Listed, order_facts, creation_facts, creation_made, redemption_facts, redemption_made}
 use Rattle.rules.proofs.Reports.{report_count}
-use Rattle.rules.proofs.Replies.{is_accepted_lem, on_sound, stage_passed, stage_stopped}
-use Rattle.rules.proofs.Asked.{by_ask, asked_records_lem, asked_reports_lem, asked_moves_lem}
+use Rattle.rules.proofs.Replies.{is_accepted_lem, on_sound}
+use Rattle.rules.proofs.Asked.{by_ask, asked_records_lem, asked_reports_lem}
 use Rattle.book.specs.Ready.{OrderReady}
 use Rattle.book.proofs.Ready.{creation_ready, redemption_ready}
 use Rattle.order_records.specs.Ready.{Writable}
@@ -46,6 +45,8 @@ use Rattle.order_reports.specs.Told.{told_reports}
 use Rattle.order_reports.proofs.Order.{record_count, investor_told, fund_told}
 use Rattle.order_tests.specs.Tests.{means_answer}
 use Rattle.order_form.specs.Form.{order_form}
+use Rattle.order_form.proofs.Laws.{form_of_day}
+use Rattle.order_tests.proofs.Laws.{staged}
 use Rattle.value.specs.Worth.{Priceable}
 use Rattle.value.proofs.Laws.{priceable}
 use Rattle.order_scan.specs.Ready.{Scannable}
@@ -98,14 +99,14 @@ module _ (d : Day) (b ps : List ℕ) (rooms : Rooms) where
       (λ a units. simp append_assoc)
       (λ a units. simp append_assoc)
 
-  module _ (ask : Ask) where
-    pub form_passed : reply 0 0 0 ≡ answered (form ask) 0 → means_answer d (account d b ask.account) (account d b 0) ps ask rooms ≡ asked_answer d b ps ask rooms
-    unfolding asked_answer means_answer order_form form_checks permission_checks
-    form_passed e = rw (stages ask) (stage_passed (form ask) _ _ tt e)
+  pub asked_staged : (ask : Ask)
+      → asked_answer d b ps ask rooms ≡ if_accepted (answered (form ask) 0) (means_answer d (account d b ask.account) (account d b 0) ps ask rooms) (answered (form ask) 0)
+  unfolding asked_answer means_answer order_form form_checks permission_checks
+  asked_staged ask = rw (stages ask) (staged (form ask) (means ask) _ tt)
 
-    pub form_stopped : (why : Refusal) → refusal_reply why ≡ answered (form ask) 0 → refusal_reply why ≡ asked_answer d b ps ask rooms
-    unfolding asked_answer
-    form_stopped why e = rw (stages ask) (stage_stopped (form ask) _ _ why e)
+-- the form of an order looks at the day's head alone
+pub form_is : (d : Day) (b : List ℕ) (ask : Ask) → order_form d b ask ≡ order_form (day_of (record { accounts = d.accounts; count = d.count; fund = d.fund }) []) b ask
+form_is d b ask = sym (form_of_day d _ b ask refl)
 
 -- what an accepted order has
 record Accepted (d : Day) (b ps : List ℕ) (rooms : Rooms) (ask : Ask) : Type 0 where
@@ -191,16 +192,16 @@ module _ (d : Day) (b ps : List ℕ) (ask : Ask) (lent : Lent) (whole : is_sound
       (omega (arith, counted, facts.listed.investor), omega (arith, counted, facts.listed.fund)),
     )
 
-    pub order_made : (after own other : List ℕ) → after ≡ order_moves ask.kind d ask.account ask.units m (all_cash c) b
+    pub order_lists : (own other : List ℕ)
         → own ≡ with_reports (told_reports (stock_side ask.kind) (rest_side ask.kind) written (counts.reports - cash_report_count c - 1) c) lent.investor
         → other ≡ with_reports (told_reports (rest_side ask.kind) (stock_side ask.kind) written (counts.reports - cash_report_count c - 1) c) lent.fund
-        → (after ≡ asked_moves d ps ask b) × (lent_of written own other ≡ with_asked d b ps ask lent)
+        → lent_of written own other ≡ with_asked d b ps ask lent
     unfolding with_order
-    order_made after own other e i f =
+    order_lists own other i f =
         let n : counts.reports - cash_report_count c - 1 ≡ stocked = omega (arith, told) in
         let to-investor : own ≡ with_reports (asked_reports d s ps ask) lent.investor =
         i ∙ rw (n, w, investor_told ask.kind d s ask.units m c lent.records, reports) in
         let to-fund : other ≡ with_reports (map opposite (asked_reports d s ps ask)) lent.fund =
         f ∙ rw (n, w, fund_told ask.kind d s ask.units m c lent.records, reports) in
         let all = w ∙ ap (λ (rs : List Record). with_records rs lent.records) records in
-        (e ∙ rw (in-baskets, paid) (asked_moves_lem d b ps ask), λ j. record { records = all j; investor = to-investor j; fund = to-fund j })
+        λ j. record { records = all j; investor = to-investor j; fund = to-fund j }

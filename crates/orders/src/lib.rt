@@ -18,13 +18,12 @@ use order_scan::Parties;
 use order_tests::Accepted;
 use rules::{Ask, Counts, Lists, Refusal, Rooms};
 
-// An account's part of the book. That the count is within the most is no invariant of a `DayView`: a view reads any run of a day's
-// length, and the sound day of the callers says it.
-fn part_of(book: &[u64], count: usize, a: usize) -> &[u64]
-    requires { (count ≤ most_components) × (a * width_of count + width_of count ≤ length book.now) }
-    ensures { result.now ≡ stretch_of (width_of count) book.now a }
+// The part of account `a` in a book of parts `w` wide.
+#[tactic(auto, using(sequences::proofs::Stretch::part_is))]
+fn part_of(book: &[u64], w: usize, a: usize) -> &[u64]
+    requires { a * w + w ≤ length book.now }
+    ensures { result.now ≡ stretch_of w book.now a }
 {
-    let w = layout::width_of(count);
     let start = a * w;
     let end = start + w;
     &book[start..end]
@@ -43,15 +42,16 @@ fn order_stage(
     ensures answer_value { accepted_reply result ≡ means_answer day.now (account day.now book.now ask.account) (account day.now book.now 0) prices.now ask rooms }
     ensures cash { IfOk result (λ accepted. accepted.cash ≡ asked_cash day.now (account day.now book.now ask.account) prices.now ask) }
 {
-    let n = day.count();
-    let account = part_of(book, n, ask.account);
-    let fund = part_of(book, n, book::FUND);
+    let w = layout::width_of(day.count());
+    let account = part_of(book, w, ask.account);
+    let fund = part_of(book, w, book::FUND);
     let parties = Parties { account, fund };
     order_tests::order_means(day, &parties, prices, ask, rooms)
 }
 
 // The tests of an order alone, with the cash of one that is accepted. That the day is sound stands in both contracts: it is a fact of
 // the day with its book and prices, of which the tests lend the book to read and an order to write, so one struct would need a twin.
+#[tactic(auto, using(crate::proofs::Laws::asked_staged, crate::proofs::Laws::form_is, rules::proofs::Replies::refused), unfolding(sequences::specs::Checks::is_accepted))]
 pub fn order_tested(
     day: &DayView,
     book: &[u64],
@@ -68,6 +68,7 @@ pub fn order_tested(
 }
 
 // An order: its tests, and where they accept it its records, moves and reports.
+#[tactic(auto, using(rules::proofs::Replies::refused, rules::proofs::Asked::asked_moves_lem), unfolding(sequences::specs::Checks::is_accepted))]
 pub fn order(
     day: &DayView,
     book: &mut [u64],
@@ -81,7 +82,7 @@ pub fn order(
     ensures lists { lists.new ≡ left_in lists.old (answered_lists day.now book.old prices.now ask (lent_in lists.old)) }
 {
     let accepted = order_tested(day, book, prices, ask, lists.rooms())?;
-    let m = ask.units / day.fund().basket_size;
+    let m = order_tests::baskets_in(day, ask.units);
     let cash = accepted.cash;
     let records = &mut *lists.records;
     let investor = &mut *lists.investor;

@@ -40,6 +40,7 @@ impl<'a> Writer<'a> {
 }
 
 // The first `count` records of a flat run go to the list, and it gives how many.
+#[tactic(auto, using(crate::proofs::Filled::first_none))]
 pub fn fill(list: &mut [Record], flat: &[u64], count: usize) -> usize
     requires { (count ≤ length list.old) × (record_width * count ≤ length flat.now) }
     ensures { (result ≡ count) × (list.new ≡ with_first count flat.now list.old) }

@@ -7,12 +7,9 @@ use lib.ListN.{drop}
 use Rattle.sequences.specs.Stretch.{put_stretch}
 use Rattle.sequences.proofs.Stretch.{part_is}
 use Rattle.book.specs.Moved.{rest_of}
-use Rattle.book.proofs.Sides.{first_is, middle_put}
+use Rattle.book.proofs.Sides.{middle_put}
 use Rattle.book.proofs.Whole.{account_rest_ready, rest_moved}
 use Rattle.order_units.proofs.move_rest.Goals as goal
-
-pub fund_head-requires-clause-ready : goal.fund_head-requires-clause-ready
-fund_head-requires-clause-ready c = rw (first_is, c.width_of-w.ensures) c.requires.fund_money
 
 pub account_rest-requires : goal.account_rest-requires
 account_rest-requires c =

@@ -1,57 +1,31 @@
 -- `orders::order` meets its contract: the tests have the answer, and only an accepted order is written, moved and reported.
 use mathlib.Core.Path.{refl, sym, ap, ◌∙◌}
-use Prim.Native.Nat.{◌/◌}
-use native.Mathlib.Omega.{arith}
-use Rattle.std.proofs.lemmas.Result.{err_from_is_err_and}
-use Rattle.layout.specs.declared.Fund.{Fund}
 use Rattle.fund.proofs.Laws.{fund_sound}
 use Rattle.order_tests.specs.Tests.{accepted_reply}
-use Rattle.rules.specs.Orders.{baskets}
 use Rattle.rules.specs.Lists.{lent_in, left_in}
 use Rattle.rules.proofs.SoundDay.{sound_facts}
-use Rattle.rules.proofs.Replies.{leaves_after, leaves_before}
-use Rattle.orders.proofs.Laws.{order_makes, order_reports_lem, order_made}
+use Rattle.rules.proofs.Replies.{leaves_after}
+use Rattle.orders.proofs.Laws.{order_makes, order_reports_lem, order_lists}
 use Rattle.orders.proofs.order.Goals as goal
 
-pub nonzero_div-m : goal.nonzero_div-m
-nonzero_div-m c = rw c.fund.ensures (omega (arith, (fund_sound _ (sound_facts _ _ _ c.requires.prices_value).own.fund_fields).size_low))
+pub baskets_in-m-requires : goal.baskets_in-m-requires
+baskets_in-m-requires c = (fund_sound _ (sound_facts _ _ _ c.requires.prices_value).own.fund_fields).size_low
 
 pub settle-requires : goal.settle-requires
-unfolding baskets
 settle-requires c =
-    let whole = ap (λ (f : Fund). c.args.ask.units / f.basket_size) c.fund.ensures in
     let made = ap accepted_reply (sym c.in_ok-accepted.was) ∙ (rw c.rooms.ensures at c.order_tested.ensures.answer_value) in
-    let ready = order_makes _ _ _ _ (lent_in c.args.lists.now) c.requires.prices_value _ made _ whole _ c.in_ok-accepted.ensures.cash in
+    let ready = order_makes _ _ _ _ (lent_in c.args.lists.now) c.requires.prices_value _ made _ c.baskets_in-m.ensures _ c.in_ok-accepted.ensures.cash in
     record { order_ready = ready.0; writable = ready.1 }
 
 pub report-requires : goal.report-requires
-unfolding baskets
 report-requires c =
-    let whole = ap (λ (f : Fund). c.args.ask.units / f.basket_size) c.fund.ensures in
     let made = ap accepted_reply (sym c.in_ok-accepted.was) ∙ (rw c.rooms.ensures at c.order_tested.ensures.answer_value) in
-    let r = order_reports_lem _ _ _ _ (lent_in c.args.lists.now) c.requires.prices_value _ made _ whole _ c.in_ok-accepted.ensures.cash _ c.settle.ensures.list in
+    let r = order_reports_lem _ _ _ _ (lent_in c.args.lists.now) c.requires.prices_value _ made _ c.baskets_in-m.ensures _ c.in_ok-accepted.ensures.cash _ c.settle.ensures.list in
     record { cash_bound = r.0; reports_in_bounds = r.1 }
 
-pub returns-in_err-accepted : goal.returns-in_err-accepted
-returns-in_err-accepted c =
-    let p = err_from_is_err_and c.from_residual.result c.from_residual.ensures.1 in
-    let stopped = ap accepted_reply (sym c.in_err-accepted.was) ∙ (rw c.rooms.ensures at c.order_tested.ensures.answer_value) in
-    record {
-      result_value = rw (p.1, p.2) stopped;
-      book = leaves_before _ _ _ _ stopped;
-      lists = ap (left_in c.args.lists.now) (leaves_before _ _ _ _ stopped);
-    }
-
-pub returns : goal.returns
-unfolding baskets
-returns c =
-    let whole = ap (λ (f : Fund). c.args.ask.units / f.basket_size) c.fund.ensures in
+pub returns-clause-lists : goal.returns-clause-lists
+returns-clause-lists c =
     let made = ap accepted_reply (sym c.in_ok-accepted.was) ∙ (rw c.rooms.ensures at c.order_tested.ensures.answer_value) in
-    let done =
-    order_made _ _ _ _ (lent_in c.args.lists.now) c.requires.prices_value _ made _ whole _ c.in_ok-accepted.ensures.cash _ c.settle.ensures.list _ _ _
-    c.settle.ensures.book c.report.ensures.investor c.report.ensures.fund in
-    record {
-      result_value = made;
-      book = done.0 ∙ leaves_after _ _ _ _ refl made;
-      lists = ap (left_in c.args.lists.now) (done.1 ∙ leaves_after _ _ _ _ refl made);
-    }
+    let lists = order_lists _ _ _ _ (lent_in c.args.lists.now) c.requires.prices_value _ made _ c.baskets_in-m.ensures _ c.in_ok-accepted.ensures.cash _ c.settle.ensures.list _ _
+    c.report.ensures.investor c.report.ensures.fund in
+    ap (left_in c.args.lists.now) (lists ∙ leaves_after _ _ _ _ refl made)

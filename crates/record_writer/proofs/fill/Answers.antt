@@ -1,20 +1,18 @@
 -- `record_writer::fill` meets its contract: the writer pushes the records of the run one behind another, and the list that it lets go is
 -- the list filled.
-use mathlib.Core.Path.{◌≡◌, ◌∙◌}
-use Prim.Native.Nat.{◌+◌, ◌*◌, ◌≤◌}
-use lib.ListN.{length, take}
+use Prim.Native.Nat.{◌*◌}
 use lib.Seq.{length-take-le}
 use Rattle.std.proofs.Common.{arith}
 use Rattle.layout.specs.Places.{record_width}
 use Rattle.sequences.proofs.Chunks.{chunk_room, chunk_is, chunks_again, chunks_end}
-use Rattle.record_writer.proofs.Filled.{filled-length, filled_is, record_in}
+use Rattle.record_writer.proofs.Filled.{first-length, first_more, record_in}
 use Rattle.record_writer.proofs.fill.Goals as goal
 
 pub push-requires : goal.push-requires
 push-requires c =
     let long = length-take-le (record_width * c.args.count) c.args.flat.now c.requires.1 in
     let room = chunk_room _ _ c.loop-numbers.invariant.given _ _ c.in-Some.ensures.steps.1 in
-    grind (arith, filled-length, long, room)
+    grind (arith, first-length, long, room)
 
 pub loop-numbers-preserved : goal.loop-numbers-preserved
 loop-numbers-preserved c =
@@ -26,11 +24,11 @@ loop-numbers-preserved c =
     record {
       given = chunks_again _ _ v.given _ _ step.1 step.0 (grind arith);
       same_borrow = grind arith;
-      stored = grind (arith, own);
+      stored = grind (arith, own, first_more, long, room);
     }
 
 pub returns : goal.returns
 returns c =
     let long = length-take-le (record_width * c.args.count) c.args.flat.now c.requires.1 in
     let all = chunks_end _ _ c.loop-numbers.invariant.given c.in-None.ensures.steps.1.0 in
-    grind (arith, filled_is, long, all)
+    grind (arith, all, long)

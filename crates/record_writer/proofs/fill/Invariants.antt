@@ -3,12 +3,12 @@
 use Rattle.std.proofs.Common.{◌≡◌, ◌*◌, take}
 use Rattle.layout.specs.Places.{record_width}
 use Rattle.sequences.proofs.Chunks.{ChunksFrom}
-use Rattle.record_writer.proofs.Filled.{filled}
+use Rattle.record_writer.specs.Stored.{with_first}
 use Rattle.record_writer.proofs.fill.Given as goal
 
 abbrev pub invariant-loop-numbers : goal.invariant-loop-numbers
 invariant-loop-numbers l = record {
   given : ChunksFrom (take (record_width * l.count) l.flat) record_width l.numbers-iterator.size l.numbers-iterator.rest.now l.writer.at;
   same_borrow : l.writer.list.ghost_name ≡ l.initial.writer.list.ghost_name;
-  stored : l.writer.list.now ≡ filled l.initial.writer.list.now l.flat l.writer.at;
+  stored : l.writer.list.now ≡ with_first l.writer.at l.flat l.initial.writer.list.now;
 }
