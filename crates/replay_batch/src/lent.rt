@@ -39,7 +39,10 @@ impl<'a> TryFrom<&'a Item> for Batch<'a> {
     type Error = Fault;
 
     fn try_from(item: &'a Item) -> Result<Batch<'a>, Fault> {
-        let [records, investor, fund, answers, rows @ ..] = item.numbers.as_slice() else {
+        let (10, [records, investor, fund, answers, rows @ ..]) = (
+            item.tag,
+            item.numbers.as_slice(),
+        ) else {
             return Err(Fault::BadInput);
         };
         let batch = Batch {
