@@ -84,7 +84,7 @@ mod tests {
         }
     }
 
-    // Fails where it is read or written. The tests of `slips` have one too: it has other faults, and no use for this crate but for this.
+    // Fails where it is read or written. The tests of `slips`, which uses nothing of this crate, have the same.
     #[derive(Drop)]
     struct Broken;
 

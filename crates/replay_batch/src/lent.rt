@@ -128,14 +128,7 @@ impl Lent {
 
     // Leaves its book and prices to a session.
     pub fn leave(self, session: &mut Session) {
-        let Lent {
-            book,
-            prices,
-            records: _,
-            investor: _,
-            fund: _,
-            answers: _,
-        } = self;
+        let Lent { book, prices, .. } = self;
         session.book = book;
         session.prices = prices;
     }

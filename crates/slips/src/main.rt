@@ -142,8 +142,8 @@ mod tests {
     use std::io::Error;
     use std::test::Fail;
 
-    // Fails where it is read or written. As in the tests of `program_io`, of which this program uses nothing: for this alone it would
-    // have to name that crate, and that crate to hand it out.
+    // Fails where it is read or written. The same stands in the tests of `program_io`: this program uses nothing of that crate, and
+    // would have to name it for this alone.
     #[derive(Drop)]
     struct Broken;
 
