@@ -15,6 +15,13 @@ const COMPONENTS_LENGTH: usize = DAY + layout::BASKET_FROM;
 
 pub const HEAD: usize = COMPONENTS_LENGTH + 3;
 
+// How long a book and prices are.
+#[derive(Clone, Copy)]
+pub struct Lengths {
+    pub book: usize,
+    pub prices: usize,
+}
+
 #[derive(Drop)]
 pub struct Given<'a> {
     pub row: u64,
@@ -25,8 +32,7 @@ pub struct Given<'a> {
     pub day: &'a [u64],
     pub components: &'a [u64],
     // Lengths alone: an opening says how long its book and its prices are, and has none.
-    pub book_length: usize,
-    pub prices_length: usize,
+    pub lengths: Lengths,
     // The holdings, or the book and the prices.
     pub rest: &'a [u64],
 }
@@ -54,8 +60,10 @@ impl<'a> TryFrom<&'a Item> for Given<'a> {
             fund: layout::fund_of(head, FUND),
             day: &head[DAY..COMPONENTS_LENGTH],
             components,
-            book_length: *book as usize,
-            prices_length: *prices as usize,
+            lengths: Lengths {
+                book: *book as usize,
+                prices: *prices as usize,
+            },
             rest,
         })
     }

@@ -2,5 +2,6 @@
 #![tactic(auto)]
 
 pub mod given;
+pub mod replay;
 pub mod replies;
 pub mod session;

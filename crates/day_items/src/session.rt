@@ -1,5 +1,5 @@
 // The day, book and prices that calls are made on, and the items that give them.
-use crate::given::Given;
+use crate::given::{Given, Lengths};
 use crate::replies;
 use answers::Numbers;
 use program_io::fault::Fault;
@@ -10,25 +10,18 @@ use std::alloc::{AllocError, Global};
 use std::io;
 use std::io::Write;
 
-// How long a book and prices may be.
-#[derive(Clone, Copy)]
-pub struct Longest {
-    pub book: usize,
-    pub prices: usize,
-}
-
 #[derive(Drop)]
 pub struct Session {
     pub alloc: Global,
     pub day: Vec<u64>,
     pub book: Vec<u64>,
     pub prices: Vec<u64>,
-    longest: Longest,
+    longest: Lengths,
 }
 
 impl Session {
     // The blank day, with no book and no prices.
-    pub fn new(alloc: Global, longest: Longest) -> Result<Session, AllocError> {
+    pub fn new(alloc: Global, longest: Lengths) -> Result<Session, AllocError> {
         Ok(Session {
             alloc,
             day: vec![in alloc; 0u64; layout::DAY_WIDTH]?,
@@ -39,23 +32,23 @@ impl Session {
     }
 
     fn fits(&self, given: &Given<'_>) -> Result<(), Fault> {
-        if self.longest.book < given.book_length || self.longest.prices < given.prices_length {
+        if self.longest.book < given.lengths.book || self.longest.prices < given.lengths.prices {
             return Err(Fault::BadInput);
         }
         Ok(())
     }
 
     // Gives each run marks.
-    fn mark(&mut self, book_length: usize, prices_length: usize) -> Result<(), AllocError> {
+    fn mark(&mut self, lengths: Lengths) -> Result<(), AllocError> {
         self.day = marks::marked(self.alloc, layout::DAY_WIDTH)?;
-        self.book = marks::marked(self.alloc, book_length)?;
-        self.prices = marks::marked(self.alloc, prices_length)?;
+        self.book = marks::marked(self.alloc, lengths.book)?;
+        self.prices = marks::marked(self.alloc, lengths.prices)?;
         Ok(())
     }
 
     // Opens on runs that hold marks.
     fn open_given(&mut self, given: &Given<'_>) -> Result<Result<(), Refusal>, AllocError> {
-        self.mark(given.book_length, given.prices_length)?;
+        self.mark(given.lengths)?;
         Ok(day::open(
             given.accounts,
             given.count,
@@ -94,8 +87,8 @@ impl Session {
     // Takes a state: the day with zeros behind its components, the book and the prices.
     pub fn set<W: Write>(&mut self, given: &Given<'_>, out: &mut W) -> Result<(), Fault> {
         self.fits(given)?;
-        let (book, prices) = split(given.rest, given.book_length)?;
-        if prices.len() != given.prices_length || layout::BASKET_WIDTH < given.components.len() {
+        let (book, prices) = split(given.rest, given.lengths.book)?;
+        if prices.len() != given.lengths.prices || layout::BASKET_WIDTH < given.components.len() {
             return Err(Fault::BadInput);
         }
         let mut day = given.day.to_vec(self.alloc)?;

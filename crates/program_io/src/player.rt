@@ -1,12 +1,16 @@
 // Plays the items of an input.
 use crate::fault::Fault;
 use crate::items::{Item, Items};
-use std::alloc::Global;
-use std::io::{BufWriter, Read, Write};
+use std::alloc::{AllocError, Global};
+use std::io;
+use std::io::{BufWriter, Input, Print, Read, Write};
 
-pub trait Player {
+pub trait Player: Drop {
     // The most numbers that an item may have.
     const MOST_NUMBERS: usize;
+
+    // As it is before the first item.
+    fn new(alloc: Global) -> Result<Self, AllocError>;
 
     // Does what an item says, and prints what comes of it.
     fn obey<W: Write>(&mut self, item: &Item, out: &mut W) -> Result<(), Fault>;
@@ -30,11 +34,11 @@ pub fn play<P: Player, R: Read + Drop, W: Write + Drop>(
     alloc: Global,
     input: R,
     output: W,
-    player: &mut P,
 ) -> Result<(), Fault> {
+    let mut player = P::new(alloc)?;
     let items = Items::new(alloc, input, P::MOST_NUMBERS)?;
     let mut out = BufWriter::new(alloc, output)?;
-    let played = obey_all(player, items, &mut out);
+    let played = obey_all(&mut player, items, &mut out);
     if let Err(Fault::BadInput) = played {
         let _ = writeln!(out, "{}", Fault::BadInput);
     }
@@ -45,11 +49,22 @@ pub fn play<P: Player, R: Read + Drop, W: Write + Drop>(
     }
 }
 
+// Plays standard input.
+pub fn run<P: Player, R: Input + Print + AllocGlobal>(rt: &R) -> Result<(), Fault> {
+    play::<P, _, _>(rt.alloc(), rt.reader(), io::writer(rt))
+}
+
+// What is printed of an input. For the tests of programs too, which do not see what a library has for its own tests alone.
+pub fn printed<P: Player, R: Read + Drop>(alloc: Global, input: R) -> Result<Vec<u8>, Fault> {
+    let mut out = Vec::new(alloc);
+    play::<P, _, _>(alloc, input, &mut out)?;
+    Ok(out)
+}
+
 #[cfg(test)]
 mod tests {
     use super::*;
     use crate::rows::Row;
-    use std::io;
     use std::io::Error;
     use std::test::Fail;
 
@@ -60,18 +75,16 @@ mod tests {
     impl Player for Echo {
         const MOST_NUMBERS: usize = 3;
 
+        fn new(_: Global) -> Result<Echo, AllocError> {
+            Ok(Echo)
+        }
+
         fn obey<W: Write>(&mut self, item: &Item, out: &mut W) -> Result<(), Fault> {
             Ok(writeln!(out, "{}{}", item.tag, Row(&item.numbers))?)
         }
     }
 
-    fn echoed<R: Read + Drop>(alloc: Global, input: R) -> Result<Vec<u8>, Fault> {
-        let mut out = Vec::new(alloc);
-        play(alloc, input, &mut out, &mut Echo)?;
-        Ok(out)
-    }
-
-    // Fails where it is read or written.
+    // Fails where it is read or written. The tests of `slips`, which uses nothing of this crate, have the same.
     #[derive(Drop)]
     struct Broken;
 
@@ -101,7 +114,7 @@ mod tests {
             ("18446744073709551615 0", "18446744073709551615\n"),
             ("4 3 1 2 3 9 0", "4 1 2 3\n9\n"),
         ] {
-            let out = echoed(rt.alloc(), input.as_bytes())?;
+            let out = printed::<Echo, _>(rt.alloc(), input.as_bytes())?;
             assert_eq!(rt; out.as_slice(), want.as_bytes(), "{input}");
         }
         Ok(())
@@ -129,7 +142,7 @@ mod tests {
             "4 2 1",
             "4 2",
         ] {
-            let out = echoed(rt.alloc(), "8 0\n".as_bytes().chain(input.as_bytes()))?;
+            let out = printed::<Echo, _>(rt.alloc(), "8 0\n".as_bytes().chain(input.as_bytes()))?;
             assert_eq!(rt; out.as_slice(), b"8\nbad input\n".as_slice(), "{input}");
         }
         Ok(())
@@ -137,13 +150,13 @@ mod tests {
 
     #[test]
     fn ends_at_a_broken_input(rt: HostRuntime) -> Result<(), Fail> {
-        let out = echoed(rt.alloc(), "8 0 4 1 2".as_bytes().chain(Broken))?;
+        let out = printed::<Echo, _>(rt.alloc(), "8 0 4 1 2".as_bytes().chain(Broken))?;
         assert_eq!(rt; out.as_slice(), b"8\n4 2\n".as_slice());
         Ok(())
     }
 
     #[test]
     fn ends_at_a_broken_output(rt: HostRuntime) -> Result<(), Fail> {
-        Ok(play(rt.alloc(), "8 0".as_bytes(), Broken, &mut Echo)?)
+        Ok(play::<Echo, _, _>(rt.alloc(), "8 0".as_bytes(), Broken)?)
     }
 }

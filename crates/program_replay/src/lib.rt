@@ -9,16 +9,15 @@ mod order_items;
 
 use call_items::Call;
 use day_items::given;
-use day_items::given::Given;
-use day_items::session::{Longest, Session};
+use day_items::given::{Given, Lengths};
+use day_items::replay::{Caller, Replay};
+use day_items::session::Session;
 use program_io::fault::Fault;
 use program_io::items::Item;
 use program_io::player;
-use program_io::player::Player;
 use program_io::rows::Row;
-use std::alloc::Global;
 use std::io;
-use std::io::{Input, Print, Read, Write};
+use std::io::{Input, Print, Write};
 
 // The longest book, that of the most accounts, and more prices than a day has.
 const MOST_ACCOUNTS: usize = 64;
@@ -27,13 +26,11 @@ const MOST_BOOK: usize = MOST_ACCOUNTS * layout::MOST_WIDTH;
 
 const MOST_PRICES: usize = layout::MOST_COMPONENTS + 100;
 
-// What an item says.
+// What an item says beside the openings and the states on which calls go on.
 #[derive(Drop)]
 enum Said<'a> {
-    Opening(Given<'a>),
     // A state on which each call is made anew.
     StateAnew(Given<'a>),
-    State(Given<'a>),
     Show,
     Call(Call),
 }
@@ -43,9 +40,7 @@ impl<'a> TryFrom<&'a Item> for Said<'a> {
 
     fn try_from(item: &'a Item) -> Result<Said<'a>, Fault> {
         match item.tag {
-            1 => Ok(Said::Opening(Given::try_from(item)?)),
             2 => Ok(Said::StateAnew(Given::try_from(item)?)),
-            3 => Ok(Said::State(Given::try_from(item)?)),
             9 => Ok(Said::Show),
             _ => Ok(Said::Call(Call::try_from(item)?)),
         }
@@ -54,83 +49,63 @@ impl<'a> TryFrom<&'a Item> for Said<'a> {
 
 // Whether calls go on from what those before them left, or each is made on the state anew. An earlier item says which, so that a
 // value keeps it: a closure would be a boxed one.
-#[derive(Drop)]
+#[derive(Default, Drop)]
 enum Calls {
+    #[default]
     InOrder,
     Anew,
 }
 
-#[derive(Drop)]
-struct Replay {
-    session: Session,
-    calls: Calls,
+// The whole book and prices.
+fn show<W: Write>(session: &Session, out: &mut W) -> io::Result<()> {
+    writeln!(out, "book{}", Row(&session.book))?;
+    writeln!(out, "prices{}", Row(&session.prices))
 }
 
-impl Replay {
-    // The whole book and prices.
-    fn show<W: Write>(&self, out: &mut W) -> io::Result<()> {
-        writeln!(out, "book{}", Row(&self.session.book))?;
-        writeln!(out, "prices{}", Row(&self.session.prices))
-    }
-
-    fn make<W: Write>(&mut self, call: Call, out: &mut W) -> Result<(), Fault> {
-        let kept = call.make(&mut self.session, out)?;
-        match self.calls {
+impl Calls {
+    fn make<W: Write>(&self, session: &mut Session, call: Call, out: &mut W) -> Result<(), Fault> {
+        let kept = call.make(session, out)?;
+        match self {
             Calls::InOrder => Ok(()),
-            Calls::Anew => Ok(kept.put_back(&mut self.session, out)?),
+            Calls::Anew => Ok(kept.put_back(session, out)?),
         }
     }
 }
 
-impl Player for Replay {
+impl Caller for Calls {
     const MOST_NUMBERS: usize = given::HEAD + layout::BASKET_WIDTH + MOST_BOOK + MOST_PRICES;
 
-    fn obey<W: Write>(&mut self, item: &Item, out: &mut W) -> Result<(), Fault> {
-        match Said::try_from(item)? {
-            Said::Opening(given) => {
-                self.calls = Calls::InOrder;
-                self.session.open(&given, out)
-            }
-            Said::StateAnew(given) => {
-                self.calls = Calls::Anew;
-                self.session.set(&given, out)
-            }
-            Said::State(given) => {
-                self.calls = Calls::InOrder;
-                self.session.set(&given, out)
-            }
-            Said::Show => Ok(self.show(out)?),
-            Said::Call(call) => self.make(call, out),
-        }
-    }
-}
-
-// Plays an input, from the blank day on.
-fn play<R: Read + Drop, W: Write + Drop>(alloc: Global, input: R, output: W) -> Result<(), Fault> {
-    let longest = Longest {
+    const LONGEST: Lengths = Lengths {
         book: MOST_BOOK,
         prices: MOST_PRICES,
     };
-    let session = Session::new(alloc, longest)?;
-    let calls = Calls::InOrder;
-    player::play(alloc, input, output, &mut Replay { session, calls })
+
+    fn obey<W: Write>(
+        &mut self,
+        session: &mut Session,
+        item: &Item,
+        out: &mut W,
+    ) -> Result<(), Fault> {
+        match Said::try_from(item)? {
+            Said::StateAnew(given) => {
+                *self = Calls::Anew;
+                session.set(&given, out)
+            }
+            Said::Show => Ok(show(session, out)?),
+            Said::Call(call) => self.make(session, call, out),
+        }
+    }
 }
 
-// Plays standard input.
+// Plays standard input, from the blank day on.
 pub fn run<R: Input + Print + AllocGlobal>(rt: &R) -> Result<(), Fault> {
-    play(rt.alloc(), rt.reader(), io::writer(rt))
+    player::run::<Replay<Calls>, R>(rt)
 }
 
 #[cfg(test)]
 mod tests {
     use super::*;
     use std::test::Fail;
-
-    fn played(alloc: Global, input: &str) -> Result<Vec<u8>, Fault> {
-        let mut out = Vec::new(alloc);
-        play(alloc, input.as_bytes(), &mut out)?;
-        Ok(out)
-    }
 
     // The sign and the size of cash, and the lengths of a book and of prices.
     #[test]
@@ -150,7 +125,7 @@ mod tests {
             let item = format!(in rt.alloc();
                 "1 20 1 2 1 510050 2 9524 1 {cash} 0 0 0 0 0 0 0 0 0 {lengths}"
             )?;
-            let out = played(rt.alloc(), item.as_str())?;
+            let out = player::printed::<Replay<Calls>, _>(rt.alloc(), item.as_bytes())?;
             let want = if is_read {
                 "row 1\nopening 1 0 0 0\nsame\n"
             } else {
@@ -187,7 +162,7 @@ mod tests {
         ] {
             let state = "2 22 1 2 1 510050 2 9524 1 0 2 0 0 0 0 0 0 0 0 0 0 2 7 8";
             let input = format!(in rt.alloc(); "{state}\n{call}\n")?;
-            let out = played(rt.alloc(), input.as_str())?;
+            let out = player::printed::<Replay<Calls>, _>(rt.alloc(), input.as_bytes())?;
             let printed = format!(in rt.alloc(); "row 1\n{want}")?;
             assert_eq!(rt; out.as_slice(), printed.as_bytes(), "{call}");
         }
@@ -199,7 +174,7 @@ mod tests {
         for (length, want) in [(60_204, "book\nprices\n"), (60_205, "bad input\n")] {
             let numbers = " 0".repeat(rt.alloc(), length)?;
             let item = format!(in rt.alloc(); "9 {length}{numbers}")?;
-            let out = played(rt.alloc(), item.as_str())?;
+            let out = player::printed::<Replay<Calls>, _>(rt.alloc(), item.as_bytes())?;
             assert_eq!(rt; out.as_slice(), want.as_bytes(), "{length}");
         }
         Ok(())

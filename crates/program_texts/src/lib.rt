@@ -10,9 +10,8 @@ use program_io::fault::Fault;
 use program_io::items::Item;
 use program_io::player;
 use program_io::player::Player;
-use std::alloc::Global;
-use std::io;
-use std::io::{Input, Print, Read, Write};
+use std::alloc::{AllocError, Global};
+use std::io::{Input, Print, Write};
 use text_parts::bytes;
 use text_parts::made::{Change, Grown};
 use texts::{Asking, Reading};
@@ -78,6 +77,11 @@ impl Replay {
 impl Player for Replay {
     const MOST_NUMBERS: usize = MOST_BYTES + 100;
 
+    fn new(alloc: Global) -> Result<Replay, AllocError> {
+        let base = Vec::new(alloc);
+        Ok(Replay { alloc, base })
+    }
+
     fn obey<W: Write>(&mut self, item: &Item, out: &mut W) -> Result<(), Fault> {
         let alloc = self.alloc;
         match Said::new(alloc, item)? {
@@ -97,27 +101,15 @@ impl Player for Replay {
     }
 }
 
-// Plays an input.
-fn play<R: Read + Drop, W: Write + Drop>(alloc: Global, input: R, output: W) -> Result<(), Fault> {
-    let base = Vec::new(alloc);
-    player::play(alloc, input, output, &mut Replay { alloc, base })
-}
-
 // Plays standard input.
 pub fn run<R: Input + Print + AllocGlobal>(rt: &R) -> Result<(), Fault> {
-    play(rt.alloc(), rt.reader(), io::writer(rt))
+    player::run::<Replay, R>(rt)
 }
 
 #[cfg(test)]
 mod tests {
     use super::*;
     use std::test::Fail;
-
-    fn played(alloc: Global, input: &str) -> Result<Vec<u8>, Fault> {
-        let mut out = Vec::new(alloc);
-        play(alloc, input.as_bytes(), &mut out)?;
-        Ok(out)
-    }
 
     const REFUSED: &str = "row 1\nread 18 0 0\nsame\n";
 
@@ -143,7 +135,7 @@ mod tests {
             ("6 0", "bad input\n"),
         ] {
             let input = format!(in rt.alloc(); "1 5 1 6 65 66 67\n{item}\n")?;
-            let out = played(rt.alloc(), input.as_str())?;
+            let out = player::printed::<Replay, _>(rt.alloc(), input.as_bytes())?;
             let printed = format!(in rt.alloc(); "{REFUSED}{want}")?;
             assert_eq!(rt; out.as_slice(), printed.as_bytes(), "{item}");
         }
@@ -169,7 +161,7 @@ mod tests {
             let item = format!(in rt.alloc();
                 "5 {length} 1 {output} {components} {names}{numbers}"
             )?;
-            let out = played(rt.alloc(), item.as_str())?;
+            let out = player::printed::<Replay, _>(rt.alloc(), item.as_bytes())?;
             let want = if is_read {
                 "row 1\nwrite 1 0 0\nsame\n"
             } else {
@@ -190,7 +182,7 @@ mod tests {
             let numbers = " 65".repeat(rt.alloc(), length)?;
             let width = length + 2;
             let item = format!(in rt.alloc(); "1 {width} 1 6{numbers}")?;
-            let out = played(rt.alloc(), item.as_str())?;
+            let out = player::printed::<Replay, _>(rt.alloc(), item.as_bytes())?;
             assert_eq!(rt; out.as_slice(), want.as_bytes(), "{length}");
         }
         Ok(())

@@ -5,9 +5,11 @@ use program_io::items::split;
 use program_io::rows::Row;
 use program_io::{changes, marks};
 use std::alloc::{AllocError, Global};
-use std::io;
+use std::fmt;
+use std::fmt::Display;
 use std::io::Write;
-use text_parts::{bytes, fields, names, replies};
+use text_parts::names::Names;
+use text_parts::{bytes, fields, replies};
 
 // The most bytes of names, and of letters.
 const MOST_NAMES: usize = 3000;
@@ -25,28 +27,22 @@ pub struct List<'a> {
     letters: Vec<u8>,
 }
 
-// Reads a text that was written, into a run that holds other numbers.
-fn read_back<W: Write>(
-    alloc: Global,
-    list: &List<'_>,
-    text: &[u8],
-    out: &mut W,
-) -> Result<(), Fault> {
-    let mut run = marks::marked(alloc, crate::MOST_RUN)?;
-    let answer = list_reading::read(text, &mut run);
-    replies::print(out, "read", answer.map(|read| read.fields.count))?;
-    let Ok(read) = answer else {
-        return Ok(());
-    };
-    if !list.is_listed(&read, &run, out)? {
-        return Ok(());
+// What is read back otherwise than it was written: the first field or component that is, or the names or letters.
+#[derive(Clone, Copy)]
+enum Difference {
+    Field(usize),
+    Component(usize),
+    NamesOrLetters,
+}
+
+impl Display for Difference {
+    fn fmt<W: fmt::Write>(&self, f: &mut fmt::Formatter<W>) -> fmt::Result {
+        match self {
+            Difference::Field(place) => write!(f, "fields {place}"),
+            Difference::Component(place) => write!(f, "components {place}"),
+            Difference::NamesOrLetters => write!(f, "names or letters"),
+        }
     }
-    if list.is_named(alloc, &read, text)? {
-        writeln!(out, "back same")?;
-    } else {
-        writeln!(out, "back names or letters")?;
-    }
-    Ok(())
 }
 
 impl<'a> List<'a> {
@@ -72,28 +68,42 @@ impl<'a> List<'a> {
         })
     }
 
-    // Whether the fields and the components that were read are those of the list; if not, the first that differs is printed.
-    fn is_listed<W: Write>(&self, read: &ListRead, run: &[u64], out: &mut W) -> io::Result<bool> {
-        if let Some(place) = marks::first_difference(
-            &fields::numbers_of(read.fields),
-            &self.fields,
-        ) {
-            writeln!(out, "back fields {place}")?;
-            return Ok(false);
-        }
-        if let Some(place) = marks::first_difference(self.components, run) {
-            writeln!(out, "back components {place}")?;
-            return Ok(false);
-        }
-        Ok(true)
-    }
-
     // Whether the names and the letters of the text are those of the list.
     fn is_named(&self, alloc: Global, read: &ListRead, text: &[u8]) -> Result<bool, AllocError> {
         let is_lettered = list_reading::letters(text) == self.letters.as_slice();
-        match names::join(alloc, text, read.first_row, read.fields.count)? {
+        match Names::new(text, read).join(alloc)? {
             Some(joined) => Ok(joined.as_slice() == self.names.as_slice() && is_lettered),
             None => Ok(false),
+        }
+    }
+
+    fn difference(
+        &self,
+        alloc: Global,
+        read: &ListRead,
+        run: &[u64],
+        text: &[u8],
+    ) -> Result<Option<Difference>, AllocError> {
+        let difference = marks::first_difference(&fields::numbers_of(read.fields), &self.fields)
+            .map(Difference::Field)
+            .or_else(|| marks::first_difference(self.components, run).map(Difference::Component));
+        if difference.is_some() || self.is_named(alloc, read, text)? {
+            return Ok(difference);
+        }
+        Ok(Some(Difference::NamesOrLetters))
+    }
+
+    // Reads a text that was written, into a run that holds other numbers.
+    fn read_back<W: Write>(&self, alloc: Global, text: &[u8], out: &mut W) -> Result<(), Fault> {
+        let mut run = marks::marked(alloc, crate::MOST_RUN)?;
+        let answer = list_reading::read(text, &mut run);
+        replies::print(out, "read", answer.map(|read| read.fields.count))?;
+        let Ok(read) = answer else {
+            return Ok(());
+        };
+        match self.difference(alloc, &read, &run, text)? {
+            Some(difference) => Ok(writeln!(out, "back {difference}")?),
+            None => Ok(writeln!(out, "back same")?),
         }
     }
 
@@ -109,7 +119,7 @@ impl<'a> List<'a> {
         writeln!(out, "text{}", Row(text))?;
         let places = [("rest output", marks::first_marred(output, size))];
         changes::print(out, "rest same", &places)?;
-        read_back(alloc, self, text, out)
+        self.read_back(alloc, text, out)
     }
 
     // Writes the list into an output that holds other bytes.

@@ -6,7 +6,8 @@ use program_io::{changes, marks};
 use std::alloc::Global;
 use std::io;
 use std::io::Write;
-use text_parts::{bytes, fields, names, replies};
+use text_parts::names::Names;
+use text_parts::{bytes, fields, replies};
 
 // The bytes of a written text are printed up to this length.
 const SHOWN: usize = 2000;
@@ -69,8 +70,9 @@ fn print_list<W: Write>(
     writeln!(out, "first {first}")?;
     writeln!(out, "components{}", Row(run))?;
     writeln!(out, "letters{}", Row(letters))?;
-    match names::join(alloc, text, first, fields.count)? {
-        Some(joined) if names::end_with(text, first, fields.count) => {
+    let names = Names::new(text, read);
+    match names.join(alloc)? {
+        Some(joined) if names.end() => {
             writeln!(out, "names{}", Row(&joined))?;
             let list = Listing {
                 fields,

@@ -39,7 +39,10 @@ impl<'a> TryFrom<&'a Item> for Batch<'a> {
     type Error = Fault;
 
     fn try_from(item: &'a Item) -> Result<Batch<'a>, Fault> {
-        let [records, investor, fund, answers, rows @ ..] = item.numbers.as_slice() else {
+        let (10, [records, investor, fund, answers, rows @ ..]) = (
+            item.tag,
+            item.numbers.as_slice(),
+        ) else {
             return Err(Fault::BadInput);
         };
         let batch = Batch {
@@ -125,14 +128,7 @@ impl Lent {
 
     // Leaves its book and prices to a session.
     pub fn leave(self, session: &mut Session) {
-        let Lent {
-            book,
-            prices,
-            records: _,
-            investor: _,
-            fund: _,
-            answers: _,
-        } = self;
+        let Lent { book, prices, .. } = self;
         session.book = book;
         session.prices = prices;
     }

@@ -5,45 +5,15 @@
 mod lent;
 
 use answers::Numbers;
-use day_items::given::Given;
+use day_items::given::Lengths;
+use day_items::replay::{Caller, Replay};
 use day_items::replies;
-use day_items::session::{Longest, Session};
+use day_items::session::Session;
 use lent::{Batch, Lent};
 use program_io::fault::Fault;
 use program_io::items::Item;
 use program_io::player;
-use program_io::player::Player;
-use std::alloc::Global;
-use std::io;
-use std::io::{Read, Write};
-
-// The longest item, the longest book and prices.
-const MOST_NUMBERS: usize = 12_000;
-
-const MOST_BOOK: usize = 12_000;
-
-const MOST_PRICES: usize = 400;
-
-// What an item says.
-#[derive(Drop)]
-enum Said<'a> {
-    Opening(Given<'a>),
-    State(Given<'a>),
-    Batch(Batch<'a>),
-}
-
-impl<'a> TryFrom<&'a Item> for Said<'a> {
-    type Error = Fault;
-
-    fn try_from(item: &'a Item) -> Result<Said<'a>, Fault> {
-        match item.tag {
-            1 => Ok(Said::Opening(Given::try_from(item)?)),
-            3 => Ok(Said::State(Given::try_from(item)?)),
-            10 => Ok(Said::Batch(Batch::try_from(item)?)),
-            _ => Err(Fault::BadInput),
-        }
-    }
-}
+use std::io::Write;
 
 // The driver and, from the same start, the calls with a test each; whether they leave the same.
 fn run_both<W: Write>(session: &mut Session, batch: Batch<'_>, out: &mut W) -> Result<(), Fault> {
@@ -59,47 +29,37 @@ fn run_both<W: Write>(session: &mut Session, batch: Batch<'_>, out: &mut W) -> R
     Ok(())
 }
 
-#[derive(Drop)]
-struct Replay {
-    session: Session,
-}
+// Its items are batches.
+#[derive(Default, Drop)]
+struct Batches;
 
-impl Player for Replay {
-    const MOST_NUMBERS: usize = MOST_NUMBERS;
+impl Caller for Batches {
+    const MOST_NUMBERS: usize = 12_000;
 
-    fn obey<W: Write>(&mut self, item: &Item, out: &mut W) -> Result<(), Fault> {
-        match Said::try_from(item)? {
-            Said::Opening(given) => self.session.open(&given, out),
-            Said::State(given) => self.session.set(&given, out),
-            Said::Batch(batch) => run_both(&mut self.session, batch, out),
-        }
+    const LONGEST: Lengths = Lengths {
+        book: 12_000,
+        prices: 400,
+    };
+
+    fn obey<W: Write>(
+        &mut self,
+        session: &mut Session,
+        item: &Item,
+        out: &mut W,
+    ) -> Result<(), Fault> {
+        run_both(session, Batch::try_from(item)?, out)
     }
 }
 
-// Plays an input, from the blank day on.
-fn play<R: Read + Drop, W: Write + Drop>(alloc: Global, input: R, output: W) -> Result<(), Fault> {
-    let longest = Longest {
-        book: MOST_BOOK,
-        prices: MOST_PRICES,
-    };
-    let session = Session::new(alloc, longest)?;
-    player::play(alloc, input, output, &mut Replay { session })
-}
-
+// Plays standard input, from the blank day on.
 fn main(rt: HostRuntime) -> Result<(), Fault> {
-    play(rt.alloc(), rt.reader(), io::writer(&rt))
+    player::run::<Replay<Batches>, _>(&rt)
 }
 
 #[cfg(test)]
 mod tests {
     use super::*;
     use std::test::Fail;
-
-    fn played(alloc: Global, input: &str) -> Result<Vec<u8>, Fault> {
-        let mut out = Vec::new(alloc);
-        play(alloc, input.as_bytes(), &mut out)?;
-        Ok(out)
-    }
 
     // The lengths of a book and of prices, and how many numbers the item has behind its head.
     #[test]
@@ -115,7 +75,7 @@ mod tests {
             let numbers = " 0".repeat(rt.alloc(), behind)?;
             let head = "1 2 1 510050 2 9524 1 0 2 0 0 0 0 0 0 0 0 0";
             let item = format!(in rt.alloc(); "1 {width} {head} {lengths}{numbers}")?;
-            let out = played(rt.alloc(), item.as_str())?;
+            let out = player::printed::<Replay<Batches>, _>(rt.alloc(), item.as_bytes())?;
             let want = if is_read {
                 "row 1\nopening 1 0 0 0\nsame\n"
             } else {
@@ -140,7 +100,7 @@ mod tests {
             ("10 3 0 0 0", false),
             ("2 0", false),
         ] {
-            let out = played(rt.alloc(), batch)?;
+            let out = player::printed::<Replay<Batches>, _>(rt.alloc(), batch.as_bytes())?;
             let is_bad = out.as_slice() == b"bad input\n".as_slice();
             assert_eq!(rt; is_bad, !is_read, "{batch}");
         }

@@ -142,7 +142,8 @@ mod tests {
     use std::io::Error;
     use std::test::Fail;
 
-    // Fails where it is read or written.
+    // Fails where it is read or written. The same stands in the tests of `program_io`: this program uses nothing of that crate, and
+    // would have to name it for this alone.
     #[derive(Drop)]
     struct Broken;
 

@@ -5,8 +5,6 @@ use list_rules::ListFields;
 
 pub const WIDTH: usize = list_layout::FIELDS_WIDTH;
 
-const MOST_CASH: u64 = 1_000_000_000_000_000_000;
-
 // An amount of cash. Any sign but 0 is minus, and one that no number holds counts as 0.
 fn signed(sign: u64, size: u64) -> i64 {
     match sign {
@@ -28,8 +26,8 @@ pub fn of_numbers(numbers: &[u64; WIDTH]) -> ListFields {
 // As the library stores them. It stores no cash past the most; no list that was read has any, and the numbers of one would be 0.
 pub fn numbers_of(l: ListFields) -> [u64; WIDTH] {
     let mut numbers = [0; WIDTH];
-    if l.fund.estimated_cash.unsigned_abs() <= MOST_CASH
-        && l.cash_component.unsigned_abs() <= MOST_CASH
+    if l.fund.estimated_cash.unsigned_abs() <= digits::CAP
+        && l.cash_component.unsigned_abs() <= digits::CAP
     {
         list_layout::put_fields(&mut numbers, l);
     }
