@@ -1,10 +1,10 @@
 -- The bytes of a number: a blank, "-", "." or a digit.
+use Rattle.std.proofs.lemmas.Grind.{common_steps}
 use mathlib.Core.Path.{◌≡◌, refl, ◌∙◌}
 use mathlib.Core.Bool.{Bool, true, false}
 use mathlib.Core.List.{List, [], ◌∷◌, ◌++◌}
-use Prim.Native.Nat.{ℕ, zero, suc, ◌/◌, ◌^◌}
+use Prim.Native.Nat.{ℕ, zero, suc}
 use native.Mathlib.Omega.{arith}
-use native.Mathlib.Decide.{ℕ_discrete}
 use Rattle.std.specs.Prelude.{Option, Some, None}
 use Rattle.std.specs.List.{list_all}
 use Rattle.std.proofs.lemmas.Bool.{and_from}
@@ -43,14 +43,7 @@ whole_high None n = high_digits (decimal n) (decimal_digits n)
 whole_high (Some digits) n = high_digits (fixed digits n) (fixed_digits_lem digits n)
 
 plain_high : (f : Form) (n : ℕ) → is_high (plain_text f n) ≡ true
-plain_high f n =
-    elim (ℕ_discrete f.decimals 0) [
-      | yes e ↦ rw (plain_free f n e) (whole_high f.digits n)
-      | no h ↦
-          rw (plain_pointed f n h)
-          (high_append (whole_text f.digits (n / 10 ^ f.decimals)) (46 ∷ fixed f.decimals n)
-          (whole_high f.digits (n / 10 ^ f.decimals)) (high_digits (fixed f.decimals n) (fixed_digits_lem f.decimals n)))
-    ]
+plain_high f n = grind (arith, common_steps, plain_free, whole_high, plain_pointed, high_append, high_digits, fixed_digits_lem)
 
 signed_high : (f : Form) (z : Figure) (b : Bool) → z.negative ≡ b → is_high (signed_text f z) ≡ true
 signed_high f z true n = rw (signed_below f z n) (plain_high f z.size)
@@ -58,5 +51,4 @@ signed_high f z false n = rw (signed_above f z n) (plain_high f z.size)
 
 pub number_high : (f : Form) (z : Figure) → is_high (number_text f z) ≡ true
 unfolding number_text
-number_high f z =
-    high_append (replicate (blanks_put f z) 32) (signed_text f z) (high_blanks (blanks_put f z)) (signed_high f z z.negative refl)
+number_high f z = grind (arith, common_steps, high_append, blanks_put, high_blanks, signed_high)

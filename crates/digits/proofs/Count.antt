@@ -1,4 +1,5 @@
 -- Numbers and their digits: each is found again from the other.
+use Rattle.std.proofs.lemmas.Grind.{common_steps}
 use mathlib.Core.Path.{◌≡◌, refl, sym, ap, ap₂, ◌∙◌}
 use mathlib.Core.Bool.{true, false, false≢true}
 use mathlib.Core.List.{List, [], ◌∷◌}
@@ -90,11 +91,7 @@ pub record Wide (u n : ℕ) : Type 0 where
   pub none : n ≡ 0 → u ≡ 0
 
 wide-le : (u v n : ℕ) → Wide u n → Wide v n → u ≤ v
-wide-le u v n p q =
-    compare n 0
-    (λ z. let e : u ≡ 0 = p.none (omega arith) in omega arith)
-    (λ z. compare u v (λ h. h)
-    (λ h. let a : 10 ^ suc v ≤ 10 ^ u = pow-le-pow_right {n = 10} (omega arith) h in absurd (omega (arith, p.lower z, q.upper))))
+wide-le u v n p q = grind (arith, common_steps, pow-le-pow_right)
 
 pub wide_unique : (u v n : ℕ) → Wide u n → Wide v n → u ≡ v
 wide_unique u v n p q = le_antisymm (wide-le u v n p q) (wide-le v u n q p)
@@ -222,9 +219,7 @@ pub record FixedFrom (d : List ℕ) (at k n : ℕ) (d' : List ℕ) (m i : ℕ) :
 module _ (d : List ℕ) (at k n : ℕ) where
   pub fixed_start : FixedFrom d at k n d n k
   unfolding fixed
-  fixed_start =
-      let e : k - k ≡ 0 = omega arith in
-      record { high = omega arith; bytes = rw (e, put-nil); left = rw e (omega arith); long = refl }
+  fixed_start = grind (arith, common_steps, put-nil)
 
   module _ (d' : List ℕ) (m i : ℕ) (v : FixedFrom d at k n d' m i) where
     pub fixed_again : at + k ≤ length d → 0 < i → FixedFrom d at k n (set d' (at + (i - 1)) (48 + m % 10)) (m / 10) (i - 1)
@@ -244,7 +239,4 @@ module _ (d : List ℕ) (at k n : ℕ) where
         }
 
     pub fixed_end : i ≤ 0 → Written d at (fixed k n) d' (at + k)
-    fixed_end h =
-        let e : k - i ≡ k = omega arith in
-        let q : at + i ≡ at = omega arith in
-        record { bytes = v.bytes ∙ rw (e, q); next = rw (fixed-length k n) }
+    fixed_end h = grind (arith, common_steps, fixed-length)

@@ -1,4 +1,5 @@
 -- Bytes written into a lent output, one write after another.
+use Rattle.std.proofs.lemmas.Grind.{common_steps}
 use mathlib.Core.Path.{◌≡◌, sym, ap, ap₂, ◌∙◌}
 use mathlib.Core.List.{List, [], ◌∷◌, ◌++◌, append_assoc}
 use Prim.Native.Nat.{ℕ, ◌+◌, ◌-◌, ◌≤◌, ◌<◌}
@@ -7,7 +8,7 @@ use native.Mathlib.Numerals.{add-one}
 use native.Mathlib.Nat.{add_assoc, add-zero}
 use lib.ListN.{length, take, drop, set, length-set, length-append, length-take, length-drop, take-append-drop}
 use Rattle.std.proofs.lemmas.List.{take_rest}
-use lib.Seq.{set_split, length-take-le, take_at, drop_at, drop-drop, take-append-le, take-take}
+use lib.Seq.{set_split, take_at, drop_at, drop-drop}
 use borrow.Rule.Slice.PartMut.{put_mid}
 use Rattle.digits.specs.Written.{put, Written}
 
@@ -49,14 +50,7 @@ put-put d at xs ys h =
 pub put_front : (d : List ℕ) (at : ℕ) (xs ys : List ℕ) → at + length xs + length ys ≤ length d
     → put (put d (at + length xs) ys) at xs ≡ put d at (xs ++ ys)
 unfolding put
-put_front d at xs ys h =
-    let front : length (take (at + length xs) d) ≡ at + length xs = length-take-le (at + length xs) d (omega arith) in
-    let rest : List ℕ = ys ++ drop (at + length xs + length ys) d in
-    let start : take at (take (at + length xs) d ++ rest) ≡ take at d =
-    take-append-le at (take (at + length xs) d) rest (omega arith) ∙ take-take at (at + length xs) d (omega arith)
-    in
-    let end : at + length (xs ++ ys) ≡ at + length xs + length ys = rw length-append (omega arith) in
-    rw (start, drop_at (take (at + length xs) d) rest (at + length xs) front, end, append_assoc)
+put_front d at xs ys h = grind (arith, common_steps)
 
 -- a store is a `put` of one byte
 pub set-put : (d : List ℕ) (p b : ℕ) → p < length d → set d p b ≡ put d p (b ∷ [])
@@ -95,9 +89,7 @@ pub record Growing (d : List ℕ) (at : ℕ) (xs : List ℕ) (d' : List ℕ) (i 
   pub long : length d' ≡ length d
 
 put-snoc : (d : List ℕ) (at : ℕ) (xs : List ℕ) (b : ℕ) → at + length xs < length d → set (put d at xs) (at + length xs) b ≡ put d at (xs ++ b ∷ [])
-put-snoc d at xs b h =
-    set-put (put d at xs) (at + length xs) b (omega (arith, put-length d at xs (omega arith)))
-    ∙ put-put d at xs (b ∷ []) (omega arith)
+put-snoc d at xs b h = grind (arith, common_steps, set-put, put-length, put-put)
 
 pub growing_again : (d : List ℕ) (at : ℕ) (xs ys d' : List ℕ) (i b : ℕ) → Growing d at xs d' i → at + i < length d → ys ≡ xs ++ b ∷ []
     → Growing d at ys (set d' (at + i) b) (i + 1)

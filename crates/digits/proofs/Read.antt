@@ -1,5 +1,6 @@
 -- Reading: digits one by one, as far as the cap, and a number before and after its point.
-use mathlib.Core.Path.{◌≡◌, refl, sym, ap, ◌∙◌}
+use Rattle.std.proofs.lemmas.Grind.{common_steps}
+use mathlib.Core.Path.{◌≡◌, refl, sym, ◌∙◌}
 use mathlib.Core.Bool.{Bool, true, false, not, and-false, and-true}
 use mathlib.Core.List.{List, [], ◌∷◌}
 use Prim.Native.Nat.{ℕ, suc, ◌+◌, ◌-◌, ◌*◌, ◌≤◌, ◌<◌}
@@ -10,7 +11,7 @@ use native.Mathlib.Nat.{lt_of_not-le}
 use lib.ListN.{length, get_or, take, drop, drop_of_length-le}
 use lib.Seq.{drop-cons}
 use lib.Dec.{leb, eqb}
-use borrow.Author.Tests.{le-leb, lt-leb, le-ltb, lt-ltb, eq-eqb, ne_eqb}
+use borrow.Author.Tests.{le-leb, lt-leb, le-ltb, eq-eqb, ne_eqb}
 use Rattle.sequences.specs.Every.{every, inside}
 use Rattle.sequences.proofs.Every.{every_at, inside-true, inside_facts}
 use Rattle.digits.specs.declared.Form.{Form}
@@ -50,8 +51,7 @@ unfolding capped
 capped_large n h = rw (lt-leb n cap h)
 
 pub capped_within : (n : ℕ) → capped n ≤ cap
-capped_within n =
-    compare n cap (λ h. omega (arith, capped_small n h)) (λ h. omega (arith, capped_large n h))
+capped_within n = grind (arith, common_steps, capped_small, capped_large)
 
 -- below the cap nothing is lost
 pub capped_exact : (n : ℕ) → capped n < cap → capped n ≡ n
@@ -65,11 +65,7 @@ from_grows (b ∷ r) a = let h : a * 10 + (b - 48) ≤ from (a * 10 + (b - 48)) 
 
 -- past the cap the digits that follow do not matter
 capped_from : (n : ℕ) (r : List ℕ) → capped (from (capped n) r) ≡ capped (from n r)
-capped_from n r = compare n cap (λ h. ap (λ (a : ℕ). capped (from a r)) (capped_small n h)) λ h.
-    ap (λ (a : ℕ). capped (from a r)) (capped_large n h) ∙ full ∙ sym (capped_large (from n r) (omega (arith, from_grows r n)))
-  where
-    full : capped (from cap r) ≡ cap
-    full = compare (from cap r) cap (λ h. capped_small (from cap r) h ∙ (omega (arith, from_grows r cap))) (capped_large (from cap r))
+capped_from n r = grind (arith, common_steps, capped_small, capped_large, from_grows)
 
 -- ---- the loop of `read_on`: i digits of s are read, and with what stood before them they make a
 pub record ReadTo (s : List ℕ) (before i a : ℕ) : Type 0 where
@@ -181,8 +177,4 @@ module _ (f : Form) (s : List ℕ) where
         → size_reading (is_whole f.digits (take point_place s)) (capped (from 0 (take point_place s))) ≡ Some v
         → read_on v (drop (point_place + 1) s) ≡ size_reading (is_plain f s) (plain_size f s)
     unfolding is_plain plain_size every point_at read_on
-    plain_known v l h e =
-        let head : List ℕ = take point_place s in
-        let k = size_known (is_whole f.digits head) (capped (from 0 head)) v e in
-        let past = capped_from (from 0 head) (drop (point_place + 1) s) in
-        rw (ne_eqb f.decimals 0 some, lt-ltb f.decimals (length s) l, eq-eqb (get_or s point_place 0) 46 h, k.0, and-true, ← k.1, past)
+    plain_known v l h e = grind (arith, common_steps, size_known, capped_from)

@@ -1,6 +1,7 @@
 -- Reading: a number's sign, and the blanks before it.
+use Rattle.std.proofs.lemmas.Grind.{common_steps}
 use mathlib.Core.Path.{◌≡◌, refl, sym}
-use mathlib.Core.Bool.{Bool, true, false, cond, not, ◌&&◌, and-false, false≢true}
+use mathlib.Core.Bool.{Bool, true, false, not, and-false, false≢true}
 use mathlib.Core.List.{List, [], ◌∷◌}
 use Prim.Native.Nat.{ℕ, ◌-◌, ◌≤◌}
 use native.Mathlib.Omega.{arith}
@@ -30,11 +31,7 @@ is-some (Some n) e = (n, refl)
 below_test : (b : Bool) (n : ℕ) → below_zero (size_reading b n) ≡ reading (every (b ∷ not (eqb n 0) ∷ [])) (record { negative = true; size = n })
 unfolding every minus_figure
 below_test false n = refl
-below_test true n = zero_or (eqb n 0)
-  where
-    zero_or : (z : Bool) → cond z None (Some (record { negative = true; size = n })) ≡ reading (not z && true) (record { negative = true; size = n })
-    zero_or true = refl
-    zero_or false = refl
+below_test true n = grind (arith, common_steps)
 
 above_test : (b : Bool) (n : ℕ) → above_zero (size_reading b n) ≡ reading b (plain n)
 above_test true n = refl

@@ -1,4 +1,5 @@
 -- The round trips: what is written reads back, and what is read is written again.
+use Rattle.std.proofs.lemmas.Grind.{common_steps}
 use mathlib.Core.Path.{◌≡◌, refl, sym, ap, ap₂, ◌∙◌}
 use mathlib.Core.Bool.{Bool, true, false, not, false≢true}
 use mathlib.Core.List.{List, [], ◌∷◌, ◌++◌, append-nil}
@@ -9,15 +10,15 @@ use native.Mathlib.Decide.{ℕ_discrete}
 use native.Mathlib.Nat.{pow-le-pow_right, mod-eq_of_lt, div-le_self, div-add-mod'}
 use Rattle.std.specs.Prelude.{Option, Some, None}
 use lib.ListN.{length, get_or, take, drop, replicate, length-append, length-drop, length-replicate}
-use lib.Seq.{take_at, drop_at, drop-append-add, get_or_at, split_at, drop-length}
+use lib.Seq.{take_at, drop-append-add, split_at, drop-length}
 use lib.Arith.{digits_div}
 use lib.Dec.{eqb, ltb}
-use borrow.Author.Tests.{lt-ltb, ltb-true, eq-eqb, ne_eqb, eqb-true, eqb-false, not-true}
+use borrow.Author.Tests.{ltb-true, eq-eqb, ne_eqb, eqb-true, eqb-false, not-true}
 use Rattle.sequences.specs.Every.{every}
 use Rattle.sequences.proofs.Every.{every_at}
 use Rattle.digits.specs.declared.Form.{Form}
 use Rattle.digits.specs.declared.Figure.{Figure}
-use Rattle.digits.specs.Digits.{plain, fixed, tens, decimal, whole_text, plain_text, signed_text, blanks_left, number_text, all_digits, from, spare, cap, capped}
+use Rattle.digits.specs.Digits.{fixed, tens, decimal, whole_text, plain_text, signed_text, blanks_left, number_text, all_digits, from, spare, cap, capped}
 use Rattle.digits.specs.Digits.{is_shaped, is_whole, point_at, is_plain, plain_size, has_minus, is_signed, signed_figure, blanks, all_blank, trimmed_by, trimmed, is_number, figure_of}
 use Rattle.std.proofs.lemmas.Bool.{and_parts}
 use Rattle.digits.proofs.Read.{compare, capped_small, capped_within, capped_exact, from_grows, shaped_fixed, whole-true, whole_facts}
@@ -35,8 +36,7 @@ FitsDigits digits n = (most : ℕ) → digits ≡ Some most → n < 10 ^ most
 whole_well : (digits : Option ℕ) (n : ℕ) → n ≤ cap → is_whole digits (whole_text digits n) ≡ true
 unfolding is_shaped whole_text
 whole_well None n small = whole-true None (decimal n) (rw (decimal_spare n (omega arith))) (decimal_digits n)
-whole_well (Some digits) n small =
-    whole-true (Some digits) (fixed digits n) (shaped_fixed digits (fixed digits n) (fixed-length digits n)) (fixed_digits_lem digits n)
+whole_well (Some digits) n small = grind (arith, common_steps, whole-true, shaped_fixed, fixed-length, fixed_digits_lem)
 
 whole_from : (digits : Option ℕ) (n : ℕ) → n ≤ cap → FitsDigits digits n → from 0 (whole_text digits n) ≡ n
 unfolding whole_text
@@ -67,10 +67,7 @@ module _ (f : Form) (some : f.decimals ≡ 0 → ⊥) (D F : List ℕ) (long : l
 
   pointed_well : is_whole f.digits D ≡ true → all_digits F ≡ true → is_plain f (D ++ 46 ∷ F) ≡ true
   unfolding is_plain every
-  pointed_well d e =
-      let p : get_or (D ++ 46 ∷ F) (point_at f.decimals (D ++ 46 ∷ F)) 0 ≡ 46 = rw point_at_lem (get_or_at D 46 F 0 (length D) refl) in
-      let l : f.decimals < length (D ++ 46 ∷ F) = omega (arith, length-append D (46 ∷ F)) in
-      rw (ne_eqb f.decimals 0 some, lt-ltb f.decimals (length (D ++ 46 ∷ F)) l, front, back, p, d, e)
+  pointed_well d e = grind (arith, common_steps, point_at_lem, front, back)
 
   pointed_size : plain_size f (D ++ 46 ∷ F) ≡ capped (from (from 0 D) F)
   unfolding plain_size
@@ -176,11 +173,7 @@ pointed_first [] r u = (λ e. omega arith, λ e. omega arith)
 pointed_first (b ∷ w) r u = u
 
 plain_first : (f : Form) (n : ℕ) → Unmarked (get_or (plain_text f n) 0 0)
-plain_first f n =
-    elim (ℕ_discrete f.decimals 0) [
-      | yes e ↦ rw (plain_free f n e) (whole_first f.digits n)
-      | no h ↦ rw (plain_pointed f n h) (pointed_first (whole_text f.digits (n / 10 ^ f.decimals)) (fixed f.decimals n) (whole_first f.digits (n / 10 ^ f.decimals)))
-    ]
+plain_first f n = grind (arith, common_steps, plain_free, whole_first, plain_pointed, pointed_first)
 
 -- what it starts with is no blank
 signed_first : (f : Form) (z : Figure) → get_or (signed_text f z) 0 0 ≡ 32 → ⊥
@@ -202,19 +195,13 @@ module _ (f : Form) (z : Figure) (fits : Fits f z) where
 
   signed_well : (b : Bool) → z.negative ≡ b → is_signed f (signed_text f z) ≡ true
   unfolding is_signed every
-  signed_well true n =
-      let k = fits.sign n in
-      rw (signed_below f z n, minus_first f (45 ∷ text) k.0 refl, well, size, ne_eqb z.size 0 (λ e. omega (arith, k.1)))
+  signed_well true n = grind (arith, common_steps, signed_below, minus_first, well, size)
   signed_well false n = rw (signed_above f z n, minus_other f text (plain_first f z.size).0) well
 
   signed_read : (b : Bool) → z.negative ≡ b → signed_figure f (signed_text f z) ≡ z
   unfolding signed_figure
-  signed_read true n =
-      rw (signed_below f z n, minus_first f (45 ∷ text) (fits.sign n).0 refl, size)
-      (ap (λ (b : Bool). record { negative = b; size = z.size }) (sym n))
-  signed_read false n =
-      rw (signed_above f z n, minus_other f text (plain_first f z.size).0, size)
-      (ap (λ (b : Bool). record { negative = b; size = z.size }) (sym n))
+  signed_read true n = grind (arith, common_steps, signed_below, minus_first, size)
+  signed_read false n = grind (arith, common_steps, signed_above, minus_other, plain_first, size)
 
 -- a "-" and what stands behind it
 minus-cons : (s : List ℕ) → get_or s 0 0 ≡ 45 → 45 ∷ drop 1 s ≡ s
@@ -236,10 +223,7 @@ module _ (f : Form) (s : List ℕ) (well : is_signed f s ≡ true) where
       (signed_below f (record { negative = true; size = plain_size f (drop 1 s) }) refl
       ∙ ap (λ (r : List ℕ). 45 ∷ r) (plain_again f (drop 1 s) (every_at _ t 0) l)
       ∙ minus-cons s (minus_facts f s m).1)
-  signed_again false m small =
-      let t : is_plain f s ≡ true = rw m at well in
-      let l : plain_size f s < cap = rw m at small in
-      rw m (signed_above f (plain (plain_size f s)) refl ∙ plain_again f s t l)
+  signed_again false m small = grind (arith, common_steps, well, signed_above, plain_again)
 
   -- a "-" that is well written
   signed_sign : (b : Bool) → has_minus f s ≡ b → (signed_figure f s).negative ≡ true → (f.signed ≡ true) × (0 < (signed_figure f s).size)
@@ -280,14 +264,7 @@ blanks_inside s =
 
 trimmed_text : (f : Form) (z : Figure) → trimmed f (number_text f z) ≡ signed_text f z
 unfolding trimmed trimmed_by number_text blanks_left
-trimmed_text f z = by_width f.width
-  where
-    by_width : (width : Option ℕ)
-        → trimmed_by width (replicate (blanks_left width (length (signed_text f z))) 32 ++ signed_text f z) ≡ signed_text f z
-    by_width None = refl
-    by_width (Some width) =
-        let k : ℕ = width - length (signed_text f z) in
-        rw (blanks_before k (signed_text f z) (signed_first f z)) (drop_at (replicate k 32) (signed_text f z) k (length-replicate k 32))
+trimmed_text f z = grind (arith, common_steps, blanks_before, signed_first)
 
 -- what is written reads back
 pub number_read : (f : Form) (z : Figure) → Fits f z → is_number f (number_text f z) ≡ true
@@ -300,11 +277,7 @@ figure_read_lem f z h = rw (trimmed_text f z) (signed_read f z h z.negative refl
 
 pub number_width : (f : Form) (z : Figure) → Fits f z → (width : ℕ) → f.width ≡ Some width → length (number_text f z) ≡ width
 unfolding blanks_left
-number_width f z h width some =
-    let l : length (number_text f z) ≡ width - length (signed_text f z) + length (signed_text f z) =
-    number-length f z ∙ ap (λ (w : Option ℕ). blanks_left w (length (signed_text f z)) + length (signed_text f z)) some
-    in
-    omega (arith, l, h.width width some)
+number_width f z h width some = grind (arith, common_steps, number-length)
 
 -- what is read is written again
 blanks_again : (width : Option ℕ) (s t : List ℕ) → ((w : ℕ) → width ≡ Some w → length s ≡ w) → t ≡ trimmed_by width s
@@ -318,9 +291,7 @@ blanks_again (Some width) s t long e =
 pub number_again : (f : Form) (s : List ℕ) → is_number f s ≡ true → (figure_of f s).size < cap
     → ((width : ℕ) → f.width ≡ Some width → length s ≡ width) → number_text f (figure_of f s) ≡ s
 unfolding is_number figure_of trimmed number_text
-number_again f s well small long =
-    let t : List ℕ = trimmed f s in
-    blanks_again f.width s (signed_text f (signed_figure f t)) long (signed_again f t well (has_minus f t) refl small)
+number_again f s well small long = grind (arith, common_steps, blanks_again, signed_again, well)
 
 -- a well-written "-" is only where the form has a sign, and above zero
 pub figure_sign : (f : Form) (s : List ℕ) → is_number f s ≡ true → (figure_of f s).negative ≡ true → (f.signed ≡ true) × (0 < (figure_of f s).size)

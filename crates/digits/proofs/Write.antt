@@ -1,11 +1,12 @@
 -- Writing: how long each text is, and how it is written part by part.
-use mathlib.Core.Path.{◌≡◌, refl, sym, ap, ◌∙◌, subst}
-use mathlib.Core.Bool.{Bool, true, false, cond}
-use mathlib.Core.List.{List, [], ◌∷◌, ◌++◌, append-nil}
+use Rattle.std.proofs.lemmas.Grind.{common_steps}
+use mathlib.Core.Path.{◌≡◌, refl, sym, ◌∙◌, subst}
+use mathlib.Core.Bool.{true, false, cond}
+use mathlib.Core.List.{List, ◌∷◌, ◌++◌}
 use Prim.Native.Nat.{ℕ, zero, suc, ◌+◌, ◌-◌, ◌/◌, ◌^◌, ◌≤◌}
 use native.Mathlib.Omega.{arith}
 use Rattle.std.specs.Prelude.{Option, Some, None, unwrap_or}
-use lib.ListN.{length, drop, replicate, length-append, length-replicate}
+use lib.ListN.{length, replicate, length-append, length-replicate}
 use Rattle.std.proofs.lemmas.List.{take-replicate, drop_all}
 use borrow.Author.Tests.{eq-eqb, ne_eqb, lt-ltb, le-ltb}
 use Rattle.digits.specs.declared.Form.{Form}
@@ -53,9 +54,7 @@ module _ (f : Form) (n : ℕ) where
 
   module _ (some : f.decimals ≡ 0 → ⊥) (u : ℕ) (unit : u ≡ 10 ^ f.decimals) where
     pub plain-length : length (plain_text f n) ≡ length (whole_text f.digits (n / u)) + (f.decimals + 1)
-    plain-length =
-        ap length (plain_pointed some) ∙ length-append (whole_text f.digits (n / 10 ^ f.decimals)) (46 ∷ fixed f.decimals n)
-        ∙ rw (unit, fixed-length f.decimals n) (omega arith)
+    plain-length = grind (arith, common_steps, plain_pointed, fixed-length)
 
 -- ---- with its sign
 
@@ -70,11 +69,7 @@ module _ (f : Form) (z : Figure) where
 
   pub signed-length : length (signed_text f z) ≡ length (plain_text f z.size) + cond z.negative 1 0
   unfolding signed_text
-  signed-length = by_sign z.negative (plain_text f z.size)
-    where
-      by_sign : (b : Bool) (l : List ℕ) → length (cond b (45 ∷ l) l) ≡ length l + cond b 1 0
-      by_sign true l = omega arith
-      by_sign false l = omega arith
+  signed-length = grind (arith, common_steps)
 
   -- ---- right in its field
 
@@ -98,6 +93,4 @@ module _ (f : Form) (z : Figure) where
 
 pub blanks-put : (w : ℕ) (xs : List ℕ) → length xs ≤ w → put (replicate w 32) (w - length xs) xs ≡ replicate (w - length xs) 32 ++ xs
 unfolding put
-blanks-put w xs h =
-    let none : drop (w - length xs + length xs) (replicate {A = ℕ} w 32) ≡ [] = drop_all (w - length xs + length xs) (replicate w 32) (rw length-replicate (omega arith)) in
-    rw (take-replicate {X = ℕ} (w - length xs) w 32 (omega arith), none) (simp append-nil)
+blanks-put w xs h = grind (arith, common_steps, drop_all, take-replicate)
