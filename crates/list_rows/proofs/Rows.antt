@@ -83,9 +83,9 @@ module _ {form : TextForm} {columns : List Column} {pitch start count : ℕ} {te
   fault_ours_in : {fault : Option CellFault} → fault ≡ fault_in form part (line_count form part) → fault ≡ fault_in shanghai_lines (rows_of text) count
   fault_ours_in h = h ∙ rw (lines_many, part_is, v.form_is)
 
-  pub kept_ours : (run : List ℕ) {run' : List ℕ} → run' ≡ numbers_kept form part (line_count form part) (length form.columns) run → run' ≡ run_kept text run
+  pub kept_ours : (run : List ℕ) → run_kept text run ≡ numbers_kept form part (line_count form part) (length form.columns) run
   unfolding run_kept
-  kept_ours run h = h ∙ rw (lines_many, part_is, v.form_is, v.many)
+  kept_ours run = rw (lines_many, part_is, v.form_is, v.many)
 
   row_found : fault_row shanghai_lines (rows_of text) count ≡ wrong_row shanghai text
   unfolding fault_row wrong_row shanghai
@@ -136,3 +136,6 @@ module _ {form : TextForm} {columns : List Column} {pitch start count : ℕ} {te
     unfolding rows_found column_place row_start shanghai
     row_place q =
         rw (← row_found, ← row_is, ← v.many, lt-ltb fault.row count row_low, q, v.columns_are, v.first, v.pitch_is, column_found)
+
+-- what the search goes by
+pub ruleset rows_laws = (lent, kept_ours, rows_none, row_room, place_room, column_low, row_place)

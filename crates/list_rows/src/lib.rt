@@ -15,6 +15,7 @@ pub struct RowFault {
 }
 
 // Reads all component lines, as far as the first with a column at fault. Their numbers go to the run, as far as it has room.
+#[tactic(auto, using(crate::proofs::Rows::rows_laws))]
 pub fn read_rows(text: &[u8], start: usize, count: usize, run: &mut [u64]) -> Option<RowFault>
     requires start_value { (start ≡ body_start shanghai text.now) × (count ≡ row_count shanghai text.now) }
     requires shanghai_columns_in_bounds { start + count * line_pitch shanghai_columns ≤ length text.now }

@@ -223,3 +223,6 @@ module _ {table : List LentField} {fs : List Field} {text : List ℕ} (head : He
                         | no l ↦ rw (le-ltb i k (omega arith), le-ltb i (k + 1) (omega arith))
                       ]
                 ]
+
+-- what the search goes by where the fields are gone through
+pub ruleset fields_laws = (head_stands, first_there, next_there, fielded_room, fielded_place, fielded_off, fielded_end)

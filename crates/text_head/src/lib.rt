@@ -55,6 +55,7 @@ fn read_field(field: &Field, s: &[u8]) -> Option<Figure>
 }
 
 // The place behind line k, which starts at a place, where it has its end and passes the test.
+#[tactic(auto, using(crate::proofs::Lines::passed_open))]
 fn pass_line<F: FnOnce(&[u8]) -> bool>(
     text: &[u8],
     k: usize,
@@ -97,6 +98,7 @@ pub fn head_shape(fields: &Fields, text: &[u8]) -> Result<usize, WrongLine>
 }
 
 // Refusal 19 in the head, where its lines stand: the figures, or the first wrong field. Each line is there, as `head_shape` has found.
+#[tactic(auto, using(crate::proofs::Fields::fields_laws))]
 pub fn head_fields(fields: &Fields, text: &[u8]) -> Result<HeadFields, WrongField>
     requires { wrong_line fields.now text.now ≡ head_lines fields.now }
     ensures { result ≡ fields_found fields.now text.now }

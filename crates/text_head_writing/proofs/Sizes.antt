@@ -46,20 +46,23 @@ number_short : (f : Form) (z : Figure) → f.width ≡ None → f.decimals ≤ m
 number_short f z e l m = omega (arith, ap length (number_free f z e), signed_short f z z.negative refl l m)
 
 -- ---- the line of a field
-module _ (f : Field) (z : Figure) (well : field_well f ≡ true) where
+module _ (f : LentField) (z : Figure) (well : field_well (field_of f) ≡ true) where
   -- how its number may be written
   pub number_made : (f.form.decimals ≤ most_decimals) × (unwrap_or f.form.digits 0 ≤ most_digits)
-  number_made = let w = field_facts f well in (w.decimals, w.digits)
+  unfolding field_of
+  number_made = let w = field_facts (field_of f) well in (w.decimals, w.digits)
 
-  pub field_size : length (line_text (field_line f z)) ≡ length f.name + (length (number_text f.form z) + 3)
-  unfolding field_line
-  field_size = length-line_text (f.name ++ 61 ∷ number_text f.form z) ∙ omega (arith, length-append f.name (61 ∷ number_text f.form z))
+  pub field_size : length (line_text (field_line (field_of f) z)) ≡ length f.name.now + (length (number_text f.form z) + 3)
+  unfolding field_of field_line
+  field_size = length-line_text (f.name.now ++ 61 ∷ number_text f.form z) ∙ omega (arith, length-append f.name.now (61 ∷ number_text f.form z))
 
   number_few : length (number_text f.form z) ≤ 31
-  number_few = let w = field_facts f well in number_short f.form z w.free w.decimals w.digits
+  unfolding field_of
+  number_few = let w = field_facts (field_of f) well in number_short f.form z w.free w.decimals w.digits
 
-  pub field_short : length (line_text (field_line f z)) ≤ most_head_line
-  field_short = omega (arith, field_size, number_few, (field_facts f well).short)
+  pub field_short : length (line_text (field_line (field_of f) z)) ≤ most_head_line
+  unfolding field_of
+  field_short = omega (arith, field_size, number_few, (field_facts (field_of f) well).short)
 
 -- ---- the field that the loop over the table and the figures has reached, and its figure
 pub record Reached (fs : List Field) (figures : List Figure) (i : ℕ) (f : Field) (z : Figure) : Type 0 where

@@ -11,7 +11,8 @@ use Rattle.digits.specs.declared.Figure.{Figure}
 use Rattle.lines.specs.Words.{bytes}
 use Rattle.lines.specs.Lines.{line_text}
 use Rattle.lines.proofs.Laws.{length-line_text}
-use Rattle.text_rules.specs.Tables.{Field}
+use Rattle.text_rules.specs.declared.Field.{Field as LentField}
+use Rattle.text_rules.specs.Tables.{Field, field_of}
 use Rattle.text_rules.specs.Head.{opening_word, closing_word, tag_word, field_line, tag_size}
 use Rattle.text_head_writing.specs.declared.Out.{Out}
 use Rattle.text_head_writing.specs.Out.{Fits, wrote}
@@ -45,9 +46,12 @@ pub opening_parts : (letters : List ℕ) → line_text (opening_word ++ (letters
 unfolding line_text
 opening_parts letters = simp append_assoc
 
-pub field_parts : (f : Field) (z : Figure) → line_text (field_line f z) ≡ f.name ++ ((61 ∷ []) ++ (number_text f.form z ++ bytes "\r\n"))
-unfolding line_text field_line
+pub field_parts : (f : LentField) (z : Figure) → line_text (field_line (field_of f) z) ≡ f.name.now ++ ((61 ∷ []) ++ (number_text f.form z ++ bytes "\r\n"))
+unfolding line_text field_line field_of
 field_parts f z = simp append_assoc
+
+-- what the search goes by there
+pub ruleset line_laws = (fits_first, fits_next, fits_as, opening_parts, field_parts)
 
 -- ---- the first k lines are written
 module _ (fs : List Field) (letters : List ℕ) (figures : List Figure) (d : List ℕ) (at : ℕ) where

@@ -62,6 +62,7 @@ impl<'a> Out<'a> {
     }
 
     // Writes the first line.
+    #[tactic(auto, using(crate::proofs::Write::line_laws))]
     fn put_opening(&mut self, letters: &[u8])
         requires { Fits (line_text (opening_word ++ (letters.now ++ closing_word))) self.old }
         ensures { self.new ≡ wrote (line_text (opening_word ++ (letters.now ++ closing_word))) self.old }
@@ -72,6 +73,7 @@ impl<'a> Out<'a> {
     }
 
     // Writes the line of a field.
+    #[tactic(auto, using(crate::proofs::Write::line_laws))]
     fn put_field(&mut self, field: &Field, z: Figure)
         requires well { field_well (field_of field.now) ≡ true }
         requires room { Fits (line_text (field_line (field_of field.now) z)) self.old }

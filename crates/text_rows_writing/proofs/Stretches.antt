@@ -131,3 +131,6 @@ module _ {n w count i : ℕ} (whole : n ≡ count * w) (some : 0 < w) where
 -- how many lines, each with its two bytes behind the others, are in so many bytes
 pub rows_count : (bytes : ℕ) {n count : ℕ} → n ≡ count * (bytes + 2) → n / (bytes + 2) ≡ count
 rows_count bytes {n} {count} whole = ap (λ (m : ℕ). m / (bytes + 2)) whole ∙ mul-div_cancel count (omega arith)
+
+-- what the search goes by where the lines get their end
+pub ruleset end_laws = (put-start, put_end, put-again, rows_count)

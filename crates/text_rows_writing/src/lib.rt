@@ -53,6 +53,7 @@ fn put_words_column(width: usize, taken: Taken, line: Taken, texts: &[u8], rows:
 }
 
 // Writes the end of so many lines.
+#[tactic(auto, using(crate::proofs::Stretches::end_laws))]
 fn put_ends(line: Taken, rows: &mut [u8])
     ghost count: { ℕ }
     requires { (length rows.old ≡ count * (line.bytes + 2)) × (line.bytes ≤ most_line) }
@@ -66,6 +67,7 @@ fn put_ends(line: Taken, rows: &mut [u8])
 }
 
 // Writes every column into the lines, which hold only blanks. `line` is what a whole line takes.
+#[tactic(auto, using(crate::proofs::Rows::rows_start, crate::proofs::Rows::rows_all))]
 fn put_columns(form: &LineForm, line: Taken, run: &[u64], texts: &[u8], rows: &mut [u8])
     ghost count: { ℕ }
     requires table_ready { TableReady form.now.columns form.now.flag_at line }
@@ -88,6 +90,7 @@ fn put_columns(form: &LineForm, line: Taken, run: &[u64], texts: &[u8], rows: &m
 }
 
 // Writes so many component lines, each with its end, from their numbers and their words.
+#[tactic(auto, using(crate::proofs::Turns::table_ready))]
 pub fn put_rows(form: &LineForm, run: &[u64], texts: &[u8], rows: &mut [u8])
     ghost count: { ℕ }
     requires columns_value { flag_well form.now.columns form.now.flag_at ≡ true }

@@ -1,10 +1,7 @@
 -- `text_head::pass_line` meets its contract: the line has its end, and the test says of it what it says.
 use mathlib.Core.Path.{refl}
-use Rattle.text_head.proofs.Lines.{passed_open, passed_other, passed_on}
+use Rattle.text_head.proofs.Lines.{passed_other, passed_on}
 use Rattle.text_head.proofs.pass_line.Goals as goal
-
-pub returns-in_default : goal.returns-in_default
-returns-in_default g c = λ said f. passed_open said _ _ _ c.in_default.ensures.line
 
 pub returns-then-test : goal.returns-then-test
 returns-then-test g c =

@@ -2,22 +2,12 @@
 use mathlib.Core.Path.{ap, ◌∙◌}
 use mathlib.Core.List.{List}
 use Prim.Native.Nat.{◌+◌}
-use native.Mathlib.Omega.{arith}
-use lib.ListN.{length}
 use Rattle.text_rules.specs.declared.Column.{Column}
 use Rattle.text_rules.specs.Columns.{taken_before}
 use Rattle.text_rules.proofs.Placed.{numbers_of}
-use Rattle.text_rows_writing.proofs.Rows.{rows_start, rows_all}
 use Rattle.text_rows_writing.proofs.Turns.{at_column, holds_here, words_ask, words_turn, numbers_ask, numbers_turn}
 use Rattle.text_rows_writing.proofs.put_columns.Goals.{then-is_text, else-is_text}
 use Rattle.text_rows_writing.proofs.put_columns.Goals as goal
-
-pub loop-k-init : goal.loop-k-init
-loop-k-init g c =
-    let p = c.requires in (
-      c.taken_before-taken.ensures ∙ ap (λ (cs : List Column). taken_before cs 0) c.columns-columns.ensures.value,
-      rows_start _ _ _ _ p.0.well p.1.0 p.1.1,
-    )
 
 pub put_words_column-requires : goal.put_words_column-requires
 put_words_column-requires g c =
@@ -48,6 +38,3 @@ loop-k-preserved g c =
             (w.rows-is ∙ w.put_numbers_column.ensures)
       ],
     )
-
-pub returns : goal.returns
-returns g c = rows_all (omega (arith, ap length c.columns-columns.ensures.value, ap length c.table-column-items.ensures.value)) c.loop-k.invariant.1

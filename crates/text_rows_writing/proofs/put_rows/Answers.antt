@@ -1,17 +1,7 @@
 -- `text_rows_writing::put_rows` meets its contract: lines of blanks get every column, and then their end.
-use mathlib.Core.Path.{ap, ◌∙◌}
-use lib.ListN.{replicate}
-use Rattle.std.proofs.Common.{rules}
 use Rattle.text_rows_writing.proofs.Turns.{table_ready, line_short_lem, line_pitch_lem, line_width_lem}
 use Rattle.text_rows_writing.proofs.Rows.{rows_end}
 use Rattle.text_rows_writing.proofs.put_rows.Goals as goal
-
-pub put_columns-requires : goal.put_columns-requires
-put_columns-requires g c =
-    let p = c.requires in (
-      table_ready c.columns.ensures.well p.0 c.columns.ensures.value c.whole-line.ensures,
-      (record { numbers = p.1.0.0; words = p.1.0.1; fits = p.1.1.1 }, c.fill.ensures.after (λ y e. search rules) ∙ ap (λ n. replicate n 32) p.1.1.0),
-    )
 
 pub put_ends-requires : goal.put_ends-requires
 put_ends-requires g c =

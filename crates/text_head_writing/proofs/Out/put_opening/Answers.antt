@@ -1,12 +1,6 @@
 -- `text_head_writing::Out::put_opening` meets its contract: "[ETF", the letters, and "]" with the end, one behind the other.
-use Rattle.text_head_writing.proofs.Write.{fits_first, fits_next, fits_as, wrote_as, wrote_then, opening_parts}
+use Rattle.text_head_writing.proofs.Write.{fits_next, fits_as, wrote_as, wrote_then, opening_parts}
 use Rattle.text_head_writing.proofs.Out.put_opening.Goals as goal
-
-pub put-requires : goal.put-requires
-put-requires c = fits_first _ (fits_as (opening_parts c.args.letters.now) c.requires)
-
-pub put-requires-2 : goal.put-requires-2
-put-requires-2 c = fits_first _ (fits_next _ c.put.ensures (fits_as (opening_parts c.args.letters.now) c.requires))
 
 pub put-requires-3 : goal.put-requires-3
 put-requires-3 c = fits_next _ c.put-2.ensures (fits_next _ c.put.ensures (fits_as (opening_parts c.args.letters.now) c.requires))
