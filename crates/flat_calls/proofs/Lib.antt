@@ -1,4 +1,3 @@
-pub mod Laws
 pub mod Openings
 pub mod Texts
 mod Parts

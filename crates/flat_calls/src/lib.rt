@@ -17,6 +17,7 @@ use rules::Refusal;
 const PART_WIDTH: usize = 2;
 
 // Opens a day: the book, the prices and the day are filled.
+#[tactic(auto, using(std::proofs::lemmas::Bool::Decides::nat_tests), unfolding(crate::specs::Opening::flat_reply, sequences::specs::Checks::is_accepted, rules::specs::Opening::opened_book, rules::specs::Opening::opened_prices, rules::specs::Opening::opened_run))]
 pub fn open(
     accounts: usize,
     count: usize,
@@ -40,6 +41,7 @@ pub fn open(
 
 // Reads a list text: its fields, its components at the front of the lent run, and where its first component line starts. An
 // accepted reading tells the count of components.
+#[tactic(auto, using(std::proofs::lemmas::Bool::Decides::nat_tests), unfolding(crate::specs::Text::taking_reply, crate::specs::Text::of_width, sequences::specs::Checks::is_accepted, list_rules::specs::Reading::run_after))]
 pub fn read(
     text: &[u8],
     run: &mut [u64],
@@ -90,6 +92,7 @@ pub fn letters(text: &[u8], part: &mut [u64]) -> u64
 }
 
 // Writes a list at the front of the lent output. An accepted writing tells the count of bytes.
+#[tactic(auto, using(std::proofs::lemmas::Bool::Decides::nat_tests), unfolding(crate::specs::Text::of_width, sequences::specs::Checks::is_accepted, list_rules::specs::Writing::output_after))]
 pub fn write(
     fields: &[u64],
     run: &[u64],

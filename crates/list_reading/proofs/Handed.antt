@@ -1,7 +1,7 @@
 -- What the code has found at each stage of reading, and the reply or the facts that follow.
 use mathlib.Core.Path.{◌≡◌, sym, ap, ap₂, ◌∙◌}
 use mathlib.Core.Bool.{Bool, true, false, not, ◌&&◌, cond, and-eq-true_iff}
-use mathlib.Core.List.{List, [], ◌++◌}
+use mathlib.Core.List.{List, ◌++◌}
 use Prim.Native.Nat.{ℕ, ◌*◌, ◌≤◌, ◌<◌}
 use native.Mathlib.Nat.{mul_comm, le_antisymm}
 use native.Mathlib.Omega.{arith}
@@ -9,7 +9,7 @@ use lib.Dec.{leb, ltb, eqb}
 use lib.ListN.{length, get_or, take, drop}
 use lib.Seq.{length-take-le}
 use borrow.Author.Tests.{le-ltb, lt-ltb, lt-leb, le-leb, ltb-false, eqb-true}
-use Rattle.std.proofs.Common.{Option, Some, None, Ok, Err}
+use Rattle.std.proofs.Common.{Option, Some, None, Ok}
 use Rattle.sequences.specs.Every.{inside}
 use Rattle.sequences.specs.Below.{below}
 use Rattle.sequences.specs.Checks.{reply, passes}
@@ -33,64 +33,39 @@ use Rattle.text_rules.specs.Reading.{line_of, line_stands, letters_read, row_cou
 use Rattle.text_rules.specs.Reading.{field_checks, wrong_field, figure_read, wrong_row, run_read}
 use Rattle.text_rules.specs.Well.{most_fields}
 use Rattle.text_trip.proofs.Below.{join-same}
-use Rattle.text_head.specs.declared.WrongField.{WrongField}
 use Rattle.text_head.specs.declared.HeadFields.{HeadFields}
 use Rattle.text_head.specs.Head.{figures_found, fields_found}
 use Rattle.text_rows.specs.Rows.{row_in, fault_row}
 use Rattle.text_rows.proofs.Kept.{kept_all, numbers_long}
 use Rattle.list_rules.specs.Shanghai.{shanghai, shanghai_fields, shanghai_columns, shanghai_lines, field_count, count_field, creation_code_field}
 use Rattle.list_rules.specs.Reading.{fields_read, is_counted, read_fault, read_reply, components_run, name_read, name_from, letters_place}
-use Rattle.list_rows.specs.declared.RowFault.{RowFault}
 use Rattle.list_rows.specs.Rows.{rows_of, rows_found, run_kept}
 use Rattle.list_rows.proofs.Rows.{row_ours, fault_ours, numbers_ours}
 use Rattle.list_rules.proofs.Lent.{fields_count}
 use Rattle.list_trip.proofs.Form.{line_numbers_lem}
 use Rattle.list_trip.proofs.NamePlaces.{name_found}
 use Rattle.list_shape.specs.declared.Rows.{Rows}
-use Rattle.list_shape.specs.Shape.{RowsStand, LineWrong}
+use Rattle.list_shape.specs.Shape.{RowsStand}
 use Rattle.list_reading.specs.Outcome.{ReadOutcome}
 use Rattle.list_reading.specs.Stages.{Found, Spelled, Ranged}
-use Rattle.list_reading.proofs.Replies.{field_wrong, row_wrong, count_wrong, field_facts, fields_pass, reply_18, reply_19_field, reply_19_row, reply_20, reply_2, reply_3, reply_16, reply_0}
+use Rattle.list_reading.proofs.Replies.{field_wrong, row_wrong, count_wrong, field_facts, fields_pass, reply_20, reply_2, reply_3, reply_16, reply_0}
 use Rattle.list_reading.proofs.Stages.{outcome_read}
 
 -- the code's search of a line is that of its definition
 fault_in_lem : (text : List ℕ) (j : ℕ) → j < row_count shanghai text → column_fault shanghai_lines (row_in shanghai_columns (rows_of text) j) ≡ column_fault shanghai (row_of shanghai text j)
 fault_in_lem text j l = ap (column_fault shanghai_lines) (row_ours text j l) ∙ fault_ours _
 
--- 18
-pub shape_reply : (text : List ℕ) (room place : ℕ) → LineWrong text place → reply 18 place 0 ≡ read_reply text room
-shape_reply text room place w = reply_18 text room place w.line_stops w.place_is
-
--- names
-pub name_wrong : (text : List ℕ) (j place : ℕ) → LineWrong text place → [] ≡ name_read text j
-unfolding name_read
-name_wrong text j place w = rw w.line_stops
-
 module _ (text : List ℕ) (r : Rows) (s : RowsStand text r) where
-  pub name_past : (j : ℕ) → r.count ≤ j → [] ≡ name_read text j
-  unfolding name_read
-  name_past j h = rw (s.lines_stand, ← s.count_is, le-ltb j r.count h)
-
   -- the name's part of the text is that of the line
   pub name_is : (j : ℕ) → j < r.count → name_from text r.start j ≡ name_read text j
   name_is j h =
       rw s.start_is
       (name_found text s.lines_stand j (omega (arith, s.count_is)) (omega (arith, s.start_is, s.room, within (line_pitch shanghai_columns) j r.count h)))
 
-  -- 19 in the head
-  pub field_reply : (wrong : WrongField) (room : ℕ) → Err wrong ≡ fields_found shanghai_fields text → reply 19 wrong.place 0 ≡ read_reply text room
-  unfolding fields_found
-  field_reply wrong room e = grind (arith, reply_19_field text room s.lines_stand)
-
   module _ (head : HeadFields) (e : Ok head ≡ fields_found shanghai_fields text) where
-    fields_right : field_wrong text ≡ false
+    pub fields_right : field_wrong text ≡ false
     unfolding fields_found
     fields_right = grind arith
-
-    -- 19 in a component line
-    pub row_reply_lem : (fault : RowFault) (room : ℕ) → Some fault ≡ rows_found text → reply 19 fault.place 0 ≡ read_reply text room
-    unfolding rows_found
-    row_reply_lem fault room f = grind (arith, reply_19_row text room s.lines_stand fields_right)
 
     module _ (f : None ≡ rows_found text) where
       row_right : row_wrong text ≡ false

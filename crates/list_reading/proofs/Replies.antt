@@ -48,9 +48,9 @@ module _ (text : List ℕ) where
     abbrev room_checks : List Check
     room_checks = check room_wrong 16 0 ∷ []
 
-    pub reply_18 : (place : ℕ) → passes (shape_checks shanghai text) ≡ false → answered (shape_checks shanghai text) 0 ≡ reply 18 place 0 → reply 18 place 0 ≡ read_reply text room
+    pub reply_18 : passes (shape_checks shanghai text) ≡ false → read_reply text room ≡ answered (shape_checks shanghai text) 0
     unfolding read_reply read_checks
-    reply_18 place e q = sym (answered_stop (shape_checks shanghai text) _ _ _ e ∙ q)
+    reply_18 e = answered_stop (shape_checks shanghai text) _ _ _ e
 
     module _ (s : passes (shape_checks shanghai text) ≡ true) where
       -- past 18

@@ -68,6 +68,7 @@ fn read_values(
 
 // Refusal 19, and what follows. The numbers of the components wait in an array, since the library has no heap, until all is tested. By
 // match: of what `map_err` hands on no equation is known.
+#[tactic(auto, using(crate::proofs::Replies::reply_19_field, crate::proofs::Replies::reply_19_row, crate::proofs::Handed::fields_right), unfolding(list_rules::specs::Reading::run_after, sequences::specs::Checks::is_accepted, text_head::specs::Head::fields_found, list_rows::specs::Rows::rows_found))]
 fn read_fields(text: &[u8], rows: Rows, run: &mut [u64]) -> Result<ListRead, Refusal>
     requires { RowsStand text.now rows }
     ensures { ReadOutcome text.now run.old result run.new }
@@ -84,6 +85,7 @@ fn read_fields(text: &[u8], rows: Rows, run: &mut [u64]) -> Result<ListRead, Ref
 }
 
 // Reads a list: its fields, and its components at the front of the lent run. A refusal changes nothing. By match, as above.
+#[tactic(auto, using(crate::proofs::Replies::reply_18), unfolding(list_rules::specs::Reading::run_after, sequences::specs::Checks::is_accepted))]
 pub fn read(text: &[u8], run: &mut [u64]) -> Result<ListRead, Refusal>
     ensures { ReadOutcome text.now run.old result run.new }
 {
@@ -120,6 +122,7 @@ pub fn letters_place(text: &[u8]) -> TextPart
 }
 
 // The name of component j, as that part of the text; an empty part where the text has no such component line.
+#[tactic(auto, using(std::proofs::lemmas::Bool::Decides::nat_tests), unfolding(list_rules::specs::Reading::name_read))]
 pub fn name(text: &[u8], j: usize) -> &[u8]
     ensures { result.now ≡ name_read text.now j }
 {

@@ -51,6 +51,7 @@ fn put_list(list: &Listing, output: &mut [u8])
 }
 
 // Writes a list at the front of the lent output, and answers how many bytes it takes. A refusal changes nothing.
+#[tactic(auto, using(std::proofs::lemmas::Bool::Decides::nat_tests), unfolding(list_rules::specs::Writing::output_after, sequences::specs::Checks::is_accepted))]
 pub fn write(list: &Listing, output: &mut [u8]) -> Result<usize, Refusal>
     ensures { WriteOutcome (listed list.now) output.old result output.new }
 {
