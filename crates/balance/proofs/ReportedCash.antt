@@ -9,6 +9,7 @@ use lib.Dec.{ltb, eqb}
 use lib.ListN.{length}
 use borrow.Author.Tests.{eqb-true}
 use Rattle.std.proofs.lemmas.Bool.{cond_both}
+use Rattle.std.proofs.lemmas.Bool.Decides.{nat_tests}
 use Rattle.sequences.specs.Below.{join_below}
 use Rattle.sequences.specs.Same.{when_same}
 use Rattle.sequences.proofs.Below.{sum_zero}
@@ -128,11 +129,7 @@ module _ (d : Day) (stock rest units : ℕ) (moved : ℕ → ℕ) (other shangha
 
   when_adds : (x y m n : ℕ) → when_same x y (m + n) ≡ when_same x y m + when_same x y n
   unfolding when_same
-  when_adds x y m n = go (eqb x y)
-    where
-      go : (b : Bool) → cond b (m + n) 0 ≡ cond b m 0 + cond b n 0
-      go true = refl
-      go false = refl
+  when_adds x y m n = grind (arith, nat_tests)
 
   all_amounts : sum_of amount records ≡ other + shanghai
   all_amounts =

@@ -2,8 +2,9 @@
 use mathlib.Core.Path.{◌≡◌}
 use mathlib.Core.Bool.{true}
 use Prim.Native.Nat.{ℕ, ◌+◌, ◌*◌}
-use borrow.Author.Tests.{eqb-true}
-use Rattle.sequences.proofs.Every.{every_at}
+use native.Mathlib.Omega.{arith}
+use Rattle.std.proofs.lemmas.Bool.Decides.{nat_tests}
+use Rattle.sequences.specs.Every.{every}
 use Rattle.layout.specs.Places.{component_width, day_width}
 use Rattle.rules.specs.Opening.{lent_sizes_fit}
 use Rattle.rules.proofs.SoundDay.{DaySizes, sizes_facts}
@@ -16,12 +17,5 @@ pub record LentSizes (accounts count components holdings book prices day : ℕ) 
 
 module _ (accounts count components holdings book prices day : ℕ) where
   pub lent_facts : lent_sizes_fit accounts count components holdings book prices day ≡ true → LentSizes accounts count components holdings book prices day
-  unfolding lent_sizes_fit
-  lent_facts e =
-      let at = every_at _ e in
-      record {
-        own = sizes_facts _ _ _ _ (at 0);
-        components_size = eqb-true _ _ (at 1);
-        holdings_size = eqb-true _ _ (at 2);
-        day_size = eqb-true _ _ (at 3);
-      }
+  unfolding lent_sizes_fit every
+  lent_facts e = grind (arith, nat_tests, sizes_facts)

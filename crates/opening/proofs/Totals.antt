@@ -11,6 +11,7 @@ use lib.ListN.{length, get_or}
 use borrow.Author.Tests.{lt-ltb, le-ltb, ltb-true, not-true, not-false}
 use native.Mathlib.Nat.{eq-or-lt_of_le}
 use mathlib.Core.Logic.{⊎_elim}
+use Rattle.std.proofs.lemmas.Bool.Decides.{nat_tests}
 use Rattle.std.specs.List.{position_or_len}
 use Rattle.std.proofs.lemmas.List.Sums.{prefix_len-le-length, prefix_len_passes, prefix_len_stops}
 use Rattle.sequences.specs.Stretch.{over, stretch_of}
@@ -19,7 +20,6 @@ use Rattle.std.specs.Bool.{then_some}
 use Rattle.std.specs.Option.{option_or}
 use Rattle.sequences.specs.Below.{below, first_below}
 use Rattle.sequences.proofs.Below.{first_same, first_end, first_here, sum_same, below-some, below-none}
-use Rattle.sequences.proofs.Every.{same_test}
 use Rattle.sequences.proofs.Stretch.{stretch_at}
 use Rattle.totals.specs.Totals.{top, place_at, total, capped_total}
 use Rattle.totals.proofs.Sums.{capped_is}
@@ -29,10 +29,7 @@ use Rattle.opening.specs.Given.{totals_in, totals_of}
 
 -- a total as far as 2^62 is above a limit where the total is
 capped_test : (most t : ℕ) → most < top → ltb most (min t top) ≡ ltb most t
-capped_test most t l =
-    same_test (ltb most (min t top)) (ltb most t)
-    (λ e. lt-ltb most t (omega (arith, ltb-true most (min t top) e)))
-    (λ e. lt-ltb most (min t top) (omega (arith, ltb-true most t e)))
+capped_test most t l = grind (arith, nat_tests)
 
 -- a total of the holdings is that of a place of their rows
 row_total : (w accounts k : ℕ) (holdings : List ℕ) → k < w → over w accounts (λ h. get_or h k 0) holdings ≡ total holdings w accounts k

@@ -1,6 +1,6 @@
 -- Counters and their sums as the code reads them, what a sound day gives, and the answers test by test.
-use mathlib.Core.Path.{◌≡◌, refl, sym, ap}
-use mathlib.Core.Bool.{Bool, true, false, ◌&&◌}
+use mathlib.Core.Path.{◌≡◌, sym, ap}
+use mathlib.Core.Bool.{Bool, true, ◌&&◌}
 use mathlib.Core.List.{List, [], ◌∷◌}
 use Prim.Native.Nat.{ℕ, ◌+◌, ◌*◌, ◌/◌, ◌%◌, ◌≤◌, ◌<◌, ◌^◌}
 use native.Mathlib.Nat.{div-add-mod, mul-le-mul}
@@ -8,6 +8,7 @@ use native.Mathlib.Omega.{arith}
 use lib.Dec.{leb, eqb}
 use lib.ListN.{length}
 use borrow.Author.Tests.{eqb-true}
+use Rattle.std.proofs.lemmas.Grind.{common_steps}
 use Rattle.sequences.specs.Every.{every, inside}
 use Rattle.sequences.specs.Stretch.{over}
 use Rattle.sequences.proofs.Below.{sum_none, sum_more, sum_grows}
@@ -17,7 +18,7 @@ use Rattle.fund.specs.Fund.{ceiling, cumulative_limit, cumulative_limit_each, ne
 use Rattle.fund.proofs.Laws.{fund_sound}
 use Rattle.layout.specs.declared.DayHead.{DayHead}
 use Rattle.layout.specs.Day.{Day, day_of}
-use Rattle.layout.specs.Book.{width_of, width, account, head_at, head_total, counter}
+use Rattle.layout.specs.Book.{width, account, head_at, head_total, counter}
 use Rattle.rules.specs.declared.Kind.{Kind}
 use Rattle.rules.specs.declared.Kind.TheVariants.{Creation, Redemption}
 use Rattle.rules.specs.declared.Ask.{Ask}
@@ -44,18 +45,9 @@ module _ (d : Day) (b : List ℕ) (place : ℕ) where
   unfolding heads_below over head_total
   heads_grow a h = sum_grows _ a d.accounts h
 
-  pub heads_all : heads_below d b place d.accounts ≡ head_total d b place
-  unfolding heads_below head_total
-  heads_all = refl
-
 -- an account's place in the book
 pub slot : (accounts v a w : ℕ) (b : List ℕ) → length b ≡ accounts * v → w ≡ v → a < accounts → a * w + w ≤ length b
 slot accounts v a w b size e h = rw (e, size) (within v a accounts h)
-
--- a counter stands in an account's head
-pub counter-below : (kind : Kind) (n : ℕ) → counter (number_of kind) < width_of n
-counter-below Creation n = omega arith
-counter-below Redemption n = omega arith
 
 -- an order that passes 11 is small
 pub units_small : (size units : ℕ) → every (eqb (units % size) 0 ∷ inside 1 most_baskets (units / size) ∷ []) ≡ true → size ≤ 99_999_999 → units ≤ 1_999_999_980
@@ -130,15 +122,7 @@ counted_all d b kind a all e p q = let m = rw e at p in let r = rw e at q in λ 
 -- five tests all pass, in the code's order
 sorted : (a b c d e : Bool) → (((a && c) && e) && (b && d)) ≡ every (a ∷ b ∷ c ∷ d ∷ e ∷ [])
 unfolding every
-sorted false b c d e = refl
-sorted true true false d e = refl
-sorted true false false d e = refl
-sorted true false true d false = refl
-sorted true false true d true = refl
-sorted true true true false false = refl
-sorted true true true false true = refl
-sorted true true true true false = refl
-sorted true true true true true = refl
+sorted a b c d e = grind (arith, common_steps)
 
 -- the limits are those of all accounts, with the ceiling, and of the account
 pub limits_are : (d : Day) (b : List ℕ) (ask : Ask) (all own : Counts) → all ≡ all_counts d b ask.kind → own ≡ own_counts d b ask.account ask.kind

@@ -1,12 +1,13 @@
 -- What an accepted call has passed, fact by fact.
-use mathlib.Core.Path.{◌≡◌, refl, sym}
-use mathlib.Core.Bool.{Bool, true, false, ◌||◌}
+use mathlib.Core.Path.{◌≡◌, sym}
+use mathlib.Core.Bool.{true, false}
 use mathlib.Core.List.{List, [], ◌∷◌}
 use Prim.Native.Nat.{ℕ, ◌+◌, ◌-◌, ◌*◌, ◌%◌, ◌≤◌, ◌<◌}
 use native.Mathlib.Omega.{arith}
 use lib.Dec.{leb, eqb}
 use borrow.Author.Tests.{leb-true, ltb-false, leb-false, eqb-true, eqb-false, not-false}
-use Rattle.sequences.specs.Every.{inside}
+use Rattle.std.proofs.lemmas.Bool.Decides.{nat_tests}
+use Rattle.sequences.specs.Every.{every, inside}
 use Rattle.sequences.specs.Checks.{is_accepted}
 use Rattle.sequences.proofs.Below.{first_all, first_stops}
 use Rattle.sequences.proofs.Every.{every_at, inside_facts}
@@ -95,11 +96,7 @@ trade_facts d b ps line q price seller buyer e =
 -- a limit is within where it is 0 or at least the units
 pub limit_fact : (limit units : ℕ) → within_limit limit units ≡ true → 0 < limit → units ≤ limit
 unfolding within_limit
-limit_fact limit units e pos = go (eqb limit 0) refl e
-  where
-    go : (z : Bool) → eqb limit 0 ≡ z → (z || leb units limit) ≡ true → units ≤ limit
-    go true f g = absurd (omega (arith, eqb-true limit 0 f))
-    go false f g = leb-true units limit g
+limit_fact limit units e pos = grind (arith, nat_tests)
 
 -- what the first two stages of an order say, for a kind of order
 pub record Orders (d : Day) (b : List ℕ) (kind : Kind) (a units : ℕ) : Type 0 where
@@ -149,10 +146,8 @@ pub record Listed (rooms : Rooms) (counts : Counts) : Type 0 where
   pub fund : counts.reports ≤ rooms.fund
 
 listed_facts : (rooms : Rooms) (counts : Counts) → too_short rooms counts ≡ false → Listed rooms counts
-unfolding too_short
-listed_facts rooms counts e =
-    let at = every_at (leb counts.records rooms.records ∷ leb counts.reports rooms.investor ∷ leb counts.reports rooms.fund ∷ []) (not-false _ e) in
-    record { records = leb-true _ _ (at 0); investor = leb-true _ _ (at 1); fund = leb-true _ _ (at 2) }
+unfolding too_short every
+listed_facts rooms counts e = grind (arith, nat_tests)
 
 -- an accepted creation
 pub record Creates (d : Day) (b ps : List ℕ) (a units : ℕ) (rooms : Rooms) : Type 0 where

@@ -9,9 +9,11 @@ use lib.Dec.{leb, ltb, eqb}
 use lib.ListN.{length}
 use borrow.Author.Tests.{le-leb, leb-true, lt-ltb, le-ltb, ltb-false, eq-eqb, ne_eqb, eqb-true, not-false}
 use Rattle.std.proofs.lemmas.Bool.{or_parts}
+use Rattle.std.proofs.lemmas.Bool.Decides.{nat_tests}
+use Rattle.sequences.specs.Every.{every, inside}
 use Rattle.sequences.specs.Below.{all_below}
 use Rattle.sequences.proofs.Below.{all_at, all_true, first_all, first_end, first_stops}
-use Rattle.sequences.proofs.Every.{every_at, every_more, every_none, inside_facts, inside-true}
+use Rattle.sequences.proofs.Every.{every_at, every_more, every_none}
 use Rattle.sequences.proofs.Checks.{Passed, passed_all, passes_all, passed_each, passed_both}
 use Rattle.layout.specs.Places.{most_components, lines_from}
 use Rattle.layout.specs.declared.Fund.{Fund}
@@ -36,26 +38,12 @@ pub record DaySizes (accounts n book prices : ℕ) : Type 0 where
 
 module _ (accounts n book prices : ℕ) where
   pub sizes_true : DaySizes accounts n book prices → day_sizes_fit accounts n book prices ≡ true
-  unfolding day_sizes_fit
-  sizes_true s =
-      every_more _ _ (inside-true 2 64 accounts s.accounts_low s.accounts_high)
-      (every_more _ _ (inside-true 1 most_components n s.count_low s.count_high)
-      (every_more _ _ (eq-eqb _ _ s.book_size) (every_more _ _ (eq-eqb _ _ s.prices_size) every_none)))
+  unfolding day_sizes_fit every inside
+  sizes_true s = grind (arith, nat_tests)
 
   pub sizes_facts : day_sizes_fit accounts n book prices ≡ true → DaySizes accounts n book prices
-  unfolding day_sizes_fit
-  sizes_facts e =
-      let at = every_at _ e in
-      let a = inside_facts 2 64 accounts (at 0) in
-      let c = inside_facts 1 most_components n (at 1) in
-      record {
-        accounts_low = a.0;
-        accounts_high = a.1;
-        count_low = c.0;
-        count_high = c.1;
-        book_size = eqb-true _ _ (at 2);
-        prices_size = eqb-true _ _ (at 3);
-      }
+  unfolding day_sizes_fit every inside
+  sizes_facts e = grind (arith, nat_tests)
 
 -- Refusals 2 and 3: the fund's fields and its components.
 
@@ -299,8 +287,10 @@ module _ (d : Day) (b ps : List ℕ) where
       record { sound = sound_facts d b ps (at 0); room = leb-true _ _ (at 1) }
 
   pub kept_true : Kept d b ps → is_kept d b ps ≡ true
-  unfolding is_kept
-  kept_true k = every_more _ _ (sound-true d b ps k.sound) (every_more _ _ (le-leb _ _ k.room) every_none)
+  unfolding is_kept every
+  kept_true k =
+      let sound = sound-true d b ps k.sound in
+      grind (arith, nat_tests)
 
 -- other prices on a sound day, and on a kept one
 pub sound_priced : {d : Day} {b ps qs : List ℕ} → SoundDay d b ps → PricesSound d qs → SoundDay d b qs

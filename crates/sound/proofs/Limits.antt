@@ -6,12 +6,14 @@ use Prim.Native.Nat.{ℕ, ◌+◌, ◌≤◌, ◌<◌, min}
 use native.Mathlib.Omega.{arith}
 use lib.Dec.{ltb, leb}
 use lib.ListN.{get_or}
-use borrow.Author.Tests.{le-leb, leb-true, lt-ltb, le-ltb, eq-eqb, eqb-true}
+use borrow.Author.Tests.{le-leb, leb-true, lt-ltb, le-ltb, eqb-true}
 use Rattle.totals.specs.Totals.{top, total, capped_total}
 use Rattle.totals.proofs.Sums.{capped_is}
+use Rattle.std.proofs.lemmas.Bool.Decides.{nat_tests}
+use Rattle.sequences.specs.Every.{every}
 use Rattle.sequences.specs.Below.{all_below}
 use Rattle.sequences.proofs.Below.{all_at, all_true, all_more, cond_le}
-use Rattle.sequences.proofs.Every.{every_at, every_more, every_none, false_of, same_test}
+use Rattle.sequences.proofs.Every.{every_at, false_of, same_test}
 use Rattle.sequences.proofs.Stretch.{within}
 use Rattle.fund.specs.Fund.{ceiling}
 use Rattle.layout.specs.Book.{cash, created, redeemed, width_of, line_from}
@@ -56,11 +58,10 @@ module _ (n : ℕ) (t : ℕ → ℕ) where
   line_facts l e = leb-true _ _ e
 
   pub fits_true : Fits n t → totals_fit n t ≡ true
-  unfolding totals_fit
+  unfolding totals_fit every
   fits_true f =
-      every_more _ _ (le-leb _ _ f.money)
-      (every_more _ _ (le-leb _ _ f.created_most)
-      (every_more _ _ (le-leb _ _ f.redeemed_most) (every_more _ _ (all_true (line_fits n t) (n + 1) f.lines) every_none)))
+      let lines = all_true (line_fits n t) (n + 1) f.lines in
+      grind (arith, nat_tests)
 
   pub fits_facts : totals_fit n t ≡ true → Fits n t
   unfolding totals_fit
@@ -150,22 +151,19 @@ pub record Still (n : ℕ) (b : List ℕ) : Type 0 where
   pub lines : (l : ℕ) → l < n + 1 → line_still b l ≡ true
 
 pub line_still_lem : (b : List ℕ) (l : ℕ) → get_or b (line_from l + 1) 0 ≡ 0 → get_or b (line_from l + 2) 0 ≡ 0 → line_still b l ≡ true
-unfolding line_still
-line_still_lem b l p q = every_more _ _ (eq-eqb _ _ p) (every_more _ _ (eq-eqb _ _ q) every_none)
+unfolding line_still every
+line_still_lem b l p q = grind (arith, nat_tests)
 
 pub still_line : (b : List ℕ) (l : ℕ) → line_still b l ≡ true → (get_or b (line_from l + 1) 0 ≡ 0) × (get_or b (line_from l + 2) 0 ≡ 0)
-unfolding line_still
-still_line b l e =
-    let at = every_at _ e in
-    (eqb-true _ _ (at 0), eqb-true _ _ (at 1))
+unfolding line_still every
+still_line b l e = grind (arith, nat_tests)
 
 module _ (n : ℕ) (b : List ℕ) where
   pub still_true : Still n b → stretch_still n b ≡ true
-  unfolding stretch_still
+  unfolding stretch_still every
   still_true s =
-      every_more _ _ (eq-eqb _ _ s.created_none)
-      (every_more _ _ (eq-eqb _ _ s.redeemed_none)
-      (every_more _ _ (eq-eqb _ _ s.no_units) (every_more _ _ (all_true (line_still b) (n + 1) s.lines) every_none)))
+      let lines = all_true (line_still b) (n + 1) s.lines in
+      grind (arith, nat_tests)
 
   pub still_facts : stretch_still n b ≡ true → Still n b
   unfolding stretch_still

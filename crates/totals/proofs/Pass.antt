@@ -1,25 +1,17 @@
 -- One pass over the totals, place by place: what stands when the places below j are done.
-use Rattle.std.proofs.Common.{◌≡◌, ℕ, ◌+◌, ◌*◌, ◌%◌, ◌^◌, ◌<◌, ◌≤◌, Bool, not, ◌||◌, ltb, leb, List, length, get_or, set, sym, refl, ap, ◌∙◌, not-suc-le-zero, le_antisymm, arith}
+use Rattle.std.proofs.Common.{◌≡◌, ℕ, ◌+◌, ◌*◌, ◌%◌, ◌^◌, ◌<◌, ◌≤◌, Bool, ◌||◌, leb, List, length, get_or, set, sym, ap, ◌∙◌, arith}
 use Rattle.std.proofs.Common.{length-set, get_or-set_other, get_or-set_same, below_more}
 use lib.Bits.{bit_or}
 use Rattle.sequences.specs.Below.{any_below}
 use Rattle.sequences.proofs.Below.{any_more}
 use Rattle.totals.specs.Totals.{top, quick_most, reaches}
-use Rattle.totals.proofs.Top.{below_top, or_zero_left, or_zero_right}
+use Rattle.totals.proofs.Top.{or_zero_left, or_zero_right}
 
 -- the totals t₀ became t: those below j are F, wrapped, and the others as they were
 pub record Pass (t₀ : List ℕ) (F : ℕ → ℕ) (j : ℕ) (t : List ℕ) : Type 0 where
   pub done : (k : ℕ) → k < j → get_or t k 0 ≡ F k % 2 ^ 64
   pub rest : (k : ℕ) → j ≤ k → get_or t k 0 ≡ get_or t₀ k 0
   pub size : length t ≡ length t₀
-
-pub pass_none : (t : List ℕ) (F : ℕ → ℕ) → Pass t F 0 t
-pass_none t F =
-    record {
-      done = λ k l. absurd (not-suc-le-zero l);
-      rest = λ k l. refl;
-      size = refl;
-    }
 
 -- one place more: x is written
 pub pass_more : {t₀ : List ℕ} {F : ℕ → ℕ} {j : ℕ} {t : List ℕ} → Pass t₀ F j t → (x : ℕ) → j < length t₀ → x ≡ F j % 2 ^ 64 → Pass t₀ F (j + 1) (set t j x)
@@ -39,11 +31,6 @@ Seen F j h = leb top h ≡ any_below (reaches F) j
 pub seen_more : (F : ℕ → ℕ) (j h g : ℕ) → Seen F j h → leb top g ≡ (leb top h || leb top (F j)) → Seen F (j + 1) g
 unfolding reaches
 seen_more F j h g s f = f ∙ ap (λ (b : Bool). b || leb top (F j)) s ∙ sym (any_more (reaches F) j)
-
-pub seen_end : (F : ℕ → ℕ) (j h w : ℕ) → Seen F j h → j ≤ w → w ≤ j → ltb h top ≡ not (any_below (reaches F) w)
-seen_end F j h w s l m =
-    let e : j ≡ w = le_antisymm l m in
-    below_top h _ (rw e at s)
 
 -- The or h of a pass that adds blocks of eight rows, whose sums are T: where it is 0, each of these below j is at most that of eight
 -- numbers below 2^56.

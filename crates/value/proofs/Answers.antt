@@ -1,30 +1,24 @@
 -- What a caller learns from the answer: whether there is a value, and where there is one, that it is the day's and in its range.
 use mathlib.Core.Path.{◌≡◌, refl, sym, ap, ◌∙◌}
 use mathlib.Core.Bool.{Bool, true, false, cond, not, false≢true}
-use mathlib.Core.List.{List, [], ◌∷◌}
+use mathlib.Core.List.{List}
 use Prim.Native.Nat.{ℕ, ◌≤◌}
 use native.Mathlib.Omega.{arith}
-use lib.Dec.{leb}
-use borrow.Author.Tests.{leb-true}
-use Rattle.sequences.specs.Below.{any_below}
+use Rattle.std.proofs.lemmas.Bool.Decides.{nat_tests}
+use Rattle.sequences.specs.Every.{every}
 use Rattle.sequences.specs.Checks.{Reply, reply, answering, answered, is_accepted}
-use Rattle.sequences.proofs.Every.{every_at}
 use Rattle.units.specs.declared.ReferenceValue.{ReferenceValue}
 use Rattle.layout.specs.Day.{Day}
 use Rattle.rules.specs.declared.Refusal.{Refusal}
 use Rattle.std.specs.Prelude.{Ok, Err}
 use Rattle.rules.specs.Replies.{refusal_reply, value_answer_reply}
 use Rattle.rules.proofs.Replies.{refused}
-use Rattle.rules.specs.Value.{lacks_price, cash_taken, worth_before, reference_value, has_value, value_checks}
+use Rattle.rules.specs.Value.{reference_value, has_value, value_checks}
 
 -- a value that exists is in its range
 pub value_range : (d : Day) (ps : List ℕ) → has_value d ps ≡ true → reference_value d ps ≤ 9_999_999
-unfolding has_value
-value_range d ps e =
-    leb-true _ _
-    (every_at
-    (not (any_below (lacks_price d ps) d.count) ∷ leb (cash_taken d.fund.estimated_cash) (worth_before d ps) ∷ leb (reference_value d ps) 9_999_999 ∷ [])
-    e 2)
+unfolding has_value every
+value_range d ps e = grind (arith, nat_tests)
 
 -- the answer's reply where it has a value and where not
 stands : (b : Bool) (v x : ℕ) → reply 0 0 v ≡ cond (not b) (reply 14 0 0) (reply 0 0 x) → (b ≡ true) × (v ≡ x)
