@@ -1,24 +1,19 @@
 -- No row changes the day, and so the runs that a list of rows leaves say what it leaves.
 use mathlib.Core.Path.{◌≡◌, refl, ◌∙◌}
-use mathlib.Core.Bool.{Bool, true, false, cond}
 use mathlib.Core.List.{List}
 use Prim.Native.Nat.{ℕ, zero, suc}
+use native.Mathlib.Omega.{arith}
 use Rattle.layout.specs.Day.{Day}
-use Rattle.balance.specs.Calls.{price, trade, create, redeem, value, step}
+use Rattle.balance.specs.Calls.{step}
 use Rattle.driver_rows.specs.declared.Work.{Work as Runs}
 use Rattle.driver_rows.specs.Lent.{work_in, left_work}
-use Rattle.driver_rows.specs.Rows.{Row, call, none, row_at, Work, row_leaves}
+use Rattle.driver_rows.specs.Rows.{Row, row_at, Work, row_leaves}
 use Rattle.rules.specs.Lent.{lent_of}
-use Rattle.driver.specs.Batch.{Batch, batch_of, row_done, run_from, rows_in, fits, ran}
+use Rattle.driver.specs.Batch.{Batch, batch_of, row_done, run_from, ran}
 
 pub row_day : (w : Work) (row : Row) → (row_leaves w row).state.day ≡ w.state.day
 unfolding row_leaves step
-row_day w (call (price line p) ps) = refl
-row_day w (call (trade line n p seller buyer) ps) = refl
-row_day w (call (create a units) ps) = refl
-row_day w (call (redeem a units) ps) = refl
-row_day w (call value ps) = refl
-row_day w none = refl
+row_day w row = grind arith
 
 run_day : (rows : List ℕ) (i n : ℕ) (b : Batch) → (run_from rows i n b).work.state.day ≡ b.work.state.day
 unfolding run_from
@@ -27,11 +22,7 @@ run_day rows i (suc n) b = run_day rows (suc i) n (row_done b (row_at rows i) i)
 
 pub ran_day : (rows : List ℕ) (b : Batch) → (ran rows b).work.state.day ≡ b.work.state.day
 unfolding ran
-ran_day rows b = go (fits rows b)
-  where
-    go : (f : Bool) → (cond f (run_from rows 0 (rows_in rows) b) b).work.state.day ≡ b.work.state.day
-    go true = run_day rows 0 (rows_in rows) b
-    go false = refl
+ran_day rows b = grind (arith, run_day)
 
 -- Runs that are left as a work of the day says it.
 pub left_of : (d : Day) (w : Runs) (x : Work) → x.state.day ≡ d → work_in d (left_work w x) ≡ x

@@ -1,8 +1,9 @@
 -- Demand 3 of the driver: the events of its rows happened, and so they balance.
 use mathlib.Core.Path.{◌≡◌, refl, sym, subst}
-use mathlib.Core.Bool.{Bool, true, false, cond}
+use mathlib.Core.Bool.{true}
 use mathlib.Core.List.{List, [], ◌++◌}
 use Prim.Native.Nat.{ℕ, zero, suc}
+use native.Mathlib.Omega.{arith}
 use Rattle.sequences.specs.Checks.{is_accepted}
 use Rattle.rules.specs.Opening.{Opening, opening_reply}
 use Rattle.balance.specs.Calls.{State, Event, Happened}
@@ -12,15 +13,14 @@ use Rattle.balance.proofs.Whole.{demand_3}
 use Rattle.layout.specs.Day.{Day}
 use Rattle.driver_rows.specs.declared.Work.{Work as Runs}
 use Rattle.driver_rows.specs.Lent.{state_in, work_in, left_work}
-use Rattle.driver_rows.specs.Rows.{state_of, Row, call, none, row_at, Work, row_reply, row_leaves}
+use Rattle.driver_rows.specs.Rows.{state_of, Row, row_at, Work, row_reply, row_leaves}
 use Rattle.driver.proofs.Days.{ran_day, left_of}
-use Rattle.driver.specs.Batch.{Batch, batch_in, row_done, run_from, with_event, events_from, rows_in, fits, ran, events_of, reply_from, events_past, answers_from, answers_of, Demand3}
+use Rattle.driver.specs.Batch.{Batch, batch_in, row_done, run_from, with_event, events_from, ran, events_of, reply_from, events_past, answers_from, answers_of, Demand3}
 
 -- a row's event, and then those of the rest
 row_happened : (w : Work) (row : Row) (es : List Event) (t : State) → Happened (row_leaves w row).state es t → Happened w.state (with_event w row es) t
 unfolding Happened with_event row_leaves
-row_happened w (call c ps) es t h = (refl, h)
-row_happened w none es t h = h
+row_happened w row es t h = grind arith
 
 pub rows_happened : (rows : List ℕ) (i n : ℕ) (b : Batch) → Happened b.work.state (events_from rows i n b) (run_from rows i n b).work.state
 unfolding Happened events_from run_from
@@ -29,11 +29,7 @@ rows_happened rows i (suc n) b = row_happened b.work (row_at rows i) _ _ (rows_h
 
 pub run_happened : (rows : List ℕ) (b : Batch) → Happened b.work.state (events_of rows b) (ran rows b).work.state
 unfolding Happened events_of ran
-run_happened rows b = go (fits rows b)
-  where
-    go : (f : Bool) → Happened b.work.state (cond f (events_from rows 0 (rows_in rows) b) []) (cond f (run_from rows 0 (rows_in rows) b) b).work.state
-    go true = rows_happened rows 0 (rows_in rows) b
-    go false = refl
+run_happened rows b = grind (arith, rows_happened)
 
 -- what happened balances, behind all that led to its start
 pub all_balanced : (s : State) (fs : List Event) (t : State) → Happened s fs t → Demand3 s fs t
@@ -55,8 +51,7 @@ runs_joined {s} {t} {u} {fs} {gs} d e = all_balanced s (fs ++ gs) u (happened_jo
 -- the answers are the events' replies
 row_answer : (w : Work) (row : Row) (es : List Event) → (reply_from row (with_event w row es) ≡ row_reply w row) × (events_past row (with_event w row es) ≡ es)
 unfolding reply_from events_past with_event row_reply
-row_answer w (call c ps) es = (refl, refl)
-row_answer w none es = (refl, refl)
+row_answer w row es = grind arith
 
 rows_answers : (rows : List ℕ) (i n : ℕ) (b : Batch) → (run_from rows i n b).answers ≡ answers_from rows i n (events_from rows i n b) b.answers
 unfolding run_from answers_from events_from
@@ -67,11 +62,7 @@ rows_answers rows i (suc n) b =
 
 pub run_answers : (rows : List ℕ) (b : Batch) → (ran rows b).answers ≡ answers_of rows (events_of rows b) b
 unfolding ran answers_of events_of
-run_answers rows b = go (fits rows b)
-  where
-    go : (f : Bool) → (cond f (run_from rows 0 (rows_in rows) b) b).answers ≡ cond f (answers_from rows 0 (rows_in rows) (cond f (events_from rows 0 (rows_in rows) b) []) b.answers) b.answers
-    go true = rows_answers rows 0 (rows_in rows) b
-    go false = refl
+run_answers rows b = grind (arith, rows_answers)
 
 -- the driver's contract from what it leaves
 pub run_meets : (d : Day) (rows : List ℕ) (w left : Runs) (answers : List ℕ) → left ≡ left_work w (ran rows (batch_in d w answers)).work

@@ -55,19 +55,7 @@ front_flat rs list = flatten-append rs (drop (length rs) list) ∙ ap (λ (t : L
 pub made_flat : (d : Day) (b ps : List ℕ) (ask : Ask) (list : List Record) (investor fund : List ℕ)
     → made_lists d b ps ask list investor fund ≡ asked_lists d b ps ask (lent_of (flatten list) investor fund)
 unfolding made_records made_reports asked_lists records_of with_order
-made_flat d b ps ask list investor fund = rw (rooms_agree list investor fund) (go (is_accepted (asked_reply d b ps ask (rooms_beside (length list) investor fund))))
-  where
-    rs : List Record
-    rs = records_of d b ps ask
-
-    reports : List ℕ × List ℕ
-    reports = (with_reports (reports_of d b ps ask) investor, with_reports (map opposite (reports_of d b ps ask)) fund)
-
-    go : (x : Bool)
-        → lent_of (flatten (cond x (at_front rs list) list)) (cond x reports (investor, fund)).0 (cond x reports (investor, fund)).1
-        ≡ cond x (with_asked d b ps ask (lent_of (flatten list) investor fund)) (lent_of (flatten list) investor fund)
-    go true = ap (λ (l : List ℕ). lent_of l reports.0 reports.1) (front_flat rs list)
-    go false = refl
+made_flat d b ps ask list investor fund = grind (arith, rooms_agree, front_flat)
 
 -- the call of an order
 abbrev call_of : Ask → Call

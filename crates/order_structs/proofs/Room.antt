@@ -40,7 +40,8 @@ line_few : (d : Day) (side : ℕ) (moved : ℕ → ℕ) (i : ℕ) → length (st
 unfolding stock_record
 line_few d side moved i = grind (arith, common_steps)
 
-records_few : (d : Day) (side rest units : ℕ) (moved : ℕ → ℕ) (other shanghai : ℕ) → d.count ≤ most_components → length (order_records d side rest units moved other shanghai) ≤ most_records
+records_few : (d : Day) (side rest units : ℕ) (moved : ℕ → ℕ) (other shanghai : ℕ) → d.count ≤ most_components
+    → length (order_records d side rest units moved other shanghai) ≤ most_records
 unfolding order_records
 records_few d side rest units moved other shanghai h =
     let unit = record_of (d.fund.first_code + second_unit) rest units 0 ∷ [] in

@@ -20,7 +20,7 @@ use Rattle.rules.specs.Lent.{Lent, lent_of, rooms_in, with_order}
 use Rattle.rules.specs.Records.{stock_record}
 use Rattle.rules.specs.Reports.{opposite}
 use Rattle.layout.specs.declared.Record.{Record}
-use Rattle.layout.specs.Places.{record_width, report_width}
+use Rattle.layout.specs.Places.{most_components, record_width, report_width}
 use Rattle.layout.specs.Records.{record_numbers, with_records}
 use Rattle.layout.specs.Reports.{with_reports}
 use Rattle.layout.proofs.Laid.{with_length}
@@ -44,8 +44,8 @@ use Rattle.order_records.proofs.Sound.{sound_writable}
 use Rattle.order_reports.specs.Told.{told_reports}
 use Rattle.order_reports.proofs.Order.{record_count, investor_told, fund_told}
 use Rattle.order_tests.specs.Tests.{means_answer}
-use Rattle.order_form.specs.Form.{order_form}
-use Rattle.order_form.proofs.Laws.{form_of_day}
+use Rattle.order_form.specs.Form.{order_form, Countable}
+use Rattle.order_form.proofs.Laws.{form_of_day, sound_countable, countable_head}
 use Rattle.order_tests.proofs.Laws.{staged}
 use Rattle.value.specs.Worth.{Priceable}
 use Rattle.value.proofs.Laws.{priceable}
@@ -55,34 +55,43 @@ use Rattle.trades.proofs.Laws.{sound_fits}
 use Rattle.orders.specs.Orders.{asked_answer, Formed}
 
 module _ (d : Day) (b ps : List ℕ) (ask : Ask) (f : Formed d b ps ask) where
-  pub sound : SoundDay d b ps
+  sound : SoundDay d b ps
   sound = sound_facts d b ps f.sound
 
-  pub order : Orders d b ask.kind ask.account ask.units
+  order : Orders d b ask.kind ask.account ask.units
   unfolding order_form form_checks permission_checks
   order =
       let p = all_passed (order_form d b ask) _ tt (is_accepted_lem _ _ refl f.formed) in
       order_facts d b ask.kind ask.account ask.units sound.own.accounts_low (not-false _ p.0) (not-false _ p.1.0) (not-false _ p.1.1.1.0)
 
-  pub fund : FundRanges d.fund
+  fund : FundRanges d.fund
   fund = fund_sound d.fund sound.own.fund_fields
 
-  pub inside : (i : ℕ) → i < d.accounts → i * width_of d.count + width_of d.count ≤ length b
+  inside : (i : ℕ) → i < d.accounts → i * width_of d.count + width_of d.count ≤ length b
   inside i h = rw sound.book.book_size (within (width_of d.count) i d.accounts h)
 
-  pub first : 0 < d.accounts
-  first = omega (arith, sound.own.accounts_low)
-
-  -- what the third stage asks, on parts s and t of the book that are the account's stretch and the fund's
-  pub stage_asks : (s t : List ℕ) → s ≡ account d b ask.account → t ≡ account d b 0 → Scannable d s t ps (baskets d ask.units)
-  stage_asks s t e g = rw (e, g) (scannable d b ps sound (baskets d ask.units) order.baskets_high ask.account order.account_in)
-
-  pub prices_ask : Priceable d ps
-  prices_ask = priceable d b ps sound
-
-  pub units_ask : (s : List ℕ) → s ≡ account d b ask.account → available s d.count ≤ 2_000_000_000_000_000_000
+  -- what the third stage asks, of the account's stretch and the fund's
+  pub stage_ready : (d.count ≤ most_components) × (ask.account * width_of d.count + width_of d.count ≤ length b) × (0 * width_of d.count + width_of d.count ≤ length b)
+      × Scannable d (account d b ask.account) (account d b 0) ps (baskets d ask.units) × Priceable d ps × (d.fund.max_cash_ratio.0 ≤ 100_000)
+      × (available (account d b ask.account) d.count ≤ 2_000_000_000_000_000_000)
   unfolding available
-  units_ask s e = rw e (omega (arith, (sound_fits d b ps sound).lots ask.account d.count order.account_in (omega arith)))
+  stage_ready = (
+    sound.own.count_high,
+    inside ask.account order.account_in,
+    inside 0 (omega (arith, sound.own.accounts_low)),
+    scannable d b ps sound (baskets d ask.units) order.baskets_high ask.account order.account_in,
+    priceable d b ps sound,
+    fund.ratio,
+    omega (arith, (sound_fits d b ps sound).lots ask.account d.count order.account_in (omega arith)),
+  )
+
+-- what a sound day gives an order's form, which looks at the day's head alone, and its count of baskets
+module _ (d : Day) (b ps : List ℕ) (whole : is_sound d b ps ≡ true) where
+  pub form_ready : Countable (day_of (record { accounts = d.accounts; count = d.count; fund = d.fund }) []) b
+  form_ready = countable_head d _ b refl (sound_countable d b ps (sound_facts d b ps whole))
+
+  pub basket_low : 0 < d.fund.basket_size
+  basket_low = (fund_sound d.fund (sound_facts d b ps whole).own.fund_fields).size_low
 
 -- the answer from the stages
 module _ (d : Day) (b ps : List ℕ) (rooms : Rooms) where

@@ -31,6 +31,7 @@ fn part_of(book: &[u64], w: usize, a: usize) -> &[u64]
 
 // The third stage of an order, on the account's part of the book and the fund's. Day, book, prices and ask come apart, as in `day`: an
 // order writes the book alone.
+#[tactic(auto, using(crate::proofs::Laws::stage_ready))]
 fn order_stage(
     day: &DayView,
     book: &[u64],
@@ -51,7 +52,7 @@ fn order_stage(
 
 // The tests of an order alone, with the cash of one that is accepted. That the day is sound stands in both contracts: it is a fact of
 // the day with its book and prices, of which the tests lend the book to read and an order to write, so one struct would need a twin.
-#[tactic(auto, using(crate::proofs::Laws::asked_staged, crate::proofs::Laws::form_is, rules::proofs::Replies::refused), unfolding(sequences::specs::Checks::is_accepted))]
+#[tactic(auto, using(crate::proofs::Laws::form_ready, crate::proofs::Laws::asked_staged, crate::proofs::Laws::form_is, rules::proofs::Replies::refused), unfolding(sequences::specs::Checks::is_accepted))]
 pub fn order_tested(
     day: &DayView,
     book: &[u64],
@@ -68,7 +69,7 @@ pub fn order_tested(
 }
 
 // An order: its tests, and where they accept it its records, moves and reports.
-#[tactic(auto, using(rules::proofs::Replies::refused, rules::proofs::Asked::asked_moves_lem), unfolding(sequences::specs::Checks::is_accepted))]
+#[tactic(auto, using(crate::proofs::Laws::basket_low, rules::proofs::Replies::refused, rules::proofs::Asked::asked_moves_lem), unfolding(sequences::specs::Checks::is_accepted))]
 pub fn order(
     day: &DayView,
     book: &mut [u64],

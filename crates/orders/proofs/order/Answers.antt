@@ -1,15 +1,10 @@
 -- `orders::order` meets its contract: the tests have the answer, and only an accepted order is written, moved and reported.
 use mathlib.Core.Path.{refl, sym, ap, ◌∙◌}
-use Rattle.fund.proofs.Laws.{fund_sound}
 use Rattle.order_tests.specs.Tests.{accepted_reply}
 use Rattle.rules.specs.Lists.{lent_in, left_in}
-use Rattle.rules.proofs.SoundDay.{sound_facts}
 use Rattle.rules.proofs.Replies.{leaves_after}
 use Rattle.orders.proofs.Laws.{order_makes, order_reports_lem, order_lists}
 use Rattle.orders.proofs.order.Goals as goal
-
-pub baskets_in-m-requires : goal.baskets_in-m-requires
-baskets_in-m-requires c = (fund_sound _ (sound_facts _ _ _ c.requires.prices_value).own.fund_fields).size_low
 
 pub settle-requires : goal.settle-requires
 settle-requires c =
