@@ -7,7 +7,7 @@ use program_io::player::Player;
 use std::alloc::{AllocError, Global};
 use std::io::Write;
 
-// What makes a program's calls on a session. It is the default again behind each opening and each state.
+// What makes a program's calls on a session. Each opening and each state begins with the default.
 pub trait Caller: Default + Drop {
     // The most numbers that an item may have, and the longest book and prices.
     const MOST_NUMBERS: usize;

@@ -72,7 +72,7 @@ fn print_list<W: Write>(
     writeln!(out, "letters{}", Row(letters))?;
     let names = Names::new(text, read);
     match names.join(alloc)? {
-        Some(joined) if names.end() => {
+        Some(joined) if names.has_no_more() => {
             writeln!(out, "names{}", Row(&joined))?;
             let list = Listing {
                 fields,

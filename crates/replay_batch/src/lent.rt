@@ -27,11 +27,16 @@ pub struct Batch<'a> {
     rows: &'a [u64],
 }
 
-impl Batch<'_> {
-    fn has_room(&self) -> bool {
-        self.records <= MOST_RECORDS
-            && self.investor.max(self.fund) <= MOST_REPORTS
-            && self.answers <= MOST_ANSWERS
+impl<'a> Batch<'a> {
+    // The same, with runs that there is room for.
+    fn in_room(self) -> Result<Batch<'a>, Fault> {
+        if MOST_RECORDS < self.records
+            || MOST_REPORTS < self.investor.max(self.fund)
+            || MOST_ANSWERS < self.answers
+        {
+            return Err(Fault::BadInput);
+        }
+        Ok(self)
     }
 }
 
@@ -39,27 +44,22 @@ impl<'a> TryFrom<&'a Item> for Batch<'a> {
     type Error = Fault;
 
     fn try_from(item: &'a Item) -> Result<Batch<'a>, Fault> {
-        let (10, [records, investor, fund, answers, rows @ ..]) = (
-            item.tag,
-            item.numbers.as_slice(),
-        ) else {
-            return Err(Fault::BadInput);
-        };
-        let batch = Batch {
-            records: *records as usize,
-            investor: *investor as usize,
-            fund: *fund as usize,
-            answers: *answers as usize,
-            rows,
-        };
-        if batch.has_room() {
-            Ok(batch)
-        } else {
-            Err(Fault::BadInput)
+        match (item.tag, item.numbers.as_slice()) {
+            (10, [records, investor, fund, answers, rows @ ..]) => Batch {
+                records: *records as usize,
+                investor: *investor as usize,
+                fund: *fund as usize,
+                answers: *answers as usize,
+                rows,
+            }
+            .in_room(),
+            _ => Err(Fault::BadInput),
         }
     }
 }
 
+// The lists are made as those of an order in `program_replay`, but they are printed whole, and compared with those of a second run: one
+// struct for both would save the making alone.
 #[derive(Drop)]
 pub struct Lent {
     book: Vec<u64>,

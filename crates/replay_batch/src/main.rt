@@ -29,7 +29,7 @@ fn run_both<W: Write>(session: &mut Session, batch: Batch<'_>, out: &mut W) -> R
     Ok(())
 }
 
-// Its items are batches.
+// Its items, beside openings and states, are batches.
 #[derive(Default, Drop)]
 struct Batches;
 

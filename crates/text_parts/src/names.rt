@@ -35,7 +35,7 @@ impl<'a> Names<'a> {
     }
 
     // Whether no name is given where the text has no such component line.
-    pub fn end(&self) -> bool {
+    pub fn has_no_more(&self) -> bool {
         let Names { text, first, count } = *self;
         let far = usize::MAX;
         list_reading::name(text, count).is_empty()
