@@ -86,7 +86,7 @@ pub extern "C" fn roffelaine_trade(
     let trade = Trade {
         line,
         quantity,
-        price: Money(price),
+        price: Money::new(price),
         seller,
         buyer,
     };

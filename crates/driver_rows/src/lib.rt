@@ -127,7 +127,7 @@ fn call_of(row: &[u64]) -> Option<Call>
         2 => Some(Call::Trade(Trade {
             line: row[1] as usize,
             quantity: row[2],
-            price: Money(row[3]),
+            price: Money::new(row[3]),
             seller: row[4] as usize,
             buyer: row[5] as usize,
         })),

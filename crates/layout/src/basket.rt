@@ -17,8 +17,8 @@ pub fn component_at(run: &[u64], i: usize) -> Component
         code: run[at],
         quantity: run[at + 1],
         flag: run[at + 2],
-        premium: Rate(run[at + 3]),
-        discount: Rate(run[at + 4]),
-        amount: Money(run[at + 5]),
+        premium: Rate::new(run[at + 3]),
+        discount: Rate::new(run[at + 4]),
+        amount: Money::new(run[at + 5]),
     }
 }

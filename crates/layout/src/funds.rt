@@ -69,7 +69,7 @@ pub fn fund_of(run: &[u64], at: usize) -> Fund
     Fund {
         first_code: run[at],
         basket_size: run[at + 1],
-        max_cash_ratio: Rate(run[at + 2]),
+        max_cash_ratio: Rate::new(run[at + 2]),
         switch: run[at + 3],
         estimated_cash: signed_at(run, at + CASH_AT),
         limits: limits_at(run, at + LIMITS_FROM),

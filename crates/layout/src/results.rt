@@ -21,8 +21,8 @@ pub fn record_at(list: &[u64], k: usize) -> Record
         code: list[at],
         side: list[at + 1],
         quantity: list[at + 2],
-        price: Money(list[at + 3]),
-        amount: Money(list[at + 4]),
+        price: Money::new(list[at + 3]),
+        amount: Money::new(list[at + 4]),
     }
 }
 

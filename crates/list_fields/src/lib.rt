@@ -36,7 +36,7 @@ pub fn fields_of(figures: [Figure; MOST_FIELDS]) -> ListFields
     let fund = Fund {
         first_code: ListField::CreationCode.of(&figures).size - 1,
         basket_size: ListField::BasketSize.of(&figures).size,
-        max_cash_ratio: Rate(ListField::CashRatio.of(&figures).size),
+        max_cash_ratio: Rate::new(ListField::CashRatio.of(&figures).size),
         switch: ListField::Switch.of(&figures).size,
         estimated_cash: digits::signed_of(ListField::EstimatedCash.of(&figures)),
         limits: limits_of(figures),

@@ -33,7 +33,7 @@ impl TryFrom<&Item> for Call {
             (5, [line, quantity, price, seller, buyer]) => Ok(Call::Trade(Trade {
                 line: *line as usize,
                 quantity: *quantity,
-                price: Money(*price),
+                price: Money::new(*price),
                 seller: *seller as usize,
                 buyer: *buyer as usize,
             })),

@@ -1,5 +1,5 @@
-// The paper's units of count, each a type of its own, and the roundings between them. The ranges that roundings ask are asked of the
-// numbers: a sound day says them all at once, and a type for each would be made and opened again at each call.
+// The paper's units of count, each a type of its own, and the roundings between them. What a rounding asks is a range of the number
+// in it: a sound day says all ranges at once, and a type for each would be made and opened again at each call.
 #![tactic(auto)]
 
 ghost use Rattle.std.specs.Prelude.{◌≡◌, ◌+◌, ◌*◌, ◌≤◌, ◌<◌, ◌^◌};
@@ -22,6 +22,13 @@ pub struct ReferenceValue(pub u64);
 impl Money {
     // The split size, 1,000 yuan: cash from here on takes two records.
     pub const SPLIT: Money = Money(1_000_000);
+
+    // The money that a number in a run says.
+    pub fn new(thousandths: u64) -> Self
+        ensures { result.0 ≡ thousandths }
+    {
+        Money(thousandths)
+    }
 
     // The amount times (100,000 + rate) / 100,000, rounded.
     #[tactic(auto, unfolding(crate::specs::Units::premium))]
@@ -57,9 +64,22 @@ impl Add for Money {
 impl Rate {
     // The rate one.
     pub const ONE: Rate = Rate(100_000);
+
+    // The rate that a number in a run says.
+    pub fn new(hundred_thousandths: u64) -> Self
+        ensures { result.0 ≡ hundred_thousandths }
+    {
+        Rate(hundred_thousandths)
+    }
 }
 
 impl ReferenceValue {
+    pub fn new(ten_thousandths: u64) -> Self
+        ensures { result.0 ≡ ten_thousandths }
+    {
+        ReferenceValue(ten_thousandths)
+    }
+
     // The most cash that may stand for missing stock of `baskets` baskets of `size` units under a maximum cash ratio.
     pub fn ratio_bound(self, baskets: u64, size: u64, ratio: Rate) -> Money
         requires { (self.0 ≤ 9_999_999) × (baskets ≤ 20) × (size ≤ 99_999_999) × (ratio.0 ≤ 100_000) }

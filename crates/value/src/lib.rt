@@ -61,7 +61,7 @@ fn per_unit(basket: Money, size: u64) -> ReferenceValue
     ensures { result.0 ≡ rounded (10 * basket.0) size }
 {
     let tenths = 10 * basket.0;
-    ReferenceValue((2 * tenths + size) / (2 * size))
+    ReferenceValue::new((2 * tenths + size) / (2 * size))
 }
 
 // The answer from the sum of the components and what the estimated cash adds to it and takes from it: here alone money is taken away, and
