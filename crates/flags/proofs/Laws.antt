@@ -8,7 +8,7 @@ use native.Mathlib.Decide.{dec_lt}
 use native.Mathlib.Omega.{arith}
 use lib.Dec.{lit≤}
 use lib.ListN.{length, get_or, get_or-eq_default}
-use borrow.Author.Tests.{not-true, lt-ltb, le-ltb}
+use borrow.Author.Tests.{lt-ltb, le-ltb}
 use Rattle.sequences.specs.Below.{all_below}
 use Rattle.sequences.specs.Every.{every}
 use Rattle.sequences.proofs.Below.{all_at}
@@ -64,12 +64,6 @@ inside flag column e = case (dec_lt flag 5)
     case : Dec (flag < 5) → flag < 5
     case (yes l) = l
     case (no l) = absurd (false≢true (sym (past_flags flag column (omega arith)) ∙ e))
-
--- where stock moves, the stock is Shanghai's and has a price, and the amount is not used
-pub moves_rules : (flag : ℕ) → entry flag stock_moves ≡ true → (entry flag shanghai ≡ true) × (entry flag priced ≡ true) × (entry flag amount_used ≡ false)
-moves_rules flag e =
-    let r = rule flag (inside flag stock_moves e) in
-    (follows _ _ (r 0) e, follows _ _ (r 1) e, not-true _ (follows _ _ (r 2) e))
 
 -- cash stands for a shortage only where stock moves
 pub shortage_rule : (flag : ℕ) → entry flag stock_moves ≡ false → entry flag shortage_in_cash ≡ false

@@ -46,8 +46,8 @@ pub fn entry_of(flag: u64, column: Column) -> bool
     entry_by_row(&TABLE, flag, column.number())
 }
 
-// What a table has for a flag in a column, row by row: of a table that is known only tests of the flag are left. By index, as a lent
-// table is read, an order's pass takes 7 % more instructions.
+// What a table has for a flag in a column, row by row: of a table that is known only tests of the flag are left. By index, the form
+// that the project names and in which a lent table is read, an order's pass takes 7 % more instructions.
 #[tactic(auto, using(std::proofs::lemmas::Bool::Decides::nat_tests), unfolding(crate::specs::Table::entry_in))]
 fn entry_by_row(table: &[[bool; COLUMNS]; FLAGS], flag: u64, column: usize) -> bool
     ensures { result ≡ entry_in table.now flag column }

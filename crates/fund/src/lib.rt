@@ -68,9 +68,7 @@ pub fn fund_in_range(f: Fund) -> bool
         && limits_in_range(size, f.limits)
 }
 
-// The most that either rate may be, the rate one, and an amount.
-const MOST_RATE: u64 = 100_000;
-
+// The most that an amount may be; a rate may be at most one.
 const MOST_AMOUNT: u64 = 99_999_999_999;
 
 // An unused rate or amount is 0.
@@ -108,8 +106,8 @@ pub fn component_in_range(first_code: u64, c: Component) -> bool
         && outside_group(first_code, c.code)
         && c.quantity <= 99_999_999
         && c.flag < flags::FLAGS as u64
-        && used_within(MOST_RATE, rate_used, c.premium.0)
-        && used_within(MOST_RATE, rate_used, c.discount.0)
+        && used_within(Rate::ONE.0, rate_used, c.premium.0)
+        && used_within(Rate::ONE.0, rate_used, c.discount.0)
         && used_within(MOST_AMOUNT, amount_used, c.amount.0)
 }
 
@@ -121,8 +119,8 @@ fn component_fits(first_code: u64, previous: Option<u64>, c: Component) -> bool
     component_in_range(first_code, c) && previous.is_none_or(|code| code < c.code)
 }
 
-// Refusal 3's test: the first component at fault of a run's first `count`, by place, since the place is handed back. The count stands
-// beside the run: a day's basket has room for all components, and its count says how many it has.
+// Refusal 3's test: the first component at fault of a run's first `count`. By place: `find` reads the code before each component again,
+// 35,475 instructions against 18,422. The count stands beside the run: a day's basket has room for all, and its count says how many.
 pub fn run_fault(first_code: u64, run: &[u64], count: usize) -> Option<usize>
     requires { (count ≤ most_components) × (component_width * count ≤ length run.now) }
     ensures { result ≡ below count (component_fault first_code (places_of (component_at run.now) count) count) }

@@ -1,8 +1,8 @@
 -- Tests of a list's elements, by their places, and searches of numbers.
 use mathlib.Core.Path.{◌≡◌, refl, ap, ap₂, sym, ◌∙◌}
-use mathlib.Core.Bool.{Bool, true, false, ◌&&◌}
+use mathlib.Core.Bool.{Bool, ◌&&◌}
 use mathlib.Core.List.{List}
-use Prim.Native.Nat.{ℕ, zero, suc, ◌+◌, ◌≤◌, ◌<◌, zero-le}
+use Prim.Native.Nat.{ℕ, zero, suc, ◌≤◌, ◌<◌}
 use native.Mathlib.Nat.{le_of_eq, le_step, lt-suc_self, zero-add}
 use native.Mathlib.Numerals.{add-one}
 use native.Mathlib.Omega.{arith}
@@ -11,10 +11,7 @@ use Rattle.std.specs.List.{list_all, range_with_len}
 use Rattle.std.proofs.lemmas.List.{take_all}
 use Rattle.std.proofs.lemmas.List.Folds.{list_all_more}
 use Rattle.std.proofs.lemmas.List.FromFn.{length-range_with_len, get_or-range_with_len}
-use Rattle.std.specs.Option.{MatchOption}
-use Rattle.std.specs.Prelude.{Option, Some, None}
-use Rattle.sequences.specs.Below.{all_below, first_below, below}
-use Rattle.sequences.proofs.Below.{first_end, first_none_below, first_some_below}
+use Rattle.sequences.specs.Below.{all_below}
 
 module _ {A : Type 0} (p : A → Bool) (l : List A) (d : A) where
   all_front : (n : ℕ) → n ≤ length l → list_all p (take n l) ≡ all_below (λ k. p (get_or l k d)) n
@@ -39,10 +36,3 @@ pub all_range : (p : ℕ → Bool) (n : ℕ) → list_all p (range_with_len 0 n)
 all_range p n =
     all_list p (range_with_len 0 n) 0 n (length-range_with_len 0 n)
     ∙ all_same _ p n (λ k h. ap p (get_or-range_with_len 0 n k 0 h ∙ zero-add k))
-
--- what a search of the numbers below n finds
-pub found_below : (f : ℕ → Bool) (n : ℕ) (r : Option ℕ)
-    → MatchOption r ((k : ℕ) → 0 ≤ k → k < n → f k ≡ false) (λ i. (0 ≤ i) × (i < n) × (f i ≡ true) × ((k : ℕ) → 0 ≤ k → k < i → f k ≡ false))
-    → r ≡ below n (first_below f n)
-found_below f n None h = first_none_below f n (first_end f n (λ k l. h k zero-le l))
-found_below f n (Some i) h = first_some_below f n i h.1 (first_end f i (λ k l. h.3 k zero-le l)) h.2

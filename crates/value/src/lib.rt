@@ -64,18 +64,18 @@ fn per_unit(basket: Money, size: u64) -> ReferenceValue
     ReferenceValue::new((2 * tenths + size) / (2 * size))
 }
 
-// The answer from the sum of the components and what the estimated cash adds to it and takes from it: here alone money is taken away, and
-// behind a test, so that it has no `Sub`.
+// The answer from the sum of the components and what the estimated cash adds to it and takes from it.
 #[tactic(auto, using(std::proofs::lemmas::Bool::Decides::nat_tests), unfolding(crate::specs::Worth::value_from, sequences::specs::Every::every, sequences::specs::Checks::answering))]
 fn value_with(sum: Money, added: Money, taken: Money, size: u64) -> Result<ReferenceValue, Refusal>
     requires { (sum.0 + added.0 ≤ 400_000_000_000_000_000) × (1 ≤ size) × (size ≤ 99_999_999) }
     ensures { value_answer_reply result ≡ value_from (sum.0 + added.0) taken.0 size }
 {
     let before = sum + added;
-    if before < taken {
-        return Err(Refusal::NoReferenceValue);
-    }
-    let value = per_unit(Money(before.0 - taken.0), size);
+    let rest = before
+        .0
+        .checked_sub(taken.0)
+        .ok_or(Refusal::NoReferenceValue)?;
+    let value = per_unit(Money(rest), size);
     if MOST_VALUE < value {
         return Err(Refusal::NoReferenceValue);
     }
