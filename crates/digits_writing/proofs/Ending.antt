@@ -1,6 +1,5 @@
 -- A number that ends a field: its parts are written from the right.
-use Rattle.std.proofs.Common.{Option, Some, ◌≡◌, refl, sym, ap, ◌∙◌, ℕ, ◌+◌, ◌-◌, ◌/◌, ◌^◌, ◌≤◌, true, List, ◌∷◌, ◌++◌, length, take, drop, set, replicate, length-take, length-drop, arith}
-use Rattle.std.proofs.Math.ListN.{length-replicate}
+use Rattle.std.proofs.Common.{Option, Some, ◌≡◌, refl, ap, ◌∙◌, ℕ, ◌+◌, ◌-◌, ◌/◌, ◌^◌, ◌≤◌, true, List, ◌∷◌, length, take, drop, set, replicate, length-take, length-drop, arith}
 use Rattle.std.proofs.lemmas.Grind.{common_steps}
 use borrow.Rule.Slice.PartMut.{put_mid}
 use Rattle.digits.specs.declared.Form.{Form}
@@ -20,15 +19,7 @@ module _ (d : List ℕ) (end size n : ℕ) {digits : Option ℕ} (are : digits �
   pub fixed_put : end ≤ length d → {xs : List ℕ} → xs ≡ fixed (length (take (end - (end - size)) (drop (end - size) d))) n
       → Written d (end - size) (whole_text digits n) (put_mid (end - size) (end - (end - size)) d xs) end
   unfolding whole_text
-  fixed_put fits {xs} bytes =
-      let r = fixed_room in
-      let k : end - (end - size) ≡ size = omega arith in
-      let long : length (take (end - (end - size)) (drop (end - size) d)) ≡ size =
-      omega (arith, length-take (end - (end - size)) (drop (end - size) d), length-drop (end - size) d)
-      in
-      let same : xs ≡ whole_text digits n = bytes ∙ ap (λ (j : ℕ). fixed j n) long ∙ ap (λ (o : Option ℕ). whole_text o n) (sym are) in
-      let wide : size ≡ length (whole_text digits n) = sym (ap (λ (o : Option ℕ). length (whole_text o n)) are ∙ fixed-length size n) in
-      written_part d (end - size) (end - (end - size)) (whole_text digits n) xs end same (k ∙ wide) (omega arith)
+  fixed_put fits {xs} bytes = grind (arith, common_steps, fixed_room, fixed-length, written_part)
 
 -- with decimals: they and the point are written first
 pub point_long : (f : Form) (n : ℕ) → (f.decimals ≡ 0 → ⊥)
@@ -60,64 +51,32 @@ module _ (f : Form) (n : ℕ) (d : List ℕ) (some : f.decimals ≡ 0 → ⊥) (
     tail = put_mid (point + 1) (length d - (point + 1)) d xs
 
     tail_is : tail ≡ put d (point + 1) (fixed f.decimals n)
-    tail_is =
-        let k : length d - (point + 1) ≡ length (fixed f.decimals n) = omega (arith, point_room, fixed-length f.decimals n) in
-        (written_part d (point + 1) (length d - (point + 1)) (fixed f.decimals n) xs _ (bytes ∙ ap (λ (k : ℕ). fixed k n) part_long) k refl).bytes
+    tail_is = grind (arith, common_steps, point_room, fixed-length, written_part, part_long)
 
     pub tail_long : length tail ≡ length d
     tail_long = ap length tail_is ∙ put-length d (point + 1) (fixed f.decimals n) (omega (arith, point_room, fixed-length f.decimals n))
 
     pointed_is : set tail point 46 ≡ put d point (46 ∷ fixed f.decimals n)
-    pointed_is =
-        ap (λ (t : List ℕ). set t point 46) tail_is
-        ∙ put-before d point 46 (fixed f.decimals n) (omega (arith, point_room, fixed-length f.decimals n))
+    pointed_is = grind (arith, common_steps, tail_is, put-before, point_room, fixed-length)
 
     pub plain_written : {d' : List ℕ} {r : ℕ} → Written (set tail point 46) r (whole_text f.digits left) d' point
         → Written d r (plain_text f n) d' (length d)
-    plain_written {d'} {r} w =
-        let xs : List ℕ = whole_text f.digits whole in
-        let ys : List ℕ = 46 ∷ fixed f.decimals n in
-        let long : point ≡ r + length xs = w.next ∙ ap (λ (k : ℕ). r + length (whole_text f.digits k)) whole_left in
-        record {
-          bytes =
-              w.bytes
-              ∙ ap (λ (k : ℕ). put (set tail point 46) r (whole_text f.digits k)) whole_left
-              ∙ ap (λ (t : List ℕ). put t r xs) (pointed_is ∙ ap (λ (p : ℕ). put d p ys) long)
-              ∙ put_front d r xs ys (omega (arith, long, point_room, fixed-length f.decimals n))
-              ∙ ap (put d r) (sym (plain_pointed f n some));
-          next = omega (arith, point_long f n some, long, point_room);
-        }
+    plain_written {d'} {r} w = grind (arith, common_steps, whole_left, pointed_is, put_front, point_room, fixed-length, plain_pointed, point_long)
 
 -- the sign before it
 module _ (f : Form) (z : Figure) (d : List ℕ) (room : length (signed_text f z) ≤ length d) {d' : List ℕ} {r : ℕ} where
   pub sign_room : z.negative ≡ true → Written d r (plain_text f z.size) d' (length d) → (1 ≤ r) × (length d' ≡ length d)
-  sign_room e w =
-      let one = ap length (signed_below f z e) in
-      (omega (arith, one, w.next), ap length w.bytes ∙ put-length d r (plain_text f z.size) (omega (arith, w.next)))
+  sign_room e w = grind (arith, common_steps, signed_below, put-length)
 
   pub sign_put : z.negative ≡ true → Written d r (plain_text f z.size) d' (length d)
       → set d' (r - 1) 45 ≡ put d (length d - length (signed_text f z)) (signed_text f z)
-  sign_put e w =
-      let one = ap length (signed_below f z e) in
-      let some = (sign_room e w).0 in
-      let next : r ≡ r - 1 + 1 = omega arith in
-      let place : r - 1 ≡ length d - length (signed_text f z) = omega (arith, one, w.next) in
-      ap (λ (t : List ℕ). set t (r - 1) 45) (w.bytes ∙ ap (λ (p : ℕ). put d p (plain_text f z.size)) next)
-      ∙ put-before d (r - 1) 45 (plain_text f z.size) (omega (arith, w.next))
-      ∙ ap (put d (r - 1)) (sym (signed_below f z e))
-      ∙ ap (λ (p : ℕ). put d p (signed_text f z)) place
+  sign_put e w = grind (arith, common_steps, signed_below, sign_room, put-before)
 
 -- in a field of blanks
 pub right_put : (f : Form) (z : Figure) {d d' : List ℕ} {w : ℕ} → d ≡ replicate w 32 → w ≡ length (number_text f z)
     → d' ≡ put d (length d - length (signed_text f z)) (signed_text f z) → d' ≡ number_text f z
 unfolding number_text
-right_put f z {d} {d'} {w} blank long e =
-    let size = number-length f z in
-    let wide : length d ≡ w = ap length blank ∙ length-replicate w 32 in
-    let place : w - length (signed_text f z) ≡ blanks_put f z = omega (arith, long, size) in
-    e
-    ∙ rw (wide, blank) (blanks-put w (signed_text f z) (omega (arith, long, size)))
-    ∙ ap (λ (k : ℕ). replicate k 32 ++ signed_text f z) place
+right_put f z {d} {d'} {w} blank long e = grind (arith, common_steps, number-length, blanks_put, blanks-put)
 
 -- what the search is to know of a part: its size, and what writing it leaves
 pub ruleset whole_put = (fixed-length, decimal-length, fixed_put)

@@ -1,8 +1,9 @@
 -- Laws of specs/Lines.antt: a line in a text and as it is written, words, field lines and bytes.
+use Rattle.std.proofs.lemmas.Grind.{common_steps}
 use mathlib.Core.Path.{◌≡◌, refl, sym, ap, ap₂, ◌∙◌}
 use mathlib.Core.Bool.{Bool, true, false, not, ◌&&◌, true≢false, false≢true}
 use Rattle.std.proofs.lemmas.Bool.{and_parts}
-use mathlib.Core.List.{List, [], ◌∷◌, ◌++◌, append_assoc}
+use mathlib.Core.List.{List, [], ◌∷◌, ◌++◌}
 use Prim.Native.Nat.{ℕ, zero, suc, ◌+◌, ◌≤◌, ◌<◌, zero-le}
 use native.Mathlib.Numerals.{add-one}
 use native.Mathlib.Omega.{arith}
@@ -12,7 +13,7 @@ use lib.Seq.{length-take-le, take-append_seam, get_or-append_seam, drop-append-a
 use borrow.Author.Tests.{lt-ltb, ltb-true, eq-eqb, ne_eqb, eqb-true, not-true}
 use Rattle.sequences.specs.Every.{inside}
 use Rattle.sequences.proofs.Every.{every_none, every_more, every_at}
-use Rattle.lines.specs.Lines.{end_at, len_after, line_len, other_byte, ended, first_line, line_text, lower, same_by, same, same_in_any_case, is_named, name_byte, letter_byte, all_bytes}
+use Rattle.lines.specs.Lines.{end_at, len_after, line_len, other_byte, ended, first_line, line_text, same_by, same, same_in_any_case, is_named, name_byte, letter_byte, all_bytes}
 
 -- A line of a text.
 
@@ -38,12 +39,8 @@ first_bytes : (b : ℕ) (r : List ℕ) (t : Bool) → (eqb b 13 && eqb (get_or r
     → len_after t (line_len r) < suc (length r)
     → take (len_after t (line_len r) + 2) (b ∷ r) ≡ take (len_after t (line_len r)) (b ∷ r) ++ 13 ∷ 10 ∷ []
 first_bytes b [] true e f h = absurd (false≢true (and_parts (eqb b 13) false e).1)
-first_bytes b (c ∷ r) true e f h =
-    let p = and_parts (eqb b 13) (eqb c 10) e in
-    ap₂ (λ (x y : ℕ). x ∷ y ∷ []) (eqb-true b 13 p.0) (eqb-true c 10 p.1)
-first_bytes b r false e f h =
-    let q : line_len r + 1 + 2 ≡ suc (line_len r + 2) = omega arith in
-    rw (q, add-one) (ap (λ (l : List ℕ). b ∷ l) (f (omega arith)))
+first_bytes b (c ∷ r) true e f h = grind (arith, common_steps)
+first_bytes b r false e f h = grind (arith, common_steps)
 
 -- the same of any text
 end_bytes : (s : List ℕ) → line_len s < length s → take (line_len s + 2) s ≡ take (line_len s) s ++ 13 ∷ 10 ∷ []
@@ -97,14 +94,11 @@ line_written (b ∷ l) t e =
 
 pub ended_written : (l t : List ℕ) → no_cr l ≡ true → ended (line_text l ++ t) ≡ true
 unfolding ended
-ended_written l t e =
-    lt-ltb (line_len (line_text l ++ t)) (length (line_text l ++ t))
-    (omega (arith, line_written l t e, length-append (line_text l) t, length-line_text l))
+ended_written l t e = grind (arith, common_steps, line_written, length-line_text)
 
 pub first_written : (l t : List ℕ) → no_cr l ≡ true → first_line (line_text l ++ t) ≡ l
 unfolding first_line line_text
-first_written l t e =
-    rw (line_written l t e, append_assoc) (take-append_seam l (13 ∷ 10 ∷ t))
+first_written l t e = grind (arith, common_steps, line_written)
 
 -- Words.
 
@@ -139,9 +133,7 @@ same_is (x ∷ a) (y ∷ b) e =
 pub named_written : (n v : List ℕ) → is_named n (n ++ 61 ∷ v) ≡ true
 unfolding is_named same_in_any_case
 named_written n v =
-    every_more _ _ (lt-ltb (length n) (length (n ++ 61 ∷ v)) (omega (arith, length-append n (61 ∷ v))))
-    (every_more _ _ (eq-eqb _ _ (get_or-append_seam n 61 v 0))
-    (every_more _ _ (rw (take-append_seam n (61 ∷ v)) (same_refl lower n)) every_none))
+    grind (arith, common_steps, every_more, lt-ltb, length-append, eq-eqb, get_or-append_seam, take-append_seam, same_refl, every_none)
 
 pub value_written : (n v : List ℕ) → drop (length n + 1) (n ++ 61 ∷ v) ≡ v
 value_written n v = drop-append-add n (61 ∷ v) 1
@@ -164,9 +156,7 @@ named_split n l e =
 pub all_append : (p : ℕ → Bool) (a b : List ℕ) → all_bytes p a ≡ true → all_bytes p b ≡ true → all_bytes p (a ++ b) ≡ true
 unfolding all_bytes
 all_append p [] b e f = f
-all_append p (x ∷ a) b e f =
-    let i = and_parts (p x) (all_bytes p a) e in
-    rw (i.0, all_append p a b i.1 f)
+all_append p (x ∷ a) b e f = grind (arith, common_steps)
 
 -- bytes that pass a test pass a weaker one
 pub all_imply : (p q : ℕ → Bool) → ((b : ℕ) → p b ≡ true → q b ≡ true)

@@ -1,13 +1,12 @@
 -- What the code's loops and chains of tests say: of a line's length byte by byte, and of two words and of a test at each byte.
+use Rattle.std.proofs.lemmas.Grind.{common_steps}
 use Rattle.std.proofs.Common.{◌≡◌, refl, sym, ap, ap₂, ◌∙◌, ℕ, zero, suc, ◌+◌, ◌≤◌, ◌<◌, zero-le, zero-add, Bool, true, false, not, ◌&&◌, ◌||◌, eqb, eq-eqb, eqb-true, lt-ltb, le-ltb, List, [], ◌∷◌, ◌++◌, map, length, length-take, get_or, take, drop, drop_of_length-le, add-one, arith, drop-cons, Option, Some, None, MatchOption, ◌↔◌}
 use Rattle.std.proofs.lemmas.Bool.{and_parts, and_from}
 use Rattle.std.proofs.lemmas.Bool.Decides.{nat_tests, same_from_decides}
 use Rattle.std.specs.Char.{to_ascii_lowercase}
 use Rattle.std.specs.List.{list_all, list_any}
 use Rattle.std.specs.Cmp.Lexicographic.{pointwise}
-use native.Mathlib.Nat.{add-zero}
 use mathlib.Core.Bool.{and-true, and_assoc, false≢true}
-use lib.Seq.{get_or-drop}
 use Rattle.sequences.specs.Every.{inside}
 use Rattle.lines.specs.Lines.{end_at, len_after, line_len, ended, lower, same_by, same, same_in_any_case, other_byte, all_bytes}
 use Rattle.lines.proofs.Laws.{line_room}
@@ -17,9 +16,7 @@ use Rattle.lines.proofs.Laws.{line_room}
 module _ (s : List ℕ) (i : ℕ) (h : i < length s) where
   line_at : line_len (drop i s) ≡ len_after (end_at s i) (line_len (drop (i + 1) s))
   unfolding line_len end_at
-  line_at =
-      let next : get_or (drop (suc i) s) 0 0 ≡ get_or s (suc i) 0 = get_or-drop (suc i) s 0 0 ∙ rw add-zero in
-      rw (drop-cons s i 0, next, add-one)
+  line_at = grind (arith, common_steps)
 
   line_ends : end_at s i ≡ true → line_len (drop i s) ≡ 0
   line_ends e = line_at ∙ rw e

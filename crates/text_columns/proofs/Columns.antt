@@ -1,4 +1,5 @@
 -- The bars of a line as the code goes through its columns.
+use Rattle.std.proofs.lemmas.Grind.{common_steps}
 use Prim.Native.Nat.{ℕ, ◌+◌, ◌≤◌, ◌<◌, zero-le}
 use mathlib.Core.Path.{◌≡◌, sym, ◌∙◌}
 use mathlib.Core.Bool.{Bool, true, false, and-false}
@@ -59,8 +60,6 @@ module _ (cs : List Column) (l : List ℕ) where
 
     pub bars_end : length cs ≤ k → true ≡ is_row cs l
     unfolding is_row bar_at
-    bars_end h =
-        let e : k ≡ length cs = omega (arith, v.turns) in
-        rw (eq-eqb _ _ v.long) (sym (rw e at v.stand))
+    bars_end h = grind (arith, common_steps)
 
 pub ruleset bars = (column_placed, row_other, bars_start, bar_within, bars_again, bars_missing, bars_end)

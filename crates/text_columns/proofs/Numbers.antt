@@ -1,11 +1,12 @@
 -- A number right in its column: behind its blanks it stands with no sign, and is too short for the cap.
+use Rattle.std.proofs.lemmas.Grind.{common_steps}
 use Prim.Native.Nat.{ℕ, ◌-◌, ◌^◌, ◌≤◌}
-use mathlib.Core.Path.{◌≡◌, refl, ap, ◌∙◌}
+use mathlib.Core.Path.{◌≡◌, refl, ◌∙◌}
 use mathlib.Core.Bool.{Bool, true, false}
 use mathlib.Core.List.{List}
 use native.Mathlib.Nat.{pow-le-pow_right}
 use native.Mathlib.Omega.{arith}
-use lib.ListN.{length, take, drop, length-drop}
+use lib.ListN.{length, take, drop}
 use Rattle.std.specs.Prelude.{Option, None}
 use Rattle.digits.specs.declared.Form.{Form}
 use Rattle.digits.specs.Digits.{blanks, cap, is_plain, plain_size, has_minus, is_signed, signed_figure, trimmed_by, trimmed, is_number, figure_of, size_reading}
@@ -30,11 +31,7 @@ module _ (s : List ℕ) (b : ℕ) where
   rest = take (length s - b) (drop b s)
 
   pub rest_few : length s ≤ most_width → 10 ^ length rest ≤ cap
-  rest_few h =
-      let l : length rest ≡ length s - b = ap length (take_rest s b) ∙ length-drop b s in
-      let short : length rest ≤ most_width = omega (arith, l) in
-      let most : 10 ^ length rest ≤ 10 ^ most_width = pow-le-pow_right {n = 10} (omega arith) short in
-      most
+  rest_few h = grind (arith, common_steps, take_rest, pow-le-pow_right)
 
   pub cell_number : (digits : Option ℕ) (decimals : ℕ) → b ≡ blanks s → {used : Bool} → used ≡ true
       → {r : Option ℕ} → r ≡ size_reading (is_plain (bare digits decimals) rest) (plain_size (bare digits decimals) rest)

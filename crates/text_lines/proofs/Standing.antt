@@ -1,5 +1,6 @@
 -- Component lines that stand in a text with their end, and how many there are.
-use Prim.Native.Nat.{ℕ, ◌+◌, ◌-◌, ◌*◌, ◌/◌, ◌≤◌, ◌<◌, zero-le}
+use Rattle.std.proofs.lemmas.Grind.{common_steps}
+use Prim.Native.Nat.{ℕ, ◌+◌, ◌-◌, ◌*◌, ◌≤◌, ◌<◌, zero-le}
 use mathlib.Core.Path.{◌≡◌, refl, sym, ap, ◌∙◌}
 use mathlib.Core.Bool.{Bool, true, false, not, and-eq-true_iff}
 use mathlib.Core.List.{List}
@@ -53,9 +54,7 @@ pub next_line : (j w : ℕ) → (j + 1) * w ≡ j * w + w
 next_line j w = rw add-one (suc-mul j w)
 
 pub lines_room : (j n w : ℕ) → j < n → j * w + w ≤ n * w
-lines_room j n w h =
-    let low : j + 1 ≤ n = omega arith in
-    omega (arith, next_line j w, mul-le-mul_right w low)
+lines_room j n w h = grind (arith, common_steps, next_line, mul-le-mul_right)
 
 module _ (cs : List Column) where
   pub pitch_line : line_pitch cs ≡ line_width cs + 2
@@ -114,8 +113,4 @@ module _ (cs : List Column) (text : List ℕ) (start : ℕ) where
 
     pub counted_end : line_stands (is_row cs) text at ≡ false → (j ≡ rows_from cs text start) × (start + j * line_pitch cs ≤ length text)
     unfolding rows_from ends
-    counted_end e =
-        let most : j ≤ length text / line_pitch cs = (le-div_iff_mul-le {k = line_pitch cs} (omega (arith, pitch_line cs))).1 (omega (arith, v.place, v.within)) in (
-          sym (first_here (ends cs text start) (length text / line_pitch cs + 1) j (omega (arith, most)) v.none (ends_here false e)),
-          omega (arith, v.place, v.within),
-        )
+    counted_end e = grind (arith, common_steps, le-div_iff_mul-le, pitch_line, first_here, ends, ends_here)

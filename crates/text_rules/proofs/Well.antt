@@ -1,5 +1,6 @@
 -- What a well-made table has.
-use mathlib.Core.Path.{◌≡◌, refl, sym, ap, ◌∙◌}
+use Rattle.std.proofs.lemmas.Grind.{common_steps}
+use mathlib.Core.Path.{◌≡◌, refl, ap}
 use mathlib.Core.Bool.{Bool, true, false, ◌||◌, and-eq-true_iff, true≢false, false≢true}
 use mathlib.Core.List.{List}
 use Prim.Native.Nat.{ℕ, ◌+◌, ◌≤◌, ◌<◌}
@@ -30,10 +31,7 @@ filled : (digits : Option ℕ) (width decimals : ℕ) → digits_fill digits wid
     → (most : ℕ) → digits ≡ Some most → (most ≡ width) × (decimals ≡ 0)
 unfolding digits_fill
 filled None width decimals e most h = absurd (none-some most h)
-filled (Some digits) width decimals e most h =
-    let p = (and-eq-true_iff (eqb digits width) (eqb decimals 0)).0 e in
-    let q : digits ≡ most = cc in
-    (sym q ∙ eqb-true _ _ p.0, eqb-true _ _ p.1)
+filled (Some digits) width decimals e most h = grind (arith, common_steps)
 
 pub record WellColumn (c : Column) : Type 0 where
   pub some : 0 < c.width

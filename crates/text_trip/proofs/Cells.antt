@@ -1,5 +1,6 @@
 -- The numbers and the words of a line, column by column: a list of as many is the join of what its columns have, and what such
 -- a join has for a column is that column's.
+use Rattle.std.proofs.lemmas.Grind.{common_steps}
 use mathlib.Core.Path.{◌≡◌, refl, sym, ap, ◌∙◌}
 use mathlib.Core.Bool.{Bool, true, false, cond}
 use mathlib.Core.List.{List, [], ◌∷◌}
@@ -111,9 +112,7 @@ module _ (cs : List Column) where
 
     pub words-length : length words_of ≡ line_words cs
     unfolding line_words words_before
-    words-length =
-        parts-length (λ i. cond (holds_text cs i) (column_width cs i) 0) _ (length cs)
-        (λ k h. word-length (holds_text cs k) (f k) (column_width cs k) (wide k h))
+    words-length = grind (arith, common_steps, parts-length, word-length)
 
     pub words_at_lem : (k : ℕ) → k < length cs → holds_text cs k ≡ true → part_at cs words_of k ≡ f k
     unfolding part_at words_before

@@ -1,4 +1,5 @@
 -- What the columns of a line have by its flag, and the flag's own column: one digit, in every line.
+use Rattle.std.proofs.lemmas.Grind.{common_steps}
 use mathlib.Core.Path.{◌≡◌, refl, ap}
 use mathlib.Core.Bool.{Bool, true, false, cond, false≢true, and-eq-true_iff}
 use mathlib.Core.List.{List, [], ◌∷◌}
@@ -11,7 +12,6 @@ use lib.ListN.{get_or, drop}
 use borrow.Author.Tests.{le-leb}
 use Rattle.sequences.specs.Every.{inside}
 use Rattle.sequences.proofs.Every.{every_at, inside_facts}
-use Rattle.flags.specs.Table.{entry_in}
 use Rattle.digits.specs.declared.Form.{Form}
 use Rattle.digits.specs.Digits.{plain, fixed, whole_text, plain_text, signed_text, blanks_left, number_text, cap, capped, from, blanks, is_digit, all_digits, is_shaped, is_whole, is_plain, plain_size}
 use Rattle.digits.specs.Digits.{has_minus, is_signed, signed_figure, trimmed_by, trimmed, is_number, figure_of}
@@ -32,11 +32,7 @@ Holds blank_cell b = b ≡ false
 pub content_holds : (flags : List (List Bool)) (flag : ℕ) (u : Use) → Holds (content_by flags flag u) (is_text u)
 unfolding content_by is_text
 content_holds flags flag Always = refl
-content_holds flags flag (ByFlag column) = case (entry_in flags flag column)
-  where
-    case : (b : Bool) → Holds (cond b number_cell blank_cell) false
-    case true = refl
-    case false = refl
+content_holds flags flag (ByFlag column) = grind (arith, common_steps)
 content_holds flags flag Text = refl
 
 -- Columns of one digit.
@@ -46,9 +42,7 @@ one_digit = record { digits = Some 1; decimals = 0; signed = false; width = Some
 
 one_digit_lem : (c : Column) → WellColumn c → c.width ≡ 1 → c.digits ≡ Some 1 → number_form c ≡ one_digit
 unfolding number_form
-one_digit_lem c w p q =
-    let r = (w.digits 1 q).1 in
-    λ i. record { digits = q i; decimals = r i; signed = false; width = Some (p i) }
+one_digit_lem c w p q = grind (arith, common_steps)
 
 -- the byte that is written for a number that fits
 pub digit_written : (n : ℕ) → Fits one_digit (plain n) → get_or (number_text one_digit (plain n)) 0 0 - 48 ≡ n

@@ -1,18 +1,18 @@
 -- A column as it is read, by what it has: its number is below the cap, since it is narrow, and it is written again.
+use Rattle.std.proofs.lemmas.Grind.{common_steps}
 use mathlib.Core.Path.{◌≡◌, refl, sym, ap, ◌∙◌, subst}
 use mathlib.Core.Bool.{Bool, true, false, true≢false}
 use mathlib.Core.List.{List, [], ◌∷◌, ◌++◌}
-use Prim.Native.Nat.{ℕ, ◌+◌, ◌-◌, ◌*◌, ◌^◌, ◌≤◌, ◌<◌}
+use Prim.Native.Nat.{ℕ, ◌+◌, ◌-◌, ◌*◌, ◌≤◌, ◌<◌}
 use native.Mathlib.Nat.{le_refl, pow-le-pow_right}
 use native.Mathlib.Decide.{ℕ_discrete}
 use native.Mathlib.Omega.{arith}
-use Rattle.std.specs.Prelude.{Option, Some, None}
 use lib.ListN.{length, take, drop, replicate, length-append, length-take, length-drop}
 use borrow.Author.Tests.{eq-eqb, ne_eqb}
 use Rattle.sequences.proofs.Every.{every_at}
 use Rattle.digits.specs.declared.Form.{Form}
 use Rattle.digits.specs.declared.Figure.{Figure}
-use Rattle.digits.specs.Digits.{plain, cap, capped, from, blanks, all_digits, point_at, is_plain, plain_size, is_signed, signed_figure, trimmed_by, trimmed, is_number, figure_of, number_text}
+use Rattle.digits.specs.Digits.{plain, cap, capped, from, all_digits, point_at, is_plain, plain_size, is_signed, signed_figure, trimmed_by, trimmed, is_number, figure_of, number_text}
 use Rattle.digits.proofs.Read.{capped_small, whole_facts}
 use Rattle.digits.proofs.Count.{digits-cons, from_below}
 use Rattle.digits.proofs.Sign.{minus_unsigned}
@@ -37,10 +37,7 @@ digits_append (b ∷ s) r e f = let p = digits-cons b s e in rw (p.0, digits_app
 
 -- so few digits are below the cap
 digits_small : (s : List ℕ) → all_digits s ≡ true → length s ≤ most_width → capped (from 0 s) < cap
-digits_small s e h =
-    let most : 10 ^ length s ≤ 10 ^ most_width = pow-le-pow_right {n = 10} (omega arith) h in
-    let low : from 0 s < cap = omega (arith, from_below s e) in
-    rw (capped_small (from 0 s) (omega arith)) low
+digits_small s e h = grind (arith, common_steps, pow-le-pow_right, from_below, capped_small)
 
 -- with and without a point
 plain_small : (f : Form) (s : List ℕ) → is_plain f s ≡ true → length s ≤ most_width → plain_size f s < cap
@@ -61,17 +58,11 @@ plain_small f s e h = elim (ℕ_discrete f.decimals 0) [
 -- without the blanks at the left
 trimmed_short : (f : Form) (s : List ℕ) → length (trimmed f s) ≤ length s
 unfolding trimmed trimmed_by
-trimmed_short f s = by_width f.width
-  where
-    by_width : (width : Option ℕ) → length (trimmed_by width s) ≤ length s
-    by_width None = le_refl (length s)
-    by_width (Some width) = omega (arith, length-drop (blanks s) s)
+trimmed_short f s = grind (arith, common_steps, le_refl)
 
 number_small : (f : Form) (s : List ℕ) → f.signed ≡ false → length s ≤ most_width → is_number f s ≡ true → (figure_of f s).size < cap
 unfolding is_number figure_of is_signed signed_figure
-number_small f s u h e =
-    let no_minus = minus_unsigned f (trimmed f s) u in
-    rw no_minus (plain_small f (trimmed f s) (rw no_minus at e) (omega (arith, trimmed_short f s)))
+number_small f s u h e = grind (arith, common_steps, minus_unsigned, plain_small, trimmed_short)
 
 -- a number that is not below zero
 plain_is : (z : Figure) → z.negative ≡ false → plain z.size ≡ z

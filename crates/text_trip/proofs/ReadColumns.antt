@@ -1,4 +1,5 @@
 -- A component line that is read, written again: its columns, each with its bar.
+use Rattle.std.proofs.lemmas.Grind.{common_steps}
 use mathlib.Core.Path.{◌≡◌, sym, ap, ap₂, ◌∙◌, subst}
 use mathlib.Core.Bool.{true, false}
 use mathlib.Core.List.{List, [], ◌∷◌, ◌++◌}
@@ -7,7 +8,7 @@ use native.Mathlib.Nat.{le_of_eq}
 use native.Mathlib.Numerals.{add-one}
 use native.Mathlib.Omega.{arith}
 use lib.ListN.{length, get_or, take, drop, length-drop}
-use lib.Seq.{length-take-le, take_all, take-suc, get_or-drop, drop-cons}
+use lib.Seq.{take_all, take-suc, get_or-drop}
 use borrow.Author.Tests.{not-false}
 use Rattle.sequences.specs.Below.{join_below}
 use Rattle.sequences.proofs.Below.{first_all}
@@ -16,7 +17,7 @@ use Rattle.digits.specs.Digits.{is_number, figure_of}
 use Rattle.lines.specs.Lines.{name_byte, all_bytes}
 use Rattle.text_rules.specs.Tables.{TextForm, column_at}
 use Rattle.text_rules.specs.Columns.{column_width, column_start, line_width, holds_text, line_numbers, line_words, Content}
-use Rattle.text_rules.specs.Columns.{number_cell, content_by, is_cell, cell_of, cell_text, is_row, part_of, flag_of}
+use Rattle.text_rules.specs.Columns.{number_cell, is_cell, cell_of, cell_text, is_row, part_of, flag_of}
 use Rattle.text_rules.specs.Columns.{content_of, wrong_cell, column_fault, cell_read, numbers_read, words_read, cell_at, part_at, content_at, column_text, row_text}
 use Rattle.text_rules.proofs.Tables.{end_line}
 use Rattle.text_rules.proofs.Well.{WellForm, column_well_lem}
@@ -35,9 +36,7 @@ module _ (t : TextForm) (l : List ℕ) (row : is_row t.columns l ≡ true) where
   -- a column has its width, and its bar behind it
   part_length : (k : ℕ) → k < length t.columns → length (part_of t.columns k l) ≡ column_width t.columns k
   unfolding part_of
-  part_length k h =
-      length-take-le (column_width t.columns k) (drop (column_start t.columns k) l)
-      (omega (arith, row_wide t.columns l row, end_line t.columns k h, length-drop (column_start t.columns k) l))
+  part_length k h = grind (arith, common_steps, row_wide, end_line)
 
   part_bar : (k : ℕ) → k < length t.columns
       → take (column_width t.columns k + 1) (drop (column_start t.columns k) l) ≡ part_of t.columns k l ++ 124 ∷ []
@@ -90,11 +89,7 @@ module _ (t : TextForm) (l : List ℕ) (row : is_row t.columns l ≡ true) where
 
     flag_part_lem : part_of t.columns t.flag_at l ≡ get_or l (column_start t.columns t.flag_at) 0 ∷ []
     unfolding part_of column_width
-    flag_part_lem =
-        let at = column_start t.columns t.flag_at in
-        let flag = flag_well_lem t well in
-        ap (λ (n : ℕ). take n (drop at l)) flag.width
-        ∙ ap (take 1) (drop-cons l at 0 (omega (arith, row_wide t.columns l row, end_line t.columns t.flag_at flag.there)))
+    flag_part_lem = grind (arith, common_steps, flag_well_lem, row_wide, end_line)
 
     flag_said : cell_read t l t.flag_at ≡ flag_of t l
     unfolding cell_read cell_of is_cell flag_of
@@ -116,9 +111,7 @@ module _ (t : TextForm) (l : List ℕ) (row : is_row t.columns l ≡ true) where
 
     content_same : (k : ℕ) → content_at t (numbers_read t l) k ≡ content_of t l k
     unfolding content_at content_of
-    content_same k =
-        ap (λ (f : ℕ). content_by t.flags f (column_at t.columns k).used)
-        (cell_is t.flag_at (flag_well_lem t well).there (flag_number t well) ∙ flag_said)
+    content_same k = grind (arith, common_steps, cell_is, flag_well_lem, flag_number, flag_said)
 
     column_again : (k : ℕ) → k < length t.columns → column_text t (numbers_read t l) (words_read t l) k ≡ part_of t.columns k l
     unfolding column_text cell_read column_width

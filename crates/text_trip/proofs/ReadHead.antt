@@ -1,4 +1,5 @@
 -- The head of a text that passes, written again: its first line, its fields and TAGTAG, each as long as it was.
+use Rattle.std.proofs.lemmas.Grind.{common_steps}
 use mathlib.Core.Path.{◌≡◌, refl, sym, ap, ap₂, ◌∙◌}
 use mathlib.Core.Bool.{true, cond, and-eq-true_iff}
 use mathlib.Core.List.{List, [], ◌∷◌, ◌++◌}
@@ -6,12 +7,12 @@ use Prim.Native.Nat.{ℕ, suc, ◌+◌, ◌-◌, ◌≤◌, ◌<◌}
 use native.Mathlib.Nat.{le_of_lt}
 use native.Mathlib.Omega.{arith}
 use Rattle.std.proofs.lemmas.Option.{none-some}
-use lib.ListN.{length, get_or, take, drop, length-append, length-take, length-drop, take-append-drop, drop_of_length-le}
+use lib.ListN.{length, get_or, take, drop, length-take, length-drop, take-append-drop, drop_of_length-le}
 use lib.Seq.{length-take-le, split_at, get_or-drop, drop_at}
 use borrow.Author.Tests.{eqb-true}
 use Rattle.sequences.specs.Every.{inside}
 use Rattle.sequences.proofs.Every.{every_at, inside-true, inside_facts, false_of}
-use Rattle.digits.specs.Digits.{cap, is_number, number_text}
+use Rattle.digits.specs.Digits.{cap, number_text}
 use Rattle.digits.proofs.Trip.{number_again}
 use Rattle.lines.specs.Lines.{letter_byte, all_bytes, is_named}
 use Rattle.lines.proofs.Laws.{same_is, named_long, named_split}
@@ -63,8 +64,7 @@ named_again n l v e q =
     ∙ drop_at (take (length n) l) (61 ∷ drop (length n + 1) l) (length n) (length-take-le (length n) l (le_of_lt (named_long n l e)))))
 
 named_same : (n l : List ℕ) → is_named n l ≡ true → length (n ++ drop (length n) l) ≡ length l
-named_same n l e =
-    length-append n (drop (length n) l) ∙ (omega (arith, length-drop (length n) l, named_long n l e))
+named_same n l e = grind (arith, common_steps, named_long)
 
 module _ (t : TextForm) (text : List ℕ) where
   -- which lines have the name of a field
@@ -72,15 +72,11 @@ module _ (t : TextForm) (text : List ℕ) where
       → renamed_line t.fields text (suc k)
       ≡ field_name t.fields k ++ drop (length (field_name t.fields k)) (line_of text (start_of text (suc k)))
   unfolding renamed_line
-  renamed_field k h =
-      let back : suc k - 1 ≡ k = omega arith in
-      rw (inside-true 1 (length t.fields) (suc k) (omega arith) h, back)
+  renamed_field k h = grind (arith, common_steps, inside-true)
 
   renamed_tag : renamed_line t.fields text (suc (length t.fields)) ≡ line_of text (start_of text (suc (length t.fields)))
   unfolding renamed_line
-  renamed_tag =
-      rw (false_of (inside 1 (length t.fields) (suc (length t.fields)))
-      (λ e. omega (arith, (inside_facts 1 (length t.fields) (suc (length t.fields)) e).1)))
+  renamed_tag = grind (arith, common_steps, false_of, inside_facts)
 
 module _ (t : TextForm) (text : List ℕ) (well : WellForm t) (r : Reads t text) where
   -- each line is the one to stand there
@@ -125,10 +121,7 @@ module _ (t : TextForm) (text : List ℕ) (well : WellForm t) (r : Reads t text)
     field_again : (k : ℕ) → k < length t.fields
         → number_text (field_at t.fields k).form (figure_read t.fields text k) ≡ word_of t.fields text k
     unfolding figure_read is_field
-    field_again k h =
-        number_again (field_at t.fields k).form (word_of t.fields text k)
-        ((and-eq-true_iff (is_number (field_at t.fields k).form (word_of t.fields text k)) _).0 (r.fields k h)).0 (small k h)
-        (λ w e. absurd (none-some w (sym (field_well_lem t.fields well.fields k h).free ∙ e)))
+    field_again k h = grind (arith, common_steps, number_again, none-some, field_well_lem)
 
     first_again : written 0 ≡ renamed_line t.fields text 0
     unfolding head_line renamed_line start_of inside
@@ -136,10 +129,7 @@ module _ (t : TextForm) (text : List ℕ) (well : WellForm t) (r : Reads t text)
 
     line_again : (k : ℕ) → k < length t.fields → written (suc k) ≡ renamed_line t.fields text (suc k)
     unfolding word_of
-    line_again k h =
-        head_field t.fields (letters_read text) (figure_read t.fields text) k h
-        ∙ named_again (field_name t.fields k) (line_of text (start_of text (suc k))) _ (named_read k h) (field_again k h)
-        ∙ sym (renamed_field t text k h)
+    line_again k h = grind (arith, common_steps, head_field, named_again, named_read, field_again, renamed_field)
 
     tag_again : written (suc (length t.fields)) ≡ renamed_line t.fields text (suc (length t.fields))
     tag_again = head_tag t.fields (letters_read text) (figure_read t.fields text) ∙ sym (renamed_tag t text ∙ tag_read)

@@ -1,22 +1,21 @@
 -- The lines of the head as they are written: each is free of 0D, and is the line to stand there.
-use mathlib.Core.Path.{◌≡◌, refl, sym, ap, ◌∙◌, subst}
+use Rattle.std.proofs.lemmas.Grind.{common_steps}
+use mathlib.Core.Path.{◌≡◌, refl, sym, ap, ◌∙◌}
 use mathlib.Core.Bool.{true}
 use mathlib.Core.List.{List, [], ◌∷◌, ◌++◌}
 use Prim.Native.Nat.{ℕ, zero, suc, ◌+◌, ◌-◌, ◌<◌}
 use native.Mathlib.Nat.{lt-suc_self}
-use native.Mathlib.Decide.{dec_lt}
 use native.Mathlib.Omega.{arith}
 use lib.Dec.{leb}
 use lib.ListN.{length, get_or, drop, length-append}
 use lib.Seq.{take_at, get_or_at}
-use Rattle.std.proofs.lemmas.Bool.{and_parts}
-use borrow.Author.Tests.{le-leb, lt-leb, eq-eqb, ne_eqb}
+use borrow.Author.Tests.{lt-leb, eq-eqb, ne_eqb}
 use Rattle.sequences.proofs.Every.{every_none, every_more}
 use Rattle.digits.specs.declared.Form.{Form}
 use Rattle.digits.specs.declared.Figure.{Figure}
 use Rattle.digits.specs.Digits.{number_text}
 use Rattle.digits.proofs.Bytes.{number_high}
-use Rattle.lines.specs.Lines.{other_byte, same, is_named, all_bytes, letter_byte}
+use Rattle.lines.specs.Lines.{other_byte, same, is_named, all_bytes}
 use Rattle.lines.proofs.Turns.{all_is}
 use Rattle.lines.proofs.Laws.{no_cr, all_append, bytes-no_cr, letters-no_cr, same_refl, named_written, value_written}
 use Rattle.text_rules.specs.Tables.{Field, field_at}
@@ -50,15 +49,11 @@ module _ (letters : List ℕ) where
   -- it is the line to stand there, and no byte of it is 0D
   opening_is : is_letters letters ≡ true → is_opening opening_line ≡ true
   unfolding is_opening same
-  opening_is e =
-      every_more _ _ (same_refl (λ x. x) opening_word)
-      (every_more _ _ (ap is_letters opening_letters ∙ e) (every_more _ _ (eq-eqb _ _ opening_last) every_none))
+  opening_is e = grind (arith, common_steps, every_more, same_refl, opening_letters, eq-eqb, opening_last, every_none)
 
   opening-no_cr : is_letters letters ≡ true → no_cr opening_line ≡ true
   unfolding is_letters all_bytes other_byte
-  opening-no_cr e =
-      all_append other_byte opening_word (letters ++ closing_word) refl
-      (all_append other_byte letters closing_word (letters-no_cr letters (and_parts _ (all_bytes letter_byte letters) e).1) refl)
+  opening-no_cr e = grind (arith, common_steps, all_append, letters-no_cr)
 
 -- The lines of a head with these fields.
 
@@ -80,18 +75,12 @@ module _ (fs : List Field) where
   pub head_cases : (P : ℕ → Type 0) → P 0 → ((k : ℕ) → k < length fs → P (suc k)) → P (suc (length fs)) → (k : ℕ) → k < head_lines fs → P k
   unfolding head_lines
   head_cases P first fields last zero h = first
-  head_cases P first fields last (suc k) h = case (dec_lt k (length fs))
-    where
-      case : Dec (k < length fs) → P (suc k)
-      case (yes l) = fields k l
-      case (no l) = let e : length fs ≡ k = omega arith in subst (λ (i : ℕ). P (suc i)) e last
+  head_cases P first fields last (suc k) h = grind (arith, common_steps)
 
   -- line k + 1 is to be that of field k, and the last one TAGTAG
   pub is_field_lem : (k : ℕ) (l : List ℕ) → k < length fs → is_head_line fs (suc k) l ≡ is_named (field_name fs k) l
   unfolding is_head_line
-  is_field_lem k l h =
-      let back : suc k - 1 ≡ k = omega arith in
-      rw (ne_eqb (suc k) 0 (λ e. omega arith), le-leb (suc k) (length fs) h, back)
+  is_field_lem k l h = grind (arith, common_steps)
 
   pub is_tag : (l : List ℕ) → is_head_line fs (suc (length fs)) l ≡ same l tag_word
   unfolding is_head_line
@@ -102,9 +91,7 @@ module _ (fs : List Field) where
     -- line k + 1 is the name of field k, "=" and its figure, and the last one TAGTAG
     pub head_field : (k : ℕ) → k < length fs → head_line fs letters figure (suc k) ≡ field_name fs k ++ 61 ∷ number_text (field_at fs k).form (figure k)
     unfolding head_line field_line field_name
-    head_field k h =
-        let back : suc k - 1 ≡ k = omega arith in
-        rw (ne_eqb (suc k) 0 (λ e. omega arith), le-leb (suc k) (length fs) h, back)
+    head_field k h = grind (arith, common_steps)
 
     pub head_tag : head_line fs letters figure (suc (length fs)) ≡ tag_word
     unfolding head_line
@@ -113,9 +100,7 @@ module _ (fs : List Field) where
     -- the value of field k
     pub head_value : (k : ℕ) → k < length fs
         → drop (length (field_name fs k) + 1) (head_line fs letters figure (suc k)) ≡ number_text (field_at fs k).form (figure k)
-    head_value k h =
-        ap (drop (length (field_name fs k) + 1)) (head_field k h)
-        ∙ value_written (field_name fs k) (number_text (field_at fs k).form (figure k))
+    head_value k h = grind (arith, common_steps, head_field, value_written)
 
     -- the letters
     pub head_letters : letters_of (head_line fs letters figure 0) ≡ letters
@@ -130,9 +115,7 @@ module _ (fs : List Field) where
 
       field-no_cr : (k : ℕ) → k < length fs → no_cr (head_line fs letters figure (suc k)) ≡ true
       unfolding all_bytes other_byte
-      field-no_cr k h =
-          ap no_cr (head_field k h)
-          ∙ all_append other_byte (field_name fs k) (61 ∷ number_text (field_at fs k).form (figure k)) (name-no_cr k h) (number-no_cr (field_at fs k).form (figure k))
+      field-no_cr k h = grind (arith, common_steps, no_cr, head_field, all_append, name-no_cr, number-no_cr)
 
       tag_no_cr : no_cr (head_line fs letters figure (suc (length fs))) ≡ true
       unfolding all_bytes other_byte
@@ -144,10 +127,7 @@ module _ (fs : List Field) where
 
     -- each is the line that is to stand there
     field_is : (k : ℕ) → k < length fs → is_head_line fs (suc k) (head_line fs letters figure (suc k)) ≡ true
-    field_is k h =
-        is_field_lem k (head_line fs letters figure (suc k)) h
-        ∙ ap (is_named (field_name fs k)) (head_field k h)
-        ∙ named_written (field_name fs k) (number_text (field_at fs k).form (figure k))
+    field_is k h = grind (arith, common_steps, is_field_lem, head_field, named_written)
 
     tag_is : is_head_line fs (suc (length fs)) (head_line fs letters figure (suc (length fs))) ≡ true
     unfolding same

@@ -1,6 +1,7 @@
 -- A component line as it is written: its width, its bars and its columns, and reading it gives its numbers and its words.
-use mathlib.Core.Path.{◌≡◌, refl, sym, ap, ap₂, ◌∙◌, subst}
-use mathlib.Core.Bool.{Bool, true, false, not, ◌&&◌}
+use Rattle.std.proofs.lemmas.Grind.{common_steps}
+use mathlib.Core.Path.{◌≡◌, sym, ap, ◌∙◌, subst}
+use mathlib.Core.Bool.{true, false}
 use mathlib.Core.List.{List, [], ◌∷◌, ◌++◌}
 use Prim.Native.Nat.{ℕ, ◌+◌, ◌-◌, ◌<◌}
 use native.Mathlib.Omega.{arith}
@@ -8,7 +9,6 @@ use lib.Dec.{eqb}
 use lib.ListN.{length, get_or}
 use borrow.Author.Tests.{eq-eqb}
 use Rattle.sequences.proofs.Below.{all_true, first_end}
-use Rattle.digits.specs.declared.Form.{Form}
 use Rattle.digits.specs.Digits.{plain, number_text}
 use Rattle.digits.specs.Fits.{Fits}
 use Rattle.lines.specs.Lines.{other_byte, all_bytes}
@@ -16,10 +16,10 @@ use Rattle.lines.proofs.Laws.{no_cr, all_append}
 use Rattle.text_rules.specs.declared.Column.{Column}
 use Rattle.text_rules.specs.Tables.{TextForm, column_at}
 use Rattle.text_rules.specs.Columns.{column_width, column_start, line_width, holds_text, line_numbers, line_words, Content, number_cell, content_by, cell_text}
-use Rattle.text_rules.specs.Columns.{is_cell, cell_of, is_row, part_of, flag_of, content_of, wrong_cell, column_fault}
+use Rattle.text_rules.specs.Columns.{is_row, part_of, flag_of, content_of, wrong_cell, column_fault}
 use Rattle.text_rules.specs.Columns.{cell_read, numbers_read, words_read, cell_at, part_at, content_at, column_text, row_text}
 use Rattle.text_rules.proofs.Well.{WellForm, column_well_lem}
-use Rattle.text_trip.specs.Trips.{CellFits, RowFits}
+use Rattle.text_trip.specs.Trips.{RowFits}
 use Rattle.text_trip.proofs.Below.{join-same}
 use Rattle.text_trip.proofs.Cells.{cell_same, word_same, part_long, numbers-join, words-join}
 use Rattle.text_trip.proofs.Flag.{Holds, content_holds, one_digit, digit_written, flag_well_lem, flag_form, flag_content}
@@ -76,9 +76,7 @@ module _ (t : TextForm) (well : WellForm t) (numbers words : List ℕ) (fits : R
 
   row_is : is_row t.columns row ≡ true
   unfolding is_row
-  row_is =
-      ap₂ (λ (a b : Bool). a && b) (eq-eqb _ _ row-length)
-      (all_true (λ k. eqb (get_or row (column_start t.columns k + column_width t.columns k) 0) 124) (length t.columns) row_bars)
+  row_is = grind (arith, common_steps, row-length, all_true, row_bars)
 
   -- its columns are the ones written
   part_is : (k : ℕ) → k < length t.columns → part_of t.columns k row ≡ column_text t numbers words k
@@ -91,15 +89,11 @@ module _ (t : TextForm) (well : WellForm t) (numbers words : List ℕ) (fits : R
   number_there = flag_content t well (cell t.flag_at)
 
   flag_fits : Fits one_digit (plain (cell t.flag_at))
-  flag_fits =
-      subst (λ (f : Form). Fits f (plain (cell t.flag_at))) (flag_form t well)
-      (subst (λ (x : Content). CellFits x (column t.flag_at) (cell t.flag_at) (part t.flag_at)) number_there (fits t.flag_at (flag_well_lem t well).there))
+  flag_fits = grind (arith, common_steps, flag_form, number_there, flag_well_lem)
 
   flag_text : column_text t numbers words t.flag_at ≡ number_text one_digit (plain (cell t.flag_at))
   unfolding column_text cell_text
-  flag_text =
-      ap (λ (x : Content). cell_text x (column t.flag_at) (cell t.flag_at) (part t.flag_at)) number_there
-      ∙ ap (λ (f : Form). number_text f (plain (cell t.flag_at))) (flag_form t well)
+  flag_text = grind (arith, common_steps, number_there, flag_form)
 
   row_flag : flag_of t row ≡ cell t.flag_at
   unfolding flag_of part_of column_width
@@ -116,19 +110,12 @@ module _ (t : TextForm) (well : WellForm t) (numbers words : List ℕ) (fits : R
   -- each column is as it is to be written
   row_fault : column_fault t row ≡ length t.columns
   unfolding column_fault wrong_cell column_text
-  row_fault =
-      first_end (wrong_cell t row) (length t.columns)
-      (λ k h.
-      ap not
-      (ap₂ (λ (x : Content) (s : List ℕ). is_cell x (column k) s) (content_is k) (part_is k h)
-      ∙ cell_is (column k) (cell k) (part k) (content k) (fits k h)))
+  row_fault = grind (arith, common_steps, first_end, content_is, part_is, cell_is)
 
   -- the number of a column is the one written, and so are its words
   cell_read_lem : (k : ℕ) → k < length t.columns → holds_text t.columns k ≡ false → cell_read t row k ≡ cell k
   unfolding cell_read column_text
-  cell_read_lem k h e =
-      ap₂ (λ (x : Content) (s : List ℕ). cell_of x (column k) s) (content_is k) (part_is k h)
-      ∙ cell_says (column k) (cell k) (part k) (content k) (subst (Holds (content k)) e (holds k)) (fits k h)
+  cell_read_lem k h e = grind (arith, common_steps, content_is, part_is, cell_says, Holds, holds)
 
   part_read : (k : ℕ) → k < length t.columns → holds_text t.columns k ≡ true → part_of t.columns k row ≡ part k
   unfolding column_text
@@ -150,8 +137,7 @@ module _ (t : TextForm) (well : WellForm t) (numbers words : List ℕ) (fits : R
   -- no byte of it is 0D
   column-no_cr : (k : ℕ) → k < length t.columns → no_cr (column_text t numbers words k ++ 124 ∷ []) ≡ true
   unfolding column_text all_bytes other_byte
-  column-no_cr k h =
-      all_append other_byte (column_text t numbers words k) (124 ∷ []) (cell-no_cr (column k) (cell k) (part k) (content k) (fits k h)) refl
+  column-no_cr k h = grind (arith, common_steps, all_append, cell-no_cr)
 
   row-no_cr : no_cr row ≡ true
   unfolding row_text

@@ -1,7 +1,8 @@
 -- The component lines and the last line in the text of a sheet that fits.
+use Rattle.std.proofs.lemmas.Grind.{common_steps}
 use mathlib.Core.Path.{◌≡◌, refl, sym, ap, ◌∙◌}
 use mathlib.Core.Bool.{Bool, true, false, not, ◌||◌, false≢true, and-eq-true_iff}
-use mathlib.Core.List.{List, [], ◌∷◌, ◌++◌, append_assoc, append-nil}
+use mathlib.Core.List.{List, [], ◌∷◌, ◌++◌, append_assoc}
 use Prim.Native.Nat.{ℕ, zero, suc, ◌+◌, ◌*◌, ◌/◌, ◌≤◌, ◌<◌}
 use native.Mathlib.Nat.{le_of_eq, le-div_iff_mul-le}
 use native.Mathlib.Omega.{arith}
@@ -102,10 +103,7 @@ module _ (t : TextForm) (s : Sheet) (well : WellForm t) (fits : SheetFits t s) w
 
   end_drop : drop (row_start t (sheet_text t s) s.count) (sheet_text t s) ≡ line_text end_word ++ []
   unfolding rows_text
-  end_drop =
-      from_row s.count
-      ∙ part_end (λ _. line_pitch t.columns) (λ i. line_text (row_line i)) s.count line_wide (line_text end_word)
-      ∙ sym (append-nil (line_text end_word))
+  end_drop = grind (arith, common_steps, from_row, part_end, line_wide)
 
   -- each of them is a component line
   row_stands : (j : ℕ) → j < s.count → line_stands (is_row t.columns) (sheet_text t s) (row_start t (sheet_text t s) j) ≡ true
@@ -139,10 +137,7 @@ module _ (t : TextForm) (s : Sheet) (well : WellForm t) (fits : SheetFits t s) w
   -- the last line stands behind them, and nothing more
   pub end_stands : line_stands (λ l. same l end_word) (sheet_text t s) (end_start t (sheet_text t s)) ≡ true
   unfolding end_start same
-  end_stands =
-      ap (λ (n : ℕ). line_stands (λ l. same l end_word) (sheet_text t s) (row_start t (sheet_text t s) n)) count_there
-      ∙ end_there (λ l. same l end_word)
-      ∙ same_refl (λ x. x) end_word
+  end_stands = grind (arith, common_steps, count_there, end_there, same_refl)
 
   pub end_last : next_at (sheet_text t s) (end_start t (sheet_text t s)) ≡ length (sheet_text t s)
   unfolding end_start
