@@ -335,47 +335,47 @@ module _ (t : TextForm) (rows : List ℕ) (count : ℕ) (run : List ℕ) where
   unfolding numbers_kept
   columns_start e = record { line = e ∙ sym (lines_none t rows count); said = fault_first t rows count; kept = refl }
 
-  module _ (run' : List ℕ) (row : ℕ) (fault : Option CellFault) (k : ℕ) (v : ColumnsRead t rows count run run' row fault k) where
-    -- the lines that are read are there
-    pub columns_room : count ≡ line_count t rows → row * line_pitch t.columns ≤ length rows
-    unfolding line_count line_pitch
-    columns_room e =
-        let few : row ≤ count = subst (λ (n : ℕ). n ≤ count) (sym v.line) (lines-le t rows count k) in
-        let most : count * line_pitch t.columns ≤ length rows = (le-div_iff_mul-le {k = line_pitch t.columns} {x = count} {y = length rows} (omega arith)).0 (omega (arith, e)) in
-        omega (arith, most, mul-le-mul_right (line_pitch t.columns) few)
+module _ {t : TextForm} {rows : List ℕ} {count : ℕ} {run run' : List ℕ} {row : ℕ} {fault : Option CellFault} {k : ℕ} (v : ColumnsRead t rows count run run' row fault k) where
+  -- the lines that are read are there
+  pub columns_room : count ≡ line_count t rows → {pitch : ℕ} → pitch ≡ line_pitch t.columns → row * pitch ≤ length rows
+  unfolding line_count line_pitch
+  columns_room e p =
+      let few : row ≤ count = subst (λ (n : ℕ). n ≤ count) (sym v.line) (lines-le t rows count k) in
+      let most : count * line_pitch t.columns ≤ length rows = (le-div_iff_mul-le {k = line_pitch t.columns} {x = count} {y = length rows} (omega arith)).0 (omega (arith, e)) in
+      rw p (omega (arith, most, mul-le-mul_right (line_pitch t.columns) few))
 
-    module _ {run'' : List ℕ} (stored : run'' ≡ column_stored t rows k (cells_fault t rows k row) run') where
-      next_line : cells_fault t rows k row ≡ lines_before t rows count (suc k)
-      next_line = ap (cells_fault t rows k) v.line ∙ cells_first t rows k _ ∙ sym (lines_more t rows count k)
+  module _ {run'' : List ℕ} (stored : run'' ≡ column_stored t rows k (cells_fault t rows k row) run') where
+    next_line : cells_fault t rows k row ≡ lines_before t rows count (suc k)
+    next_line = ap (cells_fault t rows k) v.line ∙ cells_first t rows k _ ∙ sym (lines_more t rows count k)
 
-      more_kept : run'' ≡ numbers_kept t rows count (k + 1) run
-      unfolding column_stored
-      more_kept = stored ∙ rw (next_line, v.kept) (sym (ap (λ (x : ℕ). numbers_kept t rows count x run) (add-one k) ∙ run_more k))
+    more_kept : run'' ≡ numbers_kept t rows count (k + 1) run
+    unfolding column_stored
+    more_kept = stored ∙ rw (next_line, v.kept) (sym (ap (λ (x : ℕ). numbers_kept t rows count x run) (add-one k) ∙ run_more t rows count run k))
 
-      pub columns_fine : None ≡ below row (cells_fault t rows k row) → ColumnsRead t rows count run run'' row fault (k + 1)
-      columns_fine e =
-          let high : row ≤ cells_fault t rows k row = below_none_fact row (cells_fault t rows k row) e in
-          let low : cells_fault t rows k row ≤ row = rw cells_first (first-le (wrong_at t rows k) row) in
-          let same : lines_before t rows count (suc k) ≡ lines_before t rows count k = sym next_line ∙ le_antisymm low high ∙ v.line in
-          record {
-            line = v.line ∙ sym same ∙ ap (lines_before t rows count) (sym (add-one k));
-            said = v.said ∙ sym (fault_same t rows count k same) ∙ ap (fault_before t rows count) (sym (add-one k));
-            kept = more_kept;
-          }
+    pub columns_fine : None ≡ below row (cells_fault t rows k row) → ColumnsRead t rows count run run'' row fault (k + 1)
+    columns_fine e =
+        let high : row ≤ cells_fault t rows k row = below_none_fact row (cells_fault t rows k row) e in
+        let low : cells_fault t rows k row ≤ row = rw cells_first (first-le (wrong_at t rows k) row) in
+        let same : lines_before t rows count (suc k) ≡ lines_before t rows count k = sym next_line ∙ le_antisymm low high ∙ v.line in
+        record {
+          line = v.line ∙ sym same ∙ ap (lines_before t rows count) (sym (add-one k));
+          said = v.said ∙ sym (fault_same t rows count k same) ∙ ap (fault_before t rows count) (sym (add-one k));
+          kept = more_kept;
+        }
 
-      pub columns_wrong : {j : ℕ} → Some j ≡ below row (cells_fault t rows k row) → ColumnsRead t rows count run run'' j (Some (record { row = j; column = k })) (k + 1)
-      columns_wrong {j} e =
-          let p = below_some_facts row (cells_fault t rows k row) j e in
-          let here : lines_before t rows count (suc k) ≡ j = sym next_line ∙ p.0 in
-          let less : lines_before t rows count (suc k) < lines_before t rows count k = omega (arith, here, p, v.line) in
-          record {
-            line = sym here ∙ ap (lines_before t rows count) (sym (add-one k));
-            said = rw (← here) (fault_here t rows count k less) ∙ ap (fault_before t rows count) (sym (add-one k));
-            kept = more_kept;
-          }
+    pub columns_wrong : {j : ℕ} → Some j ≡ below row (cells_fault t rows k row) → ColumnsRead t rows count run run'' j (Some (record { row = j; column = k })) (k + 1)
+    columns_wrong {j} e =
+        let p = below_some_facts row (cells_fault t rows k row) j e in
+        let here : lines_before t rows count (suc k) ≡ j = sym next_line ∙ p.0 in
+        let less : lines_before t rows count (suc k) < lines_before t rows count k = omega (arith, here, p, v.line) in
+        record {
+          line = sym here ∙ ap (lines_before t rows count) (sym (add-one k));
+          said = rw (← here) (fault_here t rows count k less) ∙ ap (fault_before t rows count) (sym (add-one k));
+          kept = more_kept;
+        }
 
-    pub columns_end : k ≡ length t.columns → (fault ≡ fault_in t rows count) × (run' ≡ numbers_kept t rows count (length t.columns) run)
-    columns_end e = (
-      v.said ∙ ap (fault_before t rows count) e ∙ fault_found t rows count,
-      v.kept ∙ ap (λ (x : ℕ). numbers_kept t rows count x run) e,
-    )
+  pub columns_end : k ≡ length t.columns → (fault ≡ fault_in t rows count) × (run' ≡ numbers_kept t rows count (length t.columns) run)
+  columns_end e = (
+    v.said ∙ ap (fault_before t rows count) e ∙ fault_found t rows count,
+    v.kept ∙ ap (λ (x : ℕ). numbers_kept t rows count x run) e,
+  )
