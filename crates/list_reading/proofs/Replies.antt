@@ -30,19 +30,19 @@ module _ (text : List ℕ) where
   fields_pass a b = passes_all (field_checks shanghai text) (a, (b, tt))
 
   -- the tests of 20 and 2
-  abbrev pub count_wrong : Bool
+  abbrev count_wrong : Bool
   count_wrong = not (is_counted (fields_read text).count (row_count shanghai text))
 
-  abbrev pub range_wrong : Bool
+  abbrev range_wrong : Bool
   range_wrong = not (leb 1 (figure_read shanghai_fields text creation_code_field).size && fields_in_range (fields_read text))
 
   -- the test of 3
-  abbrev pub fault_below : Bool
+  abbrev fault_below : Bool
   fault_below = ltb (read_fault text) (row_count shanghai text)
 
   module _ (room : ℕ) where
     -- the test of 16
-    abbrev pub room_wrong : Bool
+    abbrev room_wrong : Bool
     room_wrong = ltb room (component_width * row_count shanghai text)
 
     abbrev room_checks : List Check

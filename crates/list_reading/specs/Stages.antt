@@ -1,13 +1,13 @@
 -- What the stages of reading say to each other: what is known of the text after each of them.
-use Rattle.std.specs.Prelude.{ℕ, ◌*◌, ◌≤◌, ◌≡◌, true, ◌&&◌, List, leb, length, take}
+use Rattle.std.specs.Prelude.{ℕ, ◌*◌, ◌≤◌, ◌<◌, ◌≡◌, true, ◌&&◌, List, leb, length, take, get_or}
 use Rattle.sequences.specs.Checks.{passes}
 use Rattle.layout.specs.Places.{most_components, component_width, basket_width}
 use Rattle.digits.specs.declared.Figure.{Figure}
+use Rattle.digits.specs.Digits.{cap, plain}
 use Rattle.text_rules.specs.Reading.{row_count, field_checks, figure_read}
-use Rattle.text_head.specs.Head.{figures_found}
 use Rattle.list_rules.specs.declared.ListFields.{ListFields}
-use Rattle.list_rules.specs.Shanghai.{shanghai, shanghai_fields, creation_code_field}
-use Rattle.list_rules.specs.Fields.{fields_in_range}
+use Rattle.list_rules.specs.Shanghai.{shanghai, shanghai_fields, field_count, count_field, creation_code_field}
+use Rattle.list_rules.specs.Fields.{fields_from, fields_in_range}
 use Rattle.list_rules.specs.Reading.{fields_read, is_counted, components_run}
 use Rattle.list_shape.specs.declared.Rows.{Rows}
 use Rattle.list_shape.specs.Shape.{RowsStand}
@@ -21,7 +21,10 @@ pub record Found (text : List ℕ) (count : ℕ) (numbers : List ℕ) : Type 0 w
 pub record Spelled (text : List ℕ) (rows : Rows) (figures : List Figure) : Type 0 where
   pub stand : RowsStand text rows
   pub fields_well_lem : passes (field_checks shanghai text) ≡ true
-  pub figures_are : figures ≡ figures_found shanghai_fields text
+  pub figures_are : (k : ℕ) → k < field_count → get_or figures k (plain 0) ≡ figure_read shanghai_fields text k
+  pub small : (k : ℕ) → k < field_count → (get_or figures k (plain 0)).size ≤ cap
+  pub fields_are : fields_from (λ k. get_or figures k (plain 0)) ≡ fields_read text
+  pub count_is : (get_or figures count_field (plain 0)).size ≡ (fields_read text).count
 
 -- the fields are in their ranges, and as many component lines stand as they say
 pub record Ranged (text : List ℕ) (rows : Rows) (fields : ListFields) : Type 0 where

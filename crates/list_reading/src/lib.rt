@@ -15,6 +15,7 @@ use rules::Refusal;
 use text_rules::MOST_FIELDS;
 
 // Refusals 3 and 16, and the components stored.
+#[tactic(auto, using(std::proofs::lemmas::Bool::Decides::nat_tests, crate::proofs::Replies::reply_3, crate::proofs::Replies::reply_16, crate::proofs::Replies::reply_0), unfolding(list_rules::specs::Reading::run_after, list_rules::specs::Reading::read_fault, list_rules::specs::Reading::is_counted, sequences::specs::Every::inside, sequences::specs::Checks::is_accepted))]
 fn read_components(
     text: &[u8],
     rows: Rows,
@@ -42,6 +43,7 @@ fn read_components(
 }
 
 // Refusals 20 and 2, and what follows.
+#[tactic(auto, using(std::proofs::lemmas::Bool::Decides::nat_tests, crate::proofs::Replies::reply_20, crate::proofs::Replies::reply_2), unfolding(list_rules::specs::Reading::run_after, sequences::specs::Checks::is_accepted))]
 fn read_values(
     text: &[u8],
     rows: Rows,
@@ -68,7 +70,7 @@ fn read_values(
 
 // Refusal 19, and what follows. The numbers of the components wait in an array, since the library has no heap, until all is tested. By
 // match: of what `map_err` hands on no equation is known.
-#[tactic(auto, using(crate::proofs::Replies::reply_19_field, crate::proofs::Replies::reply_19_row, crate::proofs::Handed::fields_right), unfolding(list_rules::specs::Reading::run_after, sequences::specs::Checks::is_accepted, text_head::specs::Head::fields_found, list_rows::specs::Rows::rows_found))]
+#[tactic(auto, using(crate::proofs::Replies::reply_19_field, crate::proofs::Replies::reply_19_row), unfolding(list_rules::specs::Reading::run_after, sequences::specs::Checks::is_accepted, text_head::specs::Head::fields_found, list_rows::specs::Rows::rows_found))]
 fn read_fields(text: &[u8], rows: Rows, run: &mut [u64]) -> Result<ListRead, Refusal>
     requires { RowsStand text.now rows }
     ensures { ReadOutcome text.now run.old result run.new }

@@ -1,3 +1,2 @@
-pub mod Replies
 pub mod Heads
 pub mod Sizes

@@ -28,6 +28,7 @@ fn sizes_fit(list: &Listing) -> bool
 
 // The first component at fault, by its numbers or by its name. By cases: the least of two that may be missing is no plainer as an
 // iterator.
+#[tactic(auto, using(std::proofs::lemmas::Bool::Decides::nat_tests), unfolding(list_rules::specs::Writing::write_fault, list_rules::specs::Writing::sizes_fit, sequences::specs::Every::every, sequences::specs::Every::inside))]
 fn write_fault(list: &Listing) -> Option<usize>
     requires { sizes_fit (listed list.now) ≡ true }
     ensures { result ≡ below list.now.fields.count (write_fault (listed list.now)) }
