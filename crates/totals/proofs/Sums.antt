@@ -6,16 +6,15 @@ use native.Mathlib.Nat.{le_step}
 use lib.Bits.{bit_or}
 use borrow.Author.Tests.{lt-leb}
 use Rattle.sequences.specs.Below.{sum_below, any_below}
-use Rattle.std.proofs.lemmas.Bool.{or_from}
+use Rattle.std.proofs.lemmas.Bool.{or_from, false_from_ne_true, true_from_ne_false}
 use Rattle.sequences.proofs.Below.{sum_none, sum_more, sum_same, sum_grows, any_here}
-use Rattle.sequences.proofs.Every.{false_of}
 use Rattle.sequences.proofs.Stretch.{within}
 use Rattle.totals.specs.Totals.{top, quick_most, plus_row, plus_block, reaches, place_at, total, capped_total, Low}
 use Rattle.totals.proofs.Top.{or_zero_left, or_zero_right}
 
 -- none passes
 any_off : (f : ℕ → Bool) (n : ℕ) → any_below f n ≡ false → (k : ℕ) → k < n → f k ≡ false
-any_off f n e k l = false_of (f k) (λ q. false≢true (sym e ∙ any_here f n k l q))
+any_off f n e k l = false_from_ne_true _ (λ q. false≢true (sym e ∙ any_here f n k l q))
 
 off_any : (f : ℕ → Bool) (n : ℕ) → ((k : ℕ) → k < n → f k ≡ false) → any_below f n ≡ false
 unfolding any_below
@@ -107,14 +106,8 @@ module _ (b : List ℕ) (w c : ℕ) (F : ℕ → ℕ) (same : (k : ℕ) → k < 
 
   -- one reaches 2^62: so does one of more rows
   reached : (n : ℕ) → c ≤ n → any_below (reaches F) w ≡ true → any_below (reaches (total b w n)) w ≡ true
-  reached n le on = pick (any_below (reaches (total b w n)) w) refl
-    where
-      low : any_below (reaches (total b w n)) w ≡ false → (k : ℕ) → k < w → F k < top
-      low q k h = omega (arith, same k h, total_grows b w c n k le, none_reaches (total b w n) w q k h)
-
-      pick : (x : Bool) → any_below (reaches (total b w n)) w ≡ x → x ≡ true
-      pick true q = refl
-      pick false q = absurd (some_reaches F w on (low q))
+  reached n le on =
+      true_from_ne_false _ (λ q. some_reaches F w on (λ k h. omega (arith, same k h, total_grows b w c n k le, none_reaches (total b w n) w q k h)))
 
 -- one row more, x, of n numbers
 module _ {t b : List ℕ} {w a : ℕ} (q : Counted t b w a) (x : List ℕ) (n : ℕ) (long : n ≡ w) (row : (k : ℕ) → k < w → get_or x k 0 ≡ get_or b (a * w + k) 0) where
