@@ -26,7 +26,7 @@ use Rattle.rules.specs.Redemption.{redemption_reply}
 use Rattle.rules.specs.Kinds.{asked_records, asked_reports, counts_by, asked_checks, asked_reply, asked_book, asked_lists}
 use Rattle.rules.proofs.Accepted.{creation_facts, creation_made, redemption_facts, redemption_made}
 use Rattle.rules.proofs.Asked.{by_ask}
-use Rattle.rules.proofs.Replies.{is_accepted_lem}
+use Rattle.rules.proofs.Replies.{refused, is_accepted_lem}
 use Rattle.order_structs.specs.Made.{records_of, at_front, rooms_beside, made_records}
 use Rattle.order_structs.specs.Settling.{most_records, lent_records}
 use Rattle.record_writer.specs.Stored.{with_first}
@@ -113,3 +113,6 @@ module _ (d : Day) (b ps : List ℕ) (ask : Ask) where
             let left_is : left ≡ flatten rs ++ behind = ap (λ (l : Lent). l.records) (rw taken at lists) ∙ written_is rs front in
             let same : asked_reply d b ps ask (rooms_in (lent_of front investor fund)) ≡ asked_reply d b ps ask (rooms_beside room investor fund) = rw is front_reply in
             rw (counted.0, left_is, append_assoc (flatten rs) behind rest, first_is rs (behind ++ rest) list) (rw (← same, taken) refl)
+
+-- what an order on the front of a flat run is found by
+pub ruleset front_laws = (lent_most, front_reply, front_book, refused)

@@ -51,7 +51,7 @@ fn flat_order(
 }
 
 // Creates or redeems units, by the kind of order; the records and the reports to both parties go to the lent lists.
-#[tactic(auto, using(crate::proofs::Room::lent_most, crate::proofs::Laws::front_reply, crate::proofs::Laws::front_book, rules::proofs::Replies::refused), unfolding(crate::specs::Made::made_records, crate::specs::Made::made_reports, rules::specs::Kinds::asked_lists, rules::specs::Lent::with_order, sequences::specs::Checks::is_accepted))]
+#[tactic(auto, using(crate::proofs::Laws::front_laws), unfolding(crate::specs::Made::made_records, crate::specs::Made::made_reports, rules::specs::Kinds::asked_lists, rules::specs::Lent::with_order, sequences::specs::Checks::is_accepted))]
 pub fn order(
     day: &[u64],
     book: &mut [u64],

@@ -25,6 +25,9 @@ use Rattle.rules.specs.Redemption.{first_lacking, units_available, redemption_pa
 use Rattle.rules.specs.Value.{reference_value, has_value}
 use Rattle.rules.specs.Kinds.{creation_of, redemption_of, by_kind, all_cash, cash_by, asked_cash, asked_records, asked_reports, counts_by, asked_means}
 use Rattle.rules.proofs.Asked.{by_ask}
+use Rattle.rules.proofs.Replies.{refused}
+use Rattle.value.proofs.Answers.{value_range}
+use Rattle.std.proofs.lemmas.Bool.Decides.{nat_tests}
 use Rattle.order_scan.specs.declared.Scan.{Scan}
 use Rattle.order_scan.specs.Lines.{scan_counts}
 use Rattle.order_scan.specs.Scans.{order_scan}
@@ -133,3 +136,8 @@ pub scan_fits : (kind : Kind) (d : Day) (s f ps : List ℕ) (m : ℕ) → Scanna
     → ((order_scan kind d s f ps m).stock_records ≤ most_components) × (all_cash (order_scan kind d s f ps m).cash ≤ 12_000_000_000_000_000_000)
 unfolding order_scan
 scan_fits kind d s f ps m r = (scan_records-le kind d s f ps m r.count, cash_fits kind d s f ps m r)
+
+-- what the tests of the ratio, and of the third stage, are found by
+pub ruleset ratio_laws = (value_range, refused, nat_tests)
+
+pub ruleset means_laws = (means_staged, scan_cash, scan_fits, refused)

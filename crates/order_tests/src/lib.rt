@@ -25,7 +25,7 @@ pub struct Accepted {
 }
 
 // The tests 14 and 15: nothing is asked where nothing is missing.
-#[tactic(auto, using(value::proofs::Answers::value_range, rules::proofs::Replies::refused, std::proofs::lemmas::Bool::Decides::nat_tests), unfolding(crate::specs::Tests::ratio_tests, rules::specs::Value::value_checks, sequences::specs::Checks::answering, sequences::specs::Checks::is_accepted))]
+#[tactic(auto, using(crate::proofs::Laws::ratio_laws), unfolding(crate::specs::Tests::ratio_tests, rules::specs::Value::value_checks, sequences::specs::Checks::answering, sequences::specs::Checks::is_accepted))]
 fn ratio_answer(
     day: &DayView,
     prices: &[u64],
@@ -69,7 +69,7 @@ pub fn baskets_in(day: &DayView, units: u64) -> u64
 }
 
 // The third stage of an order between two parties: stock first, then the ratio, then cash and room.
-#[tactic(auto, using(crate::proofs::Laws::means_staged, crate::proofs::Laws::scan_cash, crate::proofs::Laws::scan_fits, rules::proofs::Replies::refused), unfolding(sequences::specs::Checks::is_accepted))]
+#[tactic(auto, using(crate::proofs::Laws::means_laws), unfolding(sequences::specs::Checks::is_accepted))]
 pub fn order_means(
     day: &DayView,
     parties: &Parties,

@@ -35,7 +35,7 @@ fn fund_head(kind: Kind, stretch: &mut [u64], c: Money)
 }
 
 // The account's part of an order beside its stock: units, which go the opposite way to stock, cash and counter. `line` is the unit's.
-#[tactic(auto, using(crate::proofs::Laws::head_beside, book::proofs::Stock::units_opposite), unfolding(layout::specs::Book::head_at, layout::specs::Book::put_head, layout::specs::Book::on_line, book::specs::Moved::rest_of))]
+#[tactic(auto, using(crate::proofs::Laws::rest_laws), unfolding(layout::specs::Book::head_at, layout::specs::Book::put_head, layout::specs::Book::on_line, book::specs::Moved::rest_of))]
 fn account_rest(kind: Kind, stretch: &mut [u64], line: usize, units: u64, c: Money)
     requires { AccountRest kind line stretch.old units c.0 }
     ensures { stretch.new ≡ rest_of kind line units c.0 stretch.old }

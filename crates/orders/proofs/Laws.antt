@@ -35,7 +35,7 @@ use Rattle.rules.specs.Kinds.{asked_cash, asked_records, asked_reports, counts_b
 use Rattle.rules.proofs.SoundDay.{SoundDay, sound_facts}
 use Rattle.rules.proofs.Accepted.{Orders, Listed, order_facts, creation_facts, creation_made, redemption_facts, redemption_made}
 use Rattle.rules.proofs.Reports.{report_count}
-use Rattle.rules.proofs.Replies.{is_accepted_lem, on_sound}
+use Rattle.rules.proofs.Replies.{refused, is_accepted_lem, on_sound}
 use Rattle.rules.proofs.Asked.{by_ask, asked_records_lem, asked_reports_lem}
 use Rattle.book.specs.Ready.{OrderReady}
 use Rattle.book.proofs.Ready.{creation_ready, redemption_ready}
@@ -214,3 +214,6 @@ module _ (d : Day) (b ps : List ℕ) (ask : Ask) (lent : Lent) (whole : is_sound
         f ∙ rw (n, w, fund_told ask.kind d s ask.units m c lent.records, reports) in
         let all = w ∙ ap (λ (rs : List Record). with_records rs lent.records) records in
         λ j. record { records = all j; investor = to-investor j; fund = to-fund j }
+
+-- what the tests of an order are found by
+pub ruleset tested_laws = (form_ready, asked_staged, form_is, refused)

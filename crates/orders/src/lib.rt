@@ -52,7 +52,7 @@ fn order_stage(
 
 // The tests of an order alone, with the cash of one that is accepted. That the day is sound stands in both contracts: it is a fact of
 // the day with its book and prices, of which the tests lend the book to read and an order to write, so one struct would need a twin.
-#[tactic(auto, using(crate::proofs::Laws::form_ready, crate::proofs::Laws::asked_staged, crate::proofs::Laws::form_is, rules::proofs::Replies::refused), unfolding(sequences::specs::Checks::is_accepted))]
+#[tactic(auto, using(crate::proofs::Laws::tested_laws), unfolding(sequences::specs::Checks::is_accepted))]
 pub fn order_tested(
     day: &DayView,
     book: &[u64],
