@@ -146,3 +146,23 @@ impl<'a> List<'a> {
         }
     }
 }
+
+#[cfg(test)]
+mod tests {
+    use super::*;
+    use std::test::Fail;
+
+    // No list of the programs' inputs is read back otherwise, so that they print none of these.
+    #[test]
+    fn differences_as_printed(rt: HostRuntime) -> Result<(), Fail> {
+        for (difference, want) in [
+            (Difference::Field(3), "fields 3"),
+            (Difference::Component(0), "components 0"),
+            (Difference::NamesOrLetters, "names or letters"),
+        ] {
+            let printed = format!(in rt.alloc(); "{difference}")?;
+            assert_eq!(rt; printed.as_str(), want);
+        }
+        Ok(())
+    }
+}
