@@ -1,6 +1,5 @@
 // One row of the driver: the call that it names, made.
-// Each function asks a row of the width of rows: a chunk of the rows is a slice, and an array is made of it by a conversion that can
-// fail. It asks for a sound day where it makes a call: a fact of the day with its book and prices, which the calls write.
+// Each function asks for a sound day where it makes a call: a fact of the day with its book and prices, which the calls write.
 #![tactic(auto)]
 
 ghost use Rattle.std.specs.Prelude.{◌≡◌, true, ◌+◌, ◌≤◌, ◌<◌, length, Some, IfSome, MatchOption, false};
@@ -56,8 +55,8 @@ fn part_in(run: usize, start: u64, size: u64) -> Range<usize>
     start..start + size
 }
 
-// An order on a sound day, with its lists one by one (as `flat_order` in order_structs, on any day): tried as a struct of parts of the runs, of which no proof can say that what is
-// written in the part is written in the run.
+// An order on a sound day, with its lists one by one, as `flat_order` in order_structs on any day. Tried as a struct of parts of the
+// runs, of which no proof can say that what is written in the part is written in the run.
 #[tactic(auto, using(order_calls::proofs::Laws::order_own, order_calls::proofs::Laws::leaves_own))]
 fn order_in(
     day: &DayView,

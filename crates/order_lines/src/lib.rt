@@ -17,7 +17,7 @@ use units::Money;
 // What an order makes of a component.
 #[derive(Clone, Copy)]
 pub enum Line {
-    // Stock, for which no cash stands: whether there is not enough of it, and how much moves.
+    // Stock, for which no cash stands: whether there is not enough of it, and how much moves, which may be 0.
     Stock {
         short: bool,
         moved: u64,
