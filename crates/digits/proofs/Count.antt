@@ -19,10 +19,6 @@ use Rattle.digits.proofs.Put.{put-nil, put-before}
 pub power_positive : (k : ℕ) → 0 < 10 ^ k
 power_positive k = one-le-pow k 10 (omega arith)
 
--- a power of `power`
-pub power_fits : (i : ℕ) → i ≤ 9 → 10 ^ i ≤ 1_000_000_000
-power_fits i h = pow-le-pow_right {n = 10} (omega arith) h
-
 -- ---- the last k digits of n
 
 pub fixed-length : (k n : ℕ) → length (fixed k n) ≡ k

@@ -86,26 +86,12 @@ module _ (f : Form) (n : ℕ) (small : n ≤ cap) (fits : FitsDigits f.digits (n
 
   plain_well : is_plain f (plain_text f n) ≡ true
   unfolding is_plain
-  plain_well =
-      elim (ℕ_discrete f.decimals 0) [
-        | yes e ↦ rw (plain_free f n e, eq-eqb f.decimals 0 e) (whole_well f.digits n small)
-        | no h ↦
-            rw (plain_pointed f n h)
-            (pointed_well f h whole (fixed f.decimals n) (fixed-length f.decimals n)
-            (whole_well f.digits (n / 10 ^ f.decimals) head_small) (fixed_digits_lem f.decimals n))
-      ]
+  plain_well = grind (arith, common_steps, plain_free, whole_well, plain_pointed, pointed_well, fixed-length, head_small, fixed_digits_lem)
 
   plain_read : plain_size f (plain_text f n) ≡ n
   unfolding plain_size
   plain_read =
-      elim (ℕ_discrete f.decimals 0) [
-        | yes e ↦ rw (plain_free f n e, eq-eqb f.decimals 0 e, whole_from f.digits n small (all_fit e)) (capped_small n small)
-        | no h ↦
-            ap (plain_size f) (plain_pointed f n h)
-            ∙ pointed_size f h whole (fixed f.decimals n) (fixed-length f.decimals n)
-            ∙ rw (whole_from f.digits (n / 10 ^ f.decimals) head_small fits)
-            (ap capped (from_fixed (n / 10 ^ f.decimals) f.decimals n ∙ div-add-mod' n (10 ^ f.decimals)) ∙ capped_small n small)
-      ]
+      grind (arith, common_steps, plain_free, whole_from, all_fit, capped_small, plain_pointed, pointed_size, fixed-length, head_small, from_fixed, div-add-mod')
 
 module _ (f : Form) (s : List ℕ) (well : is_plain f s ≡ true) (small : plain_size f s < cap) where
   module _ (some : f.decimals ≡ 0 → ⊥) where
