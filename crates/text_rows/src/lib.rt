@@ -9,7 +9,7 @@ ghost use Rattle.text_rules.specs.Well.{is_always};
 ghost use Rattle.text_rows.specs.Rows.{line_count, fault_in, column_kept, numbers_kept};
 ghost use Rattle.text_rows.specs.Turns.{words_fault, cells_fault, column_stored};
 
-use text_rules::{Column, LineForm, Use};
+use text_rules::{LineForm, Use};
 
 // The first line with a column at fault, and that column.
 #[derive(Clone, Copy, PartialEq, Eq, Debug)]
@@ -41,22 +41,19 @@ pub fn words_fault(rows: &[u8], pitch: usize, from: usize, width: usize) -> Opti
     None
 }
 
-// Whether a column with a number is used in a line, by the flag there. One that is always used reads no flag.
+// Whether a column of this use has a number in a line, by the flag there. One that is always used reads no flag.
 #[tactic(auto, using(crate::proofs::Turns::used_always))]
 fn is_used<const ALWAYS: bool>(
-    column: Column,
+    used: Use,
     flags: &[[bool; flags::COLUMNS]; flags::FLAGS],
     row: &[u8],
     flag_start: usize,
 ) -> bool
-    requires always { ALWAYS ≡ true → is_always column.used ≡ true }
+    requires always { ALWAYS ≡ true → is_always used ≡ true }
     requires flag_in_bounds { flag_start < length row.now }
-    ensures { result ≡ used_by flags.now (get_or row.now flag_start 0 - 48) column.used }
+    ensures { result ≡ used_by flags.now (get_or row.now flag_start 0 - 48) used }
 {
-    ALWAYS
-        || column
-            .used
-            .has_number(flags, text_columns::flag_digit(row[flag_start]))
+    ALWAYS || used.has_number(flags, text_columns::flag_digit(row[flag_start]))
 }
 
 // The first line whose column k, a number's, is at fault. The numbers before it are stored. A column that is always used has a loop of
@@ -81,7 +78,7 @@ fn read_numbers_column<const ALWAYS: bool>(
     let column = form.column(k);
     for (j, row) in rows.chunks_exact(line.bytes + 2).enumerate() {
         let size = text_columns::read_cell(
-            is_used::<ALWAYS>(column, flags, row, flag_start),
+            is_used::<ALWAYS>(column.used, flags, row, flag_start),
             column.digits,
             column.decimals,
             &row[taken.bytes..taken.bytes + column.width],
