@@ -25,7 +25,8 @@ loop-a-preserved c =
     let step = c.in-Some.ensures.steps in (
       chunks_again _ _ v.0 _ _ step.0.1 step.0.0 step.2,
       rw step.2
-          (filled_more c.args.count c.args.holdings.now _ _ c.loop-a.book c.open_part.new.book (account (goal.at.loop-a-preserved c).In-Some) (c.open_part.ensures ∙ rw (step.1, chunk_is _ _ v.0 _ _ step.0.1)) v.1),
+          (filled_more c.args.count c.args.holdings.now _ _ c.loop-a.book c.open_part.new.book
+          (account (goal.at.loop-a-preserved c).In-Some) (c.open_part.ensures ∙ rw (step.1, chunk_is _ _ v.0 _ _ step.0.1)) v.1),
     )
 
 pub returns : goal.returns

@@ -15,7 +15,8 @@ loop-row-preserved c =
     let first = c.add_blocks-first.ensures.upper_bound in
     let more : c.add_blocks-first.result + (length l.yielded + 1) ≡ c.add_blocks-first.result + length l.yielded + 1 = omega arith in
     let q : Counted c.add_row.new.totals a.run.now a.width (c.add_blocks-first.result + length l.yielded + 1) =
-    counted_row l.invariant.1 _ _ (step.1.1 ∙ v.wide) (row_from _ _ a.rows _ a.whole c.requires.0 first v _ _ step.1) _ (not-true _ (sym c.add_row.ensures.value ∙ c.if-not-add_row.false)) c.add_row.ensures.sums in
+    counted_row l.invariant.1 _ _ (step.1.1 ∙ v.wide) (row_from _ _ a.rows _ a.whole c.requires.0 first v _ _ step.1) _
+    (not-true _ (sym c.add_row.ensures.value ∙ c.if-not-add_row.false)) c.add_row.ensures.sums in
     rw (length-append, more) (chunks_again _ _ v _ _ step.1 step.0 refl, q)
 
 pub returns-then-not-add_row : goal.returns-then-not-add_row
