@@ -3,7 +3,7 @@ use mathlib.Core.Path.{◌≡◌, refl, sym, ap, ◌∙◌}
 use mathlib.Core.Bool.{Bool, true, false, cond, not, ◌&&◌}
 use Rattle.rules.specs.declared.Kind.{Kind}
 use mathlib.Core.List.{List, ◌∷◌, ◌++◌}
-use Rattle.std.specs.Prelude.{Option, Some, None}
+use Rattle.std.specs.Prelude.{Option}
 use Rattle.std.specs.Bool.{then_some}
 use Prim.Native.Nat.{ℕ, ◌≤◌}
 use lib.Dec.{T, ltb}
@@ -28,6 +28,7 @@ use Rattle.rules.proofs.Asked.{by_ask}
 use Rattle.rules.proofs.Replies.{refused}
 use Rattle.value.proofs.Answers.{value_range}
 use Rattle.std.proofs.lemmas.Bool.Decides.{nat_tests}
+use native.Mathlib.Omega.{arith}
 use Rattle.order_scan.specs.declared.Scan.{Scan}
 use Rattle.order_scan.specs.Lines.{scan_counts}
 use Rattle.order_scan.specs.Scans.{order_scan}
@@ -40,8 +41,7 @@ use Rattle.order_tests.specs.Tests.{ratio_tests, means_answer}
 
 ratio_numbered : (d : Day) (ps : List ℕ) (m : ℕ) (missing : Option Money) → T (numbered (ratio_tests d ps m missing))
 unfolding ratio_tests
-ratio_numbered d ps m None = tt
-ratio_numbered d ps m (Some worth) = tt
+ratio_numbered d ps m missing = grind arith
 
 -- the answer of two stages, by what the first answers
 pub staged : (cs ds : List Check) (r : Reply) → T (numbered cs) → answering (cs ++ ds) r ≡ if_accepted (answered cs 0) (answering ds r) (answered cs 0)
@@ -55,11 +55,7 @@ staged cs ds r n = go (is_accepted (answered cs 0)) refl
 module _ (cs : List Check) (r : Reply) where
   at_first : (n k number : ℕ) → answering (fails_at number (below n k) ∷ cs) r ≡ answering (check (ltb k n) number k ∷ cs) r
   unfolding answering
-  at_first n k number = go (ltb k n)
-    where
-      go : (b : Bool) → answering (fails_at number (cond b (Some k) None) ∷ cs) r ≡ answering (check b number k ∷ cs) r
-      go true = refl
-      go false = refl
+  at_first n k number = grind arith
 
   of_missing : (d : Day) (ps : List ℕ) (m : ℕ) (b : Bool) (worth : Money)
       → answering (ratio_tests d ps m (then_some b worth) ++ cs) r
@@ -69,8 +65,7 @@ module _ (cs : List Check) (r : Reply) where
       ∷ cs)
       r
   unfolding answering ratio_tests
-  of_missing d ps m true worth = refl
-  of_missing d ps m false worth = refl
+  of_missing d ps m b worth = grind arith
 
 -- the tests of an ask, from a scan of it, are the rules' third stage
 module _ (d : Day) (s f ps : List ℕ) where
