@@ -7,40 +7,17 @@ use lib.ListN.{length, take, drop}
 use Rattle.sequences.specs.Stretch.{stretch_of, on_stretch}
 use Rattle.sequences.proofs.Stretch.{stretch-length, put-length}
 use Rattle.lots.specs.declared.Lots.{Lots}
-use Rattle.layout.specs.Places.{lines_from}
 use Rattle.layout.specs.Day.{Day}
-use Rattle.layout.specs.Book.{cash, width_of, width, account, head_at, put_head, lots_at, put_lots, on_line, each_line, counter}
+use Rattle.layout.specs.Book.{cash, width_of, width, account, head_at, put_head, lots_at, each_line, counter}
 use Rattle.rules.specs.declared.Kind.{Kind}
-use Rattle.rules.specs.Orders.{number_of, opposite_kind, account_side, fund_side}
-use Rattle.rules.specs.Kinds.{stock_lots, unit_lots, account_cash, fund_cash, order_moves}
-use Rattle.layout.proofs.Account.{put-head-length, on_length, head_on, head_each, each_later}
+use Rattle.rules.specs.Orders.{number_of, account_side, fund_side}
+use Rattle.rules.specs.Kinds.{unit_lots, account_cash, fund_cash, order_moves}
+use Rattle.layout.proofs.Account.{put-head-length, head_each, each_later}
 use Rattle.rules.proofs.Sides.{number-below, fund-length}
 use Rattle.book.specs.Moved.{stock_by, fund_by, with_sides, stock_moves, rest_of, rest_moves}
-use Rattle.book.specs.Ready.{CashReady, AccountRest, RestReady, OrderReady}
-use Rattle.book.proofs.Stock.{units_opposite}
+use Rattle.book.specs.Ready.{AccountRest, RestReady, OrderReady}
 use Rattle.book.proofs.Sides.{account_kept, first_is, first_put, sides_by, sides_again}
 use Rattle.book.proofs.Turns.{fund_long, own_long, lines-length, lines_own, lines_fund}
-
--- its units, read and stored
-pub units_moved : (kind k : Kind) (n units : ℕ) (s u : List ℕ) (x y : Lots) → k ≡ opposite_kind kind → x ≡ lots_at s n → y ≡ stock_lots k x units → u ≡ put_lots s n y
-    → u ≡ on_line (λ z. unit_lots kind z units) n s
-unfolding on_line
-units_moved kind k n units s u x y ek ex ey eu = rw (eu, ey, ex, ek, units_opposite)
-
--- the account's stretch u when its units have moved
-module _ (kind : Kind) (n units c : ℕ) (s u : List ℕ) (eu : u ≡ on_line (λ x. unit_lots kind x units) n s) where
-  head_same : (k : ℕ) → k < lines_from → head_at u k ≡ head_at s k
-  head_same k h = rw eu (head_on (λ x. unit_lots kind x units) n s k h)
-
-  pub head_ready : AccountRest kind n s units c
-      → (lines_from ≤ length u) × CashReady kind (head_at u cash) c × (head_at u (counter (number_of kind)) + units < 2 ^ 64)
-  head_ready p =
-      let long : length u ≡ length s = ap length eu ∙ on_length (λ x. unit_lots kind x units) n s in
-      rw (head_same cash (omega arith), head_same (counter (number_of kind)) (omega (arith, number-below kind))) (omega (arith, p.line_in_lem), p.money, p.count_fits)
-
-  pub rest_is : put_head (counter (number_of kind)) (head_at u (counter (number_of kind)) + units) (put_head cash (account_cash kind (head_at u cash) c) u) ≡ rest_of kind n units c s
-  unfolding rest_of
-  rest_is = rw (head_same cash (omega arith), head_same (counter (number_of kind)) (omega (arith, number-below kind)), eu)
 
 -- the book t when the fund's cash has moved, in a fund of n components
 module _ (kind : Kind) (n : ℕ) (b : List ℕ) (a units c w : ℕ) (t : List ℕ) (p : RestReady kind n b a units c) (ew : w ≡ width_of n)

@@ -1,5 +1,6 @@
 -- The loop of `put_last`: the digits from the i-th place on are written.
-use Rattle.std.proofs.Common.{◌≡◌, refl, ap, ap₂, ◌∙◌, ℕ, suc, ◌+◌, ◌-◌, ◌/◌, ◌%◌, ◌^◌, ◌≤◌, ◌<◌, List, ◌∷◌, length, set, drop, length-set, drop-cons, drop-set-lt, get_or-set_same, drop_of_length-le, pow-suc, arith}
+use Rattle.std.proofs.Common.{◌≡◌, refl, ap, ap₂, ◌∙◌, ℕ, suc, ◌+◌, ◌-◌, ◌/◌, ◌%◌, ◌^◌, ◌≤◌, ◌<◌, List, ◌∷◌, length, set, drop, length-set, drop-cons}
+use Rattle.std.proofs.Common.{drop-set-lt, get_or-set_same, drop_of_length-le, pow-suc, arith}
 use native.Mathlib.Nat.{div-div-eq-div-mul}
 use Rattle.digits.specs.Digits.{fixed}
 

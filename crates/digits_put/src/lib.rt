@@ -1,7 +1,7 @@
 // Puts bytes, blanks and digits into a run.
 #![tactic(auto)]
 
-ghost use Rattle.std.specs.Prelude.{◌≡◌, ◌+◌, ◌/◌, ◌%◌, ◌^◌, ◌≤◌, ◌<◌, true, suc, [], ◌∷◌, length, replicate};
+ghost use Rattle.std.specs.Prelude.{◌≡◌, ◌+◌, ◌/◌, ◌%◌, ◌^◌, ◌≤◌, ◌<◌, true, suc, [], ◌∷◌, length};
 ghost use Rattle.digits.specs.Digits.{fixed, tens, decimal};
 ghost use Rattle.digits.specs.Written.{Written};
 
@@ -23,16 +23,6 @@ pub fn put_bytes(dst: &mut [u8], at: usize, src: &[u8]) -> usize
 {
     let next = at + src.len();
     dst[at..next].copy_from_slice(src);
-    next
-}
-
-// Writes k blanks.
-pub fn put_blanks(dst: &mut [u8], at: usize, k: usize) -> usize
-    requires { at + k ≤ length dst.old }
-    ensures { Written dst.old at (replicate k 32) dst.new result }
-{
-    let next = at + k;
-    dst[at..next].fill(b' ');
     next
 }
 

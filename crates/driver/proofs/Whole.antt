@@ -13,7 +13,7 @@ use Rattle.balance.proofs.Whole.{demand_3}
 use Rattle.layout.specs.Day.{Day}
 use Rattle.driver_rows.specs.declared.Work.{Work as Runs}
 use Rattle.driver_rows.specs.Lent.{state_in, work_in, left_work}
-use Rattle.driver_rows.specs.Rows.{state_of, Row, row_at, Work, row_reply, row_leaves}
+use Rattle.driver_rows.specs.Rows.{Row, row_at, Work, row_reply, row_leaves}
 use Rattle.driver.proofs.Days.{ran_day, left_of}
 use Rattle.driver.specs.Batch.{Batch, batch_in, row_done, run_from, with_event, events_from, ran, events_of, reply_from, events_past, answers_from, answers_of, Demand3}
 
@@ -71,8 +71,3 @@ run_meets d rows w left answers e =
     let b = batch_in d w answers in
     let leaves : work_in d left ≡ (ran rows b).work = rw e (left_of d w (ran rows b).work (ran_day rows b)) in
     all_balanced _ _ _ (subst (λ (v : Work). Happened (state_in d w) (events_of rows b) v.state) (sym leaves) (run_happened rows b))
-
--- and with the state that they leave run by run
-pub meets_as : {d : Day} {s : State} {es : List Event} {book prices : List ℕ} (left : Runs) → book ≡ left.book.now → prices ≡ left.prices.now
-    → Demand3 s es (state_in d left) → Demand3 s es (state_of d book prices)
-meets_as left p q demand = rw (p, q) demand

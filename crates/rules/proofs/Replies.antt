@@ -1,11 +1,10 @@
 -- Answers and replies: Done is accepted and every refusal is not, so what a call leaves follows from its answer.
 use mathlib.Core.Path.{◌≡◌, refl, sym, ap, ◌∙◌}
 use mathlib.Core.Bool.{true, false}
-use mathlib.Core.List.{List, ◌++◌}
+use mathlib.Core.List.{List}
 use Prim.Native.Nat.{ℕ}
-use lib.Dec.{T, eqb}
-use Rattle.sequences.specs.Checks.{Check, Reply, reply, is_accepted, answering, answered}
-use Rattle.sequences.proofs.Checks.{numbered, answered_next, answered_stop, accepted_passes, refused_stops}
+use lib.Dec.{eqb}
+use Rattle.sequences.specs.Checks.{Check, Reply, reply, is_accepted, answering}
 use Rattle.layout.specs.Day.{Day}
 use Rattle.rules.specs.declared.Refusal.{Refusal}
 use Rattle.rules.specs.declared.Refusal.TheVariants.{Sizes, FundField, Component, Total, UnsoundDay, NoSuchLine, QuantityOrPrice, Account, ShortOfStock, ShortOfCash}
@@ -54,14 +53,6 @@ module _ {A : Type 0} (after before : A) where
 
   pub leaves_before : (why : Refusal) (r : Reply) → refusal_reply why ≡ r → before ≡ if_accepted r after before
   leaves_before why r e = rw (is_refused why r e)
-
--- two stages of tests: where the first passes the answer is the second's, and where it fails its own
-module _ (cs ds : List Check) (r : Reply) where
-  pub stage_passed : T (numbered cs) → reply 0 0 0 ≡ answered cs 0 → answering ds r ≡ answering (cs ++ ds) r
-  stage_passed n e = sym (answered_next cs ds r (accepted_passes cs _ n (is_accepted_lem _ _ refl e)))
-
-  pub stage_stopped : (why : Refusal) → refusal_reply why ≡ answered cs 0 → refusal_reply why ≡ answering (cs ++ ds) r
-  stage_stopped why e = e ∙ sym (answered_stop cs ds r _ (refused_stops cs 0 (is_refused why _ e)))
 
 -- refusal 5, and the call's own tests where the day is sound
 module _ (d : Day) (b ps : List ℕ) (cs : List Check) (r : Reply) where
