@@ -39,7 +39,8 @@ fn run_rows(
     if !rows_fit(rows.len(), answers.len()) {
         return Err(Refusal::Sizes);
     }
-    for (i, row) in rows.chunks_exact(layout::ROW_WIDTH).enumerate() {
+    let (each, _) = rows.as_chunks::<{ layout::ROW_WIDTH }>();
+    for (i, row) in each.iter().enumerate() {
         let reply = driver_rows::row_call(run, kept, work, row);
         layout::put_answer(answers, i, reply.into());
     }

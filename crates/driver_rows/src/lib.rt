@@ -3,7 +3,6 @@
 #![tactic(auto)]
 
 ghost use Rattle.std.specs.Prelude.{◌≡◌, true, ◌+◌, ◌≤◌, ◌<◌, length, Some, IfSome, MatchOption, false};
-ghost use Rattle.layout.specs.Places.{row_width};
 ghost use Rattle.layout.specs.Day.{Day, day_at};
 ghost use Rattle.rules.specs.declared.Refusal.TheVariants.{UnsoundDay};
 ghost use Rattle.rules.specs.Sound.{is_sound, is_kept};
@@ -90,10 +89,9 @@ fn order_row(
     investor: &mut [u64],
     fund: &mut [u64],
     ask: Ask,
-    row: &[u64],
+    row: &[u64; layout::ROW_WIDTH],
 ) -> Numbers
     requires prices_value { is_sound day.now book.old prices.now ≡ true }
-    requires row_len { length row.now ≡ row_width }
     ensures result_value { reply_of result ≡ (result_of (work_of day.now book.old prices.now (lent_of records.old investor.old fund.old)) (order_of ask) (spans_in row.now)).reply }
     ensures left { work_of day.now book.new prices.now (lent_of records.new investor.new fund.new) ≡ row_leaves (work_of day.now book.old prices.now (lent_of records.old investor.old fund.old)) (call (order_of ask) (spans_in row.now)) }
 {
@@ -112,10 +110,9 @@ fn order_row(
     Numbers::from(answer)
 }
 
-// The call that a row names by its kind, or none. By place: all rows have one width, whatever they name.
+// The call that a row names by its kind, or none.
 #[tactic(auto, unfolding(crate::specs::Rows::row_of))]
-fn call_of(row: &[u64]) -> Option<Call>
-    requires { length row.now ≡ row_width }
+fn call_of(row: &[u64; layout::ROW_WIDTH]) -> Option<Call>
     ensures { call_named row.now result ≡ row_of row.now }
 {
     match row[0] {
@@ -138,9 +135,8 @@ fn call_of(row: &[u64]) -> Option<Call>
 }
 
 // The call that a row names, made on a sound day.
-fn make(day: &DayView, work: &mut Work, call: Call, row: &[u64]) -> Numbers
+fn make(day: &DayView, work: &mut Work, call: Call, row: &[u64; layout::ROW_WIDTH]) -> Numbers
     requires sound { is_sound day.now work.old.book.now work.old.prices.now ≡ true }
-    requires row_len { length row.now ≡ row_width }
     ensures result_value { reply_of result ≡ row_reply (work_in day.now work.old) (call_named row.now (Some call)) }
     ensures left { work.new ≡ left_work work.old (row_leaves (work_in day.now work.old) (call_named row.now (Some call))) }
 {
@@ -195,9 +191,13 @@ impl<'a> Work<'a> {
 
 // The call that a row names, on any day: 1 where the row names none, and 5 where the day is not sound. The day is tested here where it
 // is not known to be sound. The one place at which a call is made, so that a list of calls has it in its loop.
-pub fn row_call(run: &[u64], known: Option<&DayView>, work: &mut Work, row: &[u64]) -> Numbers
+pub fn row_call(
+    run: &[u64],
+    known: Option<&DayView>,
+    work: &mut Work,
+    row: &[u64; layout::ROW_WIDTH],
+) -> Numbers
     requires known { IfSome known (λ day. (day.now ≡ day_at run.now) × (is_sound (day_at run.now) work.old.book.now work.old.prices.now ≡ true)) }
-    requires row_len { length row.now ≡ row_width }
     ensures result_value { reply_of result ≡ row_reply (work_in (day_at run.now) work.old) (row_of row.now) }
     ensures left { work.new ≡ left_work work.old (row_leaves (work_in (day_at run.now) work.old) (row_of row.now)) }
 {
