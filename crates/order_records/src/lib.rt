@@ -44,8 +44,8 @@ pub fn rest_side(kind: Kind) -> Side
     stock_side(kind).opposite()
 }
 
-// A run that records are written to one behind another, and its next free place: the library has no heap, and no Vec to push to.
-// `record_writer::Writer` is this over structs.
+// A run that records are written to one behind another, and its next free place: the library has no heap, and no Vec to push to. No common
+// writer with `record_writer` and `text_head_writing`: a put is five numbers here, a struct or some bytes there, and only the fields agree.
 #[derive(Drop)]
 pub struct Out<'a> {
     pub run: &'a mut [u64],
@@ -63,7 +63,8 @@ impl<'a> Out<'a> {
         self.at += layout::RECORD_WIDTH;
     }
 
-    // Cash: no record at 0, one below the split size, else two, the second with the remainder even if that is 0.
+    // Cash: no record at 0, one below the split size, else two, the second with the remainder even if that is 0. `order_scan::cash_count`
+    // has the same cases: asked for the count here, they would still be told apart for what each record says.
     fn put_cash(&mut self, code: u64, side: Side, c: Money)
         requires { Fits (cash_records code (side_number side) c.0) self.old }
         ensures { self.new ≡ wrote (cash_records code (side_number side) c.0) self.old }

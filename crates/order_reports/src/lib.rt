@@ -17,8 +17,8 @@ use layout::{Group, Record, Report};
 use rules::{CashByMarket, CashKind, Kind, ReportType, Side};
 use units::Money;
 
-// The group that stands where a report has none. A report holds what its run shows, numbers for type, side and kinds too: code only
-// writes it, and what makes it (`told`, `cash_report`) takes the enums.
+// The group where a report has none: its kind 0 is none of `CashKind`. A report holds what a run may show (`layout::Report`), numbers for
+// type, side and kinds too, and what makes it here (`told`, `cash_report`) takes the enums.
 const NO_GROUP: Group = Group {
     kind: 0,
     amount: Money(0),
@@ -82,8 +82,8 @@ fn put_stock(list: &mut [u64], records: &[u64], n: usize, side: Side)
     }
 }
 
-// The report of cash, as the k-th: none where there is no cash. That all cash fits one number stands in three contracts: two amounts
-// of which each fits are a `CashByMarket` too, and the definitions have such.
+// The report of cash, as the k-th: none where there is no cash. That all cash fits one number stands in six contracts, from
+// `CashByMarket::total` on: two amounts of which each fits are a `CashByMarket` too, and the definitions have such.
 fn put_cash(list: &mut [u64], k: usize, side: Side, cash: CashByMarket)
     requires { (all_cash cash < 2 ^ 64) × (report_width * (k + cash_report_count cash) ≤ length list.old) }
     ensures { list.new ≡ sets list.old (report_width * k) (laid report_numbers (told_cash (side_number side) cash)) }

@@ -2,10 +2,10 @@
 #![tactic(auto)]
 
 ghost use Rattle.std.specs.Prelude.{◌≡◌, ◌+◌, ◌≤◌, ◌<◌, ◌^◌, cond, length};
-ghost use Rattle.layout.specs.Book.{behind_line};
+ghost use Rattle.layout.specs.Book.{behind_line, cash as cash_at, head_at};
 ghost use Rattle.layout.specs.Places.{most_components};
 ghost use Rattle.rules.specs.Creation.{available};
-ghost use Rattle.rules.specs.Kinds.{all_cash};
+ghost use Rattle.rules.specs.Kinds.{all_cash, by_kind};
 ghost use Rattle.order_lines.specs.Lines.{worth_in, effect_of};
 ghost use Rattle.order_scan.specs.Lines.{held_of, stock_count, with_missing, with_cash, with_line, no_lines, cash_count, scan_counts};
 ghost use Rattle.order_scan.specs.Scans.{order_scan};
@@ -23,6 +23,32 @@ pub struct Parties<'a> {
     pub fund: &'a [u64],
 }
 
+impl<'a> Parties<'a> {
+    // What there is of a component: what the account can hand in, or the fund's old lot, which is all that the fund has of it.
+    #[tactic(auto, unfolding(crate::specs::Lines::held_of))]
+    fn held_at(&self, kind: Kind, line: usize) -> u64
+        requires { (behind_line line ≤ length self.now.account.now) × (behind_line line ≤ length self.now.fund.now) × (available self.now.account.now line < 2 ^ 64) }
+        ensures { result ≡ held_of kind self.now.account.now self.now.fund.now line }
+    {
+        match kind {
+            Kind::Creation => handable_at(self.account, line),
+            Kind::Redemption => layout::lots_at(self.fund, line).old,
+        }
+    }
+
+    // The cash of the side that pays: the account's on creation, the fund's on redemption.
+    #[tactic(auto, unfolding(layout::specs::Book::head_at))]
+    pub fn cash_held(&self, kind: Kind) -> Money
+        requires { (0 < length self.now.account.now) × (0 < length self.now.fund.now) }
+        ensures { result.0 ≡ head_at (by_kind kind self.now.account.now self.now.fund.now) cash_at }
+    {
+        match kind {
+            Kind::Creation => Money(self.account[layout::CASH]),
+            Kind::Redemption => Money(self.fund[layout::CASH]),
+        }
+    }
+}
+
 // What an order of m baskets makes of the basket.
 #[derive(Clone, Copy)]
 pub struct Scan {
@@ -35,7 +61,7 @@ pub struct Scan {
     pub stock_records: usize,
 }
 
-// The scan of no component.
+// The scan of no component. A `Default` would be this by hand, since `CashByMarket` has none to derive it from.
 const NO_LINES: Scan = Scan {
     short: None,
     missing: None,
@@ -53,18 +79,6 @@ pub fn handable_at(stretch: &[u64], line: usize) -> u64
     layout::lots_at(stretch, line).handable()
 }
 
-// What there is of a component: what the account can hand in, or the fund's old lot, which is all that the fund has of it.
-#[tactic(auto, unfolding(crate::specs::Lines::held_of))]
-fn held_at(kind: Kind, parties: &Parties, line: usize) -> u64
-    requires { (behind_line line ≤ length parties.now.account.now) × (behind_line line ≤ length parties.now.fund.now) × (available parties.now.account.now line < 2 ^ 64) }
-    ensures { result ≡ held_of kind parties.now.account.now parties.now.fund.now line }
-{
-    match kind {
-        Kind::Creation => handable_at(parties.account, line),
-        Kind::Redemption => layout::lots_at(parties.fund, line).old,
-    }
-}
-
 // What is missing is worth with that of one component more.
 fn with_missing(found: Option<Money>, more: Money) -> Option<Money>
     requires { worth_in found + more.0 < 2 ^ 64 }
@@ -76,7 +90,7 @@ fn with_missing(found: Option<Money>, more: Money) -> Option<Money>
     }
 }
 
-// The cash with that of one component more: a function and no `Add`, since cash by market is added here alone.
+// The cash with that of one component more. A function and no `Add`: only the crate of `CashByMarket`, where nothing adds, could have it.
 #[tactic(auto, unfolding(crate::specs::Lines::with_cash))]
 fn with_cash(cash: CashByMarket, more: CashByMarket) -> CashByMarket
     requires { (cash.shanghai.0 + more.shanghai.0 < 2 ^ 64) × (cash.other.0 + more.other.0 < 2 ^ 64) }
@@ -139,13 +153,13 @@ pub fn order_scan(kind: Kind, day: &DayView, parties: &Parties, prices: &[u64], 
         t = with_line(
             t,
             i,
-            part.order_line(kind, held_at(kind, parties, i), *price),
+            part.order_line(kind, parties.held_at(kind, i), *price),
         );
     }
     t
 }
 
-// How many records an amount of cash takes.
+// How many records an amount of cash takes. `order_records::Out::put_cash` writes them by the same cases, and says why.
 #[tactic(auto, unfolding(crate::specs::Lines::cash_count))]
 fn cash_count(cash: Money) -> usize
     ensures { result ≡ cash_count cash.0 }

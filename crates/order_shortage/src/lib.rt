@@ -2,16 +2,17 @@
 #![tactic(auto)]
 
 ghost use Rattle.std.specs.Prelude.{◌≡◌, ◌≤◌, ◌<◌, ◌^◌, length};
-ghost use Rattle.sequences.specs.Checks.{reply, answering, answered};
+ghost use Rattle.sequences.specs.Checks.{reply, answered};
 ghost use Rattle.layout.specs.Book.{behind_line};
-ghost use Rattle.rules.specs.Replies.{refusal_reply, answer_reply, made_reply, order_answer_reply};
+ghost use Rattle.rules.specs.Replies.{refusal_reply, answer_reply};
 ghost use Rattle.rules.specs.Lent.{too_short};
 ghost use Rattle.rules.specs.Creation.{available};
 ghost use Rattle.order_shortage.specs.Tests.{cash_number, cash_place, last_tests, stock_tests};
 
 use rules::{Ask, Counts, Kind, Refusal, Rooms};
+use units::Money;
 
-// What an account or a fund is told that lacks cash.
+// The refusal where cash is short: the account's on creation; the fund's on redemption, at the unit's line `n`.
 #[tactic(auto, unfolding(crate::specs::Tests::cash_number, crate::specs::Tests::cash_place))]
 fn cash_refusal(kind: Kind, n: usize) -> Refusal
     ensures { refusal_reply result ≡ reply (cash_number kind) (cash_place kind n) 0 }
@@ -30,17 +31,17 @@ fn is_too_short(rooms: Rooms, counts: Counts) -> bool
     rooms.records < counts.records || rooms.investor < counts.reports || rooms.fund < counts.reports
 }
 
-// The tests 10 or 17 at cash, and 16. Cash held is a number, as the book and the definition have it.
+// The tests 10 or 17 at cash, and 16.
 #[tactic(auto, unfolding(crate::specs::Tests::last_tests, sequences::specs::Checks::answering))]
 pub fn last_answer(
     kind: Kind,
     n: usize,
-    held: u64,
-    due: u64,
+    held: Money,
+    due: Money,
     rooms: Rooms,
     counts: Counts,
-) -> Result<Counts, Refusal>
-    ensures { order_answer_reply result ≡ answering (last_tests (cash_number kind) (cash_place kind n) held due rooms counts) (made_reply counts) }
+) -> Result<(), Refusal>
+    ensures { answer_reply result ≡ answered (last_tests (cash_number kind) (cash_place kind n) held.0 due.0 rooms counts) 0 }
 {
     if held < due {
         return Err(cash_refusal(kind, n));
@@ -48,7 +49,7 @@ pub fn last_answer(
     if is_too_short(rooms, counts) {
         return Err(Refusal::ListTooShort);
     }
-    Ok(counts)
+    Ok(())
 }
 
 // The tests of stock: 9 of a creation, at the first component that is short; 9 of a redemption, at the units, and 17.
@@ -62,20 +63,12 @@ pub fn stock_answer(
     requires { (behind_line n ≤ length stretch.now) × (available stretch.now n < 2 ^ 64) }
     ensures { answer_reply result ≡ answered (stock_tests ask.kind (available stretch.now n) ask.units short) 0 }
 {
-    match ask.kind {
-        Kind::Creation => match short {
-            Some(first) => Err(Refusal::ShortOfStock(first)),
-            None => Ok(()),
-        },
-        Kind::Redemption => {
-            let held = order_scan::handable_at(stretch, n);
-            if held < ask.units {
-                return Err(Refusal::ShortOfStock(0));
-            }
-            match short {
-                Some(first) => Err(Refusal::FundShort(first)),
-                None => Ok(()),
-            }
+    match (ask.kind, short) {
+        (Kind::Creation, Some(first)) => Err(Refusal::ShortOfStock(first)),
+        (Kind::Redemption, _) if order_scan::handable_at(stretch, n) < ask.units => {
+            Err(Refusal::ShortOfStock(0))
         }
+        (Kind::Redemption, Some(first)) => Err(Refusal::FundShort(first)),
+        (_, None) => Ok(()),
     }
 }

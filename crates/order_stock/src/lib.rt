@@ -16,8 +16,8 @@ use lots::Lots;
 use rules::Kind;
 use std::num::NonZeroU64;
 
-// The stock of component `c` that an order of `m` baskets moves, for an account with the lots `x` of it. The tests kept no quantities,
-// since no scratch is lent, so that it is read off the lots again.
+// The stock of component `c` that an order of `m` baskets moves, for an account with the lots `x` of it: read off the lots again, as the
+// tests had no room to keep it. No `order_lines::Part`: it asks the ranges of all of a component's numbers, and a move the need's alone.
 #[tactic(auto, unfolding(book::specs::Moved::moved_of))]
 fn stock_moved(kind: Kind, c: Component, m: u64, x: Lots) -> Option<NonZeroU64>
     requires quantity_bound { m * c.quantity < 2 ^ 62 }

@@ -1,29 +1,25 @@
 -- The struct form and the flat form are one: flattened, the list that an order leaves is the flat list that it leaves of the list flattened, and their rooms agree.
 -- So a chain of calls with orders in the struct form has happened, as `balance` means it.
 use mathlib.Core.Path.{◌≡◌, refl, sym, ap, ◌∙◌}
-use mathlib.Core.Bool.{Bool, true, false, cond}
-use mathlib.Core.List.{List, [], ◌∷◌, ◌++◌, map}
+use mathlib.Core.List.{List, [], ◌∷◌, ◌++◌}
 use Prim.Native.Nat.{ℕ, zero, suc, ◌*◌}
 use native.Mathlib.Omega.{arith}
 use lib.ListN.{length, drop}
 use lib.Seq.{drop-nil}
-use Rattle.sequences.specs.Checks.{is_accepted}
 use Rattle.layout.specs.Places.{record_width}
 use Rattle.layout.specs.Day.{Day}
 use Rattle.layout.specs.declared.Record.{Record}
 use Rattle.layout.specs.Laid.{laid, with_laid, room_of}
 use Rattle.layout.specs.Records.{flatten, record_numbers, with_records}
-use Rattle.layout.specs.Reports.{with_reports}
 use Rattle.layout.proofs.Records.{flatten-append, flatten-length}
 use Rattle.rules.specs.declared.Ask.{Ask}
 use Rattle.rules.specs.declared.Rooms.{Rooms}
-use Rattle.rules.specs.Reports.{opposite}
 use Rattle.rules.specs.Lent.{Lent, lent_of, rooms_in, with_order}
 use Rattle.rules.specs.Creation.{creation_reply, created_book, created_lists}
 use Rattle.rules.specs.Redemption.{redemption_reply, redeemed_book, redeemed_lists}
-use Rattle.rules.specs.Kinds.{by_kind, asked_records, asked_reports, counts_by, asked_checks, asked_reply, asked_moves, asked_book, with_asked, asked_lists}
+use Rattle.rules.specs.Kinds.{by_kind, asked_records, asked_reports, counts_by, asked_checks, asked_reply, asked_moves, asked_book, asked_lists}
 use Rattle.balance.specs.Calls.{State, Call, Result, step, create, redeem}
-use Rattle.order_structs.specs.Made.{records_of, at_front, rooms_beside, made_records, reports_of, made_reports}
+use Rattle.order_structs.specs.Made.{records_of, at_front, rooms_beside, made_records, made_reports}
 use Rattle.rules.proofs.Asked.{by_ask}
 
 -- flattened, a list of records has room for as many as it holds

@@ -13,10 +13,10 @@ ghost use Rattle.order_structs.specs.Settling.{lent_records};
 use layout::Record;
 use rules::{Ask, Counts, Lists, Refusal};
 
-// The most records of an order.
-pub const MOST_RECORDS: usize = rules::MOST_RECORDS;
+// For callers that size their lists.
+pub use rules::MOST_RECORDS;
 
-// How many numbers they take in a flat run: the library has no heap, and the writer hands the records on.
+// How many numbers the most records of an order take in a flat run: the library has no heap, and the writer hands the records on.
 const FLAT_LENGTH: usize = layout::RECORD_WIDTH * MOST_RECORDS;
 
 // The fewer of a list's room and the most records of an order.

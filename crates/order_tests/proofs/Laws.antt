@@ -2,8 +2,9 @@
 use mathlib.Core.Path.{◌≡◌, refl, sym, ap, ◌∙◌}
 use mathlib.Core.Bool.{Bool, true, false, cond, not, ◌&&◌}
 use Rattle.rules.specs.declared.Kind.{Kind}
-use mathlib.Core.List.{List, ◌∷◌, ◌++◌}
+use mathlib.Core.List.{List, [], ◌∷◌, ◌++◌}
 use Rattle.std.specs.Prelude.{Option}
+use Rattle.std.proofs.lemmas.List.{append-nil}
 use Rattle.std.specs.Bool.{then_some}
 use Prim.Native.Nat.{ℕ, ◌≤◌}
 use lib.Dec.{T, ltb}
@@ -36,7 +37,7 @@ use Rattle.order_scan.specs.Ready.{Scannable}
 use Rattle.order_scan.proofs.Ready.{cash_fits}
 use Rattle.order_scan.proofs.Counts.{scan_counts_lem, scan_records-le}
 use Rattle.order_shortage.specs.Tests.{fails_at, stock_tests, last_tests, cash_number, cash_place}
-use Rattle.order_shortage.proofs.Laws.{stock_numbered}
+use Rattle.order_shortage.proofs.Laws.{stock_numbered, last_numbered}
 use Rattle.order_tests.specs.Tests.{ratio_tests, means_answer}
 
 ratio_numbered : (d : Day) (ps : List ℕ) (m : ℕ) (missing : Option Money) → T (numbered (ratio_tests d ps m missing))
@@ -50,6 +51,11 @@ staged cs ds r n = go (is_accepted (answered cs 0)) refl
     go : (b : Bool) → is_accepted (answered cs 0) ≡ b → answering (cs ++ ds) r ≡ if_accepted (answered cs 0) (answering ds r) (answered cs 0)
     go true e = rw e (answered_next cs ds r (accepted_passes cs _ n e))
     go false e = rw e (answered_stop cs ds r _ (refused_stops cs 0 e))
+
+-- and of one
+alone : (cs : List Check) (r : Reply) → T (numbered cs) → answering cs r ≡ if_accepted (answered cs 0) r (answered cs 0)
+unfolding answering
+alone cs r n = ap (λ (ds : List Check). answering ds r) (sym (append-nil cs)) ∙ staged cs [] r n
 
 -- a test at the first place below n, and the tests of what is missing, as the rules write them
 module _ (cs : List Check) (r : Reply) where
@@ -82,7 +88,9 @@ module _ (d : Day) (s f ps : List ℕ) where
   last_of ask rooms counts = last_tests (cash_number ask.kind) (cash_place ask.kind d.count) (head_at (by_kind ask.kind s f) cash) (all_cash (scan ask).cash) rooms counts
 
   abbrev rest_answer : Ask → Rooms → Reply
-  rest_answer ask rooms = answering (last_of ask rooms (scan_counts (scan ask))) (made_reply (scan_counts (scan ask)))
+  rest_answer ask rooms =
+      let tested = answered (last_of ask rooms (scan_counts (scan ask))) 0 in
+      if_accepted tested (made_reply (scan_counts (scan ask))) tested
 
 module _ (d : Day) (s f ps : List ℕ) (rooms : Rooms) where
   abbrev last : Ask → List Check
@@ -115,12 +123,15 @@ unfolding means_answer
 means_staged d s f ps ask rooms =
     let stock = stock_of d s f ps ask in
     let ratio = ratio_of d s f ps ask in
+    let rest = last d s f ps rooms ask in
     let r = made_reply (counts_by d s ps ask) in
+    let named = last_numbered ask.kind (cash_place ask.kind d.count) (head_at (by_kind ask.kind s f) cash) (all_cash (scan d s f ps ask).cash) rooms (counts_by d s ps ask) in
     rw (scan_counts_lem d s f ps ask)
     (sym (tests_are d s f ps rooms r ask)
-    ∙ staged stock (ratio ++ last d s f ps rooms ask) r (stock_numbered ask.kind (available s d.count) ask.units (scan d s f ps ask).short)
+    ∙ staged stock (ratio ++ rest) r (stock_numbered ask.kind (available s d.count) ask.units (scan d s f ps ask).short)
     ∙ ap (λ (x : Reply). if_accepted (answered stock 0) x (answered stock 0))
-    (staged ratio (last d s f ps rooms ask) r (ratio_numbered d ps (baskets d ask.units) (scan d s f ps ask).missing)))
+    (staged ratio rest r (ratio_numbered d ps (baskets d ask.units) (scan d s f ps ask).missing)
+    ∙ ap (λ (x : Reply). if_accepted (answered ratio 0) x (answered ratio 0)) (alone rest r named)))
 
 -- the cash of an order is its scan's, and a scan's sums fit
 pub scan_cash : (d : Day) (s f ps : List ℕ) (ask : Ask) → (order_scan ask.kind d s f ps (baskets d ask.units)).cash ≡ asked_cash d s ps ask

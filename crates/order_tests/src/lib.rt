@@ -1,20 +1,19 @@
 // The third stage of an order: stock, the cash ratio, cash and the room for the records and reports. It only reads.
 #![tactic(auto)]
 
-ghost use Rattle.std.specs.Prelude.{◌≡◌, ◌≤◌, ◌<◌, length, IfOk};
+ghost use Rattle.std.specs.Prelude.{◌≡◌, ◌≤◌, ◌<◌, IfOk};
 ghost use Rattle.sequences.specs.Checks.{answered};
-ghost use Rattle.layout.specs.Book.{cash, head_at};
 ghost use Rattle.rules.specs.Replies.{answer_reply};
 ghost use Rattle.rules.specs.Orders.{most_baskets, baskets};
 ghost use Rattle.rules.specs.Creation.{available};
-ghost use Rattle.rules.specs.Kinds.{by_kind, asked_cash};
+ghost use Rattle.rules.specs.Kinds.{asked_cash};
 ghost use Rattle.value.specs.Worth.{Priceable};
 ghost use Rattle.order_scan.specs.Ready.{Scannable};
 ghost use Rattle.order_tests.specs.Tests.{ratio_tests, accepted_reply, means_answer};
 
 use layout::DayView;
 use order_scan::Parties;
-use rules::{Ask, CashByMarket, Counts, Kind, Refusal, Rooms};
+use rules::{Ask, CashByMarket, Counts, Refusal, Rooms};
 use units::Money;
 
 // What an order that passes its tests makes: how many records and reports, and its cash.
@@ -47,18 +46,6 @@ fn ratio_answer(
     Ok(())
 }
 
-// The cash of the side that pays: the account's on creation, the fund's on redemption.
-#[tactic(auto, unfolding(layout::specs::Book::head_at))]
-fn cash_held(kind: Kind, parties: &Parties) -> u64
-    requires { (0 < length parties.now.account.now) × (0 < length parties.now.fund.now) }
-    ensures { result ≡ head_at (by_kind kind parties.now.account.now parties.now.fund.now) cash }
-{
-    match kind {
-        Kind::Creation => parties.account[layout::CASH],
-        Kind::Redemption => parties.fund[layout::CASH],
-    }
-}
-
 // M, how many baskets an order for so many units is of.
 #[tactic(auto, unfolding(rules::specs::Orders::baskets))]
 pub fn baskets_in(day: &DayView, units: u64) -> u64
@@ -86,12 +73,12 @@ pub fn order_means(
     let n = day.count();
     let m = baskets_in(day, ask.units);
     let t = order_scan::order_scan(ask.kind, day, parties, prices, m);
-    let held = cash_held(ask.kind, parties);
+    let held = parties.cash_held(ask.kind);
     let due = t.cash.total();
     let counts = order_scan::counts_of(t);
     order_shortage::stock_answer(ask, n, parties.account, t.short)?;
     ratio_answer(day, prices, m, t.missing)?;
-    let counts = order_shortage::last_answer(ask.kind, n, held, due.0, rooms, counts)?;
+    order_shortage::last_answer(ask.kind, n, held, due, rooms, counts)?;
     Ok(Accepted {
         counts,
         cash: t.cash,

@@ -11,8 +11,8 @@ ghost use Rattle.book.specs.Ready.{CashReady, AccountRest, RestReady};
 use rules::Kind;
 use units::Money;
 
-// What the cash `c` of an order makes of cash that pays it on a creation and gets it on a redemption, as the account's does. Cash held is
-// a number, as in the book.
+// Cash held after the cash `c` of an order, for a side that pays on creation and is paid on redemption, as the account is. A number: it is
+// read from the book and goes back there.
 #[tactic(auto, unfolding(rules::specs::Kinds::account_cash))]
 fn cash_after(kind: Kind, held: u64, c: Money) -> u64
     requires { CashReady kind held c.0 }
@@ -34,7 +34,8 @@ fn fund_head(kind: Kind, stretch: &mut [u64], c: Money)
     stretch[layout::CASH] = cash_after(kind.opposite(), stretch[layout::CASH], c);
 }
 
-// The account's part of an order beside its stock: units, which go the opposite way to stock, cash and counter. `line` is the unit's.
+// The account's part of an order beside its stock: units, which go the opposite way to stock, cash and counter. `line` is the unit's;
+// the counters stand in the order of the kinds.
 #[tactic(auto, using(crate::proofs::Laws::rest_laws), unfolding(layout::specs::Book::head_at, layout::specs::Book::put_head, layout::specs::Book::on_line, book::specs::Moved::rest_of))]
 fn account_rest(kind: Kind, stretch: &mut [u64], line: usize, units: u64, c: Money)
     requires { AccountRest kind line stretch.old units c.0 }
@@ -50,7 +51,7 @@ fn account_rest(kind: Kind, stretch: &mut [u64], line: usize, units: u64, c: Mon
 }
 
 // An order beside its stock, in a fund of `count` components: the fund's cash, and the account's units, cash and counter. The fund's
-// stretch is the book's first.
+// stretch is the book's first; the account's is cut in two lines here, the crate's one place that does.
 #[tactic(auto, using(book::proofs::Sides::first_is))]
 pub fn move_rest(kind: Kind, count: usize, book: &mut [u64], a: usize, units: u64, c: Money)
     requires { RestReady kind count book.old a units c.0 }

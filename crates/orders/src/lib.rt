@@ -29,8 +29,8 @@ fn part_of(book: &[u64], w: usize, a: usize) -> &[u64]
     &book[start..end]
 }
 
-// The third stage of an order, on the account's part of the book and the fund's. Day, book, prices and ask come apart, as in `day`: an
-// order writes the book alone.
+// The third stage of an order, on the account's part of the book and the fund's. Day, book, prices and ask are parameters of their own, as
+// in `day`: an order writes the book alone of them.
 #[tactic(auto, using(crate::proofs::Laws::stage_ready))]
 fn order_stage(
     day: &DayView,

@@ -15,7 +15,7 @@ pub struct Writer<'a> {
 }
 
 impl<'a> Writer<'a> {
-    // The borrow goes into the writer, and the place is the start.
+    // A writer at the first place of a list.
     fn new(list: &'a mut [Record]) -> Self
         ensures { (result.list ≡ list.entry) × (result.at ≡ 0) }
     {
@@ -39,7 +39,7 @@ impl<'a> Writer<'a> {
     }
 }
 
-// The first `count` records of a flat run go to the list, and it gives how many.
+// Stores the first `count` records of a flat run in the list, and gives how many. A chunk is a run of its own with one record.
 #[tactic(auto, using(crate::proofs::Filled::first_none))]
 pub fn fill(list: &mut [Record], flat: &[u64], count: usize) -> usize
     requires { (count ≤ length list.old) × (record_width * count ≤ length flat.now) }
