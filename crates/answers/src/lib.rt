@@ -11,6 +11,7 @@ ghost use Rattle.answers.specs.Numbers.{reply_of, Told, ToldOrder};
 use rules::{Counts, Refusal};
 use units::ReferenceValue;
 
+// Numbers, and no Result: in these an answer crosses to C, and goes into the list of a batch's answers.
 #[derive(Clone, Copy, Default, PartialEq, Eq, Debug)]
 pub struct Numbers {
     pub number: u64,
@@ -42,6 +43,7 @@ fn accepted(value: u64) -> Numbers
 
 // An impl for each answer: a trait of what an accepted call tells would take as many, and each answer has its own definition.
 
+// The paper's numbers are those of the C interface. They stand here and not as the enum's own, since some refusals have a place beside.
 impl From<Refusal> for Numbers {
     ghost from_gives = { λ why numbers. reply_of numbers ≡ refusal_reply why };
 
@@ -133,7 +135,7 @@ impl From<Numbers> for [u64; layout::ANSWER_WIDTH] {
     }
 }
 
-// An answer's numbers: the place and the value where the caller points, and the number handed back.
+// An answer's numbers: the place and the value where the caller points, and the number handed back, as the C interface asks.
 pub fn tell(answer: Numbers, place: &mut u64, value: &mut u64) -> u64
     ensures { Told (reply_of answer) result place.new value.new }
 {

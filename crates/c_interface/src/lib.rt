@@ -1,7 +1,5 @@
-// The day book for other languages: each call over numbers and runs of numbers. A call returns the refusal's number, 0 where it is
-// accepted, and puts its place and its value, and of an order the count of its reports, where the caller points;
-// include/roffelaine.h says it in C. Names and arguments are those of the C interface, so that functions stand in pairs, for both kinds
-// of order, for their tests and for the driver, and each takes its runs, its place and its value one by one.
+// The day book for other languages, as include/roffelaine.h says it in C. Names and arguments are those of the C interface, so that
+// functions stand in pairs, and each takes its runs, and the numbers that its answer goes to, one by one.
 #![tactic(auto)]
 
 ghost use Rattle.std.specs.Prelude.{◌≡◌, length};

@@ -60,7 +60,7 @@ pub fn read(
 }
 
 // Stores a part's place and length at the front of a run that has room for both, and hands back the length. No Option: an empty part is
-// what the C interface hands back where there is none.
+// what the C interface hands back where there is none. By places: of what is stored through a slice's `get_mut` nothing is known after it.
 #[tactic(auto, using(crate::proofs::Parts::part_stored, crate::proofs::Parts::part_left))]
 fn keep_part(part: &mut [u64], found: TextPart) -> u64
     ensures value { result ≡ found.length }
@@ -73,7 +73,8 @@ fn keep_part(part: &mut [u64], found: TextPart) -> u64
     found.length as u64
 }
 
-// Where the name of a component stands in a text, from where reading found the first component line.
+// Where the name of a component stands in a text, from where reading found the first component line. The arguments are those of the C
+// interface, one by one.
 pub fn name(text: &[u8], first_row: usize, j: usize, part: &mut [u64]) -> u64
     ensures value { result ≡ (name_place text.now first_row j).length }
     ensures part { part.new ≡ part_kept (name_place text.now first_row j) part.old }

@@ -1,7 +1,7 @@
 // The fields of a list: from the head's figures and back, and their ranges.
 #![tactic(auto)]
 
-ghost use Rattle.std.specs.Prelude.{◌≡◌, ℕ, ◌+◌, ◌≤◌, ◌<◌, true, get_or};
+ghost use Rattle.std.specs.Prelude.{◌≡◌, ℕ, ◌+◌, ◌≤◌, ◌<◌, true, get_or, SomeIff};
 ghost use Rattle.sequences.specs.Below.{tabulate};
 ghost use Rattle.layout.specs.Places.{limit_count};
 ghost use Rattle.digits.specs.Digits.{cap, plain};
@@ -11,6 +11,7 @@ ghost use Rattle.list_rules.specs.Shanghai.{field_count, creation_code_field, li
 use digits::Figure;
 use layout::Fund;
 use list_rules::{ListField, ListFields};
+use std::array;
 use text_rules::MOST_FIELDS;
 use units::Rate;
 
@@ -19,29 +20,25 @@ fn limits_of(figures: [Figure; MOST_FIELDS]) -> [u64; layout::LIMITS]
     ensures { result ≡ tabulate (λ k. (get_or figures (limits_field + k) (plain 0)).size) limit_count }
 {
     let first = ListField::FirstLimit.place();
-    let mut limits = [0; layout::LIMITS];
-    for (k, limit) in limits.iter_mut().enumerate() {
-        *limit = figures[first + k].size;
-    }
-    limits
+    array::from_fn(|k| figures[first + k].size)
 }
 
-// The fields that the head's figures say.
+// The fields that the head's figures say: none where the code for creation is 0, as the fund's first code is the one before it.
 #[tactic(auto, unfolding(list_rules::specs::Fields::fields_from))]
-pub fn fields_of(figures: [Figure; MOST_FIELDS]) -> ListFields
-    requires bound { 1 ≤ (get_or figures creation_code_field (plain 0)).size }
-    requires by_index { (k : ℕ) → k < field_count → (get_or figures k (plain 0)).size ≤ cap }
-    ensures { result ≡ fields_from (λ k. get_or figures k (plain 0)) }
+pub fn fields_of(figures: [Figure; MOST_FIELDS]) -> Option<ListFields>
+    requires { (k : ℕ) → k < field_count → (get_or figures k (plain 0)).size ≤ cap }
+    ensures { SomeIff result (1 ≤ (get_or figures creation_code_field (plain 0)).size) (fields_from (λ k. get_or figures k (plain 0))) }
 {
+    let first_code = ListField::CreationCode.of(&figures).size.checked_sub(1)?;
     let fund = Fund {
-        first_code: ListField::CreationCode.of(&figures).size - 1,
+        first_code,
         basket_size: ListField::BasketSize.of(&figures).size,
         max_cash_ratio: Rate::new(ListField::CashRatio.of(&figures).size),
         switch: ListField::Switch.of(&figures).size,
         estimated_cash: digits::signed_of(ListField::EstimatedCash.of(&figures)),
         limits: limits_of(figures),
     };
-    ListFields {
+    Some(ListFields {
         fund,
         publish: ListField::Publish.of(&figures).size,
         trading_day: ListField::TradingDay.of(&figures).size,
@@ -50,7 +47,7 @@ pub fn fields_of(figures: [Figure; MOST_FIELDS]) -> ListFields
         nav_per_cu: ListField::BasketValue.of(&figures).size,
         nav: ListField::UnitValue.of(&figures).size,
         count: ListField::Count.of(&figures).size as usize,
-    }
+    })
 }
 
 // Refusal 2's test.
@@ -67,7 +64,8 @@ pub fn fields_in_range(l: ListFields) -> bool
         && l.nav <= 9_999_999
 }
 
-// The head's figures that say the fields.
+// The head's figures that say the fields, one by one in the order of the table, the limits too: a loop over the limits would write them
+// into an array that is filled with blanks first.
 #[tactic(auto, unfolding(list_rules::specs::Fields::figures_of, list_rules::specs::Fields::figure_at, sequences::specs::Below::tabulate))]
 pub fn figures_of(l: ListFields) -> [Figure; MOST_FIELDS]
     requires { fields_in_range l ≡ true }
@@ -96,7 +94,8 @@ pub fn figures_of(l: ListFields) -> [Figure; MOST_FIELDS]
         Figure::from(limits[5]),
         Figure::from(limits[6]),
         Figure::from(limits[7]),
-        // Blank behind them: the array has one length for all tables of fields, since there is no heap.
+        // Blank behind them: one function serves tables of any length up to the most, so that figures are always as many as the most. A
+        // length as a const parameter would stand in every function that takes figures.
         Figure::from(0u64),
         Figure::from(0u64),
         Figure::from(0u64),

@@ -9,7 +9,8 @@ ghost use Rattle.list_rules.specs.Writing.{name_fault};
 
 use list_rules::{ListColumn, NAME_WIDTH, TextPart};
 
-// Where the name of the j-th component line behind a place stands; an empty part where the text has no such bytes.
+// Where the name of the j-th component line behind a place stands; an empty part where the text has no such bytes. Text, place and j stand
+// one by one, here and in the calls above, as the C interface has them: a struct of the three would be made for one call.
 #[tactic(auto, using(crate::proofs::Names::place_cases))]
 pub fn name_place(text: &[u8], first: usize, j: usize) -> TextPart
     ensures value { result ≡ name_place text.now first j }
@@ -19,10 +20,7 @@ pub fn name_place(text: &[u8], first: usize, j: usize) -> TextPart
     let columns = form.columns();
     let pitch = columns.pitch();
     if text.len() < first || (text.len() - first) / pitch <= j {
-        return TextPart {
-            place: 0,
-            length: 0,
-        };
+        return TextPart::default();
     }
     let place = first + j * pitch + columns.start(ListColumn::Name.place());
     TextPart {
@@ -42,7 +40,8 @@ pub fn name_from(text: &[u8], first: usize, j: usize) -> &[u8]
     &text[a..e]
 }
 
-// The first of the names with a byte that no name has. They are gone through one by one only where there is such a byte.
+// The first of the names with a byte that no name has. They are gone through one by one only where there is such a byte: for 300 good names
+// one pass over all takes 1,760 instructions, one by one 15,660.
 #[tactic(auto, using(crate::proofs::Names::names_fine, crate::proofs::Names::names_words))]
 pub fn name_fault(names: &[u8]) -> Option<usize>
     ensures { result ≡ below (length names.now / name_width) (name_fault names.now (length names.now / name_width)) }

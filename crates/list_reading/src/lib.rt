@@ -58,18 +58,17 @@ fn read_values(
     if !list_shape::is_counted(ListField::Count.of(&figures).size, rows.count) {
         return Err(Refusal::RecordCount);
     }
-    if ListField::CreationCode.of(&figures).size < 1 {
+    let Some(fields) = list_fields::fields_of(figures) else {
         return Err(Refusal::FundField);
-    }
-    let fields = list_fields::fields_of(figures);
+    };
     if !list_fields::fields_in_range(fields) {
         return Err(Refusal::FundField);
     }
     read_components(text, rows, fields, numbers, run)
 }
 
-// Refusal 19, and what follows. The numbers of the components wait in an array, since the library has no heap, until all is tested. By
-// match: of what `map_err` hands on no equation is known.
+// Refusal 19, and what follows. A refusal changes nothing of the lent run, so the components' numbers stand in an array of this call until
+// all is tested: the library has no heap. By match: of what `map_err` hands on no equation is known.
 #[tactic(auto, using(crate::proofs::Replies::reply_19_field, crate::proofs::Replies::reply_19_row), unfolding(list_rules::specs::Reading::run_after, sequences::specs::Checks::is_accepted, text_head::specs::Head::fields_found, list_rows::specs::Rows::rows_found))]
 fn read_fields(text: &[u8], rows: Rows, run: &mut [u64]) -> Result<ListRead, Refusal>
     requires { RowsStand text.now rows }
@@ -112,10 +111,7 @@ pub fn letters_place(text: &[u8]) -> TextPart
 {
     let n = letters(text).len();
     if n == 0 {
-        return TextPart {
-            place: 0,
-            length: 0,
-        };
+        return TextPart::default();
     }
     TextPart {
         place: text_rules::LETTERS_START,
@@ -135,7 +131,7 @@ pub fn name(text: &[u8], j: usize) -> &[u8]
 }
 
 // The same without looking at the text's lines again: `first` is where reading found the first component line. With another place
-// it is the name that a component line from there on would have.
+// it is the name that a component line from there on would have. The three stand one by one, as the C interface has them.
 pub fn name_from(text: &[u8], first: usize, j: usize) -> &[u8]
     ensures { result.now ≡ name_from text.now first j }
 {

@@ -14,7 +14,8 @@ pub struct RowFault {
     pub place: usize,
 }
 
-// Reads all component lines, as far as the first with a column at fault. Their numbers go to the run, as far as it has room.
+// Reads all component lines, as far as the first with a column at fault. Their numbers go to the run, as far as it has room. Start and
+// count stand one by one: `list_shape::Rows`, which has both, is a type of a crate above.
 #[tactic(auto, using(crate::proofs::Rows::rows_laws))]
 pub fn read_rows(text: &[u8], start: usize, count: usize, run: &mut [u64]) -> Option<RowFault>
     requires start_value { (start ≡ body_start shanghai text.now) × (count ≡ row_count shanghai text.now) }

@@ -30,7 +30,8 @@ pub struct ListFields {
     pub count: usize,
 }
 
-// The fields where there are none, as where a reading is refused.
+// The fields where there are none, as where a reading is refused. By hand: a derive would ask one of `layout::Fund`, which has none, since
+// a blank fund stands here alone.
 impl Default for ListFields {
     ghost is_default = { λ l. l ≡ blank_fields };
 
@@ -75,7 +76,7 @@ pub struct Listing<'a> {
 
 // A part of a text: where it starts, and how many bytes it has. Empty where there is none, and no Option: it crosses to C as these two
 // numbers.
-#[derive(Clone, Copy)]
+#[derive(Clone, Copy, Default)]
 pub struct TextPart {
     pub place: usize,
     pub length: usize,
@@ -96,7 +97,7 @@ pub enum ListColumn {
 }
 
 impl ListColumn {
-    // Its place.
+    // Its place. No `From`: as a number it is a place alone.
     pub fn place(self) -> usize
         ensures { result ≡ column_place self }
     {
@@ -180,7 +181,7 @@ pub enum ListField {
 }
 
 impl ListField {
-    // Its place.
+    // Its place. No `From`: as a number it is a place alone.
     pub fn place(self) -> usize
         ensures { result ≡ field_place self }
     {

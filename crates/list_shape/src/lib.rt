@@ -12,7 +12,8 @@ ghost use Rattle.list_shape.specs.Shape.{Shaped};
 
 use text_head::{HeadFields, WrongField};
 
-// Where the component lines of a text start, and how many there are.
+// Where the component lines of a text start, and how many there are. No slice: the start is handed back to the caller, and Recordnum is
+// compared with the count.
 #[derive(Clone, Copy)]
 pub struct Rows {
     pub start: usize,
@@ -32,7 +33,8 @@ fn end_stands(text: &[u8], at: usize) -> bool
     }
 }
 
-// Refusal 18 behind the head. The error is a place alone: no other refusal stands here.
+// Refusal 18 behind the head. The error is a place alone: no other refusal stands here. That the head's lines stand is asked here and by
+// `head_fields`: it is a fact of the text, and a struct of the text and this fact would be made for these two calls alone.
 fn body_shape(text: &[u8], start: usize) -> Result<Rows, usize>
     requires head_stands { wrong_line shanghai_fields text.now ≡ head_lines shanghai_fields }
     requires start_value { (start ≡ body_start shanghai text.now) × (start ≤ length text.now) }

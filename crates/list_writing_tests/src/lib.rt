@@ -14,20 +14,25 @@ ghost use Rattle.list_writing_tests.specs.Parts.{head_of, lines_of};
 use list_rules::Listing;
 use rules::Refusal;
 
+// A list that passes the tests of writing but that of the room. It is made where they are known to pass, so that no function asks it.
+#[derive(Clone, Copy)]
+pub struct Checked<'a> {
+    pub list: Listing<'a>,
+    pub ghost passing: { passes (list_checks (listed list)) ≡ true },
+}
+
 // Refusal 1's test. The range comes first, so that no product is too large.
 #[tactic(auto, using(std::proofs::lemmas::Bool::Decides::nat_tests), unfolding(list_rules::specs::Writing::sizes_fit, sequences::specs::Every::every, sequences::specs::Every::inside))]
 fn sizes_fit(list: &Listing) -> bool
     ensures { result ≡ sizes_fit (listed list.now) }
 {
     let count = list.fields.count;
-    1 <= count
-        && count <= layout::MOST_COMPONENTS
+    (1..=layout::MOST_COMPONENTS).contains(&count)
         && list.run.len() == layout::COMPONENT_WIDTH * count
         && list.names.len() == list_rules::NAME_WIDTH * count
 }
 
-// The first component at fault, by its numbers or by its name. By cases: the least of two that may be missing is no plainer as an
-// iterator.
+// The first component at fault, by its numbers or by its name.
 #[tactic(auto, using(std::proofs::lemmas::Bool::Decides::nat_tests), unfolding(list_rules::specs::Writing::write_fault, list_rules::specs::Writing::sizes_fit, sequences::specs::Every::every, sequences::specs::Every::inside))]
 fn write_fault(list: &Listing) -> Option<usize>
     requires { sizes_fit (listed list.now) ≡ true }
@@ -35,40 +40,35 @@ fn write_fault(list: &Listing) -> Option<usize>
 {
     let numbers = fund::run_fault(list.fields.fund.first_code, list.run, list.fields.count);
     let name = list_names::name_fault(list.names);
-    match (numbers, name) {
-        (Some(a), Some(b)) => Some(a.min(b)),
-        (Some(a), None) => Some(a),
-        (None, b) => b,
-    }
+    let both = numbers.zip(name).map(|(a, b)| a.min(b));
+    both.or(numbers).or(name)
 }
 
 // How many bytes the head takes.
-fn head_size(list: &Listing) -> usize
-    requires { passes (list_checks (listed list.now)) ≡ true }
-    ensures value { result ≡ length (head_of (listed list.now)) }
+fn head_size(checked: &Checked) -> usize
+    ensures value { result ≡ length (head_of (listed checked.now.list)) }
     ensures upper_bound { result ≤ most_head }
 {
+    let list = &checked.list;
     let figures = list_fields::figures_of(list.fields);
     text_head_writing::head_size(&list_rules::field_table(), list.letters, &figures)
 }
 
 // How many bytes the component lines take.
-pub fn lines_size(list: &Listing) -> usize
-    requires { passes (list_checks (listed list.now)) ≡ true }
-    ensures value { result ≡ length (lines_of (listed list.now)) }
+pub fn lines_size(checked: &Checked) -> usize
+    ensures value { result ≡ length (lines_of (listed checked.now.list)) }
     ensures upper_bound { result ≤ most_components * (most_line + 2) }
 {
     let form = list_rules::line_form();
-    list.fields.count * form.columns().pitch()
+    checked.list.fields.count * form.columns().pitch()
 }
 
 // How many bytes the text takes.
 #[tactic(auto, using(crate::proofs::Sizes::parts))]
-fn text_size(list: &Listing) -> usize
-    requires { passes (list_checks (listed list.now)) ≡ true }
-    ensures { result ≡ length (text_of (listed list.now)) }
+fn text_size(checked: &Checked) -> usize
+    ensures { result ≡ length (text_of (listed checked.now.list)) }
 {
-    head_size(list) + (lines_size(list) + text_rules::END_SIZE)
+    head_size(checked) + (lines_size(checked) + text_rules::END_SIZE)
 }
 
 // The answer, which changes nothing.
@@ -88,7 +88,8 @@ pub fn write_answer(list: &Listing, room: usize) -> Result<usize, Refusal>
     if let Some(fault) = write_fault(list) {
         return Err(Refusal::Component(fault));
     }
-    let size = text_size(list);
+    let checked = Checked { list: *list };
+    let size = text_size(&checked);
     if room < size {
         return Err(Refusal::ListTooShort);
     }

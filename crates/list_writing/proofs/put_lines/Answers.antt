@@ -8,15 +8,15 @@ use Rattle.list_writing.proofs.put_lines.Goals as goal
 
 pub put_rows-requires : goal.put_rows-requires
 put_rows-requires c =
-    let l = listed c.args.list.now in
+    let l = listed c.args.checked.now.list in
     let e = c.line_form-form.ensures in
-    let long = part_long l _ _ _ c.lines_size.ensures.value c.requires.room in
-    (rw e shanghai_flag_well, rows_ask _ e l c.requires.passing long (rows_counted _ e l c.requires.passing long))
+    let long = part_long l _ _ _ c.lines_size.ensures.value c.requires in
+    (rw e shanghai_flag_well, rows_ask _ e l c.args.checked.now.passing long (rows_counted _ e l c.args.checked.now.passing long))
 
 pub returns : goal.returns
 returns c =
-    let l = listed c.args.list.now in
+    let l = listed c.args.checked.now.list in
     let e = c.line_form-form.ensures in
-    let long = part_long l _ _ _ c.lines_size.ensures.value c.requires.room in
-    lines-put l _ _ _ c.lines_size.ensures.value c.requires.room _
-    (c.put_rows.ensures ∙ lines_lent _ e l (rows_counted _ e l c.requires.passing long))
+    let long = part_long l _ _ _ c.lines_size.ensures.value c.requires in
+    lines-put l _ _ _ c.lines_size.ensures.value c.requires _
+    (c.put_rows.ensures ∙ lines_lent _ e l (rows_counted _ e l c.args.checked.now.passing long))

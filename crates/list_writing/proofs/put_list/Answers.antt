@@ -3,15 +3,15 @@ use Rattle.lines.specs.Lines.{line_text}
 use Rattle.list_writing.proofs.Sizes.{head_room, lines_room, end_room, text-put}
 use Rattle.list_writing.proofs.put_list.Goals as goal
 
-pub put_head-lines-requires-clause-room : goal.put_head-lines-requires-clause-room
-put_head-lines-requires-clause-room c = head_room _ _ c.requires.room
+pub put_head-lines-requires : goal.put_head-lines-requires
+put_head-lines-requires c = head_room _ _ c.requires
 
-pub put_lines-last-requires-clause-room : goal.put_lines-last-requires-clause-room
-put_lines-last-requires-clause-room c = lines_room _ _ c.requires.room c.put_head-lines.ensures
+pub put_lines-last-requires : goal.put_lines-last-requires
+put_lines-last-requires c = lines_room _ _ c.requires c.put_head-lines.ensures
 
 pub put_bytes-requires : goal.put_bytes-requires
-put_bytes-requires c = end_room _ _ c.requires.room c.put_head-lines.ensures c.put_lines-last.ensures
+put_bytes-requires c = end_room _ _ c.requires c.put_head-lines.ensures c.put_lines-last.ensures
 
 pub returns : goal.returns
 unfolding line_text
-returns c = text-put _ _ c.requires.room c.put_head-lines.ensures c.put_lines-last.ensures c.put_bytes.ensures
+returns c = text-put _ _ c.requires c.put_head-lines.ensures c.put_lines-last.ensures c.put_bytes.ensures

@@ -12,8 +12,8 @@ use Rattle.list_writing_tests.proofs.lines_size.Goals as goal
 pitched : (c : After-pitch) → c.pitch.result ≡ line_pitch shanghai_columns
 pitched c = c.pitch.ensures ∙ ap line_pitch (our_columns c.columns.ensures.value c.line_form-form.ensures)
 
-low : (c : After-pitch) → c.args.list.now.fields.count * c.pitch.result ≤ most_components * (most_line + 2)
-low c = rw (pitched c) (lines_low _ (passing _ c.requires).few)
+low : (c : After-pitch) → c.args.checked.now.list.fields.count * c.pitch.result ≤ most_components * (most_line + 2)
+low c = rw (pitched c) (lines_low _ (passing _ c.args.checked.now.passing).few)
 
 pub overflow_mul-result : goal.overflow_mul-result
 overflow_mul-result c = omega (arith, low (goal.at.overflow_mul-result c).After-pitch)
@@ -21,4 +21,4 @@ overflow_mul-result c = omega (arith, low (goal.at.overflow_mul-result c).After-
 pub returns : goal.returns
 returns c =
     let at = (goal.at.returns c).After-pitch in
-    record { value = lines_long _ c.requires _ (pitched at); upper_bound = low at }
+    record { value = lines_long _ c.args.checked.now.passing _ (pitched at); upper_bound = low at }
