@@ -3,17 +3,12 @@ use layout::Fund;
 use program_io::fault::Fault;
 use program_io::items::{Item, split};
 
-// The head of an opening and of a state: the row, the numbers of a day's run before its components (accounts, count, and the fund:
-// first code, basket size, maximum cash ratio, switch, estimated cash as sign, 1 is minus, and size, and the limits), and the
-// lengths of components, book and prices. Behind it stand the components, and then the holdings, or the book and the prices.
-// By place: `layout::fund_of` reads a fund at a place of a run.
-const DAY: usize = 1;
+// The head of an opening and of a state: the row, a day's run up to its components, and the lengths of components, book and prices.
+// Behind it stand the components, and then the holdings, or the book and the prices.
+pub const HEAD: usize = 1 + layout::BASKET_FROM + 3;
 
-const FUND: usize = 3;
-
-const COMPONENTS_LENGTH: usize = DAY + layout::BASKET_FROM;
-
-pub const HEAD: usize = COMPONENTS_LENGTH + 3;
+// Where the fund stands in a day's run, behind accounts and count.
+const FUND: usize = 2;
 
 // How long a book and prices are.
 #[derive(Clone, Copy)]
@@ -43,10 +38,10 @@ impl<'a> TryFrom<&'a Item> for Given<'a> {
     // Cash is of one of two signs, and of a size that an amount can have.
     fn try_from(item: &'a Item) -> Result<Given<'a>, Fault> {
         let (head, body) = split(&item.numbers, HEAD)?;
-        let [row, accounts, count, _, _, _, _, 0 | 1, size, ..] = head else {
+        let [row, day @ .., components, book, prices] = head else {
             return Err(Fault::BadInput);
         };
-        let [.., components, book, prices] = head else {
+        let [accounts, count, _, _, _, _, 0 | 1, size, ..] = day else {
             return Err(Fault::BadInput);
         };
         let (components, rest) = split(body, *components as usize)?;
@@ -57,8 +52,8 @@ impl<'a> TryFrom<&'a Item> for Given<'a> {
             row: *row,
             accounts: *accounts as usize,
             count: *count as usize,
-            fund: layout::fund_of(head, FUND),
-            day: &head[DAY..COMPONENTS_LENGTH],
+            fund: layout::fund_of(day, FUND),
+            day,
             components,
             lengths: Lengths {
                 book: *book as usize,

@@ -23,6 +23,26 @@ pub trait Caller: Default + Drop {
     ) -> Result<(), Fault>;
 }
 
+// What an item says: an opening, a state, or what is a program's own.
+#[derive(Drop)]
+enum Said<'a> {
+    Opening(Given<'a>),
+    State(Given<'a>),
+    Own,
+}
+
+impl<'a> TryFrom<&'a Item> for Said<'a> {
+    type Error = Fault;
+
+    fn try_from(item: &'a Item) -> Result<Said<'a>, Fault> {
+        match item.tag {
+            1 => Ok(Said::Opening(Given::try_from(item)?)),
+            3 => Ok(Said::State(Given::try_from(item)?)),
+            _ => Ok(Said::Own),
+        }
+    }
+}
+
 #[derive(Drop)]
 pub struct Replay<C> {
     session: Session,
@@ -39,16 +59,16 @@ impl<C: Caller> Player for Replay<C> {
     }
 
     fn obey<W: Write>(&mut self, item: &Item, out: &mut W) -> Result<(), Fault> {
-        match item.tag {
-            1 => {
+        match Said::try_from(item)? {
+            Said::Opening(given) => {
                 self.caller = C::default();
-                self.session.open(&Given::try_from(item)?, out)
+                self.session.open(&given, out)
             }
-            3 => {
+            Said::State(given) => {
                 self.caller = C::default();
-                self.session.set(&Given::try_from(item)?, out)
+                self.session.set(&given, out)
             }
-            _ => self.caller.obey(&mut self.session, item, out),
+            Said::Own => self.caller.obey(&mut self.session, item, out),
         }
     }
 }

@@ -46,10 +46,9 @@ impl Session {
         Ok(())
     }
 
-    // Opens on runs that hold marks.
-    fn open_given(&mut self, given: &Given<'_>) -> Result<Result<(), Refusal>, AllocError> {
-        self.mark(given.lengths)?;
-        Ok(day::open(
+    // Opens on the runs as they are.
+    fn open_given(&mut self, given: &Given<'_>) -> Result<(), Refusal> {
+        day::open(
             given.accounts,
             given.count,
             given.fund,
@@ -58,7 +57,7 @@ impl Session {
             &mut self.book,
             &mut self.prices,
             &mut self.day,
-        ))
+        )
     }
 
     // What a refused opening leaves: `same`, or for each run that differs the first such place.
@@ -71,10 +70,11 @@ impl Session {
         changes::print(out, "same", &places)
     }
 
-    // Behind a refused opening calls are made on the blank day.
+    // Opens on runs that hold marks. Behind a refused opening calls are made on the blank day.
     pub fn open<W: Write>(&mut self, given: &Given<'_>, out: &mut W) -> Result<(), Fault> {
         self.fits(given)?;
-        let answer = self.open_given(given)?;
+        self.mark(given.lengths)?;
+        let answer = self.open_given(given);
         writeln!(out, "row {}", given.row)?;
         replies::print(out, "opening", Numbers::from(answer))?;
         if answer.is_err() {

@@ -6,7 +6,7 @@ use day_items::replies;
 use day_items::session::Session;
 use program_io::fault::Fault;
 use program_io::items::Item;
-use rules::{Kind, Refusal, Trade};
+use rules::{Kind, Trade};
 use std::io::Write;
 use units::Money;
 
@@ -48,39 +48,31 @@ impl TryFrom<&Item> for Call {
 }
 
 impl Call {
-    fn is_reading(&self) -> bool {
-        matches!(self, Call::Value | Call::Test(_))
-    }
-
-    // Makes the call, prints its reply, and hands back whether it was refused.
-    fn answered<W: Write>(
-        &self,
-        session: &mut Session,
-        out: &mut W,
-    ) -> Result<Result<(), Refusal>, Fault> {
+    // Makes the call and prints its reply. Whether it is one that leaves the book and the prices: one that was refused, or only reads.
+    fn carry_out<W: Write>(&self, session: &mut Session, out: &mut W) -> Result<bool, Fault> {
         match *self {
             Call::Price { line, price } => {
                 let (day, book) = (&session.day, &session.book);
                 let answer = day::price(day, book, &mut session.prices, line, price);
                 replies::print(out, "price", Numbers::from(answer))?;
-                Ok(answer)
+                Ok(answer.is_err())
             }
             Call::Trade(trade) => {
                 let answer = day::trade(&session.day, &mut session.book, &session.prices, trade);
                 replies::print(out, "trade", Numbers::from(answer))?;
-                Ok(answer)
+                Ok(answer.is_err())
             }
             Call::Value => {
                 let answer = day::reference_value(&session.day, &session.book, &session.prices);
                 replies::print(out, "value", Numbers::from(answer))?;
-                Ok(answer.map(|_| ()))
+                Ok(true)
             }
-            Call::Order(order) => Ok(order.make(session, out)?.map(|_| ())),
+            Call::Order(order) => order.make(session, out),
             Call::Test(order) => {
                 let answer = order.tested(session);
                 write!(out, "test-")?;
                 replies::print(out, order.name(), Numbers::from(answer))?;
-                Ok(answer.map(|_| ()))
+                Ok(true)
             }
         }
     }
@@ -88,8 +80,7 @@ impl Call {
     // Hands back what the book and the prices were before the call.
     pub fn make<W: Write>(&self, session: &mut Session, out: &mut W) -> Result<Kept, Fault> {
         let kept = Kept::new(session)?;
-        let answer = self.answered(session, out)?;
-        if answer.is_err() || self.is_reading() {
+        if self.carry_out(session, out)? {
             kept.print_same(session, out)?;
         }
         Ok(kept)

@@ -27,7 +27,8 @@ impl Kept {
         Ok(Kept { book, prices })
     }
 
-    // What a call was lent that was refused or only reads: the same, or the first place that differs, of the two runs together.
+    // What a call was lent that was refused or only reads: the same, or the first place that differs. Not `changes::print`, which has a
+    // line for each run: of the two the program prints the first alone.
     pub fn print_same<W: Write>(&self, session: &Session, out: &mut W) -> io::Result<()> {
         if let Some(place) = marks::first_difference(&session.book, &self.book) {
             return writeln!(out, "book {place}");

@@ -1,5 +1,6 @@
 // Orders in the struct form, each with its tests alone before it. The records that are lent hold marks, and are printed as numbers.
 use answers::Numbers;
+use day_items::lists::{ListLengths, OwnedLists};
 use day_items::replies;
 use day_items::session::Session;
 use layout::Record;
@@ -16,30 +17,14 @@ const MOST_RECORDS: usize = 2048;
 
 const MOST_REPORTS: usize = 4096;
 
-// What an order asks, and the lengths of the lists of records, of the investor's and of the fund's reports.
+// What an order asks, and the lengths of the lists that it is lent.
 #[derive(Clone, Copy)]
 pub struct Order {
     ask: Ask,
-    records: usize,
-    investor: usize,
-    fund: usize,
+    lengths: ListLengths,
 }
 
-// The lists that an order is lent.
-#[derive(Drop)]
-struct Lists {
-    records: Vec<u64>,
-    investor: Vec<u64>,
-    fund: Vec<u64>,
-}
-
-// As many of a list's numbers as so many entries take.
-fn front(list: &[u64], count: usize, width: usize) -> &[u64] {
-    let length = count.saturating_mul(width).min(list.len());
-    &list[..length]
-}
-
-// The records of a flat list.
+// The records of a flat list. Here and where they are put back each chunk is one record, at its own place 0: no index is counted.
 fn records_of(alloc: Global, flat: &[u64]) -> Result<Vec<Record>, AllocError> {
     flat.chunks_exact(layout::RECORD_WIDTH)
         .map(|numbers| layout::record_at(numbers, 0))
@@ -55,41 +40,49 @@ fn put_records(flat: &mut [u64], records: &[Record]) {
     }
 }
 
-impl Lists {
-    fn new(alloc: Global, order: &Order) -> Result<Lists, AllocError> {
-        Ok(Lists {
-            records: marks::marked(alloc, order.records)?,
-            investor: marks::marked(alloc, order.investor)?,
-            fund: marks::marked(alloc, order.fund)?,
-        })
-    }
+// Each list with its word, and how many of its numbers so many records and reports take.
+fn ends(lists: &OwnedLists, counts: Counts) -> [(&'static str, &[u64], usize); 3] {
+    let records = counts.records.saturating_mul(layout::RECORD_WIDTH);
+    let reports = counts.reports.saturating_mul(layout::REPORT_WIDTH);
+    [
+        ("records", lists.records.as_slice(), records),
+        ("investor", lists.investor.as_slice(), reports),
+        ("fund_reports", lists.fund.as_slice(), reports),
+    ]
+}
 
-    // What an accepted order wrote: so many records, and so many reports to each party.
-    fn print_written<W: Write>(&self, counts: Counts, out: &mut W) -> io::Result<()> {
-        let records = front(&self.records, counts.records, layout::RECORD_WIDTH);
-        let investor = front(&self.investor, counts.reports, layout::REPORT_WIDTH);
-        let fund = front(&self.fund, counts.reports, layout::REPORT_WIDTH);
-        writeln!(out, "records{}", Row(records))?;
-        writeln!(out, "investor{}", Row(investor))?;
-        writeln!(out, "fund_reports{}", Row(fund))?;
-        self.print_rest(records.len(), investor.len(), out)
-    }
+// `rest same` where the lists hold their marks behind so many records and reports, and for each that does not the first such place.
+fn print_rest<W: Write>(lists: &OwnedLists, counts: Counts, out: &mut W) -> io::Result<()> {
+    let places = ends(lists, counts).map(|(word, list, end)| (
+        word,
+        marks::first_marred(list, end),
+    ));
+    changes::print(out, "rest same", &places)
+}
 
-    // `rest same` where the lists hold their marks from a place on, and for each that does not the first such place.
-    fn print_rest<W: Write>(&self, records: usize, reports: usize, out: &mut W) -> io::Result<()> {
-        let places = [
-            ("records", marks::first_marred(&self.records, records)),
-            ("investor", marks::first_marred(&self.investor, reports)),
-            ("fund_reports", marks::first_marred(&self.fund, reports)),
-        ];
-        changes::print(out, "rest same", &places)
+// What an accepted order wrote: so many records, and so many reports to each party.
+fn print_written<W: Write>(lists: &OwnedLists, counts: Counts, out: &mut W) -> io::Result<()> {
+    for (word, list, end) in ends(lists, counts) {
+        let written = &list[..end.min(list.len())];
+        writeln!(out, "{word}{}", Row(written))?;
     }
+    print_rest(lists, counts, out)
+}
 
-    // The lists after an order; where it was refused, whether they are what they were.
-    fn print<W: Write>(&self, answer: Result<Counts, Refusal>, out: &mut W) -> io::Result<()> {
-        match answer {
-            Ok(counts) => self.print_written(counts, out),
-            Err(_) => self.print_rest(0, 0, out),
+// The lists after an order; where it was refused, whether they are what they were.
+fn print_lists<W: Write>(
+    lists: &OwnedLists,
+    answer: Result<Counts, Refusal>,
+    out: &mut W,
+) -> io::Result<()> {
+    match answer {
+        Ok(counts) => print_written(lists, counts, out),
+        Err(_) => {
+            let none = Counts {
+                records: 0,
+                reports: 0,
+            };
+            print_rest(lists, none, out)
         }
     }
 }
@@ -102,16 +95,15 @@ impl Order {
         };
         Ok(Order {
             ask: kind.ask(*account as usize, *units),
-            records: *records as usize,
-            investor: *investor as usize,
-            fund: *fund as usize,
+            lengths: ListLengths::new(*records, *investor, *fund),
         })
     }
 
     // The same, with lists that there is room for.
     pub fn with_room(kind: Kind, numbers: &[u64]) -> Result<Order, Fault> {
         let order = Order::new(kind, numbers)?;
-        if MOST_RECORDS < order.records || MOST_REPORTS < order.investor.max(order.fund) {
+        let lengths = order.lengths;
+        if MOST_RECORDS < lengths.records || MOST_REPORTS < lengths.investor.max(lengths.fund) {
             return Err(Fault::BadInput);
         }
         Ok(order)
@@ -128,7 +120,8 @@ impl Order {
     // What its tests alone answer.
     pub fn tested(&self, session: &Session) -> Result<Counts, Refusal> {
         let (day, book, prices) = (&session.day, &session.book, &session.prices);
-        let rooms = rules::rooms_of(self.records, self.investor, self.fund);
+        let lengths = self.lengths;
+        let rooms = rules::rooms_of(lengths.records, lengths.investor, lengths.fund);
         let Ask {
             kind,
             account,
@@ -140,11 +133,10 @@ impl Order {
         }
     }
 
-    fn settle(
-        &self,
-        session: &mut Session,
-        lists: &mut Lists,
-    ) -> Result<Result<Counts, Refusal>, AllocError> {
+    // The tests alone, and then the order. Whether it was refused.
+    pub fn make<W: Write>(&self, session: &mut Session, out: &mut W) -> Result<bool, Fault> {
+        let mut lists = OwnedLists::marked(session.alloc, self.lengths)?;
+        replies::print(out, "test", Numbers::from(self.tested(session)))?;
         let mut records = records_of(session.alloc, &lists.records)?;
         let answer = order_structs::order(
             &session.day,
@@ -156,20 +148,8 @@ impl Order {
             &mut lists.fund,
         );
         put_records(&mut lists.records, &records);
-        Ok(answer)
-    }
-
-    // The tests alone, and then the order.
-    pub fn make<W: Write>(
-        &self,
-        session: &mut Session,
-        out: &mut W,
-    ) -> Result<Result<Counts, Refusal>, Fault> {
-        let mut lists = Lists::new(session.alloc, self)?;
-        replies::print(out, "test", Numbers::from(self.tested(session)))?;
-        let answer = self.settle(session, &mut lists)?;
         replies::print(out, self.name(), Numbers::from(answer))?;
-        lists.print(answer, out)?;
-        Ok(answer)
+        print_lists(&lists, answer, out)?;
+        Ok(answer.is_err())
     }
 }

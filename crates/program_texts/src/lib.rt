@@ -3,6 +3,7 @@
 #![tactic(auto)]
 
 mod lists;
+mod read_text;
 mod texts;
 
 use lists::List;

@@ -1,5 +1,6 @@
 // Items that are lists: each is written, what writing answers and leaves is printed, and a text that was written is read again.
-use list_rules::{ListRead, Listing};
+use crate::read_text::ReadText;
+use list_rules::Listing;
 use program_io::fault::Fault;
 use program_io::items::split;
 use program_io::rows::Row;
@@ -8,7 +9,6 @@ use std::alloc::{AllocError, Global};
 use std::fmt;
 use std::fmt::Display;
 use std::io::Write;
-use text_parts::names::Names;
 use text_parts::{bytes, fields, replies};
 
 // The most bytes of names, and of letters.
@@ -69,25 +69,28 @@ impl<'a> List<'a> {
     }
 
     // Whether the names and the letters of the text are those of the list.
-    fn is_named(&self, alloc: Global, read: &ListRead, text: &[u8]) -> Result<bool, AllocError> {
-        let is_lettered = list_reading::letters(text) == self.letters.as_slice();
-        match Names::new(text, read).join(alloc)? {
+    fn is_named(&self, alloc: Global, back: &ReadText<'_>) -> Result<bool, AllocError> {
+        let is_lettered = back.letters() == self.letters.as_slice();
+        match back.names().join(alloc)? {
             Some(joined) => Ok(joined.as_slice() == self.names.as_slice() && is_lettered),
             None => Ok(false),
         }
     }
 
+    // Fields that no run holds differ from the first on.
     fn difference(
         &self,
         alloc: Global,
-        read: &ListRead,
-        run: &[u64],
-        text: &[u8],
+        back: &ReadText<'_>,
     ) -> Result<Option<Difference>, AllocError> {
-        let difference = marks::first_difference(&fields::numbers_of(read.fields), &self.fields)
-            .map(Difference::Field)
-            .or_else(|| marks::first_difference(self.components, run).map(Difference::Component));
-        if difference.is_some() || self.is_named(alloc, read, text)? {
+        let field = match fields::numbers_of(back.read.fields) {
+            Some(numbers) => marks::first_difference(&numbers, &self.fields),
+            None => Some(0),
+        };
+        let difference = field.map(Difference::Field).or_else(|| {
+            marks::first_difference(self.components, back.run).map(Difference::Component)
+        });
+        if difference.is_some() || self.is_named(alloc, back)? {
             return Ok(difference);
         }
         Ok(Some(Difference::NamesOrLetters))
@@ -101,7 +104,12 @@ impl<'a> List<'a> {
         let Ok(read) = answer else {
             return Ok(());
         };
-        match self.difference(alloc, &read, &run, text)? {
+        let back = ReadText {
+            text,
+            read,
+            run: &run,
+        };
+        match self.difference(alloc, &back)? {
             Some(difference) => Ok(writeln!(out, "back {difference}")?),
             None => Ok(writeln!(out, "back same")?),
         }

@@ -1,4 +1,5 @@
 // The runs that the driver writes, and how they are printed and compared.
+use day_items::lists::{ListLengths, OwnedLists};
 use day_items::session::Session;
 use driver_rows::Work;
 use program_io::fault::Fault;
@@ -6,7 +7,7 @@ use program_io::items::Item;
 use program_io::rows::Row;
 use program_io::{changes, marks};
 use rules::Refusal;
-use std::alloc::AllocError;
+use std::alloc::{AllocError, Global};
 use std::io;
 use std::io::Write;
 
@@ -17,12 +18,10 @@ const MOST_REPORTS: usize = 10_000;
 
 const MOST_ANSWERS: usize = 400;
 
-// A batch: how long the runs of records, of the investor's and of the fund's reports, and of the answers are, and the rows.
+// A batch: how long the lists of its orders and the run of answers are, and the rows.
 #[derive(Clone, Copy)]
 pub struct Batch<'a> {
-    records: usize,
-    investor: usize,
-    fund: usize,
+    lengths: ListLengths,
     answers: usize,
     rows: &'a [u64],
 }
@@ -30,8 +29,9 @@ pub struct Batch<'a> {
 impl<'a> Batch<'a> {
     // The same, with runs that there is room for.
     fn in_room(self) -> Result<Batch<'a>, Fault> {
-        if MOST_RECORDS < self.records
-            || MOST_REPORTS < self.investor.max(self.fund)
+        let lengths = self.lengths;
+        if MOST_RECORDS < lengths.records
+            || MOST_REPORTS < lengths.investor.max(lengths.fund)
             || MOST_ANSWERS < self.answers
         {
             return Err(Fault::BadInput);
@@ -46,9 +46,7 @@ impl<'a> TryFrom<&'a Item> for Batch<'a> {
     fn try_from(item: &'a Item) -> Result<Batch<'a>, Fault> {
         match (item.tag, item.numbers.as_slice()) {
             (10, [records, investor, fund, answers, rows @ ..]) => Batch {
-                records: *records as usize,
-                investor: *investor as usize,
-                fund: *fund as usize,
+                lengths: ListLengths::new(*records, *investor, *fund),
                 answers: *answers as usize,
                 rows,
             }
@@ -58,15 +56,11 @@ impl<'a> TryFrom<&'a Item> for Batch<'a> {
     }
 }
 
-// The lists are made as those of an order in `program_replay`, but they are printed whole, and compared with those of a second run: one
-// struct for both would save the making alone.
 #[derive(Drop)]
 pub struct Lent {
     book: Vec<u64>,
     prices: Vec<u64>,
-    records: Vec<u64>,
-    investor: Vec<u64>,
-    fund: Vec<u64>,
+    lists: OwnedLists,
     answers: Vec<u64>,
 }
 
@@ -77,9 +71,7 @@ impl Lent {
         Ok(Lent {
             book: session.book.clone()?,
             prices: session.prices.clone()?,
-            records: marks::marked(alloc, batch.records)?,
-            investor: marks::marked(alloc, batch.investor)?,
-            fund: marks::marked(alloc, batch.fund)?,
+            lists: OwnedLists::marked(alloc, batch.lengths)?,
             answers: marks::marked(alloc, batch.answers)?,
         })
     }
@@ -96,34 +88,46 @@ impl Lent {
         let mut work = Work {
             book: &mut self.book,
             prices: &mut self.prices,
-            records: &mut self.records,
-            investor: &mut self.investor,
-            fund: &mut self.fund,
+            records: &mut self.lists.records,
+            investor: &mut self.lists.investor,
+            fund: &mut self.lists.fund,
         };
         run(day, &mut work, batch.rows, &mut self.answers)
     }
 
+    // Each run with its word.
+    fn runs(&self) -> [(&'static str, &[u64]); 6] {
+        [
+            ("answers", self.answers.as_slice()),
+            ("records", self.lists.records.as_slice()),
+            ("investor", self.lists.investor.as_slice()),
+            ("fund_reports", self.lists.fund.as_slice()),
+            ("book", self.book.as_slice()),
+            ("prices", self.prices.as_slice()),
+        ]
+    }
+
     pub fn print<W: Write>(&self, out: &mut W) -> io::Result<()> {
-        writeln!(out, "answers{}", Row(&self.answers))?;
-        writeln!(out, "records{}", Row(&self.records))?;
-        writeln!(out, "investor{}", Row(&self.investor))?;
-        writeln!(out, "fund_reports{}", Row(&self.fund))?;
-        writeln!(out, "book{}", Row(&self.book))?;
-        writeln!(out, "prices{}", Row(&self.prices))
+        for (word, run) in self.runs() {
+            writeln!(out, "{word}{}", Row(run))?;
+        }
+        Ok(())
     }
 
     // `same`, or for each run that differs from another's the first such place.
-    pub fn print_same<W: Write>(&self, other: &Lent, out: &mut W) -> io::Result<()> {
-        let pairs = [
-            ("book", &self.book, &other.book),
-            ("prices", &self.prices, &other.prices),
-            ("records", &self.records, &other.records),
-            ("investor", &self.investor, &other.investor),
-            ("fund_reports", &self.fund, &other.fund),
-            ("answers", &self.answers, &other.answers),
-        ];
-        let places = pairs.map(|(word, left, other)| (word, marks::first_difference(left, other)));
-        changes::print(out, "same", &places)
+    pub fn print_same<W: Write>(
+        &self,
+        alloc: Global,
+        other: &Lent,
+        out: &mut W,
+    ) -> Result<(), Fault> {
+        let places: Vec<(&str, Option<usize>)> = self
+            .runs()
+            .into_iter()
+            .zip(other.runs())
+            .map(|((word, run), (_, other))| (word, marks::first_difference(run, other)))
+            .collect(alloc)?;
+        Ok(changes::print(out, "same", &places)?)
     }
 
     // Leaves its book and prices to a session.

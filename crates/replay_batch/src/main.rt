@@ -24,7 +24,7 @@ fn run_both<W: Write>(session: &mut Session, batch: Batch<'_>, out: &mut W) -> R
     replies::print(out, "run", Numbers::from(driven))?;
     left.print(out)?;
     replies::print(out, "public", Numbers::from(public))?;
-    left.print_same(&other, out)?;
+    left.print_same(session.alloc, &other, out)?;
     left.leave(session);
     Ok(())
 }

@@ -9,20 +9,10 @@ use thiserror::Error;
 pub enum Fault {
     #[error("input too long")]
     TooLong,
-    #[error("refused {number} {place}")]
-    Refused { number: u64, place: u64 },
+    #[error("refused {number} {place}", number = Numbers::from(*.0).number, place = Numbers::from(*.0).place)]
+    Refused(#[from] Refusal),
     #[error(transparent)]
     Memory(#[from(alloc)] AllocError),
     #[error(transparent)]
     Io(#[from] io::Error),
-}
-
-impl From<Refusal> for Fault {
-    fn from(why: Refusal) -> Fault {
-        let r = Numbers::from(why);
-        Fault::Refused {
-            number: r.number,
-            place: r.place,
-        }
-    }
 }

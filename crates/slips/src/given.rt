@@ -26,7 +26,7 @@ fn price_of(code: u64) -> Option<u64> {
     }
 }
 
-// The codes of components.
+// The codes of components. By chunks, each one component at its own place 0: no index is counted.
 pub fn codes_of(alloc: Global, components: &[u64]) -> Result<Vec<u64>, AllocError> {
     components
         .chunks_exact(layout::COMPONENT_WIDTH)

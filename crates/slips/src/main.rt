@@ -57,6 +57,7 @@ fn create<W: Write>(
         writeln!(out, "the tests alone answered otherwise")?;
     }
     let counts = answer?;
+    // By chunks, each one record at its own place 0: no index is counted.
     for record in records
         .chunks_exact(layout::RECORD_WIDTH)
         .take(counts.records)
@@ -122,7 +123,7 @@ fn play_input<R: Read + Drop, W: Write>(alloc: Global, input: R, out: &mut W) ->
 fn run<R: Read + Drop, W: Write + Drop>(alloc: Global, input: R, output: W) -> Result<(), Fault> {
     let mut out = BufWriter::new(alloc, output)?;
     match play_input(alloc, input, &mut out) {
-        Err(fault @ (Fault::TooLong | Fault::Refused { .. })) => {
+        Err(fault @ (Fault::TooLong | Fault::Refused(_))) => {
             let _ = writeln!(out, "{fault}");
         }
         Err(fault @ Fault::Memory(_)) => return Err(fault),

@@ -3,16 +3,18 @@ use layout::Record;
 use rules::Side;
 use std::fmt;
 use std::fmt::Display;
+use units::Money;
 
-// Thousandths of a yuan, in yuan with three decimals.
+// Money, in yuan with three decimals.
 #[derive(Drop)]
-struct Yuan(u64);
+struct Yuan(Money);
 
 impl Display for Yuan {
     fn fmt<W: fmt::Write>(&self, f: &mut fmt::Formatter<W>) -> fmt::Result {
-        let yuan = self.0 / 1_000;
-        let thousandths = self.0 % 1_000;
-        write!(f, "{yuan}.{thousandths:03}")
+        let Money(thousandths) = self.0;
+        let yuan = thousandths / 1_000;
+        let rest = thousandths % 1_000;
+        write!(f, "{yuan}.{rest:03}")
     }
 }
 
@@ -33,8 +35,8 @@ impl Display for Slip {
         let code = self.0.code;
         let side = letter(self.0.side);
         let quantity = self.0.quantity;
-        let price = Yuan(self.0.price.0);
-        let amount = Yuan(self.0.amount.0);
+        let price = Yuan(self.0.price);
+        let amount = Yuan(self.0.amount);
         write!(f, "{code:06} {side} {quantity} {price} {amount}")
     }
 }

@@ -1,6 +1,5 @@
-// The fields of a list as a run of numbers: first code, basket size, maximum cash ratio, switch, estimated cash as sign (1 is
-// minus) and size, eight limits, publish, trading day, previous trading day, cash component as sign and size, NAV per CU, NAV,
-// count.
+// The fields of a list as a run of numbers, in the order of `list_layout`: estimated cash and the cash component are a sign and a size
+// each.
 use list_rules::ListFields;
 
 pub const WIDTH: usize = list_layout::FIELDS_WIDTH;
@@ -23,15 +22,16 @@ pub fn of_numbers(numbers: &[u64; WIDTH]) -> ListFields {
     fields
 }
 
-// As the library stores them. It stores no cash past the most; no list that was read has any, and the numbers of one would be 0.
-pub fn numbers_of(l: ListFields) -> [u64; WIDTH] {
-    let mut numbers = [0; WIDTH];
-    if l.fund.estimated_cash.unsigned_abs() <= digits::CAP
-        && l.cash_component.unsigned_abs() <= digits::CAP
+// As the library stores them. It stores no cash past the most, and no list that was read has any.
+pub fn numbers_of(l: ListFields) -> Option<[u64; WIDTH]> {
+    if digits::CAP < l.fund.estimated_cash.unsigned_abs()
+        || digits::CAP < l.cash_component.unsigned_abs()
     {
-        list_layout::put_fields(&mut numbers, l);
+        return None;
     }
-    numbers
+    let mut numbers = [0; WIDTH];
+    list_layout::put_fields(&mut numbers, l);
+    Some(numbers)
 }
 
 #[cfg(test)]

@@ -47,3 +47,55 @@ impl<'a> Names<'a> {
             && list_reading::name_from(text, text.len(), 0).is_empty()
     }
 }
+
+#[cfg(test)]
+mod tests {
+    use super::*;
+    use std::test::Fail;
+
+    // The lines of a list of two components.
+    const LINES: [&str; 25] = [
+        "[ETF300]",
+        "Fundid1=510301",
+        "CreationRedemptionUnit=10",
+        "MaxCashRatio=0.50000",
+        "Publish=1",
+        "CreationRedemption=1",
+        "Recordnum=2",
+        "EstimateCashComponent=0.00",
+        "TradingDay=20240111",
+        "PreTradingDay=20240110",
+        "CashComponent=0.00",
+        "NAVperCU=10.00",
+        "NAV=1.0000",
+        "CreationLimit=0",
+        "RedemptionLimit=0",
+        "CreationLimitPerUser=0",
+        "RedemptionLimitPerUser=0",
+        "NetCreationLimit=0",
+        "NetRedemptionLimit=0",
+        "NetCreationLimitPerUser=0",
+        "NetRedemptionLimitPerUser=0",
+        "TAGTAG",
+        "600000|NAME A  |       4|0|       |       |            |",
+        "600036|NAME B  |       3|0|       |       |            |",
+        "ENDENDEND",
+    ];
+
+    #[test]
+    fn names_of_a_list_joined(rt: HostRuntime) -> Result<(), Fail> {
+        let mut text = String::new(rt.alloc());
+        for line in LINES {
+            text.push_str(line)?;
+            text.push_str("\r\n")?;
+        }
+        let mut run = [0; 2 * layout::COMPONENT_WIDTH];
+        let joined = match list_reading::read(text.as_bytes(), &mut run) {
+            Ok(read) => Names::new(text.as_bytes(), &read).join(rt.alloc())?,
+            Err(_) => None,
+        };
+        let names = joined.unwrap_or(Vec::new(rt.alloc()));
+        assert_eq!(rt; names.as_slice(), b"NAME A  NAME B  ".as_slice());
+        Ok(())
+    }
+}
