@@ -190,7 +190,8 @@ impl<'a> Work<'a> {
 }
 
 // The call that a row names, on any day: 1 where the row names none, and 5 where the day is not sound. The day is tested here where it
-// is not known to be sound. The one place at which a call is made, so that a list of calls has it in its loop.
+// is not known to be sound. No closure from the driver for each way: with two places at which a call is made it is no part of the loop,
+// and a trade in a list took 23 ns, with this one 17.
 pub fn row_call(
     run: &[u64],
     known: Option<&DayView>,
