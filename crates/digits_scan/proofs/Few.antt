@@ -1,25 +1,11 @@
 -- Digits read one after another, up to the cap or too few to meet it.
-use Rattle.std.proofs.Common.{◌≡◌, ℕ, suc, refl, cond, Some, None, ◌+◌, ◌-◌, ◌*◌, ◌%◌, ◌^◌, ◌<◌, ◌≤◌, Bool, true, false, List, length, get_or, sym, ap, ◌∙◌, mul_assoc, arith}
+use Rattle.std.proofs.Common.{◌≡◌, ℕ, suc, refl, cond, Some, None, ◌+◌, ◌-◌, ◌*◌, ◌^◌, ◌<◌, ◌≤◌, Bool, true, false, List, length, get_or, sym, ap, ◌∙◌, mul_assoc, arith}
 use Rattle.std.proofs.Math.Nat.{mul-le-mul_right}
 use native.Mathlib.Nat.{pow-succ', sub-zero}
 use Rattle.std.proofs.lemmas.Option.{cond_some, none-some}
 use Rattle.digits.specs.Digits.{is_digit, cap, capped}
-use Rattle.digits.proofs.Read.{compare, digit_yes, digit_low, digit_high, ReadTo, digit_bounds, capped_small, read_start, read_again}
+use Rattle.digits.proofs.Read.{ReadTo, digit_bounds, capped_small, read_start, read_again}
 use Rattle.digits.proofs.Count.{power_positive}
-
--- a byte's number less that of 0: a byte below it leaves a number that wraps, and is more than 9
-abbrev above_zero : ℕ → ℕ
-above_zero b = (b + (18446744073709551616 - 48)) % 18446744073709551616
-
-pub digit_some : (b : ℕ) → b < 256 → above_zero b ≤ 9 → Some (above_zero b) ≡ cond (is_digit b) (Some (b - 48)) None
-digit_some b w h =
-    let low : 48 ≤ b = omega arith in
-    let high : b ≤ 57 = omega arith in
-    let same : above_zero b ≡ b - 48 = omega arith in
-    rw (digit_yes b low high, same) refl
-
-pub digit_none : (b : ℕ) → b < 256 → 9 < above_zero b → None ≡ cond (is_digit b) (Some (b - 48)) None
-digit_none b w h = compare b 47 (λ l. rw (digit_low b (omega arith)) refl) (λ l. let high : 57 < b = omega arith in rw (digit_high b high) refl)
 
 -- what `digit_of` says of a byte
 pub digit_there : (b d : ℕ) → Some d ≡ cond (is_digit b) (Some (b - 48)) None → (is_digit b ≡ true) × (d ≡ b - 48) × (d ≤ 9)
