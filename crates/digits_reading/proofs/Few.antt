@@ -1,39 +1,28 @@
 -- Digits that are too few to meet the cap: what is read before the point leaves room for the decimals.
-use Rattle.std.proofs.Common.{◌≡◌, ℕ, ◌+◌, ◌-◌, ◌*◌, ◌^◌, ◌<◌, ◌≤◌, ap, Option, Some, List, length, take, drop, length-drop, length-take, length-take-le, mul-le-mul_right, arith}
+use Rattle.std.proofs.Common.{◌≡◌, ℕ, ◌+◌, ◌*◌, ◌^◌, ◌≤◌, Option, Some, List, length, mul-le-mul_right, arith}
+use Rattle.std.proofs.lemmas.Grind.{common_steps}
 use native.Mathlib.Nat.{pow-le-pow_right}
 use lib.Pow.{pow-add}
 use Rattle.digits.specs.Digits.{from, cap, capped, is_whole, size_reading}
-use Rattle.std.proofs.lemmas.List.{take_rest}
-use Rattle.digits.proofs.Read.{compare, capped_small, capped_large, size_known, whole_facts}
+use Rattle.digits.proofs.Read.{capped_small, capped_large, size_known, whole_facts, known_within, plain_whole, plain_short, plain_point, plain_ill, plain_known}
 use Rattle.digits.proofs.Count.{from_below}
 
 -- the cap only lessens a number
 capped_below : (n : ℕ) → capped n ≤ n
-capped_below n = compare n cap (λ h. omega (arith, capped_small n h)) (λ h. omega (arith, capped_large n h, h))
+capped_below n = grind (arith, common_steps, capped_small, capped_large)
 
 -- fewer digits are too few too
-pub fewer : (s : List ℕ) (p : ℕ) → 10 ^ length s ≤ cap → 10 ^ length (take p s) ≤ cap
-fewer s p h =
-    let l : length (take p s) ≤ length s = omega (arith, length-take p s) in
-    omega (arith, h, pow-le-pow_right {n = 10} (omega arith) l)
+pub fewer : (s head : List ℕ) → length head ≤ length s → 10 ^ length s ≤ cap → 10 ^ length head ≤ cap
+fewer s head within few = omega (arith, few, pow-le-pow_right {n = 10} (omega arith) within)
 
-module _ (digits : Option ℕ) (s : List ℕ) (k v : ℕ) (some : k < length s) where
-  abbrev place : ℕ
-  place = length s - (k + 1)
+-- what the head says, with so many decimals behind it
+pub head_room : (digits : Option ℕ) (s head : List ℕ) (n v : ℕ) → size_reading (is_whole digits head) (capped (from 0 head)) ≡ Some v
+    → length head + n ≤ length s → 10 ^ length s ≤ cap → (v + 1) * 10 ^ n ≤ cap
+head_room digits s head n v known within few =
+    let is = size_known (is_whole digits head) (capped (from 0 head)) v known in
+    let below = from_below head (whole_facts digits head is.0).1 in
+    let low : (v + 1) * 10 ^ n ≤ 10 ^ length head * 10 ^ n = mul-le-mul_right (10 ^ n) (omega (arith, is.1, capped_below (from 0 head), below)) in
+    omega (arith, low, pow-add 10 (length head) n, pow-le-pow_right {n = 10} (omega arith) within, few)
 
-  module _ (known : size_reading (is_whole digits (take place s)) (capped (from 0 (take place s))) ≡ Some v) where
-    head_below : v + 1 ≤ 10 ^ place
-    head_below =
-        let head : List ℕ = take place s in
-        let known = size_known (is_whole digits head) (capped (from 0 head)) v known in
-        let short : length head ≤ place = omega (arith, length-take-le place s (omega arith)) in
-        let low = from_below head (whole_facts digits head known.0).1 in
-        omega (arith, known.1, capped_below (from 0 head), low, pow-le-pow_right {n = 10} (omega arith) short)
-
-    -- with the decimals, as the code passes them on
-    pub head_room : 10 ^ length s ≤ cap → (v + 1) * 10 ^ length (take (length s - (place + 1)) (drop (place + 1) s)) ≤ cap
-    head_room few =
-        let l : length (take (length s - (place + 1)) (drop (place + 1) s)) ≡ k = omega (arith, ap length (take_rest s (place + 1)), length-drop (place + 1) s) in
-        let low : (v + 1) * 10 ^ k ≤ 10 ^ place * 10 ^ k = mul-le-mul_right (10 ^ k) head_below in
-        let most : 10 ^ (place + k) ≤ 10 ^ length s = pow-le-pow_right {n = 10} (omega arith) (omega arith) in
-        rw l (omega (arith, low, pow-add 10 place k, most, few))
+-- what the search is to know of a number with a point
+pub ruleset pointed = (common_steps, known_within, plain_whole, plain_short, plain_point, plain_ill, plain_known, fewer, head_room)

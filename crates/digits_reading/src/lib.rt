@@ -18,6 +18,7 @@ fn read_whole<const CAPPED: bool>(digits: Option<usize>, s: &[u8]) -> Option<u64
 }
 
 // A number with the decimals of the form, with no sign and no blanks.
+#[tactic(auto, using(crate::proofs::Few::pointed))]
 pub fn read_plain<const CAPPED: bool>(form: Form, s: &[u8]) -> Option<u64>
     requires { CAPPED ≡ false → 10 ^ length s.now ≤ cap }
     ensures { result ≡ size_reading (is_plain form s.now) (plain_size form s.now) }
@@ -26,15 +27,12 @@ pub fn read_plain<const CAPPED: bool>(form: Form, s: &[u8]) -> Option<u64>
     if k == 0 {
         return read_whole::<CAPPED>(form.digits, s);
     }
-    if s.len() <= k {
+    let (front, decimals) = s.split_at(s.len().checked_sub(k)?);
+    let [whole @ .., b'.'] = front else {
         return None;
-    }
-    let p = s.len() - (k + 1);
-    if s[p] != b'.' {
-        return None;
-    }
-    let head = read_whole::<CAPPED>(form.digits, &s[..p])?;
-    digits_scan::read_digits::<CAPPED>(&s[p + 1..], head)
+    };
+    let head = read_whole::<CAPPED>(form.digits, whole)?;
+    digits_scan::read_digits::<CAPPED>(decimals, head)
 }
 
 // A size behind a "-"; 0 is none.
@@ -53,10 +51,10 @@ fn minus_figure(size: u64) -> Option<Figure>
 fn read_signed(form: Form, s: &[u8]) -> Option<Figure>
     ensures { result ≡ reading (is_signed form s.now) (signed_figure form s.now) }
 {
-    if form.signed && s.len() > 0 && s[0] == b'-' {
-        return read_plain::<true>(form, &s[1..]).and_then(minus_figure);
+    match s {
+        [b'-', rest @ ..] if form.signed => read_plain::<true>(form, rest).and_then(minus_figure),
+        _ => read_plain::<true>(form, s).map(Figure::from),
     }
-    read_plain::<true>(form, s).map(Figure::from)
 }
 
 // What the field says in the form.
