@@ -1,9 +1,10 @@
 // Writes a number's field, by its form.
 #![tactic(auto)]
 
-ghost use Rattle.std.specs.Prelude.{◌≡◌, ◌+◌, ◌-◌, ◌≤◌, ◌<◌, ◌^◌, true, length, unwrap_or};
+ghost use Rattle.std.specs.Prelude.{◌≡◌, ◌+◌, ◌-◌, ◌≤◌, ◌<◌, ◌^◌, true, length};
 ghost use Rattle.digits.specs.Digits.{tens, whole_text, plain_text, signed_text, number_text};
 ghost use Rattle.digits.specs.Written.{put, Written};
+ghost use Rattle.digits_writing.specs.Writable.{Writable};
 
 use digits::{Figure, Form};
 
@@ -37,7 +38,7 @@ fn whole_size(digits: Option<usize>, n: u64) -> usize
 // How many bytes the number takes, without its sign and its blanks. The bounds are asked here and not of `Form`: reading takes any form.
 #[tactic(auto, using(crate::proofs::Sizes::plain_sizes))]
 fn plain_size(form: Form, n: u64) -> usize
-    requires { (form.decimals ≤ 9) × (unwrap_or form.digits 0 ≤ 20) }
+    requires { Writable form }
     ensures { (result ≡ length (plain_text form n)) × (result ≤ 40) }
 {
     let k = form.decimals;
@@ -50,7 +51,7 @@ fn plain_size(form: Form, n: u64) -> usize
 // How many bytes the number takes, without its blanks.
 #[tactic(auto, using(crate::proofs::Sizes::signed_sizes))]
 fn signed_size(form: Form, z: Figure) -> usize
-    requires { (form.decimals ≤ 9) × (unwrap_or form.digits 0 ≤ 20) }
+    requires { Writable form }
     ensures { (result ≡ length (signed_text form z)) × (result ≤ 41) }
 {
     plain_size(form, z.size) + usize::from(z.negative)
@@ -59,7 +60,7 @@ fn signed_size(form: Form, z: Figure) -> usize
 // How many bytes the field takes.
 #[tactic(auto, using(crate::proofs::Sizes::number_sizes))]
 pub fn number_size(form: Form, z: Figure) -> usize
-    requires { (form.decimals ≤ 9) × (unwrap_or form.digits 0 ≤ 20) }
+    requires { Writable form }
     ensures { result ≡ length (number_text form z) }
 {
     signed_size(form, z).max(form.width.unwrap_or(0))
@@ -105,7 +106,7 @@ fn put_plain<const SMALL: bool>(field: &mut [u8], form: Form, n: u64) -> usize
     put_whole::<SMALL>(field, point, form.digits, whole)
 }
 
-// The same, quick where the number has 32 bits, as almost all have.
+// The same, quick where the number has 32 bits, as almost all have: `digits_put::split_last` says how much.
 fn put_size(field: &mut [u8], form: Form, n: u64) -> usize
     requires { length (plain_text form n) ≤ length field.old }
     ensures { Written field.old result (plain_text form n) field.new (length field.old) }
@@ -141,7 +142,7 @@ fn put_right(field: &mut [u8], form: Form, z: Figure)
 // Writes the number's field into its place, and gives the place behind it.
 #[tactic(auto, using(digits::proofs::Put::written_part, crate::proofs::Sizes::number_sizes))]
 pub fn put_number(dst: &mut [u8], at: usize, form: Form, z: Figure) -> usize
-    requires decimals_bound { (form.decimals ≤ 9) × (unwrap_or form.digits 0 ≤ 20) }
+    requires decimals_bound { Writable form }
     requires z_in_bounds { at + length (number_text form z) ≤ length dst.old }
     ensures { Written dst.old at (number_text form z) dst.new result }
 {
