@@ -205,7 +205,7 @@ module _ (n w m : ℕ) (t : Passed n w m) where
   pub passed_end : m < 10 → (w ≡ tens n) × (w ≤ 19)
   passed_end h = (omega (arith, t.count, tens_small (19 - w) m h), t.most)
 
--- ---- the loop of `put_last`: the digits from the i-th on are written
+-- ---- a loop that writes the last k digits of n, the last one first: those from the i-th on are written
 pub record FixedFrom (d : List ℕ) (at k n : ℕ) (d' : List ℕ) (m i : ℕ) : Type 0 where
   pub high : i ≤ k
   pub bytes : d' ≡ put d (at + i) (fixed (k - i) n)

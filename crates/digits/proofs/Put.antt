@@ -2,12 +2,11 @@
 use Rattle.std.proofs.lemmas.Grind.{common_steps}
 use mathlib.Core.Path.{◌≡◌, sym, ap, ap₂, ◌∙◌}
 use mathlib.Core.List.{List, [], ◌∷◌, ◌++◌, append_assoc}
-use Prim.Native.Nat.{ℕ, ◌+◌, ◌-◌, ◌≤◌, ◌<◌}
+use Prim.Native.Nat.{ℕ, ◌+◌, ◌≤◌, ◌<◌}
 use native.Mathlib.Omega.{arith}
 use native.Mathlib.Numerals.{add-one}
 use native.Mathlib.Nat.{add_assoc, add-zero}
 use lib.ListN.{length, take, drop, set, length-set, length-append, length-take, length-drop, take-append-drop}
-use Rattle.std.proofs.lemmas.List.{take_rest}
 use lib.Seq.{set_split, take_at, drop_at, drop-drop}
 use borrow.Rule.Slice.PartMut.{put_mid}
 use Rattle.digits.specs.Written.{put, Written}
@@ -72,10 +71,6 @@ written_then {d} {d₁} {d₂} {at} {p} {q} {xs} {ys} u v h =
 
 pub written-length : {d d₁ : List ℕ} {at p : ℕ} {xs : List ℕ} → Written d at xs d₁ p → at + length xs ≤ length d → length d₁ ≡ length d
 written-length {d} {d₁} {at} {p} {xs} u h = rw u.bytes (put-length d at xs h)
-
--- a part `&s[a..]`, as the borrow checker has it
-pub rest_all : (a : ℕ) (s : List ℕ) → take (length s - a) (drop a s) ≡ drop a s
-rest_all a s = take_rest s a
 
 -- what is written into a part, as the borrow checker has it
 pub written_part : (d : List ℕ) (at k : ℕ) (xs ys : List ℕ) (next : ℕ) → ys ≡ xs → k ≡ length xs → next ≡ at + k → Written d at xs (put_mid at k d ys) next

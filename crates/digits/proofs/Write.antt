@@ -1,6 +1,6 @@
 -- Writing: how long each text is, and how it is written part by part.
 use Rattle.std.proofs.lemmas.Grind.{common_steps}
-use mathlib.Core.Path.{◌≡◌, refl, sym, ◌∙◌, subst}
+use mathlib.Core.Path.{◌≡◌, refl, sym, ◌∙◌}
 use mathlib.Core.Bool.{true, false, cond}
 use mathlib.Core.List.{List, ◌∷◌, ◌++◌}
 use Prim.Native.Nat.{ℕ, zero, suc, ◌+◌, ◌-◌, ◌/◌, ◌^◌, ◌≤◌}
@@ -14,7 +14,6 @@ use Rattle.digits.specs.declared.Figure.{Figure}
 use Rattle.digits.specs.Digits.{fixed, tens_within, tens, whole_text, plain_text, signed_text, blanks_left, number_text}
 use Rattle.digits.specs.Written.{put, Written}
 use Rattle.digits.proofs.Read.{compare}
-use Rattle.digits.proofs.Put.{written_then}
 use Rattle.digits.proofs.Count.{fixed-length, decimal-length}
 
 -- ---- before the point
@@ -79,15 +78,6 @@ module _ (f : Form) (z : Figure) where
   pub number-length : length (number_text f z) ≡ blanks_put + length (signed_text f z)
   unfolding number_text
   number-length = length-append (replicate blanks_put 32) (signed_text f z) ∙ rw (length-replicate {A = ℕ} blanks_put 32)
-
-  pub number_put : {d d₁ d₂ : List ℕ} {at p q : ℕ} (k : ℕ) → k ≡ length (number_text f z) - length (signed_text f z)
-      → at + length (number_text f z) ≤ length d
-      → Written d at (replicate k 32) d₁ p → Written d₁ p (signed_text f z) d₂ q → Written d at (number_text f z) d₂ q
-  unfolding number_text
-  number_put {d} {d₁} {d₂} {at} {p} {q} k e room a b =
-      let l = number-length in
-      let w : k ≡ blanks_put = omega arith in
-      subst (λ (j : ℕ). Written d at (replicate j 32 ++ signed_text f z) d₂ q) w (written_then a b (omega (arith, length-replicate {A = ℕ} k 32)))
 
 -- ---- in a field of blanks
 

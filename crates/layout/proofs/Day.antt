@@ -11,11 +11,11 @@ use lib.IntN.{ℤ, nat_abs, pos, negsuc}
 use lib.ListN.{length, get_or, take, drop, replicate, get_or-append, get_or-eq_default}
 use lib.Seq.{get_or-drop, get_or-append-add, drop_at}
 use borrow.Author.Tests.{eq-eqb, ne_eqb, lt-ltb, le-ltb}
+use Rattle.std.proofs.lemmas.List.{take_rest}
 use Rattle.sequences.specs.Below.{tabulate}
 use Rattle.sequences.proofs.Below.{table_length, table_at, table_ext}
 use Rattle.digits.specs.Digits.{cap}
 use Rattle.digits.specs.Signed.{figure_signed}
-use Rattle.digits.proofs.Put.{rest_all}
 use Rattle.digits.proofs.Read.{capped_small}
 use Rattle.digits.proofs.Signed.{signed_figure_lem}
 use Rattle.layout.specs.declared.Fund.{Fund}
@@ -53,7 +53,7 @@ module _ (run : List ℕ) where
 
     pub components_in : places_of (component_at (take (length run - basket_from) (drop basket_from run))) most_components ≡ (day_at run).components
     unfolding basket_at
-    components_in = rw (rest_all basket_from run) (ap (λ (d : Day). d.components) day_parts)
+    components_in = rw (take_rest run basket_from) (ap (λ (d : Day). d.components) day_parts)
 
 -- A signed number.
 
