@@ -33,7 +33,7 @@ fn group(kind: CashKind, amount: Money) -> Option<Group>
         return None;
     }
     Some(Group {
-        kind: kind as u64,
+        kind: u64::from(kind),
         amount,
     })
 }
@@ -43,8 +43,8 @@ fn told(report_type: ReportType, side: Side, r: Record) -> Report
     ensures { result ≡ told (type_number report_type) (side_number side) r }
 {
     Report {
-        report_type: report_type as u64,
-        side: side.number(),
+        report_type: u64::from(report_type),
+        side: u64::from(side),
         code: r.code,
         quantity: r.quantity,
         first: NO_GROUP,
@@ -60,8 +60,8 @@ fn cash_report(side: Side, cash: CashByMarket) -> Report
     let shanghai = group(CashKind::Shanghai, cash.shanghai);
     let other = group(CashKind::Other, cash.other);
     Report {
-        report_type: ReportType::Cash as u64,
-        side: side.number(),
+        report_type: u64::from(ReportType::Cash),
+        side: u64::from(side),
         code: 0,
         quantity: 0,
         first: shanghai.or(other).unwrap_or(NO_GROUP),

@@ -7,7 +7,7 @@ ghost use Rattle.rules.specs.Lent.{rooms_of, rooms_in};
 ghost use Rattle.rules.specs.Lists.{lent_in};
 ghost use Rattle.rules.specs.Orders.{number_of, opposite_kind};
 ghost use Rattle.rules.specs.Records.{side_number, side_at};
-ghost use Rattle.rules.specs.Reports.{turned};
+ghost use Rattle.rules.specs.Reports.{turned, type_number, cash_number};
 
 use units::Money;
 
@@ -195,13 +195,6 @@ pub enum Side {
 }
 
 impl Side {
-    // Its number, the paper's.
-    pub fn number(self) -> u64
-        ensures { result ≡ side_number self }
-    {
-        self as u64
-    }
-
     // The other side.
     #[tactic(auto, unfolding(crate::specs::Reports::turned))]
     pub fn opposite(self) -> Side
@@ -211,6 +204,14 @@ impl Side {
             Side::B => Side::S,
             Side::S => Side::B,
         }
+    }
+}
+
+impl From<Side> for u64 {
+    ghost from_gives = { λ side number. number ≡ side_number side };
+
+    fn from(side: Side) -> u64 {
+        side as u64
     }
 }
 
@@ -237,9 +238,25 @@ pub enum ReportType {
     Cash = 3,
 }
 
+impl From<ReportType> for u64 {
+    ghost from_gives = { λ report_type number. number ≡ type_number report_type };
+
+    fn from(report_type: ReportType) -> u64 {
+        report_type as u64
+    }
+}
+
 // The kinds of cash in a report, by the paper's numbers.
 #[derive(Clone, Copy, PartialEq, Eq, Debug)]
 pub enum CashKind {
     Shanghai = 1,
     Other = 2,
+}
+
+impl From<CashKind> for u64 {
+    ghost from_gives = { λ kind number. number ≡ cash_number kind };
+
+    fn from(kind: CashKind) -> u64 {
+        kind as u64
+    }
 }
