@@ -136,7 +136,7 @@ pub struct Trade {
 }
 
 // The cash of an order, by market.
-#[derive(Clone, Copy, PartialEq, Eq, Debug)]
+#[derive(Clone, Copy, PartialEq, Eq, Debug, Default)]
 pub struct CashByMarket {
     pub shanghai: Money,
     pub other: Money,
