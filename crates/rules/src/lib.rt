@@ -51,7 +51,8 @@ pub struct Rooms {
     pub fund: usize,
 }
 
-// The rooms of lists of so many numbers.
+// The rooms of lists of so many numbers. The lengths come one by one, as C hands them over to the calls that only test: a struct of
+// three lengths would be made for this call alone.
 pub fn rooms_of(records: usize, investor: usize, fund: usize) -> Rooms
     ensures { result ≡ rooms_of records investor fund }
 {
@@ -143,12 +144,12 @@ pub struct CashByMarket {
 }
 
 impl CashByMarket {
-    // All of it, by number, as the definition adds it.
+    // All of it.
     pub fn total(self) -> Money
         requires { all_cash self < 2 ^ 64 }
         ensures { result.0 ≡ all_cash self }
     {
-        Money(self.other.0 + self.shanghai.0)
+        self.other + self.shanghai
     }
 
     // How many reports tell it.
