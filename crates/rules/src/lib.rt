@@ -2,6 +2,7 @@
 #![tactic(auto)]
 
 ghost use Rattle.std.specs.Prelude.{◌≡◌, ◌<◌, ◌^◌};
+ghost use Rattle.layout.specs.Book.{counter};
 ghost use Rattle.rules.specs.Kinds.{all_cash, cash_report_count, ask_of};
 ghost use Rattle.rules.specs.Lent.{rooms_of, rooms_in};
 ghost use Rattle.rules.specs.Lists.{lent_in};
@@ -94,6 +95,13 @@ impl Kind {
         ensures { result ≡ number_of self }
     {
         self as usize
+    }
+
+    // Where an account's stretch counts its units: the counters stand in the order of the kinds.
+    pub fn counter(self) -> usize
+        ensures { result ≡ counter (number_of self) }
+    {
+        layout::COUNTERS + self.number()
     }
 
     // The other kind.
