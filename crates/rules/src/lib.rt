@@ -90,7 +90,7 @@ pub enum Kind {
 }
 
 impl Kind {
-    // Its number, as limits and counters are laid out. No `From`: as a number it is a place alone.
+    // Its place, as limits, counters and the switch's numbers are laid out. No `From`, unlike a side: the paper gives it no number.
     pub fn number(self) -> usize
         ensures { result ≡ number_of self }
     {
@@ -160,13 +160,13 @@ impl CashByMarket {
         self.other + self.shanghai
     }
 
-    // How many reports tell it.
+    // How many reports tell it: one for all cash, none where there is none.
     #[tactic(auto, unfolding(crate::specs::Kinds::cash_report_count))]
     pub fn reports(self) -> usize
         requires { all_cash self < 2 ^ 64 }
         ensures { result ≡ cash_report_count self }
     {
-        if self.total() == Money(0) { 0 } else { 1 }
+        usize::from(self.total() != Money(0))
     }
 }
 
