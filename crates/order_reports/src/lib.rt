@@ -17,8 +17,8 @@ use layout::{Group, Record, Report};
 use rules::{CashByMarket, CashKind, Kind, ReportType, Side};
 use units::Money;
 
-// The group where a report has none: its kind 0 is none of `CashKind`. A report holds what a run may show (`layout::Report`), numbers for
-// type, side and kinds too, and what makes it here (`told`, `cash_report`) takes the enums.
+// The group where a report has none. No `Default` of `layout::Group`: kind 0 is none of `CashKind`, which `layout` does not know. A report
+// has numbers for type, side and kinds, as any run may show (`layout::Report`); what makes it here (`told`, `cash_report`) takes the enums.
 const NO_GROUP: Group = Group {
     kind: 0,
     amount: Money(0),
@@ -29,10 +29,7 @@ const NO_GROUP: Group = Group {
 fn group(kind: CashKind, amount: Money) -> Option<Group>
     ensures { result ≡ group_there (cash_number kind) amount.0 }
 {
-    if amount == Money(0) {
-        return None;
-    }
-    Some(Group {
+    (amount != Money(0)).then_some(Group {
         kind: u64::from(kind),
         amount,
     })
