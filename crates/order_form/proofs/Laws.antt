@@ -25,8 +25,8 @@ use Rattle.rules.specs.declared.Ask.{Ask}
 use Rattle.rules.specs.Orders.{opposite_kind, most_baskets, baskets, whole_baskets, form_checks, switch_allows, number_of, count_of, fund_count, within_limits, permission_checks}
 use Rattle.rules.proofs.SoundDay.{SoundDay}
 use Rattle.rules.proofs.SoundAccount.{head_part}
-use Rattle.order_form.specs.declared.Counts.{Counts}
-use Rattle.order_form.specs.Form.{all_counts, own_counts, within_both, order_form, Countable}
+use Rattle.order_form.specs.declared.Units.{Units}
+use Rattle.order_form.specs.Form.{all_units, own_units, within_both, order_form, Countable}
 
 -- a number of the head of the accounts below an index, summed
 unfoldable pub heads_below : Day → List ℕ → ℕ → ℕ → ℕ
@@ -78,30 +78,30 @@ module _ (d : Day) (b : List ℕ) (q : Countable d b) where
   sum_most Creation = q.created_most
   sum_most Redemption = q.redeemed_most
 
-  pub all_most : (kind : Kind) (all : Counts) → all ≡ all_counts d b kind → all.made ≤ ceiling
-  unfolding all_counts fund_count
-  all_most kind all e = omega (arith, ap (λ (x : Counts). x.made) e, sum_most kind)
+  pub all_most : (kind : Kind) (all : Units) → all ≡ all_units d b kind → all.made ≤ ceiling
+  unfolding all_units fund_count
+  all_most kind all e = omega (arith, ap (λ (x : Units). x.made) e, sum_most kind)
 
-  pub own_most : (kind : Kind) (a : ℕ) (own : Counts) → own ≡ own_counts d b a kind → a < d.accounts → own.made ≤ ceiling
-  unfolding own_counts count_of
-  own_most kind a own e h = omega (arith, ap (λ (x : Counts). x.made) e, head_part d b a h (counter (number_of kind)), sum_most kind)
+  pub own_most : (kind : Kind) (a : ℕ) (own : Units) → own ≡ own_units d b a kind → a < d.accounts → own.made ≤ ceiling
+  unfolding own_units count_of
+  own_most kind a own e h = omega (arith, ap (λ (x : Units). x.made) e, head_part d b a h (counter (number_of kind)), sum_most kind)
 
 -- with an order's units they fit
-pub all_fits : (d : Day) (b : List ℕ) (kind : Kind) (units : ℕ) (all : Counts) → all ≡ all_counts d b kind → Countable d b → units ≤ 1_999_999_980 → all.made + units < 2 ^ 64
+pub all_fits : (d : Day) (b : List ℕ) (kind : Kind) (units : ℕ) (all : Units) → all ≡ all_units d b kind → Countable d b → units ≤ 1_999_999_980 → all.made + units < 2 ^ 64
 all_fits d b kind units all e q h = omega (arith, all_most d b q kind all e)
 
-pub own_fits : (d : Day) (b : List ℕ) (kind : Kind) (a units : ℕ) (own : Counts) → own ≡ own_counts d b a kind → Countable d b → a < d.accounts → units ≤ 1_999_999_980
+pub own_fits : (d : Day) (b : List ℕ) (kind : Kind) (a units : ℕ) (own : Units) → own ≡ own_units d b a kind → Countable d b → a < d.accounts → units ≤ 1_999_999_980
     → own.made + units < 2 ^ 64
 own_fits d b kind a units own e q l h = omega (arith, own_most d b q kind a own e l)
 
--- the counts of one account more
-module _ (d : Day) (b : List ℕ) (kind : Kind) (a : ℕ) (own : Counts) (is : own ≡ own_counts d b a kind) where
+-- the units of one account more
+module _ (d : Day) (b : List ℕ) (kind : Kind) (a : ℕ) (own : Units) (is : own ≡ own_units d b a kind) where
   pub counted : (x y : ℕ) → x ≡ heads_below d b (counter (number_of kind)) a → y ≡ heads_below d b (counter (number_of (opposite_kind kind))) a
       → (x + own.made ≡ heads_below d b (counter (number_of kind)) (a + 1)) × (y + own.reverse ≡ heads_below d b (counter (number_of (opposite_kind kind))) (a + 1))
-  unfolding own_counts count_of
+  unfolding own_units count_of
   counted x y e f = (
-    rw (e, ap (λ (c : Counts). c.made) is) (sym (heads_more d b (counter (number_of kind)) a)),
-    rw (f, ap (λ (c : Counts). c.reverse) is) (sym (heads_more d b (counter (number_of (opposite_kind kind))) a)),
+    rw (e, ap (λ (c : Units). c.made) is) (sym (heads_more d b (counter (number_of kind)) a)),
+    rw (f, ap (λ (c : Units). c.reverse) is) (sym (heads_more d b (counter (number_of (opposite_kind kind))) a)),
   )
 
   -- they fit, as the sums over all do
@@ -113,10 +113,10 @@ module _ (d : Day) (b : List ℕ) (kind : Kind) (a : ℕ) (own : Counts) (is : o
         omega (arith, more.1, heads_grow d b (counter (number_of (opposite_kind kind))) (a + 1) (omega arith), sum_most d b q (opposite_kind kind)),
       )
 
--- past the last account they are the counts of all
-pub counted_all : (d : Day) (b : List ℕ) (kind : Kind) (a : ℕ) (all : Counts) → a ≡ d.accounts → all.made ≡ heads_below d b (counter (number_of kind)) a
-    → all.reverse ≡ heads_below d b (counter (number_of (opposite_kind kind))) a → all ≡ all_counts d b kind
-unfolding all_counts fund_count heads_below head_total
+-- past the last account they are the units of all
+pub counted_all : (d : Day) (b : List ℕ) (kind : Kind) (a : ℕ) (all : Units) → a ≡ d.accounts → all.made ≡ heads_below d b (counter (number_of kind)) a
+    → all.reverse ≡ heads_below d b (counter (number_of (opposite_kind kind))) a → all ≡ all_units d b kind
+unfolding all_units fund_count heads_below head_total
 counted_all d b kind a all e p q = let m = rw e at p in let r = rw e at q in λ j. record { made = m j; reverse = r j }
 
 -- five tests all pass, in the code's order
@@ -125,10 +125,10 @@ unfolding every
 sorted a b c d e = grind (arith, common_steps)
 
 -- the limits are those of all accounts, with the ceiling, and of the account
-pub limits_are : (d : Day) (b : List ℕ) (ask : Ask) (all own : Counts) → all ≡ all_counts d b ask.kind → own ≡ own_counts d b ask.account ask.kind
+pub limits_are : (d : Day) (b : List ℕ) (ask : Ask) (all own : Units) → all ≡ all_units d b ask.kind → own ≡ own_units d b ask.account ask.kind
     → (wide under : Bool) → wide ≡ within_both d all ask cumulative_limit net_limit → under ≡ leb (all.made + ask.units) ceiling
     → ((wide && under) && within_both d own ask cumulative_limit_each net_limit_each) ≡ within_limits d b ask.kind ask.account ask.units
-unfolding within_limits within_both all_counts own_counts
+unfolding within_limits within_both all_units own_units
 limits_are d b ask all own ea eo wide under ew eu = rw (ew, eu, ea, eo) (sorted _ _ _ _ _)
 
 -- the tests look at no component

@@ -1,4 +1,4 @@
--- The first two stages of an order, 8 and 11, 12 and 13: the counts that the limits look at, and the tests.
+-- The first two stages of an order, 8 and 11, 12 and 13: the units that the limits look at, and the tests.
 use Rattle.std.specs.Prelude.{ℕ, ◌+◌, ◌-◌, ◌*◌, ◌≤◌, ◌<◌, ◌≡◌, Bool, ◌&&◌, List, ◌++◌, length}
 use Rattle.sequences.specs.Checks.{Check}
 use Rattle.layout.specs.Places.{most_components}
@@ -8,17 +8,17 @@ use Rattle.fund.specs.Fund.{ceiling}
 use Rattle.rules.specs.declared.Kind.{Kind}
 use Rattle.rules.specs.declared.Ask.{Ask}
 use Rattle.rules.specs.Orders.{opposite_kind, limit_for, within_limit, count_of, fund_count, form_checks, permission_checks}
-use Rattle.order_form.specs.declared.Counts.{Counts}
+use Rattle.order_form.specs.declared.Units.{Units}
 
--- the counts of units of a kind and of the other kind: of all accounts, and of one
-unfoldable pub all_counts : Day → List ℕ → Kind → Counts
-all_counts d b kind = record { made = fund_count d b kind; reverse = fund_count d b (opposite_kind kind) }
+-- the units counted of a kind and of the other kind: of all accounts, and of one
+unfoldable pub all_units : Day → List ℕ → Kind → Units
+all_units d b kind = record { made = fund_count d b kind; reverse = fund_count d b (opposite_kind kind) }
 
-unfoldable pub own_counts : Day → List ℕ → ℕ → Kind → Counts
-own_counts d b a kind = record { made = count_of d b kind a; reverse = count_of d b (opposite_kind kind) a }
+unfoldable pub own_units : Day → List ℕ → ℕ → Kind → Units
+own_units d b a kind = record { made = count_of d b kind a; reverse = count_of d b (opposite_kind kind) a }
 
 -- after an order's units they pass neither a limit on them nor one on their net
-unfoldable pub within_both : Day → Counts → Ask → ℕ → ℕ → Bool
+unfoldable pub within_both : Day → Units → Ask → ℕ → ℕ → Bool
 within_both d c ask limit net =
     within_limit (limit_for d limit ask.kind) (c.made + ask.units) && within_limit (limit_for d net ask.kind) (c.made + ask.units - c.reverse)
 

@@ -7,7 +7,7 @@ ghost use Rattle.fund.specs.Fund.{limit_number};
 ghost use Rattle.layout.specs.Day.{day_of};
 ghost use Rattle.rules.specs.Orders.{limit_for, within_limits};
 ghost use Rattle.rules.specs.Replies.{answer_reply};
-ghost use Rattle.order_form.specs.Form.{all_counts, own_counts, within_both, order_form, Countable};
+ghost use Rattle.order_form.specs.Form.{all_units, own_units, within_both, order_form, Countable};
 
 use fund::Limit;
 use layout::DayHead;
@@ -15,36 +15,34 @@ use rules::{Ask, Kind, Refusal};
 
 // Units of an order's kind, and of the other kind, on this day.
 #[derive(Clone, Copy, Default)]
-struct Counts {
+struct Units {
     made: u64,
     reverse: u64,
 }
 
-// The counts of one account. `Countable` stands in four contracts, since head and book come from the caller apart: a struct of both
+// The units of one account. `Countable` stands in four contracts, since head and book come from the caller apart: a struct of both
 // would be made for each order only to carry it.
-#[tactic(auto, unfolding(crate::specs::Form::own_counts, rules::specs::Orders::count_of))]
-fn counts_of(head: &DayHead, book: &[u64], a: usize, kind: Kind) -> Counts
+#[tactic(auto, unfolding(crate::specs::Form::own_units, rules::specs::Orders::count_of))]
+fn units_of(head: &DayHead, book: &[u64], a: usize, kind: Kind) -> Units
     requires { Countable (day_of head.now []) book.now × (a < head.now.accounts) }
-    ensures { result ≡ own_counts (day_of head.now []) book.now a kind }
+    ensures { result ≡ own_units (day_of head.now []) book.now a kind }
 {
     let w = layout::width_of(head.count);
-    let at = layout::COUNTERS + kind.number();
-    let back = layout::COUNTERS + kind.opposite().number();
-    Counts {
-        made: book::head_of(book, w, a, at),
-        reverse: book::head_of(book, w, a, back),
+    Units {
+        made: book::head_of(book, w, a, kind.counter()),
+        reverse: book::head_of(book, w, a, kind.opposite().counter()),
     }
 }
 
-// The counts of all accounts together, which are read by number: the one account of an order is read in the same way.
+// The units of all accounts together, which are read by number: the one account of an order is read in the same way.
 #[tactic(auto, using(crate::proofs::Laws::heads_none, crate::proofs::Laws::counted, crate::proofs::Laws::counted_fits))]
-fn counts_of_all(head: &DayHead, book: &[u64], kind: Kind) -> Counts
+fn units_of_all(head: &DayHead, book: &[u64], kind: Kind) -> Units
     requires { Countable (day_of head.now []) book.now }
-    ensures { result ≡ all_counts (day_of head.now []) book.now kind }
+    ensures { result ≡ all_units (day_of head.now []) book.now kind }
 {
-    let mut all = Counts::default();
+    let mut all = Units::default();
     for a in 0..head.accounts {
-        let own = counts_of(head, book, a, kind);
+        let own = units_of(head, book, a, kind);
         all.made += own.made;
         all.reverse += own.reverse;
     }
@@ -59,17 +57,17 @@ fn limit_of(head: &DayHead, limit: Limit, kind: Kind) -> u64
     head.fund.limits[2 * limit.number() + kind.number()]
 }
 
-// Whether the counts after an order's units pass neither a limit on them nor one on their net.
+// Whether the units counted, with an order's, pass neither a limit on them nor one on their net.
 #[tactic(auto, unfolding(crate::specs::Form::within_both))]
-fn within_both(head: &DayHead, c: Counts, ask: Ask, limit: Limit, net_limit: Limit) -> bool
-    requires { c.made + ask.units < 2 ^ 64 }
-    ensures { result ≡ within_both (day_of head.now []) c ask (limit_number limit) (limit_number net_limit) }
+fn within_both(head: &DayHead, counted: Units, ask: Ask, limit: Limit, net_limit: Limit) -> bool
+    requires { counted.made + ask.units < 2 ^ 64 }
+    ensures { result ≡ within_both (day_of head.now []) counted ask (limit_number limit) (limit_number net_limit) }
 {
-    let after = c.made + ask.units;
+    let after = counted.made + ask.units;
     ranges::within_limit(limit_of(head, limit, ask.kind), after)
         && ranges::within_limit(
             limit_of(head, net_limit, ask.kind),
-            after.saturating_sub(c.reverse),
+            after.saturating_sub(counted.reverse),
         )
 }
 
@@ -80,8 +78,8 @@ fn limits_held(head: &DayHead, book: &[u64], ask: Ask) -> bool
     requires units_bound { (ask.account < head.now.accounts) × (ask.units ≤ 1_999_999_980) }
     ensures { result ≡ within_limits (day_of head.now []) book.now ask.kind ask.account ask.units }
 {
-    let all = counts_of_all(head, book, ask.kind);
-    let own = counts_of(head, book, ask.account, ask.kind);
+    let all = units_of_all(head, book, ask.kind);
+    let own = units_of(head, book, ask.account, ask.kind);
     within_both(head, all, ask, Limit::Cumulative, Limit::Net)
         && all.made + ask.units <= fund::CEILING
         && within_both(head, own, ask, Limit::CumulativeEach, Limit::NetEach)

@@ -33,12 +33,6 @@ pub enum Line {
     Amount(CashByMarket),
 }
 
-// No cash. A constant and no `Default`: `..NO_CASH` says what stands there.
-pub const NO_CASH: CashByMarket = CashByMarket {
-    shanghai: Money(0),
-    other: Money(0),
-};
-
 // A component in an order of so many baskets, both in the ranges under which no number of a line wraps.
 #[derive(Clone, Copy)]
 pub struct Part {
@@ -70,12 +64,12 @@ impl Part {
         if self.entry(Column::Shanghai) {
             CashByMarket {
                 shanghai: cash,
-                ..NO_CASH
+                ..CashByMarket::default()
             }
         } else {
             CashByMarket {
                 other: cash,
-                ..NO_CASH
+                ..CashByMarket::default()
             }
         }
     }

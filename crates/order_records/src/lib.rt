@@ -19,7 +19,7 @@ pub fn record_of(code: u64, side: Side, quantity: u64, price: Money) -> Record
 {
     Record {
         code,
-        side: side.number(),
+        side: u64::from(side),
         quantity,
         price,
         amount: Money(quantity * price.0),

@@ -17,8 +17,8 @@ use layout::{Group, Record, Report};
 use rules::{CashByMarket, CashKind, Kind, ReportType, Side};
 use units::Money;
 
-// The group where a report has none: its kind 0 is none of `CashKind`. A report holds what a run may show (`layout::Report`), numbers for
-// type, side and kinds too, and what makes it here (`told`, `cash_report`) takes the enums.
+// The group where a report has none. No `Default` of `layout::Group`: kind 0 is none of `CashKind`, which `layout` does not know. A report
+// has numbers for type, side and kinds, as any run may show (`layout::Report`); what makes it here (`told`, `cash_report`) takes the enums.
 const NO_GROUP: Group = Group {
     kind: 0,
     amount: Money(0),
@@ -29,11 +29,8 @@ const NO_GROUP: Group = Group {
 fn group(kind: CashKind, amount: Money) -> Option<Group>
     ensures { result ≡ group_there (cash_number kind) amount.0 }
 {
-    if amount == Money(0) {
-        return None;
-    }
-    Some(Group {
-        kind: kind as u64,
+    (amount != Money(0)).then_some(Group {
+        kind: u64::from(kind),
         amount,
     })
 }
@@ -43,8 +40,8 @@ fn told(report_type: ReportType, side: Side, r: Record) -> Report
     ensures { result ≡ told (type_number report_type) (side_number side) r }
 {
     Report {
-        report_type: report_type as u64,
-        side: side.number(),
+        report_type: u64::from(report_type),
+        side: u64::from(side),
         code: r.code,
         quantity: r.quantity,
         first: NO_GROUP,
@@ -60,8 +57,8 @@ fn cash_report(side: Side, cash: CashByMarket) -> Report
     let shanghai = group(CashKind::Shanghai, cash.shanghai);
     let other = group(CashKind::Other, cash.other);
     Report {
-        report_type: ReportType::Cash as u64,
-        side: side.number(),
+        report_type: u64::from(ReportType::Cash),
+        side: u64::from(side),
         code: 0,
         quantity: 0,
         first: shanghai.or(other).unwrap_or(NO_GROUP),

@@ -7,7 +7,7 @@ ghost use Rattle.layout.specs.Places.{most_components};
 ghost use Rattle.rules.specs.Creation.{available};
 ghost use Rattle.rules.specs.Kinds.{all_cash, by_kind};
 ghost use Rattle.order_lines.specs.Lines.{worth_in, effect_of};
-ghost use Rattle.order_scan.specs.Lines.{held_of, stock_count, with_missing, with_cash, with_line, no_lines, cash_count, scan_counts};
+ghost use Rattle.order_scan.specs.Lines.{held_of, stock_count, with_missing, with_cash, with_line, cash_count, scan_counts};
 ghost use Rattle.order_scan.specs.Scans.{order_scan};
 ghost use Rattle.order_scan.specs.Ready.{Room, Scannable};
 
@@ -50,7 +50,7 @@ impl<'a> Parties<'a> {
 }
 
 // What an order of m baskets makes of the basket.
-#[derive(Clone, Copy)]
+#[derive(Clone, Copy, Default)]
 pub struct Scan {
     // The first component of which there is not enough.
     pub short: Option<usize>,
@@ -60,14 +60,6 @@ pub struct Scan {
     // How many components have stock moved.
     pub stock_records: usize,
 }
-
-// The scan of no component. A `Default` would be this by hand, since `CashByMarket` has none to derive it from.
-const NO_LINES: Scan = Scan {
-    short: None,
-    missing: None,
-    cash: order_lines::NO_CASH,
-    stock_records: 0,
-};
 
 // What an account can hand in of a line. That the line lies in the stretch is a clause, here and in `held_at`: a stretch is lent as the
 // slice that it is.
@@ -140,11 +132,12 @@ fn with_line(t: Scan, i: usize, line: Line) -> Scan
 }
 
 // An order of m baskets between the two parties.
+#[tactic(auto, using(crate::proofs::Lines::scan_none))]
 pub fn order_scan(kind: Kind, day: &DayView, parties: &Parties, prices: &[u64], m: u64) -> Scan
     requires { Scannable day.now parties.now.account.now parties.now.fund.now prices.now m }
     ensures { result ≡ order_scan kind day.now parties.now.account.now parties.now.fund.now prices.now m }
 {
-    let mut t = NO_LINES;
+    let mut t = Scan::default();
     for (i, price) in prices.iter().enumerate() {
         let part = Part {
             component: day.component(i),

@@ -34,8 +34,7 @@ fn fund_head(kind: Kind, stretch: &mut [u64], c: Money)
     stretch[layout::CASH] = cash_after(kind.opposite(), stretch[layout::CASH], c);
 }
 
-// The account's part of an order beside its stock: units, which go the opposite way to stock, cash and counter. `line` is the unit's;
-// the counters stand in the order of the kinds.
+// The account's part of an order beside its stock: units, which go the opposite way to stock, cash and counter. `line` is the unit's.
 #[tactic(auto, using(crate::proofs::Laws::rest_laws), unfolding(layout::specs::Book::head_at, layout::specs::Book::put_head, layout::specs::Book::on_line, book::specs::Moved::rest_of))]
 fn account_rest(kind: Kind, stretch: &mut [u64], line: usize, units: u64, c: Money)
     requires { AccountRest kind line stretch.old units c.0 }
@@ -44,7 +43,7 @@ fn account_rest(kind: Kind, stretch: &mut [u64], line: usize, units: u64, c: Mon
     let x = layout::lots_at(stretch, line);
     let y = book::account_lots(kind.opposite(), x, units);
     layout::put_lots(stretch, line, y);
-    let counter = layout::COUNTERS + kind.number();
+    let counter = kind.counter();
     let count = stretch[counter] + units;
     stretch[layout::CASH] = cash_after(kind, stretch[layout::CASH], c);
     stretch[counter] = count;

@@ -2,12 +2,13 @@
 #![tactic(auto)]
 
 ghost use Rattle.std.specs.Prelude.{◌≡◌, ◌<◌, ◌^◌};
+ghost use Rattle.layout.specs.Book.{counter};
 ghost use Rattle.rules.specs.Kinds.{all_cash, cash_report_count, ask_of};
 ghost use Rattle.rules.specs.Lent.{rooms_of, rooms_in};
 ghost use Rattle.rules.specs.Lists.{lent_in};
 ghost use Rattle.rules.specs.Orders.{number_of, opposite_kind};
 ghost use Rattle.rules.specs.Records.{side_number, side_at};
-ghost use Rattle.rules.specs.Reports.{turned};
+ghost use Rattle.rules.specs.Reports.{turned, type_number, cash_number};
 
 use units::Money;
 
@@ -51,7 +52,8 @@ pub struct Rooms {
     pub fund: usize,
 }
 
-// The rooms of lists of so many numbers.
+// The rooms of lists of so many numbers. The lengths come one by one, as C hands them over to the calls that only test: a struct of
+// three lengths would be made for this call alone.
 pub fn rooms_of(records: usize, investor: usize, fund: usize) -> Rooms
     ensures { result ≡ rooms_of records investor fund }
 {
@@ -88,11 +90,18 @@ pub enum Kind {
 }
 
 impl Kind {
-    // Its number, as limits and counters are laid out. No `From`: as a number it is a place alone.
+    // Its place, as limits, counters and the switch's numbers are laid out. No `From`, unlike a side: the paper gives it no number.
     pub fn number(self) -> usize
         ensures { result ≡ number_of self }
     {
         self as usize
+    }
+
+    // Where an account's stretch counts its units: the counters stand in the order of the kinds.
+    pub fn counter(self) -> usize
+        ensures { result ≡ counter (number_of self) }
+    {
+        layout::COUNTERS + self.number()
     }
 
     // The other kind.
@@ -136,28 +145,28 @@ pub struct Trade {
 }
 
 // The cash of an order, by market.
-#[derive(Clone, Copy, PartialEq, Eq, Debug)]
+#[derive(Clone, Copy, PartialEq, Eq, Debug, Default)]
 pub struct CashByMarket {
     pub shanghai: Money,
     pub other: Money,
 }
 
 impl CashByMarket {
-    // All of it, by number, as the definition adds it.
+    // All of it.
     pub fn total(self) -> Money
         requires { all_cash self < 2 ^ 64 }
         ensures { result.0 ≡ all_cash self }
     {
-        Money(self.other.0 + self.shanghai.0)
+        self.other + self.shanghai
     }
 
-    // How many reports tell it.
+    // How many reports tell it: one for all cash, none where there is none.
     #[tactic(auto, unfolding(crate::specs::Kinds::cash_report_count))]
     pub fn reports(self) -> usize
         requires { all_cash self < 2 ^ 64 }
         ensures { result ≡ cash_report_count self }
     {
-        if self.total() == Money(0) { 0 } else { 1 }
+        usize::from(self.total() != Money(0))
     }
 }
 
@@ -195,13 +204,6 @@ pub enum Side {
 }
 
 impl Side {
-    // Its number, the paper's.
-    pub fn number(self) -> u64
-        ensures { result ≡ side_number self }
-    {
-        self as u64
-    }
-
     // The other side.
     #[tactic(auto, unfolding(crate::specs::Reports::turned))]
     pub fn opposite(self) -> Side
@@ -211,6 +213,14 @@ impl Side {
             Side::B => Side::S,
             Side::S => Side::B,
         }
+    }
+}
+
+impl From<Side> for u64 {
+    ghost from_gives = { λ side number. number ≡ side_number side };
+
+    fn from(side: Side) -> u64 {
+        side as u64
     }
 }
 
@@ -237,9 +247,25 @@ pub enum ReportType {
     Cash = 3,
 }
 
+impl From<ReportType> for u64 {
+    ghost from_gives = { λ report_type number. number ≡ type_number report_type };
+
+    fn from(report_type: ReportType) -> u64 {
+        report_type as u64
+    }
+}
+
 // The kinds of cash in a report, by the paper's numbers.
 #[derive(Clone, Copy, PartialEq, Eq, Debug)]
 pub enum CashKind {
     Shanghai = 1,
     Other = 2,
+}
+
+impl From<CashKind> for u64 {
+    ghost from_gives = { λ kind number. number ≡ cash_number kind };
+
+    fn from(kind: CashKind) -> u64 {
+        kind as u64
+    }
 }

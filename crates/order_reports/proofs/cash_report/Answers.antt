@@ -8,4 +8,4 @@ returns c =
     let first = rw (c.group-shanghai.ensures, c.group-other.ensures) at c.or.ensures in
     let second = rw (c.group-shanghai.ensures, c.group-other.ensures) at c.and.ensures in
     let groups = groups_there a.other.0 a.shanghai.0 _ _ first second in
-    rw (c.number.ensures, c.unwrap_or.ensures, c.unwrap_or-2.ensures, groups.0, groups.1, groups.2)
+    rw (c.from.ensures, c.from-2.ensures, c.unwrap_or.ensures, c.unwrap_or-2.ensures, groups.0, groups.1, groups.2)
