@@ -8,12 +8,14 @@ pub trait Mark: Copy + PartialEq {
     fn mark(place: usize) -> Self;
 }
 
+// Place k holds k + 1, which the outputs that are expected say. No run is so long that `min` matters: it bounds the sum.
 impl Mark for u64 {
     fn mark(place: usize) -> u64 {
         place.min(999_999) as u64 + 1
     }
 }
 
+// The largest prime that a byte can hold, so that marks repeat at no width of a line.
 impl Mark for u8 {
     fn mark(place: usize) -> u8 {
         (place % 251) as u8
@@ -24,7 +26,7 @@ impl Mark for u8 {
 pub fn marked<T: Mark>(alloc: Global, length: usize) -> Result<Vec<T>, AllocError>
     ensures { IfOk result (λ run. vec_len run ≡ length) }
 {
-    (0..length).map(|place| T::mark(place)).collect(alloc)
+    (0..length).map(T::mark).collect(alloc)
 }
 
 // The first place from one on that no longer has its mark.
