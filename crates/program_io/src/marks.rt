@@ -26,7 +26,7 @@ impl Mark for u8 {
 pub fn marked<T: Mark>(alloc: Global, length: usize) -> Result<Vec<T>, AllocError>
     ensures { IfOk result (λ run. vec_len run ≡ length) }
 {
-    (0..length).map(T::mark).collect(alloc)
+    (0..length).map(|place| T::mark(place)).collect(alloc)
 }
 
 // The first place from one on that no longer has its mark.
