@@ -7,9 +7,6 @@ use program_io::items::{Item, split};
 // Behind it stand the components, and then the holdings, or the book and the prices.
 pub const HEAD: usize = 1 + layout::BASKET_FROM + 3;
 
-// Where the fund stands in a day's run, behind accounts and count.
-const FUND: usize = 2;
-
 // How long a book and prices are.
 #[derive(Clone, Copy)]
 pub struct Lengths {
@@ -41,7 +38,10 @@ impl<'a> TryFrom<&'a Item> for Given<'a> {
         let [row, day @ .., components, book, prices] = head else {
             return Err(Fault::BadInput);
         };
-        let [accounts, count, _, _, _, _, 0 | 1, size, ..] = day else {
+        let [accounts, count, fund @ ..] = day else {
+            return Err(Fault::BadInput);
+        };
+        let [_, _, _, _, 0 | 1, size, ..] = fund else {
             return Err(Fault::BadInput);
         };
         let (components, rest) = split(body, *components as usize)?;
@@ -52,7 +52,7 @@ impl<'a> TryFrom<&'a Item> for Given<'a> {
             row: *row,
             accounts: *accounts as usize,
             count: *count as usize,
-            fund: layout::fund_of(day, FUND),
+            fund: layout::fund_of(fund, 0),
             day,
             components,
             lengths: Lengths {

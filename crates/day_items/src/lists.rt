@@ -23,6 +23,11 @@ impl ListLengths {
             fund: fund as usize,
         }
     }
+
+    // Whether none is longer than so many numbers of records, or of reports.
+    pub fn is_within(self, records: usize, reports: usize) -> bool {
+        self.records <= records && self.investor <= reports && self.fund <= reports
+    }
 }
 
 #[derive(Drop)]

@@ -23,26 +23,6 @@ pub trait Caller: Default + Drop {
     ) -> Result<(), Fault>;
 }
 
-// What an item says: an opening, a state, or what is a program's own.
-#[derive(Drop)]
-enum Said<'a> {
-    Opening(Given<'a>),
-    State(Given<'a>),
-    Own,
-}
-
-impl<'a> TryFrom<&'a Item> for Said<'a> {
-    type Error = Fault;
-
-    fn try_from(item: &'a Item) -> Result<Said<'a>, Fault> {
-        match item.tag {
-            1 => Ok(Said::Opening(Given::try_from(item)?)),
-            3 => Ok(Said::State(Given::try_from(item)?)),
-            _ => Ok(Said::Own),
-        }
-    }
-}
-
 #[derive(Drop)]
 pub struct Replay<C> {
     session: Session,
@@ -59,16 +39,16 @@ impl<C: Caller> Player for Replay<C> {
     }
 
     fn obey<W: Write>(&mut self, item: &Item, out: &mut W) -> Result<(), Fault> {
-        match Said::try_from(item)? {
-            Said::Opening(given) => {
+        match item.tag {
+            1 => {
                 self.caller = C::default();
-                self.session.open(&given, out)
+                self.session.open(&Given::try_from(item)?, out)
             }
-            Said::State(given) => {
+            3 => {
                 self.caller = C::default();
-                self.session.set(&given, out)
+                self.session.set(&Given::try_from(item)?, out)
             }
-            Said::Own => self.caller.obey(&mut self.session, item, out),
+            _ => self.caller.obey(&mut self.session, item, out),
         }
     }
 }

@@ -19,6 +19,28 @@ pub struct Session {
     longest: Lengths,
 }
 
+// A book and prices of their own, copied from a session, so that calls leave its own as they were.
+#[derive(Drop)]
+pub struct Kept {
+    pub book: Vec<u64>,
+    pub prices: Vec<u64>,
+}
+
+impl Kept {
+    pub fn new(session: &Session) -> Result<Kept, AllocError> {
+        let book = session.book.clone()?;
+        let prices = session.prices.clone()?;
+        Ok(Kept { book, prices })
+    }
+
+    // Leaves them to a session as its own.
+    pub fn leave(self, session: &mut Session) {
+        let Kept { book, prices } = self;
+        session.book = book;
+        session.prices = prices;
+    }
+}
+
 impl Session {
     // The blank day, with no book and no prices.
     pub fn new(alloc: Global, longest: Lengths) -> Result<Session, AllocError> {

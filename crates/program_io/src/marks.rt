@@ -8,12 +8,14 @@ pub trait Mark: Copy + PartialEq {
     fn mark(place: usize) -> Self;
 }
 
+// Place k holds k + 1, which the outputs that are expected say. No run is so long that `min` matters: it bounds the sum.
 impl Mark for u64 {
     fn mark(place: usize) -> u64 {
         place.min(999_999) as u64 + 1
     }
 }
 
+// The largest prime that a byte can hold, so that marks repeat at no width of a line.
 impl Mark for u8 {
     fn mark(place: usize) -> u8 {
         (place % 251) as u8

@@ -16,7 +16,7 @@ pub trait Player: Drop {
     fn obey<W: Write>(&mut self, item: &Item, out: &mut W) -> Result<(), Fault>;
 }
 
-// Obeys items to the last, or to the first that is malformed. No input has more of them than are taken.
+// Obeys items to the last, or to the first that is malformed. `take` makes the turns finite; no input has as many items.
 fn obey_all<P: Player, R: Read + Drop, W: Write>(
     player: &mut P,
     items: Items<R>,
@@ -38,15 +38,16 @@ pub fn play<P: Player, R: Read + Drop, W: Write + Drop>(
     let mut player = P::new(alloc)?;
     let items = Items::new(alloc, input, P::MOST_NUMBERS)?;
     let mut out = BufWriter::new(alloc, output)?;
-    let played = obey_all(&mut player, items, &mut out);
-    if let Err(Fault::BadInput) = played {
-        let _ = writeln!(out, "{}", Fault::BadInput);
-    }
-    let _ = out.flush();
-    match played {
+    let ended = match obey_all(&mut player, items, &mut out) {
         Err(fault @ Fault::Memory(_)) => Err(fault),
-        _ => Ok(()),
-    }
+        Err(fault @ Fault::BadInput) => {
+            let _ = writeln!(out, "{fault}");
+            Ok(())
+        }
+        Ok(()) | Err(Fault::Io(_)) => Ok(()),
+    };
+    let _ = out.flush();
+    ended
 }
 
 // Plays standard input.

@@ -1,9 +1,9 @@
 // Calls: each is made and its reply printed; what was lent to one that is refused or only reads is compared with what it was.
-use crate::kept::Kept;
+use crate::kept;
 use crate::order_items::Order;
 use answers::Numbers;
 use day_items::replies;
-use day_items::session::Session;
+use day_items::session::{Kept, Session};
 use program_io::fault::Fault;
 use program_io::items::Item;
 use rules::{Kind, Trade};
@@ -81,7 +81,7 @@ impl Call {
     pub fn make<W: Write>(&self, session: &mut Session, out: &mut W) -> Result<Kept, Fault> {
         let kept = Kept::new(session)?;
         if self.carry_out(session, out)? {
-            kept.print_same(session, out)?;
+            kept::print_same(&kept, session, out)?;
         }
         Ok(kept)
     }

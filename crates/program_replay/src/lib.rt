@@ -26,27 +26,6 @@ const MOST_BOOK: usize = MOST_ACCOUNTS * layout::MOST_WIDTH;
 
 const MOST_PRICES: usize = layout::MOST_COMPONENTS + 100;
 
-// What an item says beside the openings and the states on which calls go on.
-#[derive(Drop)]
-enum Said<'a> {
-    // A state on which each call is made anew.
-    StateAnew(Given<'a>),
-    Show,
-    Call(Call),
-}
-
-impl<'a> TryFrom<&'a Item> for Said<'a> {
-    type Error = Fault;
-
-    fn try_from(item: &'a Item) -> Result<Said<'a>, Fault> {
-        match item.tag {
-            2 => Ok(Said::StateAnew(Given::try_from(item)?)),
-            9 => Ok(Said::Show),
-            _ => Ok(Said::Call(Call::try_from(item)?)),
-        }
-    }
-}
-
 // Whether calls go on from what those before them left, or each is made on the state anew. An earlier item says which, so that a
 // value keeps it: a closure would be a boxed one.
 #[derive(Default, Drop)]
@@ -67,7 +46,7 @@ impl Calls {
         let kept = call.make(session, out)?;
         match self {
             Calls::InOrder => Ok(()),
-            Calls::Anew => Ok(kept.put_back(session, out)?),
+            Calls::Anew => Ok(kept::put_back(kept, session, out)?),
         }
     }
 }
@@ -86,13 +65,13 @@ impl Caller for Calls {
         item: &Item,
         out: &mut W,
     ) -> Result<(), Fault> {
-        match Said::try_from(item)? {
-            Said::StateAnew(given) => {
+        match item.tag {
+            2 => {
                 *self = Calls::Anew;
-                session.set(&given, out)
+                session.set(&Given::try_from(item)?, out)
             }
-            Said::Show => Ok(show(session, out)?),
-            Said::Call(call) => self.make(session, call, out),
+            9 => Ok(show(session, out)?),
+            _ => self.make(session, Call::try_from(item)?, out),
         }
     }
 }

@@ -40,7 +40,8 @@ fn put_records(flat: &mut [u64], records: &[Record]) {
     }
 }
 
-// Each list with its word, and how many of its numbers so many records and reports take.
+// Each list with its word, and how many of its numbers so many records and reports take: an order that is accepted has room for them,
+// but no contract of a program says so, and `saturating_mul` and `min` stand for it.
 fn ends(lists: &OwnedLists, counts: Counts) -> [(&'static str, &[u64], usize); 3] {
     let records = counts.records.saturating_mul(layout::RECORD_WIDTH);
     let reports = counts.reports.saturating_mul(layout::REPORT_WIDTH);
@@ -77,13 +78,7 @@ fn print_lists<W: Write>(
 ) -> io::Result<()> {
     match answer {
         Ok(counts) => print_written(lists, counts, out),
-        Err(_) => {
-            let none = Counts {
-                records: 0,
-                reports: 0,
-            };
-            print_rest(lists, none, out)
-        }
+        Err(_) => print_rest(lists, Counts { records: 0, reports: 0 }, out),
     }
 }
 
@@ -102,11 +97,11 @@ impl Order {
     // The same, with lists that there is room for.
     pub fn with_room(kind: Kind, numbers: &[u64]) -> Result<Order, Fault> {
         let order = Order::new(kind, numbers)?;
-        let lengths = order.lengths;
-        if MOST_RECORDS < lengths.records || MOST_REPORTS < lengths.investor.max(lengths.fund) {
-            return Err(Fault::BadInput);
+        if order.lengths.is_within(MOST_RECORDS, MOST_REPORTS) {
+            Ok(order)
+        } else {
+            Err(Fault::BadInput)
         }
-        Ok(order)
     }
 
     // No `Display` of `Kind`: these are this program's words.
@@ -117,7 +112,7 @@ impl Order {
         }
     }
 
-    // What its tests alone answer.
+    // What its tests alone answer, by the paper's two calls, so that the program runs both.
     pub fn tested(&self, session: &Session) -> Result<Counts, Refusal> {
         let (day, book, prices) = (&session.day, &session.book, &session.prices);
         let lengths = self.lengths;

@@ -52,7 +52,9 @@ impl<'a> List<'a> {
         let [row, room, components, names, body @ ..] = numbers else {
             return Err(Fault::BadInput);
         };
-        let (given, behind) = split(body, fields::WIDTH)?;
+        let Some((given, behind)) = body.split_first_chunk::<{ fields::WIDTH }>() else {
+            return Err(Fault::BadInput);
+        };
         let (components, behind) = split(behind, *components as usize)?;
         let (names, letters) = split(behind, *names as usize)?;
         if MOST_NAMES < names.len() || MOST_LETTERS < letters.len() {
@@ -61,7 +63,7 @@ impl<'a> List<'a> {
         Ok(List {
             row: *row,
             room: *room as usize,
-            fields: given.try_into().map_err(|_| Fault::BadInput)?,
+            fields: *given,
             components,
             names: bytes::of_numbers(alloc, names)?,
             letters: bytes::of_numbers(alloc, letters)?,
@@ -71,10 +73,8 @@ impl<'a> List<'a> {
     // Whether the names and the letters of the text are those of the list.
     fn is_named(&self, alloc: Global, back: &ReadText<'_>) -> Result<bool, AllocError> {
         let is_lettered = back.letters() == self.letters.as_slice();
-        match back.names().join(alloc)? {
-            Some(joined) => Ok(joined.as_slice() == self.names.as_slice() && is_lettered),
-            None => Ok(false),
-        }
+        let joined = back.names().join(alloc)?;
+        Ok(is_lettered && joined.is_some_and(|names| names.as_slice() == self.names.as_slice()))
     }
 
     // Fields that no run holds differ from the first on.
@@ -115,7 +115,7 @@ impl<'a> List<'a> {
         }
     }
 
-    // What was written, and that it is read back.
+    // What was written, and that it is read back. Writing answers no more than the output has; `split` stands for a contract of it.
     fn print_written<W: Write>(
         &self,
         alloc: Global,

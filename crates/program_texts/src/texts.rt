@@ -30,7 +30,7 @@ impl Reading {
         }
     }
 
-    // Reads a text into a run that holds other numbers.
+    // Reads a text into a run that holds other numbers. The count that reading answers is at most 300; `saturating_mul` stands for that.
     pub fn read<W: Write>(&self, alloc: Global, text: &[u8], out: &mut W) -> Result<(), Fault> {
         if crate::MOST_RUN < self.room {
             return Err(Fault::BadInput);

@@ -1,6 +1,6 @@
 // The runs that the driver writes, and how they are printed and compared.
 use day_items::lists::{ListLengths, OwnedLists};
-use day_items::session::Session;
+use day_items::session::{Kept, Session};
 use driver_rows::Work;
 use program_io::fault::Fault;
 use program_io::items::Item;
@@ -27,16 +27,13 @@ pub struct Batch<'a> {
 }
 
 impl<'a> Batch<'a> {
-    // The same, with runs that there is room for.
+    // This batch, where there is room for its runs.
     fn in_room(self) -> Result<Batch<'a>, Fault> {
-        let lengths = self.lengths;
-        if MOST_RECORDS < lengths.records
-            || MOST_REPORTS < lengths.investor.max(lengths.fund)
-            || MOST_ANSWERS < self.answers
-        {
-            return Err(Fault::BadInput);
+        if self.lengths.is_within(MOST_RECORDS, MOST_REPORTS) && self.answers <= MOST_ANSWERS {
+            Ok(self)
+        } else {
+            Err(Fault::BadInput)
         }
-        Ok(self)
     }
 }
 
@@ -58,8 +55,7 @@ impl<'a> TryFrom<&'a Item> for Batch<'a> {
 
 #[derive(Drop)]
 pub struct Lent {
-    book: Vec<u64>,
-    prices: Vec<u64>,
+    kept: Kept,
     lists: OwnedLists,
     answers: Vec<u64>,
 }
@@ -69,8 +65,7 @@ impl Lent {
     pub fn new(session: &Session, batch: Batch<'_>) -> Result<Lent, AllocError> {
         let alloc = session.alloc;
         Ok(Lent {
-            book: session.book.clone()?,
-            prices: session.prices.clone()?,
+            kept: Kept::new(session)?,
             lists: OwnedLists::marked(alloc, batch.lengths)?,
             answers: marks::marked(alloc, batch.answers)?,
         })
@@ -86,8 +81,8 @@ impl Lent {
         requires { F.IsAlwaysCallable run }
     {
         let mut work = Work {
-            book: &mut self.book,
-            prices: &mut self.prices,
+            book: &mut self.kept.book,
+            prices: &mut self.kept.prices,
             records: &mut self.lists.records,
             investor: &mut self.lists.investor,
             fund: &mut self.lists.fund,
@@ -102,8 +97,8 @@ impl Lent {
             ("records", self.lists.records.as_slice()),
             ("investor", self.lists.investor.as_slice()),
             ("fund_reports", self.lists.fund.as_slice()),
-            ("book", self.book.as_slice()),
-            ("prices", self.prices.as_slice()),
+            ("book", self.kept.book.as_slice()),
+            ("prices", self.kept.prices.as_slice()),
         ]
     }
 
@@ -132,8 +127,7 @@ impl Lent {
 
     // Leaves its book and prices to a session.
     pub fn leave(self, session: &mut Session) {
-        let Lent { book, prices, .. } = self;
-        session.book = book;
-        session.prices = prices;
+        let Lent { kept, .. } = self;
+        kept.leave(session);
     }
 }

@@ -1,5 +1,4 @@
 // What the day is given: holdings and prices, by the codes of its components.
-use rules::Refusal;
 use std::alloc::{AllocError, Global};
 
 // Ample cash, in thousandths of a yuan, and ample stock.
@@ -17,7 +16,7 @@ fn stock_of(code: u64) -> u64 {
 }
 
 // A component's price in thousandths of a yuan.
-fn price_of(code: u64) -> Option<u64> {
+pub fn price_of(code: u64) -> Option<u64> {
     match code {
         1 => Some(12_000),
         600_000 => Some(10_000),
@@ -50,19 +49,4 @@ pub fn holdings(alloc: Global, codes: &[u64]) -> Result<Vec<u64>, AllocError> {
     hold(&mut held, codes, |_| STOCK)?;
     hold(&mut held, codes, stock_of)?;
     Ok(held)
-}
-
-// Sets the prices of those codes that have one, to the first that is refused.
-pub fn set_prices(
-    day: &[u64],
-    codes: &[u64],
-    book: &[u64],
-    prices: &mut [u64],
-) -> Result<(), Refusal> {
-    for (line, code) in codes.iter().enumerate() {
-        if let Some(price) = price_of(*code) {
-            day::price(day, book, prices, line, price)?;
-        }
-    }
-    Ok(())
 }

@@ -9,7 +9,7 @@ mod printed;
 use fault::Fault;
 use list_rules::ListFields;
 use printed::Slip;
-use rules::Lists;
+use rules::{Lists, Refusal};
 use std::alloc::Global;
 use std::io;
 use std::io::{BufWriter, Read, Write};
@@ -35,39 +35,48 @@ struct Market {
     prices: Vec<u64>,
 }
 
-// Creates one basket, and prints its records. The tests alone never answer otherwise than the creation; a line says so if they do.
-fn create<W: Write>(
-    alloc: Global,
-    market: &mut Market,
-    units: u64,
-    out: &mut W,
-) -> Result<(), Fault> {
-    let mut records = vec![in alloc; 0u64; RECORDS_LENGTH]?;
-    let mut investor = vec![in alloc; 0u64; REPORTS_LENGTH]?;
-    let mut fund = vec![in alloc; 0u64; REPORTS_LENGTH]?;
-    let mut lists = Lists {
-        records: &mut records,
-        investor: &mut investor,
-        fund: &mut fund,
-    };
-    let Market { day, book, prices } = market;
-    let tested = day::creation_test(day, book, prices, ACCOUNT, units, lists.rooms());
-    let answer = day::create(day, book, prices, ACCOUNT, units, &mut lists);
-    if tested != answer {
-        writeln!(out, "the tests alone answered otherwise")?;
+impl Market {
+    // Sets the prices of those codes that have one, to the first that is refused.
+    fn set_prices(&mut self, codes: &[u64]) -> Result<(), Refusal> {
+        let Market { day, book, prices } = self;
+        for (line, code) in codes.iter().enumerate() {
+            if let Some(price) = given::price_of(*code) {
+                day::price(day, book, prices, line, price)?;
+            }
+        }
+        Ok(())
     }
-    let counts = answer?;
-    // By chunks, each one record at its own place 0: no index is counted.
-    for record in records
-        .chunks_exact(layout::RECORD_WIDTH)
-        .take(counts.records)
-    {
-        writeln!(out, "{}", Slip(layout::record_at(record, 0)))?;
+
+    // Creates one basket, and prints its records. The tests alone never answer otherwise than the creation; a line says so if they do.
+    fn create<W: Write>(&mut self, alloc: Global, units: u64, out: &mut W) -> Result<(), Fault> {
+        let mut records = vec![in alloc; 0u64; RECORDS_LENGTH]?;
+        let mut investor = vec![in alloc; 0u64; REPORTS_LENGTH]?;
+        let mut fund = vec![in alloc; 0u64; REPORTS_LENGTH]?;
+        let mut lists = Lists {
+            records: &mut records,
+            investor: &mut investor,
+            fund: &mut fund,
+        };
+        let Market { day, book, prices } = self;
+        let tested = day::creation_test(day, book, prices, ACCOUNT, units, lists.rooms());
+        let answer = day::create(day, book, prices, ACCOUNT, units, &mut lists);
+        if tested != answer {
+            writeln!(out, "the tests alone answered otherwise")?;
+        }
+        let counts = answer?;
+        // By chunks, each one record at its own place 0: no index is counted.
+        for record in records
+            .chunks_exact(layout::RECORD_WIDTH)
+            .take(counts.records)
+        {
+            writeln!(out, "{}", Slip(layout::record_at(record, 0)))?;
+        }
+        Ok(())
     }
-    Ok(())
 }
 
-// Opens the day of a list for the fund and one account.
+// Opens the day of a list for the fund and one account. A list that was read has no more components than there is room for; `min` stands
+// for that, as no contract of a program says it.
 fn open(
     alloc: Global,
     fields: ListFields,
@@ -92,7 +101,7 @@ fn open(
     Ok(Market { day, book, prices })
 }
 
-// The fields and the components of a list text.
+// The fields and the components of a list text, whose count is at most 300; `saturating_mul` stands for that.
 fn read(alloc: Global, text: &[u8]) -> Result<(ListFields, Vec<u64>), Fault> {
     let mut components = vec![in alloc; 0u64; layout::BASKET_WIDTH]?;
     let list = list_reading::read(text, &mut components)?;
@@ -105,8 +114,8 @@ fn play<W: Write>(alloc: Global, text: &[u8], out: &mut W) -> Result<(), Fault> 
     let (fields, components) = read(alloc, text)?;
     let codes = given::codes_of(alloc, &components)?;
     let mut market = open(alloc, fields, &components, &codes)?;
-    given::set_prices(&market.day, &codes, &market.book, &mut market.prices)?;
-    create(alloc, &mut market, fields.fund.basket_size, out)
+    market.set_prices(&codes)?;
+    market.create(alloc, fields.fund.basket_size, out)
 }
 
 // There is room for the longest text, and for the byte that says that one is longer. Where the input cannot be read it ends.
