@@ -1,5 +1,6 @@
 // Answers as the paper's four numbers: a refusal's number (0 accepted), its place, the value of an accepted call, and of an order
 // the count of its reports.
+// The casts by `as` lose nothing: usize and u64 both have 64 bits.
 #![tactic(auto)]
 
 ghost use Rattle.std.specs.Prelude.{◌≡◌};

@@ -9,6 +9,7 @@ use Rattle.layout.specs.Day.{Day}
 use Rattle.layout.specs.Book.{cash, head_at, lots_at, width_of, width, account, behind_line, counter}
 use Rattle.rules.specs.Lines.{component_of}
 use Rattle.rules.specs.declared.Kind.{Kind}
+use Rattle.rules.specs.declared.Trade.{Trade}
 use Rattle.rules.specs.declared.Kind.TheVariants.{Creation, Redemption}
 use Rattle.rules.specs.Orders.{number_of, opposite_kind}
 use Rattle.rules.specs.Kinds.{moved_by}
@@ -25,6 +26,10 @@ pub record Tradable (n : ℕ) (b : List ℕ) (line q price seller buyer : ℕ) :
   pub lots_fit : (lots_at (stretch_of (width_of n) b buyer) line).bought + q < 2 ^ 64
   pub money : q * price ≤ head_at (stretch_of (width_of n) b buyer) cash
   pub cash_fits : head_at (stretch_of (width_of n) b seller) cash + q * price < 2 ^ 64
+
+-- the same of a trade as the code has it
+abbrev pub TradeReady : ℕ → List ℕ → Trade → Type 0
+TradeReady n b t = Tradable n b t.line t.quantity t.price.0 t.seller t.buyer
 
 -- one line of an order of m baskets by account a, with the component c; w is the width of a stretch
 pub record LineReady (kind : Kind) (c : Component) (b : List ℕ) (w a m line : ℕ) : Type 0 where

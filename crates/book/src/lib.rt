@@ -13,8 +13,8 @@ use rules::Kind;
 // The fund's account.
 pub const FUND: usize = 0;
 
-// The book and its width are passed apart, and each contract says that the account and the line lie in it: an order writes the book
-// between its reads, so that a view that carries this would be made for each.
+// The book and its width are two parameters, and each contract asks that the account and the line lie in the book. No struct of them that
+// promises this: an order writes the book between its reads, and would make the struct anew for each read.
 
 // A number of the head of account `a`, its cash or a counter, read off the whole book.
 #[tactic(auto, using(sequences::proofs::Stretch::stretch_at), unfolding(layout::specs::Book::head_at))]
@@ -33,9 +33,7 @@ pub fn lots_of(book: &[u64], w: usize, a: usize, line: usize) -> Lots
     requires line_bound { behind_line line ≤ w }
     ensures { result ≡ lots_at (stretch_of w book.now a) line }
 {
-    let start = a * w;
-    let end = start + w;
-    layout::lots_at(&book[start..end], line)
+    layout::lots_at(&book[layout::stretch_at(w, a)], line)
 }
 
 // Stores them in the whole book.
@@ -45,9 +43,7 @@ pub fn put_lots_of(book: &mut [u64], w: usize, a: usize, line: usize, x: Lots)
     requires line_bound { behind_line line ≤ w }
     ensures { book.new ≡ on_stretch w a (λ s. put_lots s line x) book.old }
 {
-    let start = a * w;
-    let end = start + w;
-    layout::put_lots(&mut book[start..end], line, x);
+    layout::put_lots(&mut book[layout::stretch_at(w, a)], line, x);
 }
 
 // What an account's lots become when it hands in `q` of them on a creation, or gets `q` on a redemption.

@@ -14,11 +14,7 @@ use rules::Refusal;
 fn day_in(run: &[u64]) -> Option<DayView<'_>>
     ensures { MatchOption result (day_at run.now ≡ blank_day) (λ day. day ≡ day_at run.now) }
 {
-    if run.len() == layout::DAY_WIDTH {
-        Some(layout::view_of(run))
-    } else {
-        None
-    }
+    (run.len() == layout::DAY_WIDTH).then(|| layout::view_of(run))
 }
 
 // The day in a run, where it is sound; else refusal 5.
@@ -34,8 +30,8 @@ pub fn sound_day<'a>(run: &'a [u64], book: &[u64], prices: &[u64]) -> Result<Day
     }
 }
 
-// The day in a run, where it has what every call keeps. Not one function with the above over a closure: the one tells a refusal, the
-// other none, and each has its own contract.
+// The day in a run, where it has what every call keeps. Not one function with the above: their contracts are of two tests, and the one
+// tells a refusal, the other none.
 #[tactic(auto, using(crate::proofs::Run::blank_not_kept))]
 pub fn kept_day<'a>(run: &'a [u64], book: &[u64], prices: &[u64]) -> Option<DayView<'a>>
     ensures { MatchOption result (is_kept (day_at run.now) book.now prices.now ≡ false) (λ day. (day ≡ day_at run.now) × (is_kept (day_at run.now) book.now prices.now ≡ true)) }

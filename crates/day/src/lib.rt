@@ -1,9 +1,8 @@
-// The calls of the day. Each takes any day, book, prices and numbers, returns, and refuses by the paper's numbers; a refusal
-// changes nothing. The day is one lent run of numbers, which `day_at` reads; a run of another length than a day's is not sound.
-// The day, the book and the prices stay three parameters: a price changes the prices alone, and a trade or an order the book alone,
-// so that one struct would lend more for writing than a call may write, or need a second one beside it. Creation and redemption, and
-// their tests, are the paper's calls, each with the definitions of its section; the one for both is `order_calls`. What opening is given
-// stands one by one, as in the C interface.
+// The calls of the day. Each takes any day, book, prices and numbers, and a refusal, by the paper's numbers, changes nothing. The day is
+// a lent run of numbers, which `day_at` reads; a run of another length than a day's is not sound.
+// Day, book and prices are three parameters, since a price writes the prices alone, and a trade or an order the book alone: one struct of
+// them would lend more for writing. `create` and `redeem` are the paper's calls, one function for both is in `order_calls`; `open` takes
+// its parts one by one, as the C interface gives them.
 #![tactic(auto)]
 
 ghost use Rattle.std.specs.Prelude.{◌≡◌};
@@ -12,7 +11,7 @@ ghost use Rattle.rules.specs.Lent.{rooms_in};
 ghost use Rattle.rules.specs.Lists.{lent_in, left_in};
 ghost use Rattle.rules.specs.Replies.{answer_reply, order_answer_reply, value_answer_reply};
 ghost use Rattle.rules.specs.Price.{price_reply, priced_prices};
-ghost use Rattle.rules.specs.Trade.{trade_reply, traded_book};
+ghost use Rattle.rules.specs.Trade.{reply_of_trade, book_of_trade};
 ghost use Rattle.rules.specs.Value.{value_reply};
 ghost use Rattle.rules.specs.Creation.{creation_reply, created_book, created_lists};
 ghost use Rattle.rules.specs.Redemption.{redemption_reply, redeemed_book, redeemed_lists};
@@ -65,8 +64,8 @@ pub fn price(
 // Trades a quantity of a line at a price.
 #[tactic(auto, using(calls::proofs::Laws::trade_five, calls::proofs::Laws::traded_five, calls::proofs::Laws::trade_own, calls::proofs::Laws::traded_own, calls::proofs::Laws::book_fits))]
 pub fn trade(day: &[u64], book: &mut [u64], prices: &[u64], trade: Trade) -> Result<(), Refusal>
-    ensures result_value { answer_reply result ≡ trade_reply (day_at day.now) book.old prices.now trade.line trade.quantity trade.price.0 trade.seller trade.buyer }
-    ensures book { book.new ≡ traded_book (day_at day.now) book.old prices.now trade.line trade.quantity trade.price.0 trade.seller trade.buyer }
+    ensures result_value { answer_reply result ≡ reply_of_trade (day_at day.now) book.old prices.now trade }
+    ensures book { book.new ≡ book_of_trade (day_at day.now) book.old prices.now trade }
 {
     let day = calls::sound_day(day, book, prices)?;
     trades::trade(day.accounts(), day.count(), book, trade)

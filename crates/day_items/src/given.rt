@@ -1,4 +1,5 @@
 // What the item of an opening or a state gives.
+// The casts by `as` lose nothing: usize and u64 both have 64 bits.
 use layout::Fund;
 use program_io::fault::Fault;
 use program_io::items::{Item, split};

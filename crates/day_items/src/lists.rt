@@ -1,4 +1,5 @@
 // The lists that an order is lent, as runs of numbers: records, and reports to the investor and to the fund.
+// The casts by `as` lose nothing: usize and u64 both have 64 bits.
 ghost use Rattle.std.specs.Prelude.{◌≡◌, vec_len, IfOk};
 
 use program_io::marks;

@@ -1,5 +1,6 @@
 // One row of the driver: the call that it names, made.
 // Each function asks for a sound day where it makes a call: a fact of the day with its book and prices, which the calls write.
+// The casts by `as` lose nothing: usize and u64 both have 64 bits.
 #![tactic(auto)]
 
 ghost use Rattle.std.specs.Prelude.{◌≡◌, true, ◌+◌, ◌≤◌, ◌<◌, length, Some, IfSome, MatchOption, false};
@@ -20,7 +21,8 @@ use rules::{Ask, Counts, Lists, Refusal, Trade};
 use std::ops::Range;
 use units::{Money, ReferenceValue};
 
-// What the calls of a list work on.
+// What the calls of a list work on. Records, investor's and fund's reports are those of all rows, of which each row names parts; a
+// `rules::Lists` has those of one order.
 #[derive(Drop)]
 pub struct Work<'a> {
     pub book: &'a mut [u64],

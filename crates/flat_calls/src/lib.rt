@@ -1,4 +1,5 @@
 // Opening and the list text with the fund and the fields as runs of numbers: refusal 1 where they have not their width.
+// The casts by `as` lose nothing: usize and u64 both have 64 bits.
 #![tactic(auto)]
 
 ghost use Rattle.std.specs.Prelude.{◌≡◌, cond, eqb, nat_abs, length, ◌/◌, ◌≤◌};

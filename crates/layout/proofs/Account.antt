@@ -1,17 +1,34 @@
 -- Laws of an account's stretch: what a change of a head number, of one line or of each line leaves of the others.
 use mathlib.Core.Path.{◌≡◌, refl, sym, ap, subst, ◌∙◌}
 use mathlib.Core.Logic.{◌≢◌, ⊎_elim}
-use mathlib.Core.List.{List}
-use Prim.Native.Nat.{ℕ, zero, suc, ◌+◌, ◌≤◌, ◌<◌}
-use native.Mathlib.Nat.{eq-or-lt_of_le, le_of_suc-le-suc, not-suc-le-zero}
+use mathlib.Core.List.{List, []}
+use Prim.Native.Nat.{ℕ, zero, suc, ◌+◌, ◌-◌, ◌*◌, ◌≤◌, ◌<◌}
+use native.Mathlib.Nat.{eq-or-lt_of_le, le_of_suc-le-suc, not-suc-le-zero, mul-suc}
 use native.Mathlib.Numerals.{add-one}
 use native.Mathlib.Omega.{arith}
-use lib.ListN.{length, get_or, set, length-set}
-use lib.Seq.{get_or-set_other, get_or-set_same}
+use lib.ListN.{length, get_or, take, drop, set, length-set}
+use lib.Seq.{get_or-set_other, get_or-set_same, get_or-take, get_or-drop}
+use Rattle.std.specs.Simd.{first_chunks}
+use Rattle.digits.proofs.Put.{rest_all}
 use Rattle.lots.specs.declared.Lots.{Lots}
 use Rattle.lots.proofs.Laws.{lots-eq}
-use Rattle.layout.specs.Places.{lines_from}
+use Rattle.layout.specs.Places.{lines_from, line_width}
 use Rattle.layout.specs.Book.{head_at, put_head, lots_at, put_lots, on_line, each_line, line_from, behind_line}
+
+-- a number of a part of w numbers
+part_at : (w n : ℕ) (xs : List ℕ) (i k : ℕ) → i < n → k < w → get_or (get_or (first_chunks w n xs) i []) k 0 ≡ get_or xs (w * i + k) 0
+part_at w zero xs i k h l = absurd (omega arith)
+part_at w (suc n) xs zero k h l = get_or-take w xs k 0 l ∙ ap (λ (j : ℕ). get_or xs j 0) (omega arith)
+part_at w (suc n) xs (suc i) k h l = part_at w n (drop w xs) i k (omega arith) l ∙ get_or-drop w xs (w * i + k) 0 ∙ ap (λ (j : ℕ). get_or xs j 0) (rw mul-suc (omega arith))
+
+-- the lots of a line are the parts of three numbers behind the head
+pub line_at : (s : List ℕ) (n l : ℕ) (lines : List (List ℕ)) → lines ≡ first_chunks line_width n (take (length s - lines_from) (drop lines_from s)) → l < n
+    → record { old = get_or (get_or lines l []) 0 0; bought = get_or (get_or lines l []) 1 0; got = get_or (get_or lines l []) 2 0 } ≡ lots_at s l
+unfolding lots_at
+line_at s n l lines e h =
+    let read : (k : ℕ) → k < line_width → get_or (get_or lines l []) k 0 ≡ get_or s (line_from l + k) 0 =
+    λ k m. rw (e, rest_all lines_from s) (part_at line_width n (drop lines_from s) l k h m) ∙ get_or-drop lines_from s (line_width * l + k) 0 ∙ ap (λ (j : ℕ). get_or s j 0) (omega arith) in
+    lots-eq (read 0 (omega arith) ∙ ap (λ (j : ℕ). get_or s j 0) (omega arith)) (read 1 (omega arith)) (read 2 (omega arith))
 
 -- three stores from place i on
 module _ (s : List ℕ) (i a b c : ℕ) where

@@ -39,7 +39,7 @@ pub fn put_signed(run: &mut [u64], at: usize, e: i64)
     ensures { run.new ≡ sets run.old at (signed_numbers e) }
 {
     let z = Figure::from(e);
-    run[at] = z.negative as u64;
+    run[at] = u64::from(z.negative);
     run[at + 1] = z.size;
 }
 

@@ -1,7 +1,5 @@
-// The types that lie in lent runs of numbers, and their places there: a component, a fund, a day, an account's stretch, a record,
-// a report, and the rows and answers of a list of calls. Other crates take widths and places by these
-// names. The types and the places are
-// here, and what reads and stores them is in a module for each subject.
+// The types that lie in lent runs of numbers, and their places there, which other crates take by these names. What reads and stores
+// them is in a module for each subject.
 #![tactic(auto)]
 
 use units::{Money, Rate};
@@ -16,7 +14,7 @@ pub use basket::component_at;
 pub use days::{DayView, put_day, view_of};
 pub use funds::{fund_of, put_fund, put_signed, signed_at};
 pub use results::{put_answer, put_record, put_report, record_at};
-pub use stretches::{lots_at, put_lots, width_of};
+pub use stretches::{lots_at, put_lots, stretch_at, width_of};
 
 #[derive(Clone, Copy, Default)]
 pub struct Component {
@@ -39,7 +37,7 @@ pub struct Fund {
     pub switch: u64,
     // In hundredths of a yuan.
     pub estimated_cash: i64,
-    // In the list text's order.
+    // In the list text's order. Eight numbers, as they lie in runs that cross to C; only `order_form::limit_of` asks for one.
     pub limits: [u64; LIMITS],
 }
 
@@ -81,6 +79,9 @@ pub struct Report {
     pub second: Group,
     pub third: Group,
 }
+
+// Widths and places. usize and u64 both have 64 bits here, so that a cast of a count or a place by `as` loses nothing; std has no `From`
+// between them.
 
 // How many components a day has room for, how many numbers each takes, and all of them, a day's basket.
 pub const MOST_COMPONENTS: usize = 300;

@@ -1,5 +1,5 @@
-// Records, reports and the answers of a list of calls, in runs. Three stores and no generic one: each is its place and one copy, with a
-// definition of its own; and no `From`, since only this module takes them apart.
+// Records, reports and the answers of a list of calls, in runs. Three stores and no generic one: a trait with its law would be longer
+// than the three copies. No `From`, since only this module takes them apart.
 ghost use Rattle.std.specs.Prelude.{◌≡◌, ◌+◌, ◌*◌, ◌≤◌, length};
 ghost use Rattle.std.proofs.lemmas.List.Edits.{sets};
 ghost use Rattle.layout.specs.Places.{record_width, report_width, answer_width};

@@ -1,4 +1,5 @@
 // The fields of a list: from the head's figures and back, and their ranges.
+// The casts by `as` lose nothing: usize and u64 both have 64 bits.
 #![tactic(auto)]
 
 ghost use Rattle.std.specs.Prelude.{◌≡◌, ℕ, ◌+◌, ◌≤◌, ◌<◌, true, get_or, SomeIff};

@@ -1,4 +1,5 @@
 // A list's fields as a run of numbers, in which they cross to other languages.
+// The casts by `as` lose nothing: usize and u64 both have 64 bits.
 #![tactic(auto)]
 
 ghost use Rattle.std.specs.Prelude.{◌≡◌, ◌≤◌, nat_abs, length};

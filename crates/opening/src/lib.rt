@@ -124,8 +124,7 @@ fn open_part(book: &mut [u64], held: &[u64], count: usize, a: usize)
     ensures { book.new ≡ put_stretch (width_of count) book.old a (opened_stretch count held.now) }
 {
     let width = layout::width_of(count);
-    let from = a * width;
-    open_account(&mut book[from..from + width], held);
+    open_account(&mut book[layout::stretch_at(width, a)], held);
 }
 
 // Every account's stretch.

@@ -50,7 +50,7 @@ fn account_rest(kind: Kind, stretch: &mut [u64], line: usize, units: u64, c: Mon
 }
 
 // An order beside its stock, in a fund of `count` components: the fund's cash, and the account's units, cash and counter. The fund's
-// stretch is the book's first; the account's is cut in two lines here, the crate's one place that does.
+// stretch is the book's first.
 #[tactic(auto, using(book::proofs::Sides::first_is))]
 pub fn move_rest(kind: Kind, count: usize, book: &mut [u64], a: usize, units: u64, c: Money)
     requires { RestReady kind count book.old a units c.0 }
@@ -58,7 +58,5 @@ pub fn move_rest(kind: Kind, count: usize, book: &mut [u64], a: usize, units: u6
 {
     let w = layout::width_of(count);
     fund_head(kind, &mut book[..w], c);
-    let start = a * w;
-    let end = start + w;
-    account_rest(kind, &mut book[start..end], count, units, c);
+    account_rest(kind, &mut book[layout::stretch_at(w, a)], count, units, c);
 }

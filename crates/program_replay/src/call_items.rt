@@ -1,4 +1,5 @@
 // Calls: each is made and its reply printed; what was lent to one that is refused or only reads is compared with what it was.
+// The casts by `as` lose nothing: usize and u64 both have 64 bits.
 use crate::kept;
 use crate::order_items::Order;
 use answers::Numbers;

@@ -78,7 +78,7 @@ fn print_lists<W: Write>(
 ) -> io::Result<()> {
     match answer {
         Ok(counts) => print_written(lists, counts, out),
-        Err(_) => print_rest(lists, Counts { records: 0, reports: 0 }, out),
+        Err(_) => print_rest(lists, Counts::default(), out),
     }
 }
 

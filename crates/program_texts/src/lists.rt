@@ -1,4 +1,5 @@
 // Items that are lists: each is written, what writing answers and leaves is printed, and a text that was written is read again.
+// The casts by `as` lose nothing: usize and u64 both have 64 bits.
 use crate::read_text::ReadText;
 use list_rules::Listing;
 use program_io::fault::Fault;

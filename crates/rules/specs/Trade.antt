@@ -5,6 +5,7 @@ use Rattle.sequences.specs.Checks.{Check, check, Reply, answered}
 use Rattle.sequences.specs.Stretch.{stretch_of, on_stretch}
 use Rattle.lots.specs.Lots.{sell_of, buy_of, sellable}
 use Rattle.layout.specs.Day.{Day}
+use Rattle.rules.specs.declared.Trade.{Trade}
 use Rattle.rules.specs.Replies.{if_accepted}
 use Rattle.layout.specs.Book.{cash, head_at, put_head, width_of, lots_at, on_line}
 use Rattle.rules.specs.Sound.{on_sound_day, most_price}
@@ -47,3 +48,19 @@ trade_moves n line q price seller buyer b =
 unfoldable pub traded_book : Day → List ℕ → List ℕ → ℕ → ℕ → ℕ → ℕ → ℕ → List ℕ
 traded_book d b ps line q price seller buyer =
     if_accepted (trade_reply d b ps line q price seller buyer) (trade_moves d.count line q price seller buyer b) b
+
+-- the same of a trade as the code has it
+abbrev pub means_of_trade : ℕ → List ℕ → Trade → ℕ → List Check
+means_of_trade n b t amount = trade_means n b t.line t.quantity amount t.seller t.buyer
+
+abbrev pub checks_of_trade : ℕ → ℕ → List ℕ → Trade → List Check
+checks_of_trade accounts n b t = trade_checks accounts n b t.line t.quantity t.price.0 t.seller t.buyer
+
+abbrev pub reply_of_trade : Day → List ℕ → List ℕ → Trade → Reply
+reply_of_trade d b ps t = trade_reply d b ps t.line t.quantity t.price.0 t.seller t.buyer
+
+abbrev pub moves_of_trade : ℕ → Trade → List ℕ → List ℕ
+moves_of_trade n t b = trade_moves n t.line t.quantity t.price.0 t.seller t.buyer b
+
+abbrev pub book_of_trade : Day → List ℕ → List ℕ → Trade → List ℕ
+book_of_trade d b ps t = traded_book d b ps t.line t.quantity t.price.0 t.seller t.buyer

@@ -38,7 +38,7 @@ pub enum Refusal {
 }
 
 // How many records an order makes, and how many reports for each of its two parties.
-#[derive(Clone, Copy, PartialEq, Eq, Debug)]
+#[derive(Clone, Copy, PartialEq, Eq, Debug, Default)]
 pub struct Counts {
     pub records: usize,
     pub reports: usize,

@@ -1,5 +1,6 @@
 // Texts that are made from few bytes: a change of the last text that was given whole, and a front, a part that stands in it many
 // times, and a tail.
+// The casts by `as` lose nothing: usize and u64 both have 64 bits.
 use crate::bytes;
 use program_io::fault::Fault;
 use program_io::items::split;

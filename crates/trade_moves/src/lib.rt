@@ -3,8 +3,8 @@
 
 ghost use Rattle.std.specs.Prelude.{◌≡◌, ◌+◌, ◌*◌, ◌≤◌, ◌<◌, ◌^◌, length};
 ghost use Rattle.layout.specs.Book.{behind_line, cash as cash_at, put_lots, put_head};
-ghost use Rattle.rules.specs.Trade.{trade_moves};
-ghost use Rattle.book.specs.Ready.{Tradable};
+ghost use Rattle.rules.specs.Trade.{moves_of_trade};
+ghost use Rattle.book.specs.Ready.{TradeReady};
 
 use lots::Lots;
 use rules::Trade;
@@ -22,8 +22,8 @@ fn move_side(stretch: &mut [u64], line: usize, lots: Lots, cash: u64)
 // Both sides of a trade, in a fund of `count` components.
 #[tactic(auto, using(book::proofs::Sides::middle_put, sequences::proofs::Stretch::part_is, crate::proofs::Trade::sold_side, crate::proofs::Trade::bought_side, crate::proofs::Trade::buyer_ready), unfolding(rules::specs::Trade::trade_moves))]
 pub fn move_trade(book: &mut [u64], count: usize, trade: Trade)
-    requires { Tradable count book.old trade.line trade.quantity trade.price.0 trade.seller trade.buyer }
-    ensures { book.new ≡ trade_moves count trade.line trade.quantity trade.price.0 trade.seller trade.buyer book.old }
+    requires { TradeReady count book.old trade }
+    ensures { book.new ≡ moves_of_trade count trade book.old }
 {
     let Trade {
         line,
@@ -36,10 +36,10 @@ pub fn move_trade(book: &mut [u64], count: usize, trade: Trade)
     let amount = quantity * price.0;
     let left = book::lots_of(book, width, seller, line).sell(quantity);
     let got = book::head_of(book, width, seller, layout::CASH) + amount;
-    let sold = seller * width;
-    move_side(&mut book[sold..sold + width], line, left, got);
+    let sold = layout::stretch_at(width, seller);
+    move_side(&mut book[sold], line, left, got);
     let more = book::lots_of(book, width, buyer, line).buy(quantity);
     let rest = book::head_of(book, width, buyer, layout::CASH) - amount;
-    let bought = buyer * width;
-    move_side(&mut book[bought..bought + width], line, more, rest);
+    let bought = layout::stretch_at(width, buyer);
+    move_side(&mut book[bought], line, more, rest);
 }

@@ -9,7 +9,7 @@ ghost use Rattle.layout.specs.Places.{most_components};
 ghost use Rattle.layout.specs.Book.{width_of, lots_at};
 ghost use Rattle.rules.specs.Replies.{answer_reply, if_accepted};
 ghost use Rattle.rules.specs.Price.{price_checks};
-ghost use Rattle.rules.specs.Trade.{trade_checks, trade_means, trade_moves};
+ghost use Rattle.rules.specs.Trade.{means_of_trade, checks_of_trade, moves_of_trade};
 ghost use Rattle.trades.specs.Fits.{BookFits};
 
 use rules::{Refusal, Trade};
@@ -17,7 +17,8 @@ use units::Money;
 
 const MOST_QUANTITY: u64 = 999_999_999;
 
-// Accounts, count and book come apart here: the day's test says that they fit, and a struct of them would be made for one call.
+// Accounts, count and book are parameters of their own, and `BookFits` says that they fit, as the day's test has found. No struct of them:
+// it would be made for one call.
 
 // The tests of a price call.
 #[tactic(auto, unfolding(sequences::specs::Checks::answering, rules::specs::Price::price_checks))]
@@ -33,7 +34,7 @@ fn price_answer(count: usize, line: usize, price: u64) -> Result<(), Refusal>
     Ok(())
 }
 
-// The price call on a sound day.
+// The price call on a sound day. The price is a number, where a trade has `Money`: a run of prices holds numbers.
 #[tactic(auto, using(rules::proofs::Replies::leaves_after, crate::proofs::Laws::priced_line))]
 pub fn set_price(count: usize, prices: &mut [u64], line: usize, price: u64) -> Result<(), Refusal>
     requires { length prices.old ≡ count }
@@ -49,7 +50,7 @@ pub fn set_price(count: usize, prices: &mut [u64], line: usize, price: u64) -> R
 #[tactic(auto, unfolding(sequences::specs::Checks::answering, rules::specs::Trade::trade_means))]
 fn trade_means(count: usize, book: &[u64], trade: Trade, amount: Money) -> Result<(), Refusal>
     requires { (count ≤ most_components) × (trade.line ≤ count) × (trade.seller * width_of count + width_of count ≤ length book.now) × (trade.buyer * width_of count + width_of count ≤ length book.now) × (sellable (lots_at (stretch_of (width_of count) book.now trade.seller) trade.line) ≤ 2_000_000_000_000_000_000) }
-    ensures { answer_reply result ≡ answered (trade_means count book.now trade.line trade.quantity amount.0 trade.seller trade.buyer) 0 }
+    ensures { answer_reply result ≡ answered (means_of_trade count book.now trade amount.0) 0 }
 {
     let width = layout::width_of(count);
     let held = book::lots_of(book, width, trade.seller, trade.line);
@@ -67,7 +68,7 @@ fn trade_means(count: usize, book: &[u64], trade: Trade, amount: Money) -> Resul
 #[tactic(auto, using(crate::proofs::Laws::amount_fits, rules::proofs::Accepted::investor_facts, crate::proofs::Laws::in_book), unfolding(sequences::specs::Checks::answering, rules::specs::Trade::trade_checks))]
 fn trade_answer(accounts: usize, count: usize, book: &[u64], trade: Trade) -> Result<(), Refusal>
     requires { BookFits accounts count book.now }
-    ensures { answer_reply result ≡ answered (trade_checks accounts count book.now trade.line trade.quantity trade.price.0 trade.seller trade.buyer) 0 }
+    ensures { answer_reply result ≡ answered (checks_of_trade accounts count book.now trade) 0 }
 {
     if count < trade.line {
         return Err(Refusal::NoSuchLine);
@@ -94,8 +95,8 @@ fn trade_answer(accounts: usize, count: usize, book: &[u64], trade: Trade) -> Re
 #[tactic(auto, using(rules::proofs::Replies::leaves_after, crate::proofs::Laws::tradable))]
 pub fn trade(accounts: usize, count: usize, book: &mut [u64], trade: Trade) -> Result<(), Refusal>
     requires { BookFits accounts count book.old }
-    ensures result_value { answer_reply result ≡ answered (trade_checks accounts count book.old trade.line trade.quantity trade.price.0 trade.seller trade.buyer) 0 }
-    ensures book { book.new ≡ if_accepted (answered (trade_checks accounts count book.old trade.line trade.quantity trade.price.0 trade.seller trade.buyer) 0) (trade_moves count trade.line trade.quantity trade.price.0 trade.seller trade.buyer book.old) book.old }
+    ensures result_value { answer_reply result ≡ answered (checks_of_trade accounts count book.old trade) 0 }
+    ensures book { book.new ≡ if_accepted (answered (checks_of_trade accounts count book.old trade) 0) (moves_of_trade count trade book.old) book.old }
 {
     trade_answer(accounts, count, book, trade)?;
     trade_moves::move_trade(book, count, trade);
