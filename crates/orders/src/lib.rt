@@ -24,9 +24,7 @@ fn part_of(book: &[u64], w: usize, a: usize) -> &[u64]
     requires { a * w + w ≤ length book.now }
     ensures { result.now ≡ stretch_of w book.now a }
 {
-    let start = a * w;
-    let end = start + w;
-    &book[start..end]
+    &book[layout::stretch_at(w, a)]
 }
 
 // The third stage of an order, on the account's part of the book and the fund's. Day, book, prices and ask are parameters of their own, as
