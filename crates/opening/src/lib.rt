@@ -46,7 +46,7 @@ fn first_over(totals: &[u64], units: u64, count: usize) -> Option<usize>
 }
 
 // The same of the holdings. Their totals, as far as 2^62, will do: every limit is below that.
-#[tactic(auto, using(totals::proofs::Room::zeros_long, crate::proofs::Totals::fault_same))]
+#[tactic(auto, using(std::proofs::lemmas::Slice::overwrites, crate::proofs::Totals::fault_same))]
 fn total_fault(holdings: &[u64], accounts: usize, count: usize) -> Option<usize>
     requires { (1 ≤ accounts) × (accounts ≤ most_rows) × (count ≤ most_components) × (length holdings.now ≡ accounts * (count + 2)) }
     ensures { result ≡ below (count + 2) (total_fault count (totals_of accounts count holdings.now)) }
@@ -57,14 +57,11 @@ fn total_fault(holdings: &[u64], accounts: usize, count: usize) -> Option<usize>
         rows: accounts,
         width,
     };
-    let mut places = [0u64; totals::WIDEST];
+    let mut places = [0u64; layout::MOST_WIDTH];
     let totals = &mut places[..width];
     rows.fill(totals);
     first_over(totals, holdings[count + 1], count)
 }
-
-// `count ≤ most_components` stands in the contracts: refusal 1's test says it of any number, and what is given is a caller's, so that a
-// type that carries it would be made between the two.
 
 // Refusal 1's test. The ranges come first, so that no product is too large.
 #[tactic(auto, using(std::proofs::lemmas::Bool::Decides::nat_tests), unfolding(rules::specs::Opening::lent_sizes_fit, rules::specs::Opening::day_sizes_fit, sequences::specs::Every::every, sequences::specs::Every::inside))]

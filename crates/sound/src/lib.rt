@@ -109,7 +109,7 @@ fn prices_fit(prices: &[u64]) -> bool
     prices.iter().all(|price| *price <= rules::MOST_PRICE)
 }
 
-// A, N and the lengths of the book and of the prices, bound by bound: each is tried by an edit of its own.
+// A, N and the lengths of the book and of the prices, bound by bound, as in the definition: ranges by `contains` would be no shorter.
 #[tactic(auto, using(std::proofs::lemmas::Bool::Decides::nat_tests), unfolding(rules::specs::Opening::day_sizes_fit, sequences::specs::Every::every, sequences::specs::Every::inside))]
 pub fn sizes_fit(accounts: usize, n: usize, book: usize, prices: usize) -> bool
     ensures { result ≡ day_sizes_fit accounts n book prices }
