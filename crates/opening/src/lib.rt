@@ -106,8 +106,7 @@ fn open_account(stretch: &mut [u64], held: &[u64])
     for (line, old) in held[1..].iter().enumerate() {
         let opened = Lots {
             old: *old,
-            bought: 0,
-            got: 0,
+            ..Lots::default()
         };
         layout::put_lots(stretch, line, opened);
     }

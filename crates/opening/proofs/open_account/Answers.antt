@@ -12,7 +12,7 @@ loop-line-preserved c =
     let lines : ℕ = length h - 1 in
     let at : get_or (take lines (drop 1 h)) c.loop-line.line 0 ≡ get_or h (1 + c.loop-line.line) 0 =
     get_or-take lines (drop 1 h) c.loop-line.line 0 (omega (arith, length-take-le lines (drop 1 h))) ∙ get_or-drop 1 h c.loop-line.line 0 in
-    fronted_more _ _ _ _ _ (omega (arith, length-take-le lines (drop 1 h), length-drop 1 h)) (rw at at c.put_lots.ensures) c.loop-line.invariant
+    fronted_more _ _ _ _ _ (omega (arith, length-take-le lines (drop 1 h), length-drop 1 h)) (rw (at, c.default.ensures.1.0, c.default.ensures.1.1) at c.put_lots.ensures) c.loop-line.invariant
 
 pub returns : goal.returns
 returns c = fronted_all _ _ _ _ (omega arith) c.loop-line.invariant
