@@ -33,6 +33,9 @@ fn line_over(lines: &[u64]) -> Option<usize>
     lines.iter().position(|total| rules::MOST_OF_LINE < *total)
 }
 
+// `count ≤ most_components` stands in the contracts: refusal 1's test says it of any number, and what is given is a caller's, so that a
+// type that carries it would be made between the two.
+
 // Refusal 4 by the totals of the holdings' rows, cash first and the unit last, and the fund's units: the lowest place that is over its
 // limit, a line, of which `count` is the unit, or one past it for cash.
 fn first_over(totals: &[u64], units: u64, count: usize) -> Option<usize>

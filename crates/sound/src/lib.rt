@@ -63,12 +63,12 @@ fn rows_of(book: &[u64], accounts: usize, n: usize) -> Rows<'_>
 
 // Whether the totals of a book, as far as 2^62, are within their limits, which are all below that. They stand in room for the widest row,
 // since the library has no heap.
-#[tactic(auto, using(totals::proofs::Room::zeros_long, totals::proofs::Sums::capped_le))]
+#[tactic(auto, using(std::proofs::lemmas::Slice::overwrites, totals::proofs::Sums::capped_le))]
 fn book_fits(book: &Rows, n: usize) -> bool
     requires { (n ≤ most_components) × (book.now.rows ≤ most_rows) × (book.now.width ≡ width_of n) }
     ensures { result ≡ totals_fit n (total book.now.run.now (width_of n) book.now.rows) }
 {
-    let mut places = [0u64; totals::WIDEST];
+    let mut places = [0u64; layout::MOST_WIDTH];
     let totals = &mut places[..book.width];
     book.fill(totals);
     totals_fit(totals, n)
