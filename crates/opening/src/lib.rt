@@ -133,6 +133,8 @@ fn open_book(book: &mut [u64], holdings: &[u64], accounts: usize, count: usize)
     requires holdings_len { length holdings.now ≡ accounts * (count + 2) }
     ensures { book.new ≡ join_below (λ a. opened_stretch count (stretch_of (count + 2) holdings.now a)) accounts }
 {
+    // Accounts by number: tried by a zip of the book's `chunks_exact_mut` and the holdings' `chunks_exact`, but of the numbers that are
+    // written through such pieces nothing is known behind the loop.
     for (a, held) in holdings.chunks_exact(count + 2).enumerate() {
         open_part(book, held, count, a);
     }

@@ -64,8 +64,8 @@ fn column(block: &[u64], width: usize, place: usize) -> (u64, u64)
     (sum, all)
 }
 
-// Adds the eight rows of a block to the totals in one pass, and says whether all their numbers are below 2^56. The ors are compared once
-// for the block: 131,500 instructions for 64 rows of 905 numbers, where a test at each place took 149,700.
+// Adds the eight rows of a block to the totals in one pass, and says whether all their numbers are below 2^56. `column` gives an
+// or and no bool: for 64 rows of 905 numbers, as Rust compiles both, 131,500 instructions where a bool for each place took 149,700.
 fn add_block(totals: &mut [u64], block: &[u64]) -> bool
     requires { length block.now ≡ 8 * length totals.old }
     ensures small { result ≡ true → (k : ℕ) → k < length totals.old → total block.now (length totals.old) 8 k ≤ 8 * quick_most }
