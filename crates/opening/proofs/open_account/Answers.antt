@@ -15,7 +15,8 @@ loop-line-preserved c =
     let at : get_or (take lines (drop 1 h)) c.loop-line.line 0 ≡ get_or h (1 + c.loop-line.line) 0 =
     get_or-take lines (drop 1 h) c.loop-line.line 0 (omega (arith, length-take-le lines (drop 1 h))) ∙ get_or-drop 1 h c.loop-line.line 0 in
     let none = c.default.ensures.1 in
-    fronted_more _ _ _ _ _ (omega (arith, length-take-le lines (drop 1 h), length-drop 1 h)) (rw at at c.put_lots.ensures ∙ ap (put_lots c.loop-line.stretch c.loop-line.line) (lots-eq refl none.0 none.1)) c.loop-line.invariant
+    let put = rw at at c.put_lots.ensures ∙ ap (put_lots c.loop-line.stretch c.loop-line.line) (lots-eq refl none.0 none.1) in
+    fronted_more _ _ _ _ _ (omega (arith, length-take-le lines (drop 1 h), length-drop 1 h)) put c.loop-line.invariant
 
 pub returns : goal.returns
 returns c = fronted_all _ _ _ _ (omega arith) c.loop-line.invariant
