@@ -79,7 +79,8 @@ fn zero_unless(used: bool, x: u64) -> bool
     used || x == 0
 }
 
-// A rate or an amount, by its number, so that one test serves both: at most so much, and 0 where the flag does not use it.
+// Of a premium, a discount or an amount: at most so much, and 0 where the flag does not use it. It takes the number, since the first two
+// are a `Rate` and the last is `Money`.
 #[tactic(auto, using(std::proofs::lemmas::Bool::Decides::nat_tests), unfolding(crate::specs::Components::used_within, sequences::specs::Every::every))]
 fn used_within(most: u64, used: bool, x: u64) -> bool
     ensures { result ≡ used_within most used x }

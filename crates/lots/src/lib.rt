@@ -5,7 +5,7 @@
 ghost use Rattle.std.specs.Prelude.{◌≡◌, ◌+◌, ◌≤◌, ◌<◌, ◌^◌};
 ghost use Rattle.lots.specs.Lots.{sell_of, hand_in_of, buy_of, get_of, take_in_of, pay_out_of, sellable, handable};
 
-#[derive(Clone, Copy, PartialEq, Eq)]
+#[derive(Clone, Copy, Default, PartialEq, Eq)]
 pub struct Lots {
     pub old: u64,
     pub bought: u64,

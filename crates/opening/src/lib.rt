@@ -33,6 +33,9 @@ fn line_over(lines: &[u64]) -> Option<usize>
     lines.iter().position(|total| rules::MOST_OF_LINE < *total)
 }
 
+// `count ≤ most_components` stands in the contracts: refusal 1's test says it of any number, and what is given is a caller's, so that a
+// type that carries it would be made between the two.
+
 // Refusal 4 by the totals of the holdings' rows, cash first and the unit last, and the fund's units: the lowest place that is over its
 // limit, a line, of which `count` is the unit, or one past it for cash.
 fn first_over(totals: &[u64], units: u64, count: usize) -> Option<usize>
@@ -46,7 +49,7 @@ fn first_over(totals: &[u64], units: u64, count: usize) -> Option<usize>
 }
 
 // The same of the holdings. Their totals, as far as 2^62, will do: every limit is below that.
-#[tactic(auto, using(totals::proofs::Room::zeros_long, crate::proofs::Totals::fault_same))]
+#[tactic(auto, using(std::proofs::lemmas::Slice::overwrites, crate::proofs::Totals::fault_same))]
 fn total_fault(holdings: &[u64], accounts: usize, count: usize) -> Option<usize>
     requires { (1 ≤ accounts) × (accounts ≤ most_rows) × (count ≤ most_components) × (length holdings.now ≡ accounts * (count + 2)) }
     ensures { result ≡ below (count + 2) (total_fault count (totals_of accounts count holdings.now)) }
@@ -57,14 +60,11 @@ fn total_fault(holdings: &[u64], accounts: usize, count: usize) -> Option<usize>
         rows: accounts,
         width,
     };
-    let mut places = [0u64; totals::WIDEST];
+    let mut places = [0u64; layout::MOST_WIDTH];
     let totals = &mut places[..width];
     rows.fill(totals);
     first_over(totals, holdings[count + 1], count)
 }
-
-// `count ≤ most_components` stands in the contracts: refusal 1's test says it of any number, and what is given is a caller's, so that a
-// type that carries it would be made between the two.
 
 // Refusal 1's test. The ranges come first, so that no product is too large.
 #[tactic(auto, using(std::proofs::lemmas::Bool::Decides::nat_tests), unfolding(rules::specs::Opening::lent_sizes_fit, rules::specs::Opening::day_sizes_fit, sequences::specs::Every::every, sequences::specs::Every::inside))]
@@ -109,8 +109,7 @@ fn open_account(stretch: &mut [u64], held: &[u64])
     for (line, old) in held[1..].iter().enumerate() {
         let opened = Lots {
             old: *old,
-            bought: 0,
-            got: 0,
+            ..Lots::default()
         };
         layout::put_lots(stretch, line, opened);
     }
@@ -133,6 +132,8 @@ fn open_book(book: &mut [u64], holdings: &[u64], accounts: usize, count: usize)
     requires holdings_len { length holdings.now ≡ accounts * (count + 2) }
     ensures { book.new ≡ join_below (λ a. opened_stretch count (stretch_of (count + 2) holdings.now a)) accounts }
 {
+    // Accounts by number: tried by a zip of the book's `chunks_exact_mut` and the holdings' `chunks_exact`, but of the numbers that are
+    // written through such pieces nothing is known behind the loop.
     for (a, held) in holdings.chunks_exact(count + 2).enumerate() {
         open_part(book, held, count, a);
     }

@@ -63,12 +63,12 @@ fn rows_of(book: &[u64], accounts: usize, n: usize) -> Rows<'_>
 
 // Whether the totals of a book, as far as 2^62, are within their limits, which are all below that. They stand in room for the widest row,
 // since the library has no heap.
-#[tactic(auto, using(totals::proofs::Room::zeros_long, totals::proofs::Sums::capped_le))]
+#[tactic(auto, using(std::proofs::lemmas::Slice::overwrites, totals::proofs::Sums::capped_le))]
 fn book_fits(book: &Rows, n: usize) -> bool
     requires { (n ≤ most_components) × (book.now.rows ≤ most_rows) × (book.now.width ≡ width_of n) }
     ensures { result ≡ totals_fit n (total book.now.run.now (width_of n) book.now.rows) }
 {
-    let mut places = [0u64; totals::WIDEST];
+    let mut places = [0u64; layout::MOST_WIDTH];
     let totals = &mut places[..book.width];
     book.fill(totals);
     totals_fit(totals, n)
@@ -109,7 +109,7 @@ fn prices_fit(prices: &[u64]) -> bool
     prices.iter().all(|price| *price <= rules::MOST_PRICE)
 }
 
-// A, N and the lengths of the book and of the prices, bound by bound: each is tried by an edit of its own.
+// A, N and the lengths of the book and of the prices, bound by bound, as in the definition: ranges by `contains` would be no shorter.
 #[tactic(auto, using(std::proofs::lemmas::Bool::Decides::nat_tests), unfolding(rules::specs::Opening::day_sizes_fit, sequences::specs::Every::every, sequences::specs::Every::inside))]
 pub fn sizes_fit(accounts: usize, n: usize, book: usize, prices: usize) -> bool
     ensures { result ≡ day_sizes_fit accounts n book prices }

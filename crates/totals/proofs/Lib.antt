@@ -2,4 +2,3 @@ pub mod Top
 pub mod Cut
 pub mod Pass
 pub mod Sums
-pub mod Room

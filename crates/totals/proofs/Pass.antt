@@ -4,8 +4,8 @@ use Rattle.std.proofs.Common.{length-set, get_or-set_other, get_or-set_same, bel
 use lib.Bits.{bit_or}
 use Rattle.sequences.specs.Below.{any_below}
 use Rattle.sequences.proofs.Below.{any_more}
-use Rattle.totals.specs.Totals.{top, quick_most, reaches}
-use Rattle.totals.proofs.Top.{or_zero_left, or_zero_right}
+use Rattle.totals.specs.Totals.{top, reaches}
+use Rattle.totals.proofs.Top.{or_sides}
 
 -- the totals t₀ became t: those below j are F, wrapped, and the others as they were
 pub record Pass (t₀ : List ℕ) (F : ℕ → ℕ) (j : ℕ) (t : List ℕ) : Type 0 where
@@ -32,10 +32,12 @@ pub seen_more : (F : ℕ → ℕ) (j h g : ℕ) → Seen F j h → leb top g ≡
 unfolding reaches
 seen_more F j h g s f = f ∙ ap (λ (b : Bool). b || leb top (F j)) s ∙ sym (any_more (reaches F) j)
 
--- The or h of a pass that adds blocks of eight rows, whose sums are T: where it is 0, each of these below j is at most that of eight
--- numbers below 2^56.
+-- The or h of a pass that adds blocks of eight rows, whose sums are T: where it is at most m, so is each number, and each of the sums
+-- below j is at most that of eight such numbers.
 abbrev pub Small : (T : ℕ → ℕ) (j h : ℕ) → Type 0
-Small T j h = h ≡ 0 → (k : ℕ) → k < j → T k ≤ 8 * quick_most
+Small T j h = (m : ℕ) → h ≤ m → (k : ℕ) → k < j → T k ≤ 8 * m
 
-pub small_more : (T : ℕ → ℕ) (j h g : ℕ) → Small T j h → (g ≡ 0 → T j ≤ 8 * quick_most) → Small T (j + 1) (bit_or h g)
-small_more T j h g s l e = below_more (λ (k : ℕ). T k ≤ 8 * quick_most) j (s (or_zero_left h g e)) (l (or_zero_right h g e))
+pub small_more : (T : ℕ → ℕ) (j h g : ℕ) → Small T j h → ((m : ℕ) → g ≤ m → T j ≤ 8 * m) → Small T (j + 1) (bit_or h g)
+small_more T j h g s l m e =
+    let o = or_sides h g m e in
+    below_more (λ (k : ℕ). T k ≤ 8 * m) j (s m o.0) (l m o.1)

@@ -3,14 +3,12 @@ use Rattle.std.proofs.Common.{◌≡◌, ℕ, zero, suc, ◌+◌, ◌*◌, ◌%�
 use Rattle.std.proofs.Common.{add-zero, lt-suc_self, arith, leb-false}
 use mathlib.Core.Bool.{false≢true}
 use native.Mathlib.Nat.{le_step}
-use lib.Bits.{bit_or}
 use borrow.Author.Tests.{lt-leb}
 use Rattle.sequences.specs.Below.{sum_below, any_below}
 use Rattle.std.proofs.lemmas.Bool.{or_from, false_from_ne_true, true_from_ne_false}
 use Rattle.sequences.proofs.Below.{sum_none, sum_more, sum_same, sum_grows, any_here}
 use Rattle.sequences.proofs.Stretch.{within}
 use Rattle.totals.specs.Totals.{top, quick_most, plus_row, plus_block, reaches, place_at, total, capped_total, Low}
-use Rattle.totals.proofs.Top.{or_zero_left, or_zero_right}
 
 -- none passes
 any_off : (f : ℕ → Bool) (n : ℕ) → any_below f n ≡ false → (k : ℕ) → k < n → f k ≡ false
@@ -122,37 +120,37 @@ module _ {t b : List ℕ} {w a : ℕ} (q : Counted t b w a) (x : List ℕ) (n : 
   pub reached_row : (m : ℕ) → a + 1 ≤ m → any_below (reaches (plus_row t x)) n ≡ true → any_below (reaches (total b w m)) w ≡ true
   reached_row m le on = reached b w (a + 1) (plus_row t x) plus m le (rw long at on)
 
--- t holds the totals of the first a rows, wrapped; where h is 0, each is at most that of a numbers below 2^56
-pub record Quick (t b : List ℕ) (w a h : ℕ) : Type 0 where
+-- t holds the totals of the first a rows, wrapped, each at most that of a numbers below 2^56
+pub record Quick (t b : List ℕ) (w a : ℕ) : Type 0 where
   pub same : (k : ℕ) → k < w → get_or t k 0 ≡ total b w a k % 2 ^ 64
-  pub small : h ≡ 0 → (k : ℕ) → k < w → total b w a k ≤ a * quick_most
+  pub small : (k : ℕ) → k < w → total b w a k ≤ a * quick_most
 
-pub quick_none : (t b : List ℕ) (w : ℕ) → ((k : ℕ) → k < w → get_or t k 0 ≡ 0) → Quick t b w 0 0
+pub quick_none : (t b : List ℕ) (w : ℕ) → ((k : ℕ) → k < w → get_or t k 0 ≡ 0) → Quick t b w 0
 quick_none t b w z =
     record {
       same = λ k h. omega (arith, z k h, total_none b w k);
-      small = λ _ k h. omega (arith, total_none b w k);
+      small = λ k h. omega (arith, total_none b w k);
     }
 
-module _ (i : ℕ) {t b : List ℕ} {w h : ℕ} (q : Quick t b w (i * 8) h) where
-  -- eight rows more, the block x, whose high bits are g
-  pub quick_block : (x t' : List ℕ) (g : ℕ) → length t ≡ w → ((k : ℕ) → k < 8 * w → get_or x k 0 ≡ get_or b (i * (8 * w) + k) 0)
-      → (g ≡ 0 → (k : ℕ) → k < length t → total x (length t) 8 k ≤ 8 * quick_most)
-      → ((k : ℕ) → k < length t → get_or t' k 0 ≡ plus_block t x k % 2 ^ 64) → Quick t' b w ((i + 1) * 8) (bit_or h g)
+module _ (i : ℕ) {t b : List ℕ} {w : ℕ} (q : Quick t b w (i * 8)) where
+  -- eight rows more, the block x
+  pub quick_block : (x t' : List ℕ) → length t ≡ w → ((k : ℕ) → k < 8 * w → get_or x k 0 ≡ get_or b (i * (8 * w) + k) 0)
+      → ((k : ℕ) → k < length t → total x (length t) 8 k ≤ 8 * quick_most)
+      → ((k : ℕ) → k < length t → get_or t' k 0 ≡ plus_block t x k % 2 ^ 64) → Quick t' b w ((i + 1) * 8)
   unfolding plus_block
-  quick_block x t' g long block low got =
+  quick_block x t' long block low got =
       let low' = rw long at low in
       let got' = rw long at got in
       let more : (i + 1) * 8 ≡ i * 8 + 8 = omega arith in
       record {
         same = λ k l. rw more (omega (arith, got' k l, q.same k l, total_block b x w i block k l));
-        small = λ z k l. rw more (omega (arith, q.small (or_zero_left h g z) k l, low' (or_zero_right h g z) k l, total_block b x w i block k l));
+        small = λ k l. rw more (omega (arith, q.small k l, low' k l, total_block b x w i block k l));
       }
 
 -- of at most 64 rows: no total reached 2^62, so none wrapped
-pub quick_end : {t b : List ℕ} {w a h : ℕ} → Quick t b w a h → h ≡ 0 → a ≤ 64 → Counted t b w a
-quick_end {t} {b} {w} {a} q z l =
-    let low : (k : ℕ) → k < w → total b w a k < top = λ k i. omega (arith, q.small z k i, l) in
+pub quick_end : {t b : List ℕ} {w a : ℕ} → Quick t b w a → a ≤ 64 → Counted t b w a
+quick_end {t} {b} {w} {a} q l =
+    let low : (k : ℕ) → k < w → total b w a k < top = λ k i. omega (arith, q.small k i, l) in
     record {
       same = λ k i. omega (arith, q.same k i, low k i);
       low = low;

@@ -32,13 +32,6 @@ or_one h a x t s q =
 pub add_wrapped : (a x s : ℕ) → s ≡ x % 2 ^ 64 → (a + s) % 2 ^ 64 ≡ (a + x) % 2 ^ 64
 add_wrapped a x s e = omega (arith, e)
 
--- an or is 0 only where both sides are
-pub or_zero_left : (a b : ℕ) → bit_or a b ≡ 0 → a ≡ 0
-or_zero_left a b e = omega (arith, le_or_left a b)
-
-pub or_zero_right : (a b : ℕ) → bit_or a b ≡ 0 → b ≡ 0
-or_zero_right a b e = omega (arith, le_or_right a b)
-
 -- an or that is at most m has no side above m
 pub or_sides : (u v m : ℕ) → bit_or u v ≤ m → (u ≤ m) × (v ≤ m)
 or_sides u v m l = (le_trans (le_or_left u v) l, le_trans (le_or_right u v) l)

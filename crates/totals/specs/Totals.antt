@@ -1,12 +1,6 @@
 -- The totals of a run of rows of one width: for each place the sum over the rows, whether one reaches 2^62, and as far as 2^62.
 use Rattle.std.specs.Prelude.{ℕ, ◌+◌, ◌*◌, ◌<◌, ◌≤◌, min, Bool, List, length, nat_le, slice_index}
 use Rattle.sequences.specs.Below.{sum_below}
-use Rattle.layout.specs.Places.{most_components}
-use Rattle.layout.specs.Book.{width_of}
-
--- the widest row: an account's stretch on a day of the most components
-abbrev pub widest : ℕ
-widest = width_of most_components
 
 -- the most rows: so many accounts has a day
 abbrev pub most_rows : ℕ

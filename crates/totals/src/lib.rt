@@ -1,12 +1,9 @@
 // The totals of a run of rows of one width: for each place the sum over the rows, as far as 2^62.
 #![tactic(auto)]
 
-ghost use Rattle.std.specs.Prelude.{◌≡◌, ℕ, ◌+◌, ◌*◌, ◌%◌, ◌^◌, ◌<◌, ◌≤◌, min, true, not, length, slice_index};
+ghost use Rattle.std.specs.Prelude.{◌≡◌, ℕ, ◌+◌, ◌*◌, ◌%◌, ◌^◌, ◌<◌, ◌≤◌, min, true, false, is_err, length, slice_index};
 ghost use Rattle.sequences.specs.Below.{any_below};
 ghost use Rattle.totals.specs.Totals.{most_rows, top, quick_most, total, capped_total, plus_row, plus_block, reaches, Low};
-
-// The widest row: an account's stretch on a day of 300 components.
-pub const WIDEST: usize = layout::MOST_WIDTH;
 
 // 2^62: above every limit of a day, and four numbers below it add up without wrapping.
 pub const TOP: u64 = 4_611_686_018_427_387_904;
@@ -14,7 +11,8 @@ pub const TOP: u64 = 4_611_686_018_427_387_904;
 // How many rows are added in one pass: one by one, the totals took 1.25 s where eight at a time took 0.43.
 const EIGHT: usize = 8;
 
-// A run of rows of one width.
+// A run of rows of one width. Their number stands beside it, though it is `run.len() / width`: the contracts count rows, and each
+// caller, who has the number, would owe a law of the division.
 #[derive(Drop)]
 pub struct Rows<'a> {
     pub run: &'a [u64],
@@ -23,12 +21,16 @@ pub struct Rows<'a> {
     pub ghost whole: { length run.now ≡ rows * width },
 }
 
-// Adds a row to the totals. False where a total reaches 2^62, which is seen on the number added where the total wraps.
+// A total reaches 2^62: the totals are void.
+#[derive(Clone, Copy)]
+struct Over;
+
+// Adds a row to the totals. Over where a total reaches 2^62, which is seen on the number added where the total wraps.
 #[tactic(auto, using(sequences::proofs::Below::any_none))]
-fn add_row(totals: &mut [u64], row: &[u64]) -> bool
+fn add_row(totals: &mut [u64], row: &[u64]) -> Result<(), Over>
     requires same_width { length row.now ≡ length totals.old }
     requires low { Low (length row.now) totals.old }
-    ensures value { result ≡ not (any_below (reaches (plus_row totals.old row.now)) (length row.now)) }
+    ensures value { is_err result ≡ any_below (reaches (plus_row totals.old row.now)) (length row.now) }
     ensures sums { (k : ℕ) → k < length row.now → slice_index totals.new k ≡ plus_row totals.old row.now k % 2 ^ 64 }
 {
     let mut high: u64 = 0;
@@ -38,16 +40,18 @@ fn add_row(totals: &mut [u64], row: &[u64]) -> bool
         *t = t.wrapping_add(x);
         high |= x | *t;
     }
-    high < TOP
+    if TOP <= high {
+        return Err(Over);
+    }
+    Ok(())
 }
 
-// Of the eight numbers at a place of a block's rows: their sum, wrapped, and the bits from 2^56 on that one of them has. The bits are
-// shifted down, so that the compiler does not chain the ors of one place to those of the next.
+// Of the eight numbers at a place of a block's rows: their sum, wrapped, and their or, which is at least each of them.
 #[tactic(auto, using(crate::proofs::Sums::total_none))]
 fn column(block: &[u64], width: usize, place: usize) -> (u64, u64)
     requires { (place < width) × (length block.now ≡ 8 * width) }
     ensures sum { result.0 ≡ total block.now width 8 place % 2 ^ 64 }
-    ensures low { result.1 ≡ 0 → total block.now width 8 place ≤ 8 * quick_most }
+    ensures or { (m : ℕ) → result.1 ≤ m → total block.now width 8 place ≤ 8 * m }
 {
     let mut sum: u64 = 0;
     let mut all: u64 = 0;
@@ -57,57 +61,56 @@ fn column(block: &[u64], width: usize, place: usize) -> (u64, u64)
         sum = sum.wrapping_add(x);
         all |= x;
     }
-    (sum, all >> 56)
+    (sum, all)
 }
 
-// Adds the eight rows of a block to the totals in one pass. 0 only where all their numbers are below 2^56.
-fn add_block(totals: &mut [u64], block: &[u64]) -> u64
+// Adds the eight rows of a block to the totals in one pass, and says whether all their numbers are below 2^56. `column` gives an
+// or and no bool: for 64 rows of 905 numbers, as Rust compiles both, 131,500 instructions where a bool for each place took 149,700.
+fn add_block(totals: &mut [u64], block: &[u64]) -> bool
     requires { length block.now ≡ 8 * length totals.old }
-    ensures small { result ≡ 0 → (k : ℕ) → k < length totals.old → total block.now (length totals.old) 8 k ≤ 8 * quick_most }
+    ensures small { result ≡ true → (k : ℕ) → k < length totals.old → total block.now (length totals.old) 8 k ≤ 8 * quick_most }
     ensures sums { (k : ℕ) → k < length totals.old → slice_index totals.new k ≡ plus_block totals.old block.now k % 2 ^ 64 }
 {
     let width = totals.len();
-    let mut high: u64 = 0;
+    let mut all: u64 = 0;
     for (j, t) in totals.iter_mut().enumerate() {
-        let (sum, bits) = column(block, width, j);
+        let (sum, or) = column(block, width, j);
         *t = t.wrapping_add(sum);
-        high |= bits;
+        all |= or;
     }
-    high
+    all < 1 << 56
 }
 
-// Fills the totals, zeros at first, with those of the first rows, eight at a time, and says of how many. Where all their numbers are
-// below 2^56 no total reaches 2^62, so that none has to be looked at. Else the totals are 0, those of no row.
+// Fills the totals with those of the first rows, eight at a time, and says of how many. Where all their numbers are below 2^56 no total
+// reaches 2^62, so that none has to be looked at. Else the totals are 0, those of no row. `rows ≤ most_rows` is asked here and by the
+// two that call this, and is no fact of `Rows`: `total_at` is of any number of rows.
 fn add_blocks(totals: &mut [u64], rows: &Rows) -> usize
-    requires { (0 < rows.now.width) × (length totals.old ≡ rows.now.width) × (rows.now.rows ≤ most_rows) × ((k : ℕ) → k < rows.now.width → slice_index totals.old k ≡ 0) }
+    requires { (0 < rows.now.width) × (length totals.old ≡ rows.now.width) × (rows.now.rows ≤ most_rows) }
     ensures upper_bound { result ≤ rows.now.rows }
     ensures sums { (k : ℕ) → k < rows.now.width → slice_index totals.new k ≡ total rows.now.run.now rows.now.width result k }
     ensures low { Low rows.now.width totals.new }
 {
-    let mut high: u64 = 0;
-    for block in rows.run.chunks_exact(EIGHT * rows.width) {
-        high |= add_block(totals, block);
-    }
-    if high == 0 {
-        return rows.rows / EIGHT * EIGHT;
-    }
     totals.fill(0);
-    0
+    for block in rows.run.chunks_exact(EIGHT * rows.width) {
+        if !add_block(totals, block) {
+            totals.fill(0);
+            return 0;
+        }
+    }
+    rows.rows / EIGHT * EIGHT
 }
 
-// Fills the totals, zeros at first, with those of all rows. False where one reaches 2^62.
-fn add_all(totals: &mut [u64], rows: &Rows) -> bool
-    requires { (0 < rows.now.width) × (length totals.old ≡ rows.now.width) × (rows.now.rows ≤ most_rows) × ((k : ℕ) → k < rows.now.width → slice_index totals.old k ≡ 0) }
-    ensures value { result ≡ not (any_below (reaches (total rows.now.run.now rows.now.width rows.now.rows)) rows.now.width) }
-    ensures sums { result ≡ true → (k : ℕ) → k < rows.now.width → slice_index totals.new k ≡ total rows.now.run.now rows.now.width rows.now.rows k }
+// Fills the totals with those of all rows. Over where one reaches 2^62.
+fn add_all(totals: &mut [u64], rows: &Rows) -> Result<(), Over>
+    requires { (0 < rows.now.width) × (length totals.old ≡ rows.now.width) × (rows.now.rows ≤ most_rows) }
+    ensures value { is_err result ≡ any_below (reaches (total rows.now.run.now rows.now.width rows.now.rows)) rows.now.width }
+    ensures sums { is_err result ≡ false → (k : ℕ) → k < rows.now.width → slice_index totals.new k ≡ total rows.now.run.now rows.now.width rows.now.rows k }
 {
     let first = add_blocks(totals, rows);
     for row in rows.run[first * rows.width..].chunks_exact(rows.width) {
-        if !add_row(totals, row) {
-            return false;
-        }
+        add_row(totals, row)?;
     }
-    true
+    Ok(())
 }
 
 impl<'a> Rows<'a> {
@@ -135,17 +138,16 @@ impl<'a> Rows<'a> {
         }
     }
 
-    // Fills the totals, zeros at first, with those of all rows, each as far as 2^62. They are summed place by place only where one
-    // reaches it.
+    // Fills the totals with those of all rows, each as far as 2^62. They are summed place by place only where one reaches it.
     #[tactic(auto, using(crate::proofs::Sums::counted_all, crate::proofs::Sums::counted_capped))]
     pub fn fill(&self, totals: &mut [u64])
-        requires { (length totals.old ≡ self.now.width) × (self.now.rows ≤ most_rows) × ((k : ℕ) → k < self.now.width → slice_index totals.old k ≡ 0) }
+        requires { (length totals.old ≡ self.now.width) × (self.now.rows ≤ most_rows) }
         ensures { (k : ℕ) → k < self.now.width → slice_index totals.new k ≡ capped_total self.now.run.now self.now.width self.now.rows k }
     {
         if totals.is_empty() {
             return;
         }
-        if !add_all(totals, self) {
+        if add_all(totals, self).is_err() {
             self.total_by_place(totals);
         }
     }

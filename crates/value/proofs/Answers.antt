@@ -1,5 +1,5 @@
 -- What a caller learns from the answer: whether there is a value, and where there is one, that it is the day's and in its range.
-use mathlib.Core.Path.{◌≡◌, ◌∙◌}
+use mathlib.Core.Path.{◌≡◌}
 use mathlib.Core.Bool.{true}
 use mathlib.Core.List.{List}
 use Prim.Native.Nat.{ℕ, ◌≤◌}

@@ -6,6 +6,7 @@ use Prim.Native.Nat.{ℕ, ◌+◌, ◌≤◌, ◌<◌}
 use native.Mathlib.Nat.{le_trans}
 use native.Mathlib.Omega.{arith}
 use lib.Dec.{leb, lit≤}
+use lib.IntN.{ℤ}
 use Rattle.sequences.specs.Below.{sum_below, any_below}
 use Rattle.sequences.specs.Every.{every}
 use Rattle.sequences.specs.Checks.{reply, answering, answered}
@@ -71,12 +72,12 @@ module _ (d : Day) (ps : List ℕ) where
   chosen false x = refl
 
   -- where none is, the sum decides
-  pub priced_all : (i sum added taken size : ℕ) → i ≡ d.count → any_below (lacks_price d ps) i ≡ false → sum ≡ sum_below (worth_at d ps) i
-      → added ≡ cash_added d.fund.estimated_cash → taken ≡ cash_taken d.fund.estimated_cash → size ≡ d.fund.basket_size
-      → value_from (sum + added) taken size ≡ answered (value_checks d ps) (reference_value d ps)
+  pub priced_all : (i sum size : ℕ) (cash : ℤ) → i ≡ d.count → any_below (lacks_price d ps) i ≡ false → sum ≡ sum_below (worth_at d ps) i
+      → cash ≡ d.fund.estimated_cash → size ≡ d.fund.basket_size
+      → value_from (sum + cash_added cash) (cash_taken cash) size ≡ answered (value_checks d ps) (reference_value d ps)
   unfolding value_from value_checks has_value reference_value worth_before answering every
-  priced_all i sum added taken size all none is plus less basket =
-      rw (is, plus, less, basket, all, rw all at none)
+  priced_all i sum size cash all none is same basket =
+      rw (is, same, basket, all, rw all at none)
       (chosen
       (every (leb (cash_taken d.fund.estimated_cash) (worth_before d ps) ∷ leb (reference_value d ps) 9_999_999 ∷ []))
       (reference_value d ps))

@@ -1,7 +1,7 @@
 // The reference value of a day, from its components and prices.
 #![tactic(auto)]
 
-ghost use Rattle.std.specs.Prelude.{true, ◌≡◌, ◌+◌, ◌*◌, ◌≤◌};
+ghost use Rattle.std.specs.Prelude.{true, ◌≡◌, ◌+◌, ◌-◌, ◌*◌, ◌≤◌, SomeIff};
 ghost use Rattle.sequences.specs.Checks.{answered};
 ghost use Rattle.units.specs.Units.{rounded};
 ghost use Rattle.fund.specs.Fund.{cash_in_range};
@@ -39,19 +39,13 @@ fn lacks_price(c: Component, price: u64) -> bool
     flags::entry_of(c.flag, flags::Column::Priced) && c.quantity != 0 && price == 0
 }
 
-// What the estimated cash adds to the sum, and what it takes from it. All that computes with signed numbers.
-#[tactic(auto, using(crate::proofs::Sign::small, crate::proofs::Sign::parts_below, crate::proofs::Sign::parts_above))]
-fn cash_parts(e: i64) -> (Money, Money)
-    requires { cash_in_range e ≡ true }
-    ensures added { result.0.0 ≡ cash_added e }
-    ensures taken { result.1.0 ≡ cash_taken e }
+// The sum of the components with the estimated cash, which is signed. None where it falls below zero.
+#[tactic(auto, using(std::proofs::lemmas::Int::wraps, crate::proofs::Sign::ten_fits, crate::proofs::Sign::with_cash_lem))]
+fn with_cash(sum: Money, e: i64) -> Option<u64>
+    requires { (sum.0 ≤ 300_000_000_000_000_000) × (cash_in_range e ≡ true) }
+    ensures { SomeIff result (cash_taken e ≤ sum.0 + cash_added e) (sum.0 + cash_added e - cash_taken e) }
 {
-    let cash = Money(10 * e.unsigned_abs());
-    if e < 0 {
-        (Money(0), cash)
-    } else {
-        (cash, Money(0))
-    }
+    sum.0.checked_add_signed(10 * e)
 }
 
 // A basket's worth by the unit, rounded.
@@ -64,17 +58,13 @@ fn per_unit(basket: Money, size: u64) -> ReferenceValue
     ReferenceValue::new((2 * tenths + size) / (2 * size))
 }
 
-// The answer from the sum of the components and what the estimated cash adds to it and takes from it.
-#[tactic(auto, using(std::proofs::lemmas::Bool::Decides::nat_tests), unfolding(crate::specs::Worth::value_from, sequences::specs::Every::every, sequences::specs::Checks::answering))]
-fn value_with(sum: Money, added: Money, taken: Money, size: u64) -> Result<ReferenceValue, Refusal>
-    requires { (sum.0 + added.0 ≤ 400_000_000_000_000_000) × (1 ≤ size) × (size ≤ 99_999_999) }
-    ensures { value_answer_reply result ≡ value_from (sum.0 + added.0) taken.0 size }
+// The answer from the sum of the components and the estimated cash.
+#[tactic(auto, using(std::proofs::lemmas::Bool::Decides::nat_tests, crate::proofs::Sign::added_small), unfolding(crate::specs::Worth::value_from, sequences::specs::Every::every, sequences::specs::Checks::answering))]
+fn value_with(sum: Money, cash: i64, size: u64) -> Result<ReferenceValue, Refusal>
+    requires { (sum.0 ≤ 300_000_000_000_000_000) × (cash_in_range cash ≡ true) × (1 ≤ size) × (size ≤ 99_999_999) }
+    ensures { value_answer_reply result ≡ value_from (sum.0 + cash_added cash) (cash_taken cash) size }
 {
-    let before = sum + added;
-    let rest = before
-        .0
-        .checked_sub(taken.0)
-        .ok_or(Refusal::NoReferenceValue)?;
+    let rest = with_cash(sum, cash).ok_or(Refusal::NoReferenceValue)?;
     let value = per_unit(Money(rest), size);
     if MOST_VALUE < value {
         return Err(Refusal::NoReferenceValue);
@@ -83,7 +73,7 @@ fn value_with(sum: Money, added: Money, taken: Money, size: u64) -> Result<Refer
 }
 
 // Refusal 14, or the value. It looks at the day and the prices only.
-#[tactic(auto, using(sequences::proofs::Below::sum_none, sequences::proofs::Below::any_none, crate::proofs::Laws::priced_next, crate::proofs::Laws::sum_next, crate::proofs::Laws::sum_small, crate::proofs::Laws::unpriced, crate::proofs::Laws::priced_all, crate::proofs::Sign::added_small), unfolding(rules::specs::Lines::price_of))]
+#[tactic(auto, using(sequences::proofs::Below::sum_none, sequences::proofs::Below::any_none, crate::proofs::Laws::priced_next, crate::proofs::Laws::sum_next, crate::proofs::Laws::sum_small, crate::proofs::Laws::unpriced, crate::proofs::Laws::priced_all), unfolding(rules::specs::Lines::price_of))]
 pub fn reference_value(day: &DayView, prices: &[u64]) -> Result<ReferenceValue, Refusal>
     requires { Priceable day.now prices.now }
     ensures { value_answer_reply result ≡ answered (value_checks day.now prices.now) (reference_value day.now prices.now) }
@@ -97,6 +87,5 @@ pub fn reference_value(day: &DayView, prices: &[u64]) -> Result<ReferenceValue, 
         sum = sum + worth_of(component, *price);
     }
     let fund = day.fund();
-    let (added, taken) = cash_parts(fund.estimated_cash);
-    value_with(sum, added, taken, fund.basket_size)
+    value_with(sum, fund.estimated_cash, fund.basket_size)
 }

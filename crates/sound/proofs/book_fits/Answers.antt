@@ -1,9 +1,8 @@
 -- `sound::book_fits` meets its contract: the book's totals fit just where they do as far as 2^62.
-use Rattle.std.proofs.Common.{◌≡◌, ℕ, ◌<◌, min, List, get_or, ◌∙◌, arith}
+use Rattle.std.proofs.Common.{◌≡◌, ℕ, ◌<◌, min, List, get_or, ◌∙◌}
 use Rattle.sequences.proofs.Every.{same_test}
 use Rattle.totals.specs.Totals.{top, number_at, total, capped_total}
 use Rattle.totals.proofs.Sums.{capped_is}
-use Rattle.totals.proofs.Room.{zeros_long, zeros_at}
 use Rattle.layout.specs.Book.{width_of}
 use Rattle.sound.specs.Parts.{totals_fit}
 use Rattle.sound.proofs.Limits.{fits_true, fits_facts, capped_fits, fits_capped}
@@ -20,9 +19,6 @@ module _ (b : List ℕ) (accounts n : ℕ) (t : List ℕ) (sums : (k : ℕ) → 
       same_test _ _
       (λ f. fits_true _ _ (fits_capped n _ (number_at t) capped (fits_facts n (number_at t) f)))
       (λ f. fits_true n (number_at t) (capped_fits n _ _ capped (fits_facts _ _ f)))
-
-pub fill-requires : goal.fill-requires
-fill-requires c = (zeros_long _ (omega arith), c.requires.1, zeros_at _ (omega arith))
 
 pub returns : goal.returns
 returns c = c.totals_fit.ensures ∙ same-fit _ _ _ c.fill.new.totals (rw c.requires.2 at c.fill.ensures)

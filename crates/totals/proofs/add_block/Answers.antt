@@ -15,5 +15,5 @@ loop-j-preserved c =
     ∙ add_wrapped (get_or c.args.totals.now l.j 0) (sums l.j) sum c.column-sum.ensures.sum
     in (
       pass_more l.invariant.0 _ (omega arith) t,
-      small_more sums l.j l.high c.column-sum.result.1 l.invariant.1 c.column-sum.ensures.low,
+      small_more sums l.j l.all c.column-sum.result.1 l.invariant.1 c.column-sum.ensures.or,
     )
