@@ -8,8 +8,8 @@ use native.Mathlib.Numerals.{add-one}
 use native.Mathlib.Omega.{arith}
 use lib.ListN.{length, get_or, take, drop, set, length-set}
 use lib.Seq.{get_or-set_other, get_or-set_same, get_or-take, get_or-drop}
+use Rattle.std.proofs.lemmas.List.{take_rest}
 use Rattle.std.specs.Simd.{first_chunks}
-use Rattle.digits.proofs.Put.{rest_all}
 use Rattle.lots.specs.declared.Lots.{Lots}
 use Rattle.lots.proofs.Laws.{lots-eq}
 use Rattle.layout.specs.Places.{lines_from, line_width}
@@ -27,7 +27,7 @@ pub line_at : (s : List ℕ) (n l : ℕ) (lines : List (List ℕ)) → lines ≡
 unfolding lots_at
 line_at s n l lines e h =
     let read : (k : ℕ) → k < line_width → get_or (get_or lines l []) k 0 ≡ get_or s (line_from l + k) 0 =
-    λ k m. rw (e, rest_all lines_from s) (part_at line_width n (drop lines_from s) l k h m) ∙ get_or-drop lines_from s (line_width * l + k) 0 ∙ ap (λ (j : ℕ). get_or s j 0) (omega arith) in
+    λ k m. rw (e, take_rest s lines_from) (part_at line_width n (drop lines_from s) l k h m) ∙ get_or-drop lines_from s (line_width * l + k) 0 ∙ ap (λ (j : ℕ). get_or s j 0) (omega arith) in
     lots-eq (read 0 (omega arith) ∙ ap (λ (j : ℕ). get_or s j 0) (omega arith)) (read 1 (omega arith)) (read 2 (omega arith))
 
 -- three stores from place i on
