@@ -19,11 +19,11 @@ use Rattle.text_rules.specs.declared.Column.{Column}
 use Rattle.text_rules.specs.declared.Taken.{Taken}
 use Rattle.text_rules.specs.Tables.{TextForm, column_at}
 use Rattle.text_rules.specs.Columns.{column_start, column_width, line_width, line_pitch, holds_text, is_text, used_by, wrong_cell, numbers_before, line_numbers, taken_before, cell_read}
-use Rattle.text_rules.specs.Well.{most_line, most_width, columns_well, is_always}
+use Rattle.text_rules.specs.Well.{most_width, columns_well, is_always}
 use Rattle.text_rules.specs.declared.Use.{Use}
 use Rattle.text_rules.specs.declared.Use.TheVariants.{Always, ByFlag, Text}
 use Rattle.text_rules.proofs.Tables.{start_next, end_line}
-use Rattle.text_rules.proofs.Well.{WellColumn, column_well_lem, line_short}
+use Rattle.text_rules.proofs.Well.{WellColumn, column_well_lem}
 use Rattle.text_rules.proofs.Placed.{bytes_of, numbers_of}
 use Rattle.text_columns.specs.Read.{cell_size}
 use Rattle.text_rows.specs.declared.CellFault.{CellFault}
@@ -175,13 +175,6 @@ known t {k} here table there flag well mine whole before column =
     }
 
 module _ {t : TextForm} {k : ℕ} {flags : List (List Bool)} {flag_start : ℕ} {line taken : Taken} {c : Column} (v : Known t k flags flag_start line taken c) where
-  pub pitched : line.bytes + 2 ≡ line_pitch t.columns
-  unfolding line_width
-  pitched = ap (λ (n : ℕ). n + 2) (bytes_of t.columns (length t.columns) v.whole) ∙ sym (pitch_line t.columns)
-
-  pub pitch_low : line.bytes + 2 ≤ most_line + 2
-  pitch_low = omega (arith, pitched, pitch_line t.columns, line_short t.columns v.well)
-
   pub strides : line.numbers ≡ line_numbers t.columns
   unfolding line_numbers
   strides = numbers_of t.columns (length t.columns) v.whole
@@ -235,7 +228,7 @@ used_always (ByFlag column) e flags flag = absurd (false≢true e)
 used_always Text e flags flag = refl
 
 -- what the search goes by there
-pub ruleset number_laws = (known, pitched, pitch_low, cell_room, flag_room)
+pub ruleset number_laws = (known, cell_room, flag_room)
 
 -- `read_column`: words or numbers, by the column's use.
 

@@ -18,7 +18,8 @@ pub struct CellFault {
     pub column: usize,
 }
 
-// Stores a number where the run has room for it.
+// Stores a number where the run has room for it. By place: tried by `get_mut`, of which the slice's length is known behind it, and not
+// what it stores.
 fn keep_number(run: &mut [u64], q: usize, v: u64)
     ensures { run.new ≡ set run.old q v }
 {
@@ -76,11 +77,10 @@ fn read_numbers_column<const ALWAYS: bool>(
     let line = columns.whole();
     let taken = columns.taken_before(k);
     let column = form.column(k);
-    for (j, row) in rows.chunks_exact(line.bytes + 2).enumerate() {
+    for (j, row) in rows.chunks_exact(line.pitch()).enumerate() {
         let size = text_columns::read_cell(
+            column,
             is_used::<ALWAYS>(column.used, flags, row, flag_start),
-            column.digits,
-            column.decimals,
             &row[taken.bytes..taken.bytes + column.width],
         );
         let Some(v) = size else {
