@@ -12,8 +12,7 @@ use Rattle.std.specs.Prelude.{Option, Some, None}
 use Rattle.sequences.specs.Below.{first_below, below}
 use Rattle.sequences.proofs.Stretch.{part_within}
 use Rattle.sequences.proofs.Below.{sum_none, sum_more, sum_grows, cond_le, first-le, first_none, first_more, first_here, first_same}
-use Rattle.sequences.proofs.Below.{below-some, below-none, below_some_facts, below_none_fact, first_none_below, first_some_below}
-use Rattle.sequences.proofs.Chunks.{chunks_start, chunk_room, chunk_is, chunks_again, chunks_end, chunk_some}
+use Rattle.sequences.proofs.Below.{below-some, below-none, below_some_facts, below_none_fact}
 use Rattle.lines.specs.Lines.{name_byte, all_bytes}
 use Rattle.text_rules.specs.declared.Column.{Column}
 use Rattle.text_rules.specs.declared.Taken.{Taken}
@@ -30,6 +29,8 @@ use Rattle.text_rows.specs.declared.CellFault.{CellFault}
 use Rattle.text_rows.specs.Rows.{line_count, row_in, fault_in, lines_before, column_kept, numbers_kept}
 use Rattle.text_rows.specs.Turns.{words_fault, cells_fault, column_stored}
 use Rattle.text_lines.proofs.Standing.{lines_room, pitch_line}
+use Rattle.std.specs.List.{position_or_len}
+use Rattle.text_rows.proofs.Pieces.{pieces, pieces_length, first_piece}
 use Rattle.text_rows.proofs.Lines.{part_is, part_long, words_wrong, reading_at, reading_none, reading_some, cell_in}
 use Rattle.text_rows.proofs.Faults.{wrong_at, cells_first, lines_none, lines_more, lines-le, fault_before, fault_first, fault_same, fault_here, fault_found}
 
@@ -67,38 +68,23 @@ module _ (cs : List Column) where
   unfolding line_numbers line_width
   numbers_few well = omega (arith, numbers_start well (length cs) (le_refl (length cs)), pitch_line cs)
 
--- `words_fault`: the words of the lines below j are no fault.
+-- `words_fault`: the first of the lines as they are cut.
 
-module _ (rows : List ℕ) (pitch from width : ℕ) where
-  pub words_at : ℕ → Bool
-  words_at j = not (all_bytes name_byte (take width (drop (j * pitch + from) rows)))
+module _ (rows : List ℕ) (pitch from width : ℕ) (room : from + width ≤ pitch) where
+  -- a line's words are none, by the code's own line
+  abbrev pub words_wrong_in : List ℕ → Bool
+  words_wrong_in line = not (all_bytes name_byte (take (from + width - from) (drop from line)))
 
-  module _ (room : from + width ≤ pitch) (j : ℕ) (v : first_below words_at j ≡ j) {line : List ℕ} (is : line ≡ take pitch (drop (j * pitch) rows))
-      {b : Bool} (e : b ≡ all_bytes name_byte (take (from + width - from) (drop from line))) where
-    words_here : not b ≡ words_at j
-    unfolding words_at
-    words_here =
-        ap not
-        (e
-        ∙ ap (all_bytes name_byte)
-        (part_is line from width
-        ∙ ap (λ (l : List ℕ). take width (drop from l)) is
-        ∙ part_within from width pitch (drop (j * pitch) rows) room
-        ∙ ap (take width) (drop-drop from (j * pitch) rows)))
-
-    pub words_again : b ≡ true → {n : ℕ} → n ≡ j + 1 → first_below words_at n ≡ n
-    words_again f g = rw g (first_more words_at j v (sym words_here ∙ ap not f))
-
-    pub words_found : (count : ℕ) → j < count → b ≡ false → {i : ℕ} → i ≡ j → Some i ≡ below count (words_fault rows pitch from width count)
-    unfolding words_fault words_at
-    words_found count h f g = rw g (first_some_below words_at count j h v (sym words_here ∙ ap not f))
-
-  pub words_end : (count j : ℕ) → first_below words_at j ≡ j → j ≡ count → None ≡ below count (words_fault rows pitch from width count)
-  unfolding words_fault words_at
-  words_end count j v e = first_none_below words_at count (rw e at v)
-
--- what the search goes by there
-pub ruleset words_laws = (chunks_start, chunk_room, chunk_is, chunks_end, chunk_some, first_none, words_found, words_end)
+  pub words_first : below (length (pieces pitch (length rows / pitch) rows)) (position_or_len words_wrong_in (pieces pitch (length rows / pitch) rows))
+      ≡ below (length rows / pitch) (words_fault rows pitch from width (length rows / pitch))
+  unfolding words_fault
+  words_first =
+      rw (pieces_length, first_piece)
+      (ap (below (length rows / pitch))
+      (first_same _ _ (length rows / pitch)
+      (λ j h.
+      ap (λ (l : List ℕ). not (all_bytes name_byte l))
+      (part_is _ from width ∙ part_within from width pitch (drop (j * pitch) rows) room ∙ ap (take width) (drop-drop from (j * pitch) rows)))))
 
 -- `read_numbers_column`: column k of the lines below j is no fault, and its numbers are stored.
 

@@ -29,17 +29,12 @@ fn keep_number(run: &mut [u64], q: usize, v: u64)
 }
 
 // The first of the lines, each of so many bytes, whose bytes from a place on are no words.
-#[tactic(auto, using(crate::proofs::Turns::words_laws))]
 pub fn words_fault(rows: &[u8], pitch: usize, from: usize, width: usize) -> Option<usize>
     requires { (0 < pitch) × (from + width ≤ pitch) }
     ensures { result ≡ below (length rows.now / pitch) (words_fault rows.now pitch from width (length rows.now / pitch)) }
 {
-    for (j, line) in rows.chunks_exact(pitch).enumerate() {
-        if !lines::is_name(&line[from..from + width]) {
-            return Some(j);
-        }
-    }
-    None
+    rows.chunks_exact(pitch)
+        .position(|line| !lines::is_name(&line[from..from + width]))
 }
 
 // Whether a column of this use has a number in a line, by the flag there. One that is always used reads no flag.
