@@ -9,6 +9,7 @@ use native.Mathlib.Omega.{arith}
 use lib.ListN.{length, get_or, take, drop, set, length-set}
 use lib.Seq.{length-take-le, drop-drop}
 use Rattle.std.specs.Prelude.{Option, Some, None}
+use Rattle.std.specs.List.{position_or_len}
 use Rattle.sequences.specs.Below.{first_below, below}
 use Rattle.sequences.proofs.Stretch.{part_within}
 use Rattle.sequences.proofs.Below.{sum_none, sum_more, sum_grows, cond_le, first-le, first_none, first_more, first_here, first_same}
@@ -29,7 +30,6 @@ use Rattle.text_rows.specs.declared.CellFault.{CellFault}
 use Rattle.text_rows.specs.Rows.{line_count, row_in, fault_in, lines_before, column_kept, numbers_kept}
 use Rattle.text_rows.specs.Turns.{words_fault, cells_fault, column_stored}
 use Rattle.text_lines.proofs.Standing.{lines_room, pitch_line}
-use Rattle.std.specs.List.{position_or_len}
 use Rattle.text_rows.proofs.Pieces.{pieces, pieces_length, first_piece}
 use Rattle.text_rows.proofs.Lines.{part_is, part_long, words_wrong, reading_at, reading_none, reading_some, cell_in}
 use Rattle.text_rows.proofs.Faults.{wrong_at, cells_first, lines_none, lines_more, lines-le, fault_before, fault_first, fault_same, fault_here, fault_found}
@@ -70,21 +70,21 @@ module _ (cs : List Column) where
 
 -- `words_fault`: the first of the lines as they are cut.
 
-module _ (rows : List ℕ) (pitch from width : ℕ) (room : from + width ≤ pitch) where
-  -- a line's words are none, by the code's own line
-  abbrev pub words_wrong_in : List ℕ → Bool
-  words_wrong_in line = not (all_bytes name_byte (take (from + width - from) (drop from line)))
+-- the words of a line as the code has them are none
+abbrev pub words_wrong_in : ℕ → ℕ → List ℕ → Bool
+words_wrong_in from width line = not (all_bytes name_byte (take (from + width - from) (drop from line)))
 
-  pub words_first : below (length (pieces pitch (length rows / pitch) rows)) (position_or_len words_wrong_in (pieces pitch (length rows / pitch) rows))
-      ≡ below (length rows / pitch) (words_fault rows pitch from width (length rows / pitch))
-  unfolding words_fault
-  words_first =
-      rw (pieces_length, first_piece)
-      (ap (below (length rows / pitch))
-      (first_same _ _ (length rows / pitch)
-      (λ j h.
-      ap (λ (l : List ℕ). not (all_bytes name_byte l))
-      (part_is _ from width ∙ part_within from width pitch (drop (j * pitch) rows) room ∙ ap (take width) (drop-drop from (j * pitch) rows)))))
+pub words_first : (rows : List ℕ) (pitch from width : ℕ) → from + width ≤ pitch
+    → below (length (pieces pitch (length rows / pitch) rows)) (position_or_len (words_wrong_in from width) (pieces pitch (length rows / pitch) rows))
+    ≡ below (length rows / pitch) (words_fault rows pitch from width (length rows / pitch))
+unfolding words_fault
+words_first rows pitch from width room =
+    rw (pieces_length, first_piece)
+    (ap (below (length rows / pitch))
+    (first_same _ _ (length rows / pitch)
+    (λ j h.
+    ap (λ (l : List ℕ). not (all_bytes name_byte l))
+    (part_is _ from width ∙ part_within from width pitch (drop (j * pitch) rows) room ∙ ap (take width) (drop-drop from (j * pitch) rows)))))
 
 -- `read_numbers_column`: column k of the lines below j is no fault, and its numbers are stored.
 

@@ -9,6 +9,8 @@ ghost use Rattle.text_rows_writing.specs.Lines.{number_at, word_at, lines_put, B
 
 use text_rules::{Column, LineForm, Taken};
 
+// `count`, which is ghost in each contract, is how many lines the numbers, the words and the bytes are of. No code takes it.
+
 // Writes a column of numbers into so many lines. `taken` is what the columns before it take, and `line` what all take. They come beside
 // the column: these are private steps of one call, and each would take a struct of them apart.
 fn put_numbers_column(
