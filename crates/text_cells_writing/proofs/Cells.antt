@@ -7,7 +7,9 @@ use native.Mathlib.Omega.{arith}
 use lib.ListN.{length, set, take, drop, replicate, length-append, length-replicate, take-append-drop}
 use lib.Seq.{drop-drop}
 use borrow.Rule.Slice.PartMut.{put_mid}
+use Rattle.std.specs.Prelude.{Some}
 use Rattle.digits.specs.declared.Figure.{Figure}
+use Rattle.digits.specs.declared.Form.{Form}
 use Rattle.digits.specs.Digits.{plain, signed_text, blanks_left, number_text}
 use Rattle.digits.specs.Fits.{Fits}
 use Rattle.digits.specs.Written.{put}
@@ -15,7 +17,7 @@ use Rattle.digits.proofs.Put.{put-length, written_then, growing_again}
 use Rattle.digits.proofs.Trip.{number_width}
 use Rattle.digits.proofs.Write.{blanks-put}
 use Rattle.text_rules.specs.declared.Column.{Column}
-use Rattle.text_rules.specs.Columns.{number_form}
+use Rattle.text_rules.specs.Columns.{number_form, column_form}
 use Rattle.text_rules.proofs.Well.{WellColumn}
 use Rattle.text_cells_writing.specs.Cells.{used_text}
 
@@ -51,16 +53,16 @@ number-length c n well fits = number_width (number_form c) (plain n) fits c.widt
 
 -- it has room at the end of its cell d, which holds only blanks, and is right in it
 module _ (c : Column) (n : ℕ) (fits : Fits (number_form c) (plain n)) {d : List ℕ} (blank : d ≡ replicate c.width 32) where
-  pub number_room : {z : Figure} → z ≡ plain n → length (signed_text (number_form c) z) ≤ length d
-  unfolding number_form
-  number_room e = rw e (omega (arith, fits.width c.width refl, ap length blank, length-replicate {A = ℕ} c.width 32))
+  module _ {f : Form} (form : f ≡ column_form c (Some c.width)) {z : Figure} (is : z ≡ plain n) where
+    pub number_room : length (signed_text f z) ≤ length d
+    unfolding number_form
+    number_room = rw (form, is) (omega (arith, fits.width c.width refl, ap length blank, length-replicate {A = ℕ} c.width 32))
 
-  pub number_put : {z : Figure} → z ≡ plain n → {d' : List ℕ}
-      → d' ≡ put d (length d - length (signed_text (number_form c) z)) (signed_text (number_form c) z) → d' ≡ number_text (number_form c) (plain n)
-  unfolding number_form number_text blanks_left
-  number_put is e =
-      let wide : length d ≡ c.width = ap length blank ∙ length-replicate {A = ℕ} c.width 32 in
-      e ∙ rw (is, wide, blank) (blanks-put c.width (signed_text (number_form c) (plain n)) (fits.width c.width refl))
+    pub number_put : {d' : List ℕ} → d' ≡ put d (length d - length (signed_text f z)) (signed_text f z) → d' ≡ number_text (number_form c) (plain n)
+    unfolding number_form number_text blanks_left
+    number_put e =
+        let wide : length d ≡ c.width = ap length blank ∙ length-replicate {A = ℕ} c.width 32 in
+        e ∙ rw (form, is, wide, blank) (blanks-put c.width (signed_text (number_form c) (plain n)) (fits.width c.width refl))
 
 -- with its bar
 pub used-length : (c : Column) (n : ℕ) → WellColumn c → (used : Bool) → (used ≡ true → Fits (number_form c) (plain n)) → length (used_text used c n) ≡ c.width + 1

@@ -9,7 +9,7 @@ ghost use Rattle.text_rules.specs.Columns.{number_form};
 ghost use Rattle.text_rules.specs.Well.{column_well};
 ghost use Rattle.text_cells_writing.specs.Cells.{used_text};
 
-use digits::{Figure, Form};
+use digits::Figure;
 use text_rules::Column;
 
 // Writes a number into its cell, which holds only blanks. That the column is well is asked of it alone: `Columns` holds it of all.
@@ -19,13 +19,7 @@ fn put_number(cell: &mut [u8], column: Column, n: u64)
     requires fits { Fits (number_form column) (plain n) }
     ensures { cell.new ≡ number_text (number_form column) (plain n) }
 {
-    let form = Form {
-        digits: column.digits,
-        decimals: column.decimals,
-        signed: false,
-        width: Some(column.width),
-    };
-    digits_writing::put_signed(cell, form, Figure::from(n));
+    digits_writing::put_signed(cell, column.form(Some(column.width)), Figure::from(n));
 }
 
 // Writes a number into its place in a line, where the column is used, and the bar behind it. `used` and no Option: the run has the

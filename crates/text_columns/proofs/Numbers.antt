@@ -2,7 +2,7 @@
 use Rattle.std.proofs.lemmas.Grind.{common_steps}
 use Prim.Native.Nat.{ℕ, ◌-◌, ◌^◌, ◌≤◌}
 use mathlib.Core.Path.{◌≡◌, refl, ◌∙◌}
-use mathlib.Core.Bool.{Bool, true, false}
+use mathlib.Core.Bool.{Bool, true}
 use mathlib.Core.List.{List}
 use native.Mathlib.Nat.{pow-le-pow_right}
 use native.Mathlib.Omega.{arith}
@@ -11,19 +11,18 @@ use Rattle.std.specs.Prelude.{Option, None}
 use Rattle.digits.specs.declared.Form.{Form}
 use Rattle.digits.specs.Digits.{blanks, cap, is_plain, plain_size, has_minus, is_signed, signed_figure, trimmed_by, trimmed, is_number, figure_of, size_reading}
 use Rattle.std.proofs.lemmas.List.{take_rest}
+use Rattle.text_rules.specs.declared.Column.{Column}
+use Rattle.text_rules.specs.Columns.{column_form}
 use Rattle.text_rules.specs.Well.{most_width}
 use Rattle.text_columns.proofs.Cells.{cell_blank}
 use Rattle.text_columns.specs.Read.{right_form, number_size, cell_size}
 
--- the form of what stands behind the blanks
-abbrev bare : Option ℕ → ℕ → Form
-bare digits decimals = record { digits = digits; decimals = decimals; signed = false; width = None }
-
-number_bare : (digits : Option ℕ) (decimals : ℕ) (s : List ℕ)
-    → size_reading (is_plain (bare digits decimals) (drop (blanks s) s)) (plain_size (bare digits decimals) (drop (blanks s) s))
-    ≡ number_size (right_form digits decimals) s
+-- what stands behind the blanks has the column's form with no width
+number_bare : (c : Column) (s : List ℕ)
+    → size_reading (is_plain (column_form c None) (drop (blanks s) s)) (plain_size (column_form c None) (drop (blanks s) s))
+    ≡ number_size (right_form c.digits c.decimals) s
 unfolding number_size right_form is_number figure_of trimmed trimmed_by is_signed signed_figure has_minus is_plain plain_size
-number_bare digits decimals s = refl
+number_bare c s = refl
 
 -- what stands behind the blanks, as the code has it
 module _ (s : List ℕ) (b : ℕ) where
@@ -33,10 +32,9 @@ module _ (s : List ℕ) (b : ℕ) where
   pub rest_few : length s ≤ most_width → 10 ^ length rest ≤ cap
   rest_few h = grind (arith, common_steps, take_rest, pow-le-pow_right)
 
-  pub cell_number : (digits : Option ℕ) (decimals : ℕ) → b ≡ blanks s → {used : Bool} → used ≡ true
-      → {r : Option ℕ} → r ≡ size_reading (is_plain (bare digits decimals) rest) (plain_size (bare digits decimals) rest)
-      → r ≡ cell_size used digits decimals s
+  pub cell_number : (c : Column) → b ≡ blanks s → {used : Bool} → used ≡ true → {f : Form} → f ≡ column_form c None
+      → {r : Option ℕ} → r ≡ size_reading (is_plain f rest) (plain_size f rest) → r ≡ cell_size used c.digits c.decimals s
   unfolding cell_size
-  cell_number digits decimals first u e = e ∙ rw (take_rest s b, first, u) (number_bare digits decimals s)
+  cell_number c first u is e = e ∙ rw (is, take_rest s b, first, u) (number_bare c s)
 
 pub ruleset cells = (cell_blank, rest_few, cell_number)

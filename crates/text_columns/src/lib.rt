@@ -7,8 +7,7 @@ ghost use Rattle.text_rules.specs.Columns.{line_width, is_row};
 ghost use Rattle.text_rules.specs.Well.{most_width};
 ghost use Rattle.text_columns.specs.Read.{cell_size};
 
-use digits::Form;
-use text_rules::{BAR, Columns};
+use text_rules::{BAR, Column, Columns};
 
 // Whether the line has its width and its bars.
 #[tactic(auto, using(crate::proofs::Columns::bars))]
@@ -45,23 +44,17 @@ fn read_blanks(s: &[u8]) -> Option<u64>
     digits_scan::is_blank(s).then_some(0)
 }
 
-// The number of a column, with so many digits, or as many as there are, and so many decimals; 0 for its blanks where it is not used, as
-// the flag table says. Its form has no width: the blanks are passed over here.
+// The number of a column; 0 for its blanks where it is not used, as the flag table says. Its form has no width: the blanks are passed
+// over here.
 #[tactic(auto, using(crate::proofs::Numbers::cells))]
-pub fn read_cell(used: bool, digits: Option<usize>, decimals: usize, s: &[u8]) -> Option<u64>
+pub fn read_cell(column: Column, used: bool, s: &[u8]) -> Option<u64>
     requires { length s.now ≤ most_width }
-    ensures { result ≡ cell_size used digits decimals s.now }
+    ensures { result ≡ cell_size used column.digits column.decimals s.now }
 {
     if !used {
         return read_blanks(s);
     }
-    let form = Form {
-        digits,
-        decimals,
-        signed: false,
-        width: None,
-    };
     let b = digits_scan::leading_blanks(s);
     // A column is too narrow for the cap.
-    digits_reading::read_plain::<false>(form, &s[b..])
+    digits_reading::read_plain::<false>(column.form(None), &s[b..])
 }

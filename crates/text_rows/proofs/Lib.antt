@@ -1,4 +1,5 @@
 pub mod First
+pub mod Pieces
 pub mod Lines
 pub mod Faults
 pub mod Turns

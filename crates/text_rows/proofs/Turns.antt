@@ -9,27 +9,28 @@ use native.Mathlib.Omega.{arith}
 use lib.ListN.{length, get_or, take, drop, set, length-set}
 use lib.Seq.{length-take-le, drop-drop}
 use Rattle.std.specs.Prelude.{Option, Some, None}
+use Rattle.std.specs.List.{position_or_len}
 use Rattle.sequences.specs.Below.{first_below, below}
 use Rattle.sequences.proofs.Stretch.{part_within}
 use Rattle.sequences.proofs.Below.{sum_none, sum_more, sum_grows, cond_le, first-le, first_none, first_more, first_here, first_same}
-use Rattle.sequences.proofs.Below.{below-some, below-none, below_some_facts, below_none_fact, first_none_below, first_some_below}
-use Rattle.sequences.proofs.Chunks.{chunks_start, chunk_room, chunk_is, chunks_again, chunks_end, chunk_some}
+use Rattle.sequences.proofs.Below.{below-some, below-none, below_some_facts, below_none_fact}
 use Rattle.lines.specs.Lines.{name_byte, all_bytes}
 use Rattle.text_rules.specs.declared.Column.{Column}
 use Rattle.text_rules.specs.declared.Taken.{Taken}
 use Rattle.text_rules.specs.Tables.{TextForm, column_at}
 use Rattle.text_rules.specs.Columns.{column_start, column_width, line_width, line_pitch, holds_text, is_text, used_by, wrong_cell, numbers_before, line_numbers, taken_before, cell_read}
-use Rattle.text_rules.specs.Well.{most_line, most_width, columns_well, is_always}
+use Rattle.text_rules.specs.Well.{most_width, columns_well, is_always}
 use Rattle.text_rules.specs.declared.Use.{Use}
 use Rattle.text_rules.specs.declared.Use.TheVariants.{Always, ByFlag, Text}
 use Rattle.text_rules.proofs.Tables.{start_next, end_line}
-use Rattle.text_rules.proofs.Well.{WellColumn, column_well_lem, line_short}
+use Rattle.text_rules.proofs.Well.{WellColumn, column_well_lem}
 use Rattle.text_rules.proofs.Placed.{bytes_of, numbers_of}
 use Rattle.text_columns.specs.Read.{cell_size}
 use Rattle.text_rows.specs.declared.CellFault.{CellFault}
 use Rattle.text_rows.specs.Rows.{line_count, row_in, fault_in, lines_before, column_kept, numbers_kept}
 use Rattle.text_rows.specs.Turns.{words_fault, cells_fault, column_stored}
 use Rattle.text_lines.proofs.Standing.{lines_room, pitch_line}
+use Rattle.text_rows.proofs.Pieces.{pieces, pieces_length, first_piece}
 use Rattle.text_rows.proofs.Lines.{part_is, part_long, words_wrong, reading_at, reading_none, reading_some, cell_in}
 use Rattle.text_rows.proofs.Faults.{wrong_at, cells_first, lines_none, lines_more, lines-le, fault_before, fault_first, fault_same, fault_here, fault_found}
 
@@ -67,38 +68,23 @@ module _ (cs : List Column) where
   unfolding line_numbers line_width
   numbers_few well = omega (arith, numbers_start well (length cs) (le_refl (length cs)), pitch_line cs)
 
--- `words_fault`: the words of the lines below j are no fault.
+-- `words_fault`: the first of the lines as they are cut.
 
-module _ (rows : List ℕ) (pitch from width : ℕ) where
-  pub words_at : ℕ → Bool
-  words_at j = not (all_bytes name_byte (take width (drop (j * pitch + from) rows)))
+-- the words of a line as the code has them are none
+abbrev pub words_wrong_in : ℕ → ℕ → List ℕ → Bool
+words_wrong_in from width line = not (all_bytes name_byte (take (from + width - from) (drop from line)))
 
-  module _ (room : from + width ≤ pitch) (j : ℕ) (v : first_below words_at j ≡ j) {line : List ℕ} (is : line ≡ take pitch (drop (j * pitch) rows))
-      {b : Bool} (e : b ≡ all_bytes name_byte (take (from + width - from) (drop from line))) where
-    words_here : not b ≡ words_at j
-    unfolding words_at
-    words_here =
-        ap not
-        (e
-        ∙ ap (all_bytes name_byte)
-        (part_is line from width
-        ∙ ap (λ (l : List ℕ). take width (drop from l)) is
-        ∙ part_within from width pitch (drop (j * pitch) rows) room
-        ∙ ap (take width) (drop-drop from (j * pitch) rows)))
-
-    pub words_again : b ≡ true → {n : ℕ} → n ≡ j + 1 → first_below words_at n ≡ n
-    words_again f g = rw g (first_more words_at j v (sym words_here ∙ ap not f))
-
-    pub words_found : (count : ℕ) → j < count → b ≡ false → {i : ℕ} → i ≡ j → Some i ≡ below count (words_fault rows pitch from width count)
-    unfolding words_fault words_at
-    words_found count h f g = rw g (first_some_below words_at count j h v (sym words_here ∙ ap not f))
-
-  pub words_end : (count j : ℕ) → first_below words_at j ≡ j → j ≡ count → None ≡ below count (words_fault rows pitch from width count)
-  unfolding words_fault words_at
-  words_end count j v e = first_none_below words_at count (rw e at v)
-
--- what the search goes by there
-pub ruleset words_laws = (chunks_start, chunk_room, chunk_is, chunks_end, chunk_some, first_none, words_found, words_end)
+pub words_first : (rows : List ℕ) (pitch from width : ℕ) → from + width ≤ pitch
+    → below (length (pieces pitch (length rows / pitch) rows)) (position_or_len (words_wrong_in from width) (pieces pitch (length rows / pitch) rows))
+    ≡ below (length rows / pitch) (words_fault rows pitch from width (length rows / pitch))
+unfolding words_fault
+words_first rows pitch from width room =
+    rw (pieces_length, first_piece)
+    (ap (below (length rows / pitch))
+    (first_same _ _ (length rows / pitch)
+    (λ j h.
+    ap (λ (l : List ℕ). not (all_bytes name_byte l))
+    (part_is _ from width ∙ part_within from width pitch (drop (j * pitch) rows) room ∙ ap (take width) (drop-drop from (j * pitch) rows)))))
 
 -- `read_numbers_column`: column k of the lines below j is no fault, and its numbers are stored.
 
@@ -175,13 +161,6 @@ known t {k} here table there flag well mine whole before column =
     }
 
 module _ {t : TextForm} {k : ℕ} {flags : List (List Bool)} {flag_start : ℕ} {line taken : Taken} {c : Column} (v : Known t k flags flag_start line taken c) where
-  pub pitched : line.bytes + 2 ≡ line_pitch t.columns
-  unfolding line_width
-  pitched = ap (λ (n : ℕ). n + 2) (bytes_of t.columns (length t.columns) v.whole) ∙ sym (pitch_line t.columns)
-
-  pub pitch_low : line.bytes + 2 ≤ most_line + 2
-  pitch_low = omega (arith, pitched, pitch_line t.columns, line_short t.columns v.well)
-
   pub strides : line.numbers ≡ line_numbers t.columns
   unfolding line_numbers
   strides = numbers_of t.columns (length t.columns) v.whole
@@ -235,7 +214,7 @@ used_always (ByFlag column) e flags flag = absurd (false≢true e)
 used_always Text e flags flag = refl
 
 -- what the search goes by there
-pub ruleset number_laws = (known, pitched, pitch_low, cell_room, flag_room)
+pub ruleset number_laws = (known, cell_room, flag_room)
 
 -- `read_column`: words or numbers, by the column's use.
 

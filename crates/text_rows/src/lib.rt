@@ -18,7 +18,8 @@ pub struct CellFault {
     pub column: usize,
 }
 
-// Stores a number where the run has room for it.
+// Stores a number where the run has room for it. By place: tried by `get_mut`, of which the slice's length is known behind it, and not
+// what it stores.
 fn keep_number(run: &mut [u64], q: usize, v: u64)
     ensures { run.new ≡ set run.old q v }
 {
@@ -28,17 +29,12 @@ fn keep_number(run: &mut [u64], q: usize, v: u64)
 }
 
 // The first of the lines, each of so many bytes, whose bytes from a place on are no words.
-#[tactic(auto, using(crate::proofs::Turns::words_laws))]
 pub fn words_fault(rows: &[u8], pitch: usize, from: usize, width: usize) -> Option<usize>
     requires { (0 < pitch) × (from + width ≤ pitch) }
     ensures { result ≡ below (length rows.now / pitch) (words_fault rows.now pitch from width (length rows.now / pitch)) }
 {
-    for (j, line) in rows.chunks_exact(pitch).enumerate() {
-        if !lines::is_name(&line[from..from + width]) {
-            return Some(j);
-        }
-    }
-    None
+    rows.chunks_exact(pitch)
+        .position(|line| !lines::is_name(&line[from..from + width]))
 }
 
 // Whether a column of this use has a number in a line, by the flag there. One that is always used reads no flag.
@@ -57,7 +53,7 @@ fn is_used<const ALWAYS: bool>(
 }
 
 // The first line whose column k, a number's, is at fault. The numbers before it are stored. A column that is always used has a loop of
-// its own, in which no flag is read.
+// its own, in which no flag is read: the columns of a line in the Shanghai form take 559 instructions, with one loop for both 574.
 #[tactic(auto, using(crate::proofs::Turns::number_laws))]
 fn read_numbers_column<const ALWAYS: bool>(
     form: &LineForm,
@@ -76,11 +72,10 @@ fn read_numbers_column<const ALWAYS: bool>(
     let line = columns.whole();
     let taken = columns.taken_before(k);
     let column = form.column(k);
-    for (j, row) in rows.chunks_exact(line.bytes + 2).enumerate() {
+    for (j, row) in rows.chunks_exact(line.pitch()).enumerate() {
         let size = text_columns::read_cell(
+            column,
             is_used::<ALWAYS>(column.used, flags, row, flag_start),
-            column.digits,
-            column.decimals,
             &row[taken.bytes..taken.bytes + column.width],
         );
         let Some(v) = size else {

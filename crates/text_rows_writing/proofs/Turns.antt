@@ -9,27 +9,13 @@ use Rattle.sequences.proofs.Below.{all_at}
 use Rattle.text_rules.specs.declared.Column.{Column}
 use Rattle.text_rules.specs.declared.Taken.{Taken}
 use Rattle.text_rules.specs.Tables.{TextForm, no_column, column_at}
-use Rattle.text_rules.specs.Columns.{column_width, line_width, line_pitch, is_text, holds_text, numbers_before, line_numbers, line_words, taken_before}
+use Rattle.text_rules.specs.Columns.{column_width, line_width, line_pitch, is_text, holds_text, numbers_before, line_numbers, line_words, taken_before, taken_pitch}
 use Rattle.text_rules.specs.Well.{most_line, column_well, columns_well, flag_well}
 use Rattle.text_rules.proofs.Tables.{end_line}
-use Rattle.text_rules.proofs.Well.{column_well_lem, line_short}
-use Rattle.text_rules.proofs.Placed.{bytes_of}
+use Rattle.text_rules.proofs.Well.{column_well_lem}
+use Rattle.text_rules.proofs.Placed.{whole_low}
 use Rattle.text_rows_writing.specs.Lines.{number_at, word_at, lines_put, BlankAt, NumbersFit, TableReady, RowsReady, RowsSoFar}
 use Rattle.text_rows_writing.proofs.Rows.{rows_blank, word_room, words_next, number_room, flag_room, numbers_fit, numbers_next}
-
--- a whole line
-module _ {cs : List Column} {flag_at : ℕ} {line : Taken} (whole : TableReady cs flag_at line) where
-  pub line_short_lem : line.bytes ≤ most_line
-  unfolding line_width
-  line_short_lem = omega (arith, bytes_of cs (length cs) whole.whole, line_short cs whole.well)
-
-  pub line_pitch_lem : line.bytes + 2 ≡ line_pitch cs
-  unfolding line_pitch line_width
-  line_pitch_lem = ap (λ (n : ℕ). n + 2) (bytes_of cs (length cs) whole.whole)
-
-  pub line_width_lem : line.bytes ≡ line_width cs
-  unfolding line_width
-  line_width_lem = bytes_of cs (length cs) whole.whole
 
 pub table_ready : {cs columns : List Column} {flag_at : ℕ} {line : Taken} → columns_well cs ≡ true → flag_well cs flag_at ≡ true → columns ≡ cs
     → line ≡ taken_before columns (length columns) → TableReady cs flag_at line
@@ -54,26 +40,26 @@ holds_here v f g = sym (f ∙ ap (λ (c : Column). is_text c.used) v.column) ∙
 
 module _ {t : TextForm} {line : Taken} (whole : TableReady t.columns t.flag_at line) {run texts : List ℕ} {count : ℕ} (ready : RowsReady t run texts count)
     {k : ℕ} {taken : Taken} {c : Column} (here : AtColumn t k taken c) {b : List ℕ} (v : RowsSoFar t run texts count k b) where
-  cell_room : taken.bytes + column_width t.columns k < line.bytes + 2
+  cell_room : taken.bytes + column_width t.columns k < taken_pitch line
   unfolding taken_before line_width
   cell_room = rw (here.place, whole.whole) (omega (arith, end_line t.columns k here.inside))
 
-  rows-length : length b ≡ count * (line.bytes + 2)
+  rows-length : length b ≡ count * taken_pitch line
   unfolding taken_before line_width line_pitch
   rows-length = rw whole.whole v.long
 
   -- words
   module _ (text : holds_text t.columns k ≡ true) where
-    pub words_ask : ((0 < c.width) × (taken.bytes + c.width < line.bytes + 2) × (line.bytes ≤ most_line))
-        × (((length texts ≡ count * line.words) × (taken.words + c.width ≤ line.words)) × (length b ≡ count * (line.bytes + 2)))
+    pub words_ask : ((0 < c.width) × (taken.bytes + c.width < taken_pitch line) × (line.bytes ≤ most_line))
+        × (((length texts ≡ count * line.words) × (taken.words + c.width ≤ line.words)) × (length b ≡ count * taken_pitch line))
     unfolding taken_before line_words column_width
     words_ask =
         rw here.column (
-          ((column_well_lem t.columns whole.well k here.inside).some, cell_room, line_short_lem whole),
+          ((column_well_lem t.columns whole.well k here.inside).some, cell_room, whole_low _ whole.whole whole.well),
           ((rw whole.whole ready.words, rw (here.place, whole.whole) (word_room _ _ _ _ whole.well ready k here.inside v text)), rows-length),
         )
 
-    pub words_turn : {b' : List ℕ} → b' ≡ lines_put (line.bytes + 2) taken.bytes (word_at c.width texts line.words taken.words) count b
+    pub words_turn : {b' : List ℕ} → b' ≡ lines_put (taken_pitch line) taken.bytes (word_at c.width texts line.words taken.words) count b
         → RowsSoFar t run texts count (k + 1) b'
     unfolding taken_before line_words line_width line_pitch column_width
     words_turn f = words_next _ _ _ _ whole.well ready k here.inside v text (rw (here.place, whole.whole, here.column) at f)
@@ -81,14 +67,14 @@ module _ {t : TextForm} {line : Taken} (whole : TableReady t.columns t.flag_at l
   -- numbers
   module _ (number : holds_text t.columns k ≡ false) {flags : List (List Bool)} (table : flags ≡ t.flags) {flagPlace : ℕ}
       (flag : flagPlace ≡ numbers_before t.columns t.flag_at) where
-    pub numbers_ask : ((column_well c ≡ true) × (taken.bytes + c.width < line.bytes + 2) × (line.bytes ≤ most_line))
+    pub numbers_ask : ((column_well c ≡ true) × (taken.bytes + c.width < taken_pitch line) × (line.bytes ≤ most_line))
         × (((length run ≡ count * line.numbers) × (flagPlace < line.numbers) × (taken.numbers < line.numbers))
-        × (((length b ≡ count * (line.bytes + 2)) × BlankAt (line.bytes + 2) taken.bytes c.width count b)
+        × (((length b ≡ count * taken_pitch line) × BlankAt (taken_pitch line) taken.bytes c.width count b)
         × NumbersFit flags c run line.numbers flagPlace taken.numbers count))
     unfolding taken_before line_numbers line_width line_pitch column_width columns_well
     numbers_ask =
         rw here.column (
-          (all_at _ (length t.columns) ((and-eq-true_iff _ _).0 whole.well).0 k here.inside, cell_room, line_short_lem whole),
+          (all_at _ (length t.columns) ((and-eq-true_iff _ _).0 whole.well).0 k here.inside, cell_room, whole_low _ whole.whole whole.well),
           rw (flag, table, here.place, whole.whole) (
             (
               ready.numbers,
@@ -102,7 +88,7 @@ module _ {t : TextForm} {line : Taken} (whole : TableReady t.columns t.flag_at l
           ),
         )
 
-    pub numbers_turn : {b' : List ℕ} → b' ≡ lines_put (line.bytes + 2) taken.bytes (number_at flags c run line.numbers flagPlace taken.numbers) count b
+    pub numbers_turn : {b' : List ℕ} → b' ≡ lines_put (taken_pitch line) taken.bytes (number_at flags c run line.numbers flagPlace taken.numbers) count b
         → RowsSoFar t run texts count (k + 1) b'
     unfolding taken_before line_numbers line_width line_pitch
     numbers_turn f =

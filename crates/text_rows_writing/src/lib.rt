@@ -2,12 +2,14 @@
 #![tactic(auto)]
 
 ghost use Rattle.std.specs.Prelude.{ℕ, ◌≡◌, true, [], ◌∷◌, ◌+◌, ◌*◌, ◌≤◌, ◌<◌, length, replicate};
-ghost use Rattle.text_rules.specs.Columns.{line_pitch, line_numbers, line_words};
+ghost use Rattle.text_rules.specs.Columns.{line_pitch, line_numbers, line_words, taken_pitch};
 ghost use Rattle.text_rules.specs.Writing.{rows_text};
 ghost use Rattle.text_rules.specs.Well.{most_line, column_well, flag_well};
 ghost use Rattle.text_rows_writing.specs.Lines.{number_at, word_at, lines_put, BlankAt, NumbersFit, TableReady, RowsFit, RowsReady, RowsSoFar};
 
 use text_rules::{Column, LineForm, Taken};
+
+// `count`, which is ghost in each contract, is how many lines the numbers, the words and the bytes are of. No code takes it.
 
 // Writes a column of numbers into so many lines. `taken` is what the columns before it take, and `line` what all take. They come beside
 // the column: these are private steps of one call, and each would take a struct of them apart.
@@ -21,13 +23,13 @@ fn put_numbers_column(
     rows: &mut [u8],
 )
     ghost count: { ℕ }
-    requires column_value { (column_well column ≡ true) × (taken.bytes + column.width < line.bytes + 2) × (line.bytes ≤ most_line) }
+    requires column_value { (column_well column ≡ true) × (taken.bytes + column.width < taken_pitch line) × (line.bytes ≤ most_line) }
     requires run_len { (length run.now ≡ count * line.numbers) × (flag_place < line.numbers) × (taken.numbers < line.numbers) }
-    requires rows_len { (length rows.old ≡ count * (line.bytes + 2)) × BlankAt (line.bytes + 2) taken.bytes column.width count rows.old }
+    requires rows_len { (length rows.old ≡ count * taken_pitch line) × BlankAt (taken_pitch line) taken.bytes column.width count rows.old }
     requires numbers_fit { NumbersFit flags.now column run.now line.numbers flag_place taken.numbers count }
-    ensures { rows.new ≡ lines_put (line.bytes + 2) taken.bytes (number_at flags.now column run.now line.numbers flag_place taken.numbers) count rows.old }
+    ensures { rows.new ≡ lines_put (taken_pitch line) taken.bytes (number_at flags.now column run.now line.numbers flag_place taken.numbers) count rows.old }
 {
-    let pitch = line.bytes + 2;
+    let pitch = line.pitch();
     // The rows by place, as in `put_ends`.
     for (j, numbers) in run.chunks_exact(line.numbers).enumerate() {
         let used = column.used.has_number(flags, numbers[flag_place]);
@@ -39,12 +41,12 @@ fn put_numbers_column(
 // Writes a column of words into so many lines.
 fn put_words_column(width: usize, taken: Taken, line: Taken, texts: &[u8], rows: &mut [u8])
     ghost count: { ℕ }
-    requires width_bound { (0 < width) × (taken.bytes + width < line.bytes + 2) × (line.bytes ≤ most_line) }
+    requires width_bound { (0 < width) × (taken.bytes + width < taken_pitch line) × (line.bytes ≤ most_line) }
     requires texts_len { (length texts.now ≡ count * line.words) × (taken.words + width ≤ line.words) }
-    requires rows_len { length rows.old ≡ count * (line.bytes + 2) }
-    ensures { rows.new ≡ lines_put (line.bytes + 2) taken.bytes (word_at width texts.now line.words taken.words) count rows.old }
+    requires rows_len { length rows.old ≡ count * taken_pitch line }
+    ensures { rows.new ≡ lines_put (taken_pitch line) taken.bytes (word_at width texts.now line.words taken.words) count rows.old }
 {
-    let pitch = line.bytes + 2;
+    let pitch = line.pitch();
     // The rows by place, as in `put_ends`.
     for (j, words) in texts.chunks_exact(line.words).enumerate() {
         let place = j * pitch + taken.bytes;
@@ -56,10 +58,10 @@ fn put_words_column(width: usize, taken: Taken, line: Taken, texts: &[u8], rows:
 #[tactic(auto, using(crate::proofs::Stretches::end_laws))]
 fn put_ends(line: Taken, rows: &mut [u8])
     ghost count: { ℕ }
-    requires { (length rows.old ≡ count * (line.bytes + 2)) × (line.bytes ≤ most_line) }
-    ensures { rows.new ≡ lines_put (line.bytes + 2) line.bytes (λ _. 13 ∷ 10 ∷ []) count rows.old }
+    requires { (length rows.old ≡ count * taken_pitch line) × (line.bytes ≤ most_line) }
+    ensures { rows.new ≡ lines_put (taken_pitch line) line.bytes (λ _. 13 ∷ 10 ∷ []) count rows.old }
 {
-    let pitch = line.bytes + 2;
+    let pitch = line.pitch();
     // By place: tried by `chunks_exact_mut`, but of what is written through its pieces nothing is known behind the loop.
     for j in 0..rows.len() / pitch {
         text_cells_writing::put_end(rows, j * pitch + line.bytes);

@@ -12,7 +12,7 @@ use Rattle.sequences.proofs.Below.{cond_le}
 use Rattle.text_rules.specs.declared.Column.{Column}
 use Rattle.text_rules.specs.declared.Taken.{Taken}
 use Rattle.text_rules.specs.Tables.{no_column, column_at}
-use Rattle.text_rules.specs.Columns.{column_width, column_start, line_width, is_text, holds_text, numbers_before, words_before, taken_before}
+use Rattle.text_rules.specs.Columns.{column_width, column_start, line_end, line_width, line_pitch, is_text, holds_text, numbers_before, words_before, taken_before, taken_pitch}
 use Rattle.text_rules.specs.Well.{most_line, columns_well}
 use Rattle.text_rules.proofs.Tables.{start_next, start_line}
 use Rattle.text_rules.proofs.Well.{line_short}
@@ -107,3 +107,16 @@ module _ (cs : List Column) (k : ℕ) {taken : Taken} (before : taken ≡ taken_
         omega (arith, numbers, numbers_low cs k, p.next, p.within, p.short),
         omega (arith, words, words_low cs k, p.next, p.within, p.short),
       )
+
+-- the bytes of a whole line, without and with its end
+module _ (cs : List Column) {line : Taken} (whole : line ≡ taken_before cs (length cs)) where
+  pub whole_bytes : line.bytes ≡ line_width cs
+  unfolding line_width
+  whole_bytes = bytes_of cs (length cs) whole
+
+  pub whole_low : columns_well cs ≡ true → line.bytes ≤ most_line
+  whole_low well = omega (arith, whole_bytes, line_short cs well)
+
+  pub whole_pitch : taken_pitch line ≡ line_pitch cs
+  unfolding line_pitch
+  whole_pitch = ap (λ (n : ℕ). n + line_end) whole_bytes

@@ -1,6 +1,6 @@
 -- A component line by a table of columns, each followed by "|": its parts (bytes by column) and its cells (numbers by column),
 -- reading and writing.
-use Rattle.std.specs.Prelude.{ℕ, ◌+◌, ◌-◌, Bool, true, false, cond, not, ◌&&◌, List, [], ◌∷◌, ◌++◌, eqb, length, get_or, take, drop, replicate, Some}
+use Rattle.std.specs.Prelude.{ℕ, ◌+◌, ◌-◌, Bool, true, false, cond, not, ◌&&◌, List, [], ◌∷◌, ◌++◌, eqb, length, get_or, take, drop, replicate, Option, Some}
 use Rattle.sequences.specs.Below.{sum_below, all_below, first_below, join_below}
 use Rattle.flags.specs.Table.{entry_in}
 use Rattle.digits.specs.declared.Form.{Form}
@@ -22,8 +22,11 @@ column_start cs k = sum_below (λ i. column_width cs i + 1) k
 unfoldable pub line_width : List Column → ℕ
 line_width cs = column_start cs (length cs)
 
+abbrev pub line_end : ℕ
+line_end = 2
+
 unfoldable pub line_pitch : List Column → ℕ
-line_pitch cs = line_width cs + 2
+line_pitch cs = line_width cs + line_end
 
 -- a column holds text or a number; how many numbers and how many bytes of text stand before column k, and in a whole line
 unfoldable pub is_text : Use → Bool
@@ -50,6 +53,10 @@ line_words cs = words_before cs (length cs)
 unfoldable pub taken_before : List Column → ℕ → Taken
 taken_before cs k = record { bytes = column_start cs k; numbers = numbers_before cs k; words = words_before cs k }
 
+-- how many bytes a line has that takes so much, with its 0D 0A
+abbrev pub taken_pitch : Taken → ℕ
+taken_pitch taken = taken.bytes + line_end
+
 -- ---- what a column has in a line with that flag: words, a number, or blanks
 pub data Content : Type 0 where
   words_cell : Content
@@ -67,8 +74,12 @@ used_by flags flag Always = true
 used_by flags flag (ByFlag column) = entry_in flags flag column
 used_by flags flag Text = true
 
+-- the form of a column's number in a width, or as long as it is, and in the column's own
+abbrev pub column_form : Column → Option ℕ → Form
+column_form c width = record { digits = c.digits; decimals = c.decimals; signed = false; width = width }
+
 unfoldable pub number_form : Column → Form
-number_form c = record { digits = c.digits; decimals = c.decimals; signed = false; width = Some c.width }
+number_form c = column_form c (Some c.width)
 
 -- its characters are as they are to be written
 unfoldable pub is_cell : Content → Column → List ℕ → Bool

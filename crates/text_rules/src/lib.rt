@@ -3,7 +3,7 @@
 #![tactic(auto)]
 
 ghost use Rattle.std.specs.Prelude.{◌≡◌, ◌+◌, ◌≤◌, ◌<◌, true, length};
-ghost use Rattle.text_rules.specs.Columns.{column_start, line_width, line_pitch, is_text, used_by, taken_before};
+ghost use Rattle.text_rules.specs.Columns.{column_start, line_width, line_pitch, is_text, taken_before, taken_pitch, used_by, column_form};
 ghost use Rattle.text_rules.specs.Well.{columns_well, fields_well, most_line};
 ghost use Rattle.text_rules.specs.Tables.{fields_of, line_form, column_at};
 
@@ -48,12 +48,39 @@ pub struct Column {
     pub used: Use,
 }
 
+impl Column {
+    // The form of its number, in a width or as long as it is.
+    pub fn form(self, width: Option<usize>) -> Form
+        ensures { result ≡ column_form self width }
+    {
+        Form {
+            digits: self.digits,
+            decimals: self.decimals,
+            signed: false,
+            width,
+        }
+    }
+}
+
+// How many bytes end a line: 0D 0A.
+pub const LINE_END: usize = 2;
+
 // What some columns take of a line: bytes with their bars, numbers, and bytes of text.
 #[derive(Clone, Copy, Default)]
 pub struct Taken {
     pub bytes: usize,
     pub numbers: usize,
     pub words: usize,
+}
+
+impl Taken {
+    // How many bytes a line of them has with its end.
+    pub fn pitch(self) -> usize
+        requires { self.bytes ≤ most_line }
+        ensures { result ≡ taken_pitch self }
+    {
+        self.bytes + LINE_END
+    }
 }
 
 // The columns of a component line, in their order, where they are well made.
@@ -129,8 +156,10 @@ impl<'a> Columns<'a> {
     }
 
     // What a whole line takes.
+    #[tactic(auto, using(crate::proofs::Placed::whole_low))]
     pub fn whole(&self) -> Taken
-        ensures { result ≡ taken_before self.now (length self.now) }
+        ensures value { result ≡ taken_before self.now (length self.now) }
+        ensures most { result.bytes ≤ most_line }
     {
         self.taken_before(self.table().len())
     }
@@ -155,11 +184,11 @@ impl<'a> Columns<'a> {
     }
 
     // How many bytes a line has with its end.
-    #[tactic(auto, unfolding(crate::specs::Columns::line_pitch))]
+    #[tactic(auto, using(crate::proofs::Placed::whole_pitch))]
     pub fn pitch(&self) -> usize
         ensures { result ≡ line_pitch self.now }
     {
-        self.width() + 2
+        self.whole().pitch()
     }
 }
 

@@ -2,8 +2,9 @@
 use mathlib.Core.Path.{refl, ◌∙◌}
 use native.Mathlib.Omega.{arith}
 use Rattle.text_rows.specs.Rows.{line_count}
+use Rattle.text_rules.proofs.Placed.{whole_pitch}
 use Rattle.sequences.proofs.Chunks.{chunks_start, chunk_room, chunk_is, chunks_again, chunks_end, chunk_some}
-use Rattle.text_rows.proofs.Turns.{known, pitched, pitch_some, strides, placed, cell_narrow, slot_room}
+use Rattle.text_rows.proofs.Turns.{known, pitch_some, strides, placed, cell_narrow, slot_room}
 use Rattle.text_rows.proofs.Turns.{cell_none, cell_some, read_start, read_again, read_found, read_end}
 use Rattle.text_rows.proofs.read_numbers_column.Goals as goal
 
@@ -11,10 +12,10 @@ pub loop-j-init : goal.loop-j-init
 loop-j-init g c =
     let cs = c.columns-columns.ensures in
     let flag = c.before_flag-flag_start.ensures in
-    let k = known c.args.form.now c.requires.column c.flags-flags.ensures flag.within flag.value cs.well cs.value c.whole-line.ensures c.taken_before-taken.ensures c.column-column.ensures in
+    let k = known c.args.form.now c.requires.column c.flags-flags.ensures flag.within flag.value cs.well cs.value c.whole-line.ensures.value c.taken_before-taken.ensures c.column-column.ensures in
     let items = c.enumerate-j-items.ensures in
     rw (c.into_iter-j-iterator.ensures.into_iter_gives, items.source, items.count)
-    (record { known = k; given = chunks_start _ _ (c.chunks_exact.ensures.size ∙ pitched k) c.chunks_exact.ensures.rest refl; read = read_start _ _ _ _ })
+    (record { known = k; given = chunks_start _ _ (c.chunks_exact.ensures.size ∙ c.pitch.ensures ∙ whole_pitch _ k.whole) c.chunks_exact.ensures.rest refl; read = read_start _ _ _ _ })
 
 pub read_cell-size-requires : goal.read_cell-size-requires
 read_cell-size-requires g c =

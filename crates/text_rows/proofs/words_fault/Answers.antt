@@ -1,12 +1,13 @@
--- Each line's words stand within it, and the first that are none are the definition's.
-use Rattle.sequences.proofs.Chunks.{chunk_is, chunks_again}
-use Rattle.text_rows.proofs.Turns.{words_again}
+-- `text_rows::words_fault` meets its contract: the first of the lines whose words are none is the definition's.
+use Rattle.std.proofs.Common.{◌∙◌, rules, tests}
+use Rattle.std.proofs.lemmas.Iterator.Search.{position_from_yields_List}
+use Rattle.text_rows.proofs.Pieces.{pieces_given}
+use Rattle.text_rows.proofs.Turns.{words_wrong_in, words_first}
 use Rattle.text_rows.proofs.words_fault.Goals as goal
 
-pub loop-j-preserved : goal.loop-j-preserved
-loop-j-preserved c =
-    let v = c.loop-j.invariant in
-    let step = c.in-Some.ensures.steps in (
-      chunks_again _ _ v.0 _ _ step.0.1 step.0.0 step.2,
-      words_again _ _ _ _ c.requires.1 _ v.1 (chunk_is _ _ v.0 _ _ step.0.1) c.is_name.ensures c.if-not-is_name.false step.2,
-    )
+pub returns : goal.returns
+returns c =
+    let cut = c.chunks_exact.ensures in
+    position_from_yields_List (words_wrong_in c.args.from c.args.width) _ _ c.position.result c.position.ensures.ran
+    (pieces_given c.args.pitch c.args.rows.now cut.rest cut.size c.requires.0) (λ x b q k. search (rules, tests))
+    ∙ words_first c.args.rows.now c.args.pitch c.args.from c.args.width c.requires.1

@@ -22,7 +22,7 @@ overflow_mul-j g c =
     let v = c.loop-j.invariant in
     let step = c.in-Some.ensures.steps in
     let below = piece_below p.1.0.0 (omega (arith, p.1.0.1)) (chunk_room _ _ v.0 _ _ step.0.1) in
-    rw step.1 (omega (arith, put_here v.1 below))
+    rw (step.1, c.pitch-pitch.ensures) (omega (arith, put_here v.1 below))
 
 pub overflow_add-j : goal.overflow_add-j
 overflow_add-j g c =
@@ -30,7 +30,7 @@ overflow_add-j g c =
     let v = c.loop-j.invariant in
     let step = c.in-Some.ensures.steps in
     let below = piece_below p.1.0.0 (omega (arith, p.1.0.1)) (chunk_room _ _ v.0 _ _ step.0.1) in
-    rw step.1 (omega (arith, put_here v.1 below, p.0.1))
+    rw (step.1, c.pitch-pitch.ensures) (omega (arith, put_here v.1 below, p.0.1))
 
 pub put_cell-requires : goal.put_cell-requires
 put_cell-requires g c =
@@ -39,8 +39,8 @@ put_cell-requires g c =
     let step = c.in-Some.ensures.steps in
     let below = piece_below p.1.0.0 (omega (arith, p.1.0.1)) (chunk_room _ _ v.0 _ _ step.0.1) in
     record {
-      column_value = (p.0.0, rw step.1 (omega (arith, put_here v.1 below, p.0.1)));
-      line_value = rw step.1 (put_later v.1 below _ p.0.1 ∙ p.1.1.0.1 _ below);
+      column_value = (p.0.0, rw (step.1, c.pitch-pitch.ensures) (omega (arith, put_here v.1 below, p.0.1)));
+      line_value = rw (step.1, c.pitch-pitch.ensures) (put_later v.1 below _ p.0.1 ∙ p.1.1.0.1 _ below);
       fits = number_fits _ _ _ _ _ _ _ (chunk_is _ _ v.0 _ _ step.0.1) p.1.0.1 p.1.0.2 c.has_number-used.ensures p.1.1.1 below;
     }
 
@@ -51,7 +51,7 @@ loop-j-preserved g c =
     let step = c.in-Some.ensures.steps in
     let below = piece_below p.1.0.0 (omega (arith, p.1.0.1)) (chunk_room _ _ v.0 _ _ step.0.1) in
     let number = number_here _ _ _ _ _ _ _ (chunk_is _ _ v.0 _ _ step.0.1) p.1.0.1 p.1.0.2 c.has_number-used.ensures in
-    (chunks_again _ _ v.0 _ _ step.0.1 step.0.0 step.2, rw step.2 (put-again v.1 below (rw step.1 at c.put_cell.ensures) number))
+    (chunks_again _ _ v.0 _ _ step.0.1 step.0.0 step.2, rw step.2 (put-again v.1 below (rw (step.1, c.pitch-pitch.ensures) at c.put_cell.ensures) number))
 
 pub returns : goal.returns
 returns g c =

@@ -21,7 +21,7 @@ overflow_mul-place g c =
     let v = c.loop-j.invariant in
     let step = c.in-Some.ensures.steps in
     let below = piece_below p.1.0.0 (omega (arith, p.1.0.1, p.0.0)) (chunk_room _ _ v.0 _ _ step.0.1) in
-    rw step.1 (omega (arith, put_here v.1 below))
+    rw (step.1, c.pitch-pitch.ensures) (omega (arith, put_here v.1 below))
 
 pub overflow_add-place : goal.overflow_add-place
 overflow_add-place g c =
@@ -29,7 +29,7 @@ overflow_add-place g c =
     let v = c.loop-j.invariant in
     let step = c.in-Some.ensures.steps in
     let below = piece_below p.1.0.0 (omega (arith, p.1.0.1, p.0.0)) (chunk_room _ _ v.0 _ _ step.0.1) in
-    rw step.1 (omega (arith, put_here v.1 below, p.0.1))
+    rw (step.1, c.pitch-pitch.ensures) (omega (arith, put_here v.1 below, p.0.1))
 
 pub put_words-requires : goal.put_words-requires
 put_words-requires g c =
@@ -38,7 +38,7 @@ put_words-requires g c =
     let step = c.in-Some.ensures.steps in
     let below = piece_below p.1.0.0 (omega (arith, p.1.0.1, p.0.0)) (chunk_room _ _ v.0 _ _ step.0.1) in
     let few = part_long c.args.taken.words c.args.width c.in-Some.words.now (omega (arith, p.1.0.1, step.0.1.1, v.0.wide)) in
-    rw step.1 (omega (arith, few, put_here v.1 below, p.0.1))
+    rw (step.1, c.pitch-pitch.ensures) (omega (arith, few, put_here v.1 below, p.0.1))
 
 pub loop-j-preserved : goal.loop-j-preserved
 loop-j-preserved g c =
@@ -47,7 +47,7 @@ loop-j-preserved g c =
     let step = c.in-Some.ensures.steps in
     let below = piece_below p.1.0.0 (omega (arith, p.1.0.1, p.0.0)) (chunk_room _ _ v.0 _ _ step.0.1) in
     let words = word_here _ _ _ _ _ (chunk_is _ _ v.0 _ _ step.0.1) p.1.0.1 in
-    (chunks_again _ _ v.0 _ _ step.0.1 step.0.0 step.2, rw step.2 (put-again v.1 below (rw step.1 at c.put_words.ensures) words))
+    (chunks_again _ _ v.0 _ _ step.0.1 step.0.0 step.2, rw step.2 (put-again v.1 below (rw (step.1, c.pitch-pitch.ensures) at c.put_words.ensures) words))
 
 pub returns : goal.returns
 returns g c =
