@@ -2,7 +2,7 @@
 #![tactic(auto)]
 
 ghost use Rattle.std.specs.Prelude.{◌≡◌, ◌+◌, true, false, ◌≤◌, ◌<◌, length, MatchOption, ⊤};
-ghost use Rattle.lines.specs.Lines.{end_at, line_len, ended, first_line, other_byte, same, same_in_any_case, is_named, name_byte, letter_byte, all_bytes};
+ghost use Rattle.lines.specs.Lines.{end_at, line_len, ended, first_line, other_byte, same, is_named, name_byte, letter_byte, all_bytes};
 
 // Whether 0D 0A stands at i.
 #[tactic(auto, using(std::proofs::lemmas::Bool::Decides::nat_tests), unfolding(crate::specs::Lines::end_at))]
@@ -10,7 +10,7 @@ fn end_at(s: &[u8], i: usize) -> bool
     requires { i < length s.now }
     ensures { result ≡ end_at s.now i }
 {
-    s[i] == b'\r' && i + 1 < s.len() && s[i + 1] == b'\n'
+    matches!(&s[i..], [b'\r', b'\n', ..])
 }
 
 // Where the first 0D 0A stands. Over places and not over pairs of bytes: `end_at` is defined at a place.
@@ -57,19 +57,12 @@ pub fn likely_line(s: &[u8], n: usize) -> Option<&[u8]>
     first_line(s)
 }
 
-// Whether the two are the same bytes.
+// Whether the two are the same bytes: `==`, which its contract says by the definition `same`, so that no caller has to name the law.
 #[tactic(auto, using(crate::proofs::Turns::same_points))]
 pub fn same_bytes(a: &[u8], b: &[u8]) -> bool
     ensures { result ≡ same a.now b.now }
 {
     a == b
-}
-
-// Whether the two are the same but for the case of letters.
-fn same_name(a: &[u8], b: &[u8]) -> bool
-    ensures { result ≡ same_in_any_case a.now b.now }
-{
-    a.eq_ignore_ascii_case(b)
 }
 
 // Whether the line is this name in any case, "=" and a value.
@@ -78,7 +71,7 @@ pub fn is_named(name: &[u8], line: &[u8]) -> bool
     ensures { result ≡ is_named name.now line.now }
 {
     let n = name.len();
-    n < line.len() && line[n] == b'=' && same_name(name, &line[..n])
+    n < line.len() && line[n] == b'=' && name.eq_ignore_ascii_case(&line[..n])
 }
 
 #[tactic(auto, using(std::proofs::lemmas::Bool::Decides::nat_tests), unfolding(crate::specs::Lines::name_byte))]

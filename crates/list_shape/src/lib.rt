@@ -28,7 +28,7 @@ fn end_stands(text: &[u8], at: usize) -> bool
 {
     // By match: a closure would want a contract of its own.
     match lines::first_line(&text[at..]) {
-        Some(line) => lines::same_bytes(line, b"ENDENDEND"),
+        Some(line) => lines::same_bytes(line, text_rules::END),
         None => false,
     }
 }

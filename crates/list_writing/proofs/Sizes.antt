@@ -1,6 +1,6 @@
 -- The head, the component lines and the last line of a list, written one behind the other.
 use mathlib.Core.Path.{◌≡◌, ap, ◌∙◌}
-use mathlib.Core.List.{List, append_assoc}
+use mathlib.Core.List.{List, [], ◌∷◌, append_assoc}
 use Prim.Native.Nat.{ℕ, ◌+◌, ◌-◌, ◌≤◌}
 use native.Mathlib.Nat.{add-sub_cancel_left}
 use native.Mathlib.Omega.{arith}
@@ -39,12 +39,19 @@ module _ (l : Listing) (d : List ℕ) (room : length (text_of l) ≤ length d) w
     lines_room = omega (arith, room, parts l, u.next, written-length u (omega (arith, head_room)))
 
     module _ {d₂ : List ℕ} {b : ℕ} (v : Written d₁ a (lines_of l) d₂ b) where
-      pub end_room : b + end_size ≤ length d₂
-      end_room = omega (arith, room, parts l, u.next, v.next, written-length u (omega (arith, head_room)), written-length v lines_room)
+      last_room : b + end_size ≤ length d₂
+      last_room = omega (arith, room, parts l, u.next, v.next, written-length u (omega (arith, head_room)), written-length v lines_room)
 
-      pub text-put : {d₃ : List ℕ} {c : ℕ} → Written d₂ b (line_text end_word) d₃ c → d₃ ≡ put d 0 (text_of l)
-      unfolding text_of sheet_of sheet_text shanghai
-      text-put w =
-          let n = length-append (head_of l) (lines_of l) in
-          let z = length-line_text end_word in
-          (written_then (written_then u v (omega (arith, parts l, room))) w (omega (arith, parts l, room))).bytes ∙ rw append_assoc
+      pub end_room : b + length end_word ≤ length d₂
+      end_room = omega (arith, last_room)
+
+      module _ {d₃ : List ℕ} {c : ℕ} (w : Written d₂ b end_word d₃ c) where
+        pub line_end_room : c + 2 ≤ length d₃
+        line_end_room = omega (arith, last_room, w.next, written-length w end_room)
+
+        pub text-put : {d₄ : List ℕ} {e : ℕ} → Written d₃ c (13 ∷ 10 ∷ []) d₄ e → d₄ ≡ put d 0 (text_of l)
+        unfolding text_of sheet_of sheet_text shanghai line_text
+        text-put z =
+            let n = length-append (head_of l) (lines_of l) in
+            let s = length-line_text end_word in
+            (written_then (written_then u v (omega (arith, parts l, room))) (written_then w z (omega (arith, last_room))) (omega (arith, parts l, room))).bytes ∙ rw append_assoc

@@ -46,7 +46,8 @@ fn put_list(checked: &Checked, output: &mut [u8])
 {
     let lines = put_head(checked, output);
     let last = put_lines(checked, output, lines);
-    digits_put::put_bytes(output, last, b"ENDENDEND\r\n");
+    let end = digits_put::put_bytes(output, last, text_rules::END);
+    digits_put::put_bytes(output, end, b"\r\n");
 }
 
 // Writes a list at the front of the lent output, and answers how many bytes it takes. A refusal changes nothing.

@@ -25,7 +25,8 @@ use Rattle.text_rules.specs.Head.{head_lines, field_name, is_field, is_head_line
 use Rattle.text_rules.specs.Reading.{start_of, line_of, line_stands, wrong_line, field_start, word_of, figure_read, wrong_field}
 use Rattle.text_rules.specs.Well.{most_fields, fields_well}
 use Rattle.text_rules.proofs.Well.{fields_few}
-use Rattle.text_lines.proofs.Standing.{rest_is, stands_facts}
+use Rattle.std.proofs.lemmas.List.{take_rest}
+use Rattle.text_lines.proofs.Standing.{stands_facts}
 use Rattle.text_head.specs.declared.WrongField.{WrongField}
 use Rattle.text_head.specs.Head.{field_reading, figures_found, fields_found}
 use Rattle.text_head.proofs.Shape.{past, lent_is, fields_many, wrong_at}
@@ -101,7 +102,7 @@ module _ {table : List LentField} {fs : List Field} {text : List ℕ} (head : He
       (true≢false
       (sym (line_ended (suc k) (omega (arith, fields_many table fs head.lent)))
       ∙ ap (λ (i : ℕ). ended (drop i text)) (sym v.place)
-      ∙ ap ended (sym (rest_is text at))
+      ∙ ap ended (sym (take_rest text at))
       ∙ f))
   next_there v l P (Some x) h = refl
 
@@ -153,7 +154,7 @@ module _ {table : List LentField} {fs : List Field} {text : List ℕ} (head : He
 
     module _ {line : List ℕ} (here : line ≡ first_line (take (length text - at) (drop at text))) where
       line_here : line ≡ first_line (drop at text)
-      line_here = here ∙ ap first_line (rest_is text at)
+      line_here = here ∙ ap first_line (take_rest text at)
 
       line_is : line ≡ line_of text (start_of text (suc k))
       unfolding line_of
@@ -175,7 +176,7 @@ module _ {table : List LentField} {fs : List Field} {text : List ℕ} (head : He
 
       word_is : part ≡ word_of fs text k
       unfolding word_of
-      word_is = rest_is line start ∙ ap (λ (n : ℕ). drop (n + 1) line) (sym name_is) ∙ ap (drop (length (field_name fs k) + 1)) line_is
+      word_is = take_rest line start ∙ ap (λ (n : ℕ). drop (n + 1) line) (sym name_is) ∙ ap (drop (length (field_name fs k) + 1)) line_is
 
       fault_is : (b : Bool) → is_field (field_at fs k) part ≡ b → fault_at fs text k ≡ not b
       unfolding fault_at
@@ -205,7 +206,7 @@ module _ {table : List LentField} {fs : List Field} {text : List ℕ} (head : He
             let next : at + (length line + 2) ≡ next_at text at = ap (λ (n : ℕ). at + (n + 2)) (ap length line_here ∙ first-length (drop at text)) in
             record {
               place = next ∙ rw (add-one, ← v.place);
-              within = omega (arith, room, ap length (rest_is text at), length-drop at text, v.within);
+              within = omega (arith, room, ap length (take_rest text at), length-drop at text, v.within);
               none = first_more (fault_at fs text) k v.none w;
               size = length-set figures k z ∙ v.size;
               said = more (figure_is ∙ p.1);

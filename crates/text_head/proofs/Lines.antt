@@ -8,7 +8,8 @@ use Rattle.std.proofs.Common.{Ok, Err}
 use Rattle.lines.specs.Lines.{ended, first_line, next_at}
 use Rattle.lines.proofs.Laws.{first-length}
 use Rattle.text_rules.specs.Reading.{line_stands}
-use Rattle.text_lines.proofs.Standing.{rest_is, stands_none, stands_some}
+use Rattle.std.proofs.lemmas.List.{take_rest}
+use Rattle.text_lines.proofs.Standing.{stands_none, stands_some}
 use Rattle.text_head.specs.Head.{line_passed}
 
 module _ (test : List ℕ → Bool) (text : List ℕ) (k at : ℕ) where
@@ -28,4 +29,4 @@ module _ (test : List ℕ → Bool) (text : List ℕ) (k at : ℕ) where
     unfolding line_passed next_at
     passed_on f =
         rw (← stands_some test text at h is said, f)
-        (ap (λ (n : ℕ). Ok (at + (n + 2))) (ap length (is ∙ ap first_line (rest_is text at)) ∙ first-length (drop at text)))
+        (ap (λ (n : ℕ). Ok (at + (n + 2))) (ap length (is ∙ ap first_line (take_rest text at)) ∙ first-length (drop at text)))

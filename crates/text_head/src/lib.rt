@@ -93,7 +93,7 @@ pub fn head_shape(fields: &Fields, text: &[u8]) -> Result<usize, WrongLine>
         text,
         table.len() + 1,
         at,
-        |line| lines::same_bytes(line, b"TAGTAG"),
+        |line| lines::same_bytes(line, text_rules::TAG),
     )
 }
 

@@ -42,7 +42,7 @@ wrote_then xs ys {o} f u v =
     rw (v, u, both.bytes, both.next)
 
 -- the first line in its parts, and the line of a field
-pub opening_parts : (letters : List ℕ) → line_text (opening_word ++ (letters ++ closing_word)) ≡ opening_word ++ (letters ++ bytes "]\r\n")
+pub opening_parts : (letters : List ℕ) → line_text (opening_word ++ (letters ++ closing_word)) ≡ opening_word ++ (letters ++ line_text closing_word)
 unfolding line_text
 opening_parts letters = simp append_assoc
 
@@ -100,9 +100,8 @@ module _ (fs : List Field) (letters : List ℕ) (figures : List Figure) (d : Lis
       last : Lined o (length fs + 1)
       last = rw e at v
 
-      pub tag_room : Fits (bytes "TAGTAG\r\n") o
-      tag_room = record { room = omega (arith, all_room, last.written.next, v.long) }
+      pub tag_room : Fits (line_text tag_word) o
+      tag_room = record { room = omega (arith, all_room, last.written.next, v.long, length-line_text tag_word) }
 
-      pub lined_end : {p : Out} → p ≡ wrote (bytes "TAGTAG\r\n") o → Written d at (whole_head fs letters figures) p.run.now p.at
-      unfolding line_text
-      lined_end w = rw (whole_is fs letters figures) (written_then last.written (wrote_is w) (omega (arith, all_room)))
+      pub lined_end : {p : Out} → p ≡ wrote (line_text tag_word) o → Written d at (whole_head fs letters figures) p.run.now p.at
+      lined_end w = rw (whole_is fs letters figures) (written_then last.written (wrote_is w) (omega (arith, all_room, length-line_text tag_word)))

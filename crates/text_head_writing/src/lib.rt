@@ -61,15 +61,24 @@ impl<'a> Out<'a> {
         self.at = digits_writing::put_number(self.run, self.at, form, z);
     }
 
+    // Writes a line with its end.
+    fn put_line(&mut self, line: &[u8])
+        requires { Fits (line_text line.now) self.old }
+        ensures { self.new ≡ wrote (line_text line.now) self.old }
+    {
+        self.put(line);
+        self.put(b"\r\n");
+    }
+
     // Writes the first line.
     #[tactic(auto, using(crate::proofs::Write::line_laws))]
     fn put_opening(&mut self, letters: &[u8])
         requires { Fits (line_text (opening_word ++ (letters.now ++ closing_word))) self.old }
         ensures { self.new ≡ wrote (line_text (opening_word ++ (letters.now ++ closing_word))) self.old }
     {
-        self.put(b"[ETF");
+        self.put(text_rules::OPENING);
         self.put(letters);
-        self.put(b"]\r\n");
+        self.put_line(text_rules::CLOSING);
     }
 
     // Writes the line of a field.
@@ -103,6 +112,6 @@ pub fn put_head(
     for (field, z) in table.iter().zip(figures) {
         out.put_field(field, *z);
     }
-    out.put(b"TAGTAG\r\n");
+    out.put_line(text_rules::TAG);
     out.at
 }

@@ -1,9 +1,9 @@
 // Lines that stand in a text: the first one and its letters, and the component lines, by their columns.
 #![tactic(auto)]
 
-ghost use Rattle.std.specs.Prelude.{◌≡◌, ◌+◌, ◌*◌, ◌≤◌, length};
+ghost use Rattle.std.specs.Prelude.{◌≡◌, ◌+◌, ◌*◌, ◌≤◌, true, false, length, MatchOption};
 ghost use Rattle.text_rules.specs.Columns.{line_width, line_pitch, is_row};
-ghost use Rattle.text_rules.specs.Head.{is_letters, is_opening};
+ghost use Rattle.text_rules.specs.Head.{is_letters, letters_of, is_opening};
 ghost use Rattle.text_rules.specs.Reading.{line_stands, rows_from, letters_read};
 
 use text_rules::Columns;
@@ -16,27 +16,30 @@ pub fn is_letters(s: &[u8]) -> bool
     (1..=text_rules::MOST_LETTERS).contains(&s.len()) && lines::is_letters(s)
 }
 
+// The letters of a line that is "[ETF", letters and "]".
+#[tactic(auto, using(crate::proofs::Opening::opening_other, crate::proofs::Opening::opening_bare, crate::proofs::Opening::opening_told))]
+fn letters_of(line: &[u8]) -> Option<&[u8]>
+    ensures { MatchOption result (is_opening line.now ≡ false) (λ l. (is_opening line.now ≡ true) × (l.now ≡ letters_of line.now)) }
+{
+    let letters = line
+        .strip_prefix(text_rules::OPENING)?
+        .strip_suffix(text_rules::CLOSING)?;
+    is_letters(letters).then_some(letters)
+}
+
 // Whether the line is "[ETF", letters and "]".
-#[tactic(auto, using(crate::proofs::Opening::opening_cases))]
 pub fn is_opening(line: &[u8]) -> bool
     ensures { result ≡ is_opening line.now }
 {
-    let n = line.len();
-    text_rules::SHORTEST_OPENING <= n
-        && lines::same_bytes(&line[..text_rules::LETTERS_START], b"[ETF")
-        && is_letters(&line[text_rules::LETTERS_START..n - 1])
-        && line[n - 1] == b']'
+    letters_of(line).is_some()
 }
 
-// The letters of a text's first line, as that part of it; an empty part where the line is another: it goes on to C as place and length.
-#[tactic(auto, using(crate::proofs::Opening::letters_told))]
+// The letters of a text's first line, as that part of it; nothing where the line is another.
+#[tactic(auto, using(crate::proofs::Opening::letters_open, crate::proofs::Opening::letters_other, crate::proofs::Opening::letters_said))]
 pub fn letters(text: &[u8]) -> &[u8]
     ensures { result.now ≡ letters_read text.now }
 {
-    match lines::first_line(text) {
-        Some(line) if is_opening(line) => &line[text_rules::LETTERS_START..line.len() - 1],
-        _ => &text[..0],
-    }
+    lines::first_line(text).and_then(letters_of).unwrap_or(&[])
 }
 
 // Whether a component line with its end stands at a place of the whole text, of which the answers are places. `width` is the columns',
@@ -54,19 +57,17 @@ fn row_stands(columns: &Columns, width: usize, text: &[u8], at: usize) -> bool
 }
 
 // How many component lines stand from a place on, before the first line that is none.
-#[tactic(auto, using(crate::proofs::Standing::counted_start, crate::proofs::Standing::counted_again, crate::proofs::Standing::counted_end))]
+#[tactic(auto, using(crate::proofs::Standing::pitch_line))]
 pub fn row_count(columns: &Columns, text: &[u8], start: usize) -> usize
     requires { start ≤ length text.now }
     ensures value { result ≡ rows_from columns.now text.now start }
     ensures columns_in_bounds { start + result * line_pitch columns.now ≤ length text.now }
 {
     let width = columns.width();
-    // By `while`: that the next place lies in the text is known where the line before it stands; a search over places would test it again.
-    let mut at = start;
-    let mut j = 0;
-    while row_stands(columns, width, text, at) {
-        at = at + (width + 2);
-        j += 1;
-    }
-    j
+    let pitch = columns.pitch();
+    // So many lines have room.
+    let room = (text.len() - start) / pitch;
+    (0..room)
+        .find(|j| !row_stands(columns, width, text, start + *j * pitch))
+        .unwrap_or(room)
 }

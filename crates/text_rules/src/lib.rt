@@ -313,22 +313,31 @@ impl<'a> Fields<'a> {
     }
 }
 
-// How many fields there is room for: figures stand in a fixed array, since the library has no heap.
+// How many fields there is room for: figures stand in a fixed array, since the library has no heap. No const parameter: it would stand
+// in each function that takes fields or figures.
 pub const MOST_FIELDS: usize = 24;
 
-// How many letters the first line has at most, where they start, how short it may be, and what it takes beside them with its end.
+// How many letters the first line has at most.
 pub const MOST_LETTERS: usize = 8;
 
-pub const LETTERS_START: usize = 4;
+// What stands before those letters and behind them, the line before the component lines, and the last line.
+pub const OPENING: &[u8] = b"[ETF";
 
-pub const SHORTEST_OPENING: usize = 6;
+pub const CLOSING: &[u8] = b"]";
 
-pub const OPENING_REST: usize = 7;
+pub const TAG: &[u8] = b"TAGTAG";
 
-// How many bytes the line before the component lines and the last line take with their ends.
-pub const TAG_SIZE: usize = 8;
+pub const END: &[u8] = b"ENDENDEND";
 
-pub const END_SIZE: usize = 11;
+// Where the letters start.
+pub const LETTERS_START: usize = OPENING.len();
+
+// How many bytes these lines take with their ends, the first beside its letters.
+pub const OPENING_REST: usize = OPENING.len() + CLOSING.len() + 2;
+
+pub const TAG_SIZE: usize = TAG.len() + 2;
+
+pub const END_SIZE: usize = END.len() + 2;
 
 // What stands behind each column.
 pub const BAR: u8 = b'|';

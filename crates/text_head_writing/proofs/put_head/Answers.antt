@@ -29,8 +29,8 @@ loop-field-preserved c =
       same_borrow = search rules;
     }
 
-pub put-requires : goal.put-requires
-put-requires c =
+pub put_line-requires : goal.put_line-requires
+put_line-requires c =
     let t = zip_end c.table-table.result.now c.args.figures.now c.loop-field.yielded _ _ c.next.new.self _ (search rules) (search rules) c.loop-field.yielded_by c.in-None.is c.next.ensures.steps in
     let all = all_reached _ _ c.table-table.ensures.value c.table-table.ensures.well _ _ t (omega (arith, c.well_formed)) in
     tag_room _ _ _ _ _ c.requires c.loop-field.invariant.lined all
@@ -39,5 +39,5 @@ pub returns : goal.returns
 returns c =
     let t = zip_end c.table-table.result.now c.args.figures.now c.loop-field.yielded _ _ c.next.new.self _ (search rules) (search rules) c.loop-field.yielded_by c.in-None.is c.next.ensures.steps in
     let all = all_reached _ _ c.table-table.ensures.value c.table-table.ensures.well _ _ t (omega (arith, c.well_formed)) in
-    let written = lined_end _ _ _ _ _ c.requires c.loop-field.invariant.lined all c.put.ensures in
+    let written = lined_end _ _ _ _ _ c.requires c.loop-field.invariant.lined all c.put_line.ensures in
     search rules
