@@ -26,11 +26,7 @@ fn end_stands(text: &[u8], at: usize) -> bool
     requires { at ≤ length text.now }
     ensures { result ≡ line_stands (λ l. same l end_word) text.now at }
 {
-    // By match: a closure would want a contract of its own.
-    match lines::first_line(&text[at..]) {
-        Some(line) => lines::same_bytes(line, b"ENDENDEND"),
-        None => false,
-    }
+    lines::first_line(&text[at..]).is_some_and(|line| lines::same_bytes(line, b"ENDENDEND"))
 }
 
 // Refusal 18 behind the head. The error is a place alone: no other refusal stands here. That the head's lines stand is asked here and by
@@ -59,11 +55,9 @@ fn body_shape(text: &[u8], start: usize) -> Result<Rows, usize>
 pub fn shape_of(text: &[u8]) -> Result<Rows, usize>
     ensures { Shaped text.now result }
 {
-    // By match: of what `map_err` hands on no equation is known.
-    match text_head::head_shape(&list_rules::field_table(), text) {
-        Ok(start) => body_shape(text, start),
-        Err(wrong) => Err(wrong.place),
-    }
+    let fields = list_rules::field_table();
+    let start = text_head::head_shape(&fields, text).map_err(|wrong| wrong.place)?;
+    body_shape(text, start)
 }
 
 // Refusal 19 in the head, where its lines stand: the figures, or the first wrong field.
