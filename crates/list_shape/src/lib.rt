@@ -10,15 +10,8 @@ ghost use Rattle.list_rules.specs.Shanghai.{shanghai, shanghai_fields};
 ghost use Rattle.list_rules.specs.Reading.{is_counted};
 ghost use Rattle.list_shape.specs.Shape.{Shaped};
 
+use list_rules::Rows;
 use text_head::{HeadFields, WrongField};
-
-// Where the component lines of a text start, and how many there are. No slice: the start is handed back to the caller, and Recordnum is
-// compared with the count.
-#[derive(Clone, Copy)]
-pub struct Rows {
-    pub start: usize,
-    pub count: usize,
-}
 
 // Whether ENDENDEND with its end stands at a place.
 #[tactic(auto, using(text_lines::proofs::Standing::stands_some, text_lines::proofs::Standing::stands_none))]
