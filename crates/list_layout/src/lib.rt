@@ -38,7 +38,8 @@ pub fn fields_at(run: &[u64; FIELDS_WIDTH]) -> ListFields
     }
 }
 
-// Stores a list's fields. A slice, and no array: of what is stored through an array that `try_into` makes of a lent slice nothing is known.
+// Stores a list's fields. A slice, and no array: the C interface lends one, and of what is stored through an array that `try_into` makes of
+// it nothing is known after the call.
 #[tactic(auto, using(crate::proofs::Laws::fields_stored), unfolding(layout::specs::Fund::signed_numbers))]
 pub fn put_fields(run: &mut [u64], l: ListFields)
     requires run_len { length run.old ≡ fields_width }
