@@ -8,15 +8,17 @@ ghost use Rattle.list_shape.specs.Shape.{RowsStand};
 ghost use Rattle.list_reading.specs.Outcome.{ReadOutcome};
 ghost use Rattle.list_reading.specs.Stages.{Found, Spelled, Ranged};
 
-// Handed on, so that all calls of reading stand in one crate.
 use digits::Figure;
-pub use list_names::{name_from, name_place};
 use list_rules::{ListField, ListFields, ListRead, Rows, TextPart};
 use rules::Refusal;
-pub use text_lines::letters;
 use text_rules::MOST_FIELDS;
 
-// Refusals 3 and 16, and the components stored.
+// Handed on, so that all calls of reading stand in one crate: the names of a text's components, and the letters of its first line.
+pub use list_names::{name_from, name_place};
+pub use text_lines::letters;
+
+// Refusals 3 and 16, and the components stored. The text goes through to here for the contracts alone. Tried as a ghost value: that is
+// picked from the arguments of the call, and in `read_fields` no other argument says which text it is.
 #[tactic(auto, using(std::proofs::lemmas::Bool::Decides::nat_tests, crate::proofs::Replies::reply_3, crate::proofs::Replies::reply_16, crate::proofs::Replies::reply_0), unfolding(list_rules::specs::Reading::run_after, list_rules::specs::Reading::read_fault, list_rules::specs::Reading::is_counted, sequences::specs::Every::inside, sequences::specs::Checks::is_accepted))]
 fn read_components(
     text: &[u8],
