@@ -41,7 +41,8 @@ pub fn open(
 }
 
 // Reads a list text: its fields, its components at the front of the lent run, and where its first component line starts. An
-// accepted reading tells the count of components.
+// accepted reading tells the count of components. The place of the first line goes to a lent number, as the fields go to a lent run: with
+// a `ListRead` as the answer the C interface would test it once more to store the place, and tell the count by itself.
 #[tactic(auto, using(std::proofs::lemmas::Bool::Decides::nat_tests), unfolding(crate::specs::Text::taking_reply, crate::specs::Text::of_width, sequences::specs::Checks::is_accepted, list_rules::specs::Reading::run_after))]
 pub fn read(
     text: &[u8],
@@ -51,6 +52,7 @@ pub fn read(
 ) -> Result<usize, Refusal>
     ensures { TextRead text.now (taking run.old fields.old first_row.old) (count_answer_reply result).number (count_answer_reply result).place (count_answer_reply result).value (taking run.new fields.new first_row.new) }
 {
+    // By length: tried as `write` has it, by `try_into`, but then nothing is known of what the lent run holds after the call.
     if fields.len() != list_layout::FIELDS_WIDTH {
         return Err(Refusal::Sizes);
     }
@@ -104,9 +106,7 @@ pub fn write(
 ) -> Result<usize, Refusal>
     ensures { TextWritten fields.now (listing (fields_at fields.now) run.now names.now letters.now) output.old (count_answer_reply result).number (count_answer_reply result).place (count_answer_reply result).value output.new }
 {
-    if fields.len() != list_layout::FIELDS_WIDTH {
-        return Err(Refusal::Sizes);
-    }
+    let fields = fields.as_array().ok_or(Refusal::Sizes)?;
     let list = Listing {
         fields: list_layout::fields_at(fields),
         run,

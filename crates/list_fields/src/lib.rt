@@ -17,8 +17,8 @@ use text_rules::MOST_FIELDS;
 use units::Rate;
 
 // The limits among the head's figures, which stand last.
-fn limits_of(figures: [Figure; MOST_FIELDS]) -> [u64; layout::LIMITS]
-    ensures { result ≡ tabulate (λ k. (get_or figures (limits_field + k) (plain 0)).size) limit_count }
+fn limits_of(figures: &[Figure; MOST_FIELDS]) -> [u64; layout::LIMITS]
+    ensures { result ≡ tabulate (λ k. (get_or figures.now (limits_field + k) (plain 0)).size) limit_count }
 {
     let first = ListField::FirstLimit.place();
     array::from_fn(|k| figures[first + k].size)
@@ -26,28 +26,28 @@ fn limits_of(figures: [Figure; MOST_FIELDS]) -> [u64; layout::LIMITS]
 
 // The fields that the head's figures say: none where the code for creation is 0, as the fund's first code is the one before it.
 #[tactic(auto, unfolding(list_rules::specs::Fields::fields_from))]
-pub fn fields_of(figures: [Figure; MOST_FIELDS]) -> Option<ListFields>
-    requires { (k : ℕ) → k < field_count → (get_or figures k (plain 0)).size ≤ cap }
-    ensures { SomeIff result (1 ≤ (get_or figures creation_code_field (plain 0)).size) (fields_from (λ k. get_or figures k (plain 0))) }
+pub fn fields_of(figures: &[Figure; MOST_FIELDS]) -> Option<ListFields>
+    requires { (k : ℕ) → k < field_count → (get_or figures.now k (plain 0)).size ≤ cap }
+    ensures { SomeIff result (1 ≤ (get_or figures.now creation_code_field (plain 0)).size) (fields_from (λ k. get_or figures.now k (plain 0))) }
 {
-    let first_code = ListField::CreationCode.of(&figures).size.checked_sub(1)?;
+    let first_code = ListField::CreationCode.of(figures).size.checked_sub(1)?;
     let fund = Fund {
         first_code,
-        basket_size: ListField::BasketSize.of(&figures).size,
-        max_cash_ratio: Rate::new(ListField::CashRatio.of(&figures).size),
-        switch: ListField::Switch.of(&figures).size,
-        estimated_cash: digits::signed_of(ListField::EstimatedCash.of(&figures)),
+        basket_size: ListField::BasketSize.of(figures).size,
+        max_cash_ratio: Rate::new(ListField::CashRatio.of(figures).size),
+        switch: ListField::Switch.of(figures).size,
+        estimated_cash: digits::signed_of(ListField::EstimatedCash.of(figures)),
         limits: limits_of(figures),
     };
     Some(ListFields {
         fund,
-        publish: ListField::Publish.of(&figures).size,
-        trading_day: ListField::TradingDay.of(&figures).size,
-        pre_trading_day: ListField::PreTradingDay.of(&figures).size,
-        cash_component: digits::signed_of(ListField::CashComponent.of(&figures)),
-        nav_per_cu: ListField::BasketValue.of(&figures).size,
-        nav: ListField::UnitValue.of(&figures).size,
-        count: ListField::Count.of(&figures).size as usize,
+        publish: ListField::Publish.of(figures).size,
+        trading_day: ListField::TradingDay.of(figures).size,
+        pre_trading_day: ListField::PreTradingDay.of(figures).size,
+        cash_component: digits::signed_of(ListField::CashComponent.of(figures)),
+        nav_per_cu: ListField::BasketValue.of(figures).size,
+        nav: ListField::UnitValue.of(figures).size,
+        count: ListField::Count.of(figures).size as usize,
     })
 }
 

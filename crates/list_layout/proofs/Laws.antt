@@ -1,16 +1,17 @@
 -- A list's fields as they are stored, and read back.
-use mathlib.Core.Path.{◌≡◌, refl, ap, ◌∙◌}
+use mathlib.Core.Path.{◌≡◌, refl, ap, ap₂, ◌∙◌}
 use mathlib.Core.List.{List, [], ◌∷◌, ◌++◌, append-nil}
-use Prim.Native.Nat.{ℕ, ◌+◌, ◌≤◌}
+use Prim.Native.Nat.{ℕ, ◌+◌, ◌-◌, ◌≤◌}
 use native.Mathlib.Omega.{arith}
-use lib.IntN.{ℤ, nat_abs}
-use lib.ListN.{length, set, length-append, drop_of_length-le}
-use lib.Seq.{sets, drop_at}
+use lib.IntN.{nat_abs}
+use lib.ListN.{length, length-append, drop_of_length-le}
+use lib.Seq.{sets, length-sets, drop_at}
+use borrow.Rule.Slice.PartMut.{put_mid}
 use Rattle.sequences.proofs.Runs.{sets_append, sets_front}
 use Rattle.digits.specs.Digits.{cap}
 use Rattle.layout.specs.Places.{limit_count, fund_width}
 use Rattle.layout.specs.Fund.{signed_numbers, fund_numbers}
-use Rattle.layout.proofs.Stored.{fund-length}
+use Rattle.layout.proofs.Stored.{fund-length, numbers_stored}
 use Rattle.layout.proofs.Day.{number_at, signed_back, fund_back}
 use Rattle.list_rules.specs.declared.ListFields.{ListFields}
 use Rattle.list_layout.specs.Run.{fields_width, fields_at, fields_numbers}
@@ -22,21 +23,20 @@ all_stored vs run e =
     ∙ ap (λ (r : List ℕ). vs ++ r) (drop_of_length-le run {i = length vs} (omega arith))
     ∙ append-nil vs
 
--- the fields behind the fund, with the cash component e
-abbrev rest_numbers : ListFields → ℤ → List ℕ
-rest_numbers l e = l.publish ∷ l.trading_day ∷ l.pre_trading_day ∷ (signed_numbers e ++ (l.nav_per_cu ∷ l.nav ∷ l.count ∷ []))
+-- the fields behind the fund
+abbrev rest_numbers : ListFields → List ℕ
+rest_numbers l = l.publish ∷ l.trading_day ∷ l.pre_trading_day ∷ (signed_numbers l.cash_component ++ (l.nav_per_cu ∷ l.nav ∷ l.count ∷ []))
 
 module _ (l : ListFields) (run : List ℕ) (full : length run ≡ fields_width) where
-  pub fields_stored : (e : ℤ) (fund signed : List ℕ) → e ≡ l.cash_component → fund ≡ sets run 0 (fund_numbers l.fund)
-      → signed ≡ sets (set (set (set fund fund_width l.publish) (fund_width + 1) l.trading_day) (fund_width + 2) l.pre_trading_day) (fund_width + 3) (signed_numbers e)
-      → set (set (set signed (fund_width + 5) l.nav_per_cu) (fund_width + 6) l.nav) (fund_width + 7) l.count ≡ fields_numbers l
+  pub fields_stored : (fund rest : List ℕ) → fund ≡ sets run 0 (fund_numbers l.fund) → rest ≡ rest_numbers l
+      → put_mid fund_width (length fund - fund_width) fund rest ≡ fields_numbers l
   unfolding fields_numbers signed_numbers
-  fields_stored e fund signed p q r =
-      rw (r, q)
-      (ap (λ (n : ℕ). sets (sets run 0 (fund_numbers l.fund)) n (rest_numbers l e)) (omega (arith, fund-length l.fund))
-      ∙ sets_append (fund_numbers l.fund) (rest_numbers l e) run 0
-      ∙ all_stored (fund_numbers l.fund ++ rest_numbers l e) run (rw length-append (omega (arith, fund-length l.fund)))
-      ∙ rw p)
+  fields_stored fund rest p q =
+      let long : length fund ≡ fields_width = ap length p ∙ length-sets run 0 (fund_numbers l.fund) ∙ full in
+      numbers_stored fund fund_width (length fund - fund_width) rest (rest_numbers l) (omega (arith, long)) (omega (arith, long)) q
+      ∙ ap₂ (λ (f : List ℕ) (n : ℕ). sets f n (rest_numbers l)) p (omega (arith, fund-length l.fund))
+      ∙ sets_append (fund_numbers l.fund) (rest_numbers l) run 0
+      ∙ all_stored (fund_numbers l.fund ++ rest_numbers l) run (rw length-append (omega (arith, fund-length l.fund)))
 
 -- what is read from the numbers of a list's fields is the fields
 module _ (l : ListFields) where
@@ -44,7 +44,7 @@ module _ (l : ListFields) where
       → nat_abs l.cash_component ≤ cap → fields_at (fields_numbers l) ≡ l
   unfolding fields_at fields_numbers signed_numbers
   fields_flat limits small cash =
-      let rest = rest_numbers l l.cash_component in
+      let rest = rest_numbers l in
       let there = number_at (fields_numbers l) fund_width rest (drop_at (fund_numbers l.fund) rest fund_width (fund-length l.fund)) in
       rw (
         fund_back (fields_numbers l) 0 l.fund rest refl limits small,

@@ -8,59 +8,59 @@ ghost use Rattle.list_layout.specs.Run.{fields_width, fields_at, fields_numbers}
 
 use list_rules::ListFields;
 
-// Where the fields behind the fund stand: Publish, both days, the cash component, NAVperCU, NAV, and the count of components.
-// They are places of a run that crosses to C: an enum with a cast at each read is no plainer.
-const PUBLISH_AT: usize = layout::FUND_WIDTH;
-
-const TRADING_DAY_AT: usize = PUBLISH_AT + 1;
-
-const PRE_TRADING_DAY_AT: usize = PUBLISH_AT + 2;
-
-const CASH_COMPONENT_AT: usize = PUBLISH_AT + 3;
-
-const NAV_PER_CU_AT: usize = PUBLISH_AT + 5;
-
-const NAV_AT: usize = PUBLISH_AT + 6;
-
-const COUNT_AT: usize = PUBLISH_AT + 7;
-
-// How many numbers they take.
-pub const FIELDS_WIDTH: usize = PUBLISH_AT + 8;
+// How many numbers they take: the fund's, and those of Publish, both days, the cash component, NAVperCU, NAV and the count of components.
+pub const FIELDS_WIDTH: usize = layout::FUND_WIDTH + 8;
 
 // The fields of a run.
-#[tactic(auto, unfolding(crate::specs::Run::fields_at))]
-pub fn fields_at(run: &[u64]) -> ListFields
-    requires { length run.now ≡ fields_width }
+#[tactic(auto, unfolding(crate::specs::Run::fields_at, layout::specs::Fund::signed_at))]
+pub fn fields_at(run: &[u64; FIELDS_WIDTH]) -> ListFields
     ensures { result ≡ fields_at run.now }
 {
-    let fund = layout::fund_of(run, 0);
+    let [
+        ..,
+        publish,
+        trading_day,
+        pre_trading_day,
+        sign,
+        size,
+        nav_per_cu,
+        nav,
+        count,
+    ] = *run;
     ListFields {
-        fund,
-        publish: run[PUBLISH_AT],
-        trading_day: run[TRADING_DAY_AT],
-        pre_trading_day: run[PRE_TRADING_DAY_AT],
-        cash_component: layout::signed_at(run, CASH_COMPONENT_AT),
-        nav_per_cu: run[NAV_PER_CU_AT],
-        nav: run[NAV_AT],
-        count: run[COUNT_AT] as usize,
+        fund: layout::fund_of(run, 0),
+        publish,
+        trading_day,
+        pre_trading_day,
+        cash_component: layout::signed_at(&[sign, size], 0),
+        nav_per_cu,
+        nav,
+        count: count as usize,
     }
 }
 
-// Stores a list's fields.
-#[tactic(auto, using(crate::proofs::Laws::fields_stored))]
+// Stores a list's fields. A slice, and no array: the C interface lends one, and of what is stored through an array that `try_into` makes of
+// it nothing is known after the call.
+#[tactic(auto, using(crate::proofs::Laws::fields_stored), unfolding(layout::specs::Fund::signed_numbers))]
 pub fn put_fields(run: &mut [u64], l: ListFields)
     requires run_len { length run.old ≡ fields_width }
     requires estimated_cash_bound { nat_abs l.fund.estimated_cash ≤ cap }
     requires cash_component_bound { nat_abs l.cash_component ≤ cap }
     ensures { run.new ≡ fields_numbers l }
 {
-    let fund = l.fund;
-    layout::put_fund(run, 0, fund);
-    run[PUBLISH_AT] = l.publish;
-    run[TRADING_DAY_AT] = l.trading_day;
-    run[PRE_TRADING_DAY_AT] = l.pre_trading_day;
-    layout::put_signed(run, CASH_COMPONENT_AT, l.cash_component);
-    run[NAV_PER_CU_AT] = l.nav_per_cu;
-    run[NAV_AT] = l.nav;
-    run[COUNT_AT] = l.count as u64;
+    let mut cash = [0; 2];
+    layout::put_signed(&mut cash, 0, l.cash_component);
+    let [sign, size] = cash;
+    let rest = [
+        l.publish,
+        l.trading_day,
+        l.pre_trading_day,
+        sign,
+        size,
+        l.nav_per_cu,
+        l.nav,
+        l.count as u64,
+    ];
+    layout::put_fund(run, 0, l.fund);
+    run[layout::FUND_WIDTH..].copy_from_slice(&rest);
 }

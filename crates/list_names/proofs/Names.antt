@@ -46,11 +46,11 @@ add-mul-one j p = rw add-one (suc-mul j p)
 
 -- whether the text has the line, as the code tests it
 module _ (text first j pitch : ℕ) (some : 0 < pitch) where
-  pub line_none : first ≤ text → (text - first) / pitch ≤ j → text < first + j * pitch + pitch
-  line_none h q = omega (arith, (div-lt_iff_lt-mul {k = pitch} {x = text - first} {y = j + 1} some).0 (omega arith), add-mul-one j pitch)
+  pub line_none : (text - first) / pitch ≤ j → text < first + j * pitch + pitch
+  line_none q = omega (arith, (div-lt_iff_lt-mul {k = pitch} {x = text - first} {y = j + 1} some).0 (omega arith), add-mul-one j pitch)
 
-  pub line_some : first ≤ text → j < (text - first) / pitch → first + j * pitch + pitch ≤ text
-  line_some h q = omega (arith, (le-div_iff_mul-le {k = pitch} {x = j + 1} {y = text - first} some).0 (omega arith), add-mul-one j pitch)
+  pub line_some : j < (text - first) / pitch → first + j * pitch + pitch ≤ text
+  line_some q = omega (arith, (le-div_iff_mul-le {k = pitch} {x = j + 1} {y = text - first} some).0 (omega arith), add-mul-one j pitch)
 
 -- what the search goes by where a name is looked for
 pub ruleset place_cases = (pitch_some, line_none, line_some, place_none, place_is, name_within)

@@ -19,7 +19,7 @@ pub fn name_place(text: &[u8], first: usize, j: usize) -> TextPart
     let form = list_rules::line_form();
     let columns = form.columns();
     let pitch = columns.pitch();
-    if text.len() < first || (text.len() - first) / pitch <= j {
+    if text.len().saturating_sub(first) / pitch <= j {
         return TextPart::default();
     }
     let place = first + j * pitch + columns.start(ListColumn::Name.place());
@@ -29,15 +29,14 @@ pub fn name_place(text: &[u8], first: usize, j: usize) -> TextPart
     }
 }
 
-// That name, as the part of the text. No Option: it goes on to C as a place and a length.
+// That name, as the part of the text, without looking at the text's lines: `first` is where reading found the first component line. With
+// another place it is the name that a component line from there on would have. No Option: it goes on to C as a place and a length.
 #[tactic(auto, unfolding(list_rules::specs::Reading::name_from, list_rules::specs::Reading::part_in))]
 pub fn name_from(text: &[u8], first: usize, j: usize) -> &[u8]
     ensures { result.now ≡ name_from text.now first j }
 {
     let part = name_place(text, first, j);
-    let a = part.place;
-    let e = a + part.length;
-    &text[a..e]
+    &text[part.place..part.place + part.length]
 }
 
 // The first of the names with a byte that no name has. They are gone through one by one only where there is such a byte: for 300 good names

@@ -38,7 +38,7 @@ use Rattle.list_rows.proofs.Rows.{row_ours, fault_ours, numbers_ours}
 use Rattle.list_rules.proofs.Lent.{fields_count}
 use Rattle.list_trip.proofs.Form.{line_numbers_lem}
 use Rattle.list_trip.proofs.NamePlaces.{name_found}
-use Rattle.list_shape.specs.declared.Rows.{Rows}
+use Rattle.list_rules.specs.declared.Rows.{Rows}
 use Rattle.list_shape.specs.Shape.{RowsStand}
 use Rattle.list_reading.specs.Stages.{Found, Spelled}
 use Rattle.list_reading.proofs.Replies.{field_wrong, row_wrong, field_facts, fields_pass}

@@ -9,7 +9,7 @@ use Rattle.list_rules.specs.declared.ListFields.{ListFields}
 use Rattle.list_rules.specs.Shanghai.{shanghai, shanghai_fields, field_count, count_field, creation_code_field}
 use Rattle.list_rules.specs.Fields.{fields_from, fields_in_range}
 use Rattle.list_rules.specs.Reading.{fields_read, is_counted, components_run}
-use Rattle.list_shape.specs.declared.Rows.{Rows}
+use Rattle.list_rules.specs.declared.Rows.{Rows}
 use Rattle.list_shape.specs.Shape.{RowsStand}
 
 -- the numbers of the text's components stand at the front of an array, where they are not too many

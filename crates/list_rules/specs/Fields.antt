@@ -73,7 +73,7 @@ fields_in_range l =
     ∷ leb l.nav 9_999_999
     ∷ [])
 
--- the fields that a refused reading hands back
+-- the fields where no list is read
 abbrev pub blank_fields : ListFields
 blank_fields =
     record {

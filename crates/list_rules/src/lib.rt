@@ -64,6 +64,14 @@ pub struct ListRead {
     pub first_row: usize,
 }
 
+// Where the component lines of a text start, and how many there are. No slice: the start is handed back to the caller, and Recordnum is
+// compared with the count.
+#[derive(Clone, Copy)]
+pub struct Rows {
+    pub start: usize,
+    pub count: usize,
+}
+
 // A list to be written: its fields, its run of components, its names, one behind the other, and the letters of its first line.
 #[derive(Clone, Copy)]
 pub struct Listing<'a> {
@@ -82,9 +90,7 @@ pub struct TextPart {
     pub length: usize,
 }
 
-// How many columns a component line has, and which they are, in their order.
-pub const COLUMN_COUNT: usize = 7;
-
+// The columns of a component line, in their order.
 #[derive(Clone, Copy, PartialEq, Eq, Debug)]
 pub enum ListColumn {
     Code,
@@ -105,7 +111,7 @@ impl ListColumn {
     }
 }
 
-const COLUMNS: [Column; COLUMN_COUNT] = [
+const COLUMNS: &[Column] = &[
     // Code.
     Column {
         width: 6,
@@ -160,9 +166,7 @@ const COLUMNS: [Column; COLUMN_COUNT] = [
 // How many bytes a component's name has.
 pub const NAME_WIDTH: usize = 8;
 
-// How many fields the head has, and which they are, in their order; the limits stand last.
-pub const FIELD_COUNT: usize = 20;
-
+// The fields of the head, in their order; the limits stand last.
 #[derive(Clone, Copy, PartialEq, Eq, Debug)]
 pub enum ListField {
     CreationCode,
@@ -234,7 +238,7 @@ const SIGNED_MONEY: Form = Form {
     ..MONEY
 };
 
-const FIELDS: [Field<'static>; FIELD_COUNT] = [
+const FIELDS: &[Field<'static>] = &[
     Field {
         name: b"Fundid1",
         form: CODE,
@@ -342,12 +346,12 @@ const FIELDS: [Field<'static>; FIELD_COUNT] = [
 pub fn line_form() -> LineForm<'static>
     ensures { result ≡ shanghai_lines }
 {
-    LineForm::new(&COLUMNS, ListColumn::Flag.place(), &flags::TABLE)
+    LineForm::new(COLUMNS, ListColumn::Flag.place(), &flags::TABLE)
 }
 
 // The fields of the head.
 pub fn field_table() -> Fields<'static>
     ensures { result ≡ shanghai_fields }
 {
-    Fields::new(&FIELDS)
+    Fields::new(FIELDS)
 }

@@ -5,7 +5,7 @@ use Rattle.text_rules.specs.Columns.{line_pitch}
 use Rattle.text_rules.specs.Head.{head_lines}
 use Rattle.text_rules.specs.Reading.{wrong_line, body_start, row_count, shape_checks}
 use Rattle.list_rules.specs.Shanghai.{shanghai, shanghai_fields, shanghai_columns}
-use Rattle.list_shape.specs.declared.Rows.{Rows}
+use Rattle.list_rules.specs.declared.Rows.{Rows}
 
 -- the component lines of a text whose lines all stand
 pub record RowsStand (text : List ℕ) (r : Rows) : Type 0 where

@@ -10,15 +10,8 @@ ghost use Rattle.list_rules.specs.Shanghai.{shanghai, shanghai_fields};
 ghost use Rattle.list_rules.specs.Reading.{is_counted};
 ghost use Rattle.list_shape.specs.Shape.{Shaped};
 
+use list_rules::Rows;
 use text_head::{HeadFields, WrongField};
-
-// Where the component lines of a text start, and how many there are. No slice: the start is handed back to the caller, and Recordnum is
-// compared with the count.
-#[derive(Clone, Copy)]
-pub struct Rows {
-    pub start: usize,
-    pub count: usize,
-}
 
 // Whether ENDENDEND with its end stands at a place.
 #[tactic(auto, using(text_lines::proofs::Standing::stands_some, text_lines::proofs::Standing::stands_none))]
@@ -26,11 +19,7 @@ fn end_stands(text: &[u8], at: usize) -> bool
     requires { at ≤ length text.now }
     ensures { result ≡ line_stands (λ l. same l end_word) text.now at }
 {
-    // By match: a closure would want a contract of its own.
-    match lines::first_line(&text[at..]) {
-        Some(line) => lines::same_bytes(line, text_rules::END),
-        None => false,
-    }
+    lines::first_line(&text[at..]).is_some_and(|line| lines::same_bytes(line, text_rules::END))
 }
 
 // Refusal 18 behind the head. The error is a place alone: no other refusal stands here. That the head's lines stand is asked here and by
@@ -59,11 +48,9 @@ fn body_shape(text: &[u8], start: usize) -> Result<Rows, usize>
 pub fn shape_of(text: &[u8]) -> Result<Rows, usize>
     ensures { Shaped text.now result }
 {
-    // By match: of what `map_err` hands on no equation is known.
-    match text_head::head_shape(&list_rules::field_table(), text) {
-        Ok(start) => body_shape(text, start),
-        Err(wrong) => Err(wrong.place),
-    }
+    let fields = list_rules::field_table();
+    let start = text_head::head_shape(&fields, text).map_err(|wrong| wrong.place)?;
+    body_shape(text, start)
 }
 
 // Refusal 19 in the head, where its lines stand: the figures, or the first wrong field.

@@ -33,7 +33,7 @@ fn put_lines(checked: &Checked, output: &mut [u8], start: usize) -> usize
     ensures { Written output.old start (lines_of (listed checked.now.list)) output.new result }
 {
     let list = &checked.list;
-    let end = start + list_writing_tests::lines_size(checked);
+    let end = start + checked.lines_size();
     let form = list_rules::line_form();
     text_rows_writing::put_rows(&form, list.run, list.names, &mut output[start..end]);
     end
@@ -55,8 +55,7 @@ fn put_list(checked: &Checked, output: &mut [u8])
 pub fn write(list: &Listing, output: &mut [u8]) -> Result<usize, Refusal>
     ensures { WriteOutcome (listed list.now) output.old result output.new }
 {
-    let size = list_writing_tests::write_answer(list, output.len())?;
-    let checked = Checked { list: *list };
+    let (checked, size) = list_writing_tests::write_answer(list, output.len())?;
     put_list(&checked, output);
     Ok(size)
 }

@@ -1,7 +1,7 @@
 // What writing a list answers: its tests, and how many bytes the text takes.
 #![tactic(auto)]
 
-ghost use Rattle.std.specs.Prelude.{◌≡◌, true, ◌+◌, ◌*◌, ◌≤◌, length};
+ghost use Rattle.std.specs.Prelude.{◌≡◌, true, ◌+◌, ◌*◌, ◌≤◌, length, IfOk};
 ghost use Rattle.sequences.specs.Below.{below};
 ghost use Rattle.sequences.specs.Checks.{passes};
 ghost use Rattle.rules.specs.Replies.{count_answer_reply};
@@ -10,6 +10,7 @@ ghost use Rattle.text_rules.specs.Well.{most_line};
 ghost use Rattle.text_head_writing.specs.Lines.{most_head};
 ghost use Rattle.list_rules.specs.Writing.{listed, sizes_fit, list_checks, text_of, write_fault, write_reply};
 ghost use Rattle.list_writing_tests.specs.Parts.{head_of, lines_of};
+ghost use Rattle.list_writing_tests.specs.Answer.{size_told};
 
 use list_rules::Listing;
 use rules::Refusal;
@@ -44,37 +45,40 @@ fn write_fault(list: &Listing) -> Option<usize>
     both.or(numbers).or(name)
 }
 
-// How many bytes the head takes.
-fn head_size(checked: &Checked) -> usize
-    ensures value { result ≡ length (head_of (listed checked.now.list)) }
-    ensures upper_bound { result ≤ most_head }
-{
-    let list = &checked.list;
-    let figures = list_fields::figures_of(list.fields);
-    text_head_writing::head_size(&list_rules::field_table(), list.letters, &figures)
+impl<'a> Checked<'a> {
+    // How many bytes the head takes.
+    fn head_size(&self) -> usize
+        ensures value { result ≡ length (head_of (listed self.now.list)) }
+        ensures upper_bound { result ≤ most_head }
+    {
+        let list = &self.list;
+        let figures = list_fields::figures_of(list.fields);
+        text_head_writing::head_size(&list_rules::field_table(), list.letters, &figures)
+    }
+
+    // How many bytes the component lines take.
+    pub fn lines_size(&self) -> usize
+        ensures value { result ≡ length (lines_of (listed self.now.list)) }
+        ensures upper_bound { result ≤ most_components * (most_line + 2) }
+    {
+        let form = list_rules::line_form();
+        self.list.fields.count * form.columns().pitch()
+    }
+
+    // How many bytes the text takes.
+    #[tactic(auto, using(crate::proofs::Sizes::parts))]
+    fn text_size(&self) -> usize
+        ensures { result ≡ length (text_of (listed self.now.list)) }
+    {
+        self.head_size() + (self.lines_size() + text_rules::END_SIZE)
+    }
 }
 
-// How many bytes the component lines take.
-pub fn lines_size(checked: &Checked) -> usize
-    ensures value { result ≡ length (lines_of (listed checked.now.list)) }
-    ensures upper_bound { result ≤ most_components * (most_line + 2) }
-{
-    let form = list_rules::line_form();
-    checked.list.fields.count * form.columns().pitch()
-}
-
-// How many bytes the text takes.
-#[tactic(auto, using(crate::proofs::Sizes::parts))]
-fn text_size(checked: &Checked) -> usize
-    ensures { result ≡ length (text_of (listed checked.now.list)) }
-{
-    head_size(checked) + (lines_size(checked) + text_rules::END_SIZE)
-}
-
-// The answer, which changes nothing.
+// The answer, which changes nothing: an accepted list, and how many bytes its text takes.
 #[tactic(auto, using(sequences::proofs::Below::below_some_facts, sequences::proofs::Below::below_none_fact, std::proofs::lemmas::Bool::Decides::nat_tests), unfolding(list_rules::specs::Writing::write_reply, list_rules::specs::Writing::write_checks, list_rules::specs::Writing::list_checks, sequences::specs::Checks::answering, sequences::specs::Checks::passes))]
-pub fn write_answer(list: &Listing, room: usize) -> Result<usize, Refusal>
-    ensures { count_answer_reply result ≡ write_reply (listed list.now) room }
+pub fn write_answer<'a>(list: &Listing<'a>, room: usize) -> Result<(Checked<'a>, usize), Refusal>
+    ensures answer { count_answer_reply (size_told result) ≡ write_reply (listed list.now) room }
+    ensures checked { IfOk result (λ x. x.0.list ≡ list.now) }
 {
     if !sizes_fit(list) {
         return Err(Refusal::Sizes);
@@ -89,9 +93,9 @@ pub fn write_answer(list: &Listing, room: usize) -> Result<usize, Refusal>
         return Err(Refusal::Component(fault));
     }
     let checked = Checked { list: *list };
-    let size = text_size(&checked);
+    let size = checked.text_size();
     if room < size {
         return Err(Refusal::ListTooShort);
     }
-    Ok(size)
+    Ok((checked, size))
 }
