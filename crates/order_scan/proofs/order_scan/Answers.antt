@@ -12,11 +12,8 @@ use Rattle.order_lines.specs.Lines.{Effect, order_line}
 use Rattle.order_lines.proofs.Laws.{Small, order_small}
 use Rattle.order_scan.specs.Lines.{held_of}
 use Rattle.order_scan.specs.Ready.{Scannable}
-use Rattle.order_scan.proofs.Lines.{order_lines, scan_none, scan_more, scan_room, scan_is}
+use Rattle.order_scan.proofs.Lines.{order_lines, scan_more, scan_room, scan_is}
 use Rattle.order_scan.proofs.order_scan.Goals as goal
-
-pub loop-i-init : goal.loop-i-init
-loop-i-init c = scan_none _
 
 pub order_line-requires : goal.order_line-requires
 unfolding price_of
