@@ -61,7 +61,7 @@ struct Spans {
     fund: Span,
 }
 
-// The call that a row names. An item of `program_replay` names tests too, and an order on lists of its own: one type for both is no plainer.
+// The call that a row names. An item of `program_replay` names tests too, and lengths of lists, not parts of runs: one type is no plainer.
 #[derive(Clone, Copy)]
 enum Call {
     Price { line: usize, price: u64 },
@@ -201,6 +201,7 @@ fn make(day: &DayView, work: &mut Work, call: Call) -> Numbers
             Numbers::from(trades::trade(day.accounts(), day.count(), work.book, trade))
         }
         Call::Order { ask, lists } => {
+            // Lent in a variable: tried as the field itself and as `&*`, which the borrow checker has no rule for beside the fields that are lent.
             let prices = &mut *work.prices;
             order_row(
                 day,
