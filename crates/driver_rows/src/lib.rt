@@ -19,7 +19,7 @@ use rules::{Ask, Counts, Lists, Refusal, Trade};
 use std::ops::Range;
 use units::{Money, ReferenceValue};
 
-// What the calls of a list work on.
+// What the calls of a list work on: lent once for the whole list, so that each call takes one reference.
 #[derive(Drop)]
 pub struct Work<'a> {
     pub book: &'a mut [u64],
@@ -157,7 +157,7 @@ fn spans_in(row: &[u64; layout::ROW_WIDTH]) -> Spans
     }
 }
 
-// The call that a row names by its kind, or none.
+// The call that a row names by its kind, or none. The patterns test the kind alone: a row has all its places.
 #[tactic(auto, unfolding(crate::specs::Rows::row_of))]
 fn call_of(row: &[u64; layout::ROW_WIDTH]) -> Option<Call>
     ensures { call_named result ≡ row_of row.now }
@@ -201,7 +201,8 @@ fn make(day: &DayView, work: &mut Work, call: Call) -> Numbers
             Numbers::from(trades::trade(day.accounts(), day.count(), work.book, trade))
         }
         Call::Order { ask, lists } => {
-            // Lent in a variable: tried as the field itself and as `&*`, which the borrow checker has no rule for beside the fields that are lent.
+            // In a variable, and unique: the field itself and `&*` of it were tried, and the borrow checker has no rule for either beside the
+            // fields that are lent.
             let prices = &mut *work.prices;
             order_row(
                 day,

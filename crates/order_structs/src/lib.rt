@@ -16,7 +16,7 @@ use rules::{Ask, Counts, Lists, MOST_RECORDS, Refusal};
 // How many numbers the most records of an order take in a flat run: the library has no heap, and the writer hands the records on.
 const FLAT_LENGTH: usize = layout::RECORD_WIDTH * MOST_RECORDS;
 
-// The fewer of a list's room and the most records of an order.
+// How many records of the flat run are lent: what the list takes, so that the order tests the list's room, and no more than an order has.
 #[tactic(auto, unfolding(crate::specs::Room::lent_records))]
 fn records_lent(room: usize) -> usize
     ensures { result ≡ lent_records room }
