@@ -21,7 +21,7 @@ pub struct Numbers {
     pub reports: u64,
 }
 
-// A refusal with its place.
+// A refusal with its place. It tells no value, which is 0 then.
 fn refused_at(number: u64, place: usize) -> Numbers
     ensures { reply_of result ≡ reply number place 0 }
 {
@@ -122,7 +122,7 @@ impl From<Result<usize, Refusal>> for Numbers {
     }
 }
 
-// The numbers in the order in which they are stored.
+// The numbers in the order in which they are stored, as `layout::put_answer` takes them.
 impl From<Numbers> for [u64; layout::ANSWER_WIDTH] {
     ghost from_gives = { λ numbers array. reply_in array ≡ reply_of numbers };
 

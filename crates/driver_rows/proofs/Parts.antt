@@ -4,7 +4,8 @@ use mathlib.Core.List.{List}
 use Prim.Native.Nat.{ℕ}
 use native.Mathlib.Omega.{arith}
 use Rattle.std.proofs.lemmas.List.{take-append-drop}
-use Rattle.driver_rows.specs.Rows.{Span, span, span_within, lent_in, back_in}
+use Rattle.driver_rows.specs.declared.Span.{Span}
+use Rattle.driver_rows.specs.Rows.{span, span_within, lent_in, back_in}
 
 -- a call that is lent no list names the empty part
 pub none_within : (run : ℕ) → span_within run (span 0 0) ≡ span 0 0

@@ -5,25 +5,17 @@ use Rattle.sequences.specs.Stretch.{stretch_of}
 use Rattle.layout.specs.Places.{row_width}
 use Rattle.layout.specs.Day.{Day}
 use Rattle.rules.specs.declared.Ask.{Ask}
+use Rattle.driver_rows.specs.declared.Span.{Span}
+use Rattle.driver_rows.specs.declared.Spans.{Spans}
 use Rattle.driver_rows.specs.declared.Call.{Call as Named}
 use Rattle.driver_rows.specs.declared.Call.TheVariants.{Price, Trade, Order, Value}
 use Rattle.rules.specs.Kinds.{by_kind}
 use Rattle.rules.specs.Lent.{Lent, lent_of}
 use Rattle.balance.specs.Calls.{State, Call, Result, price, trade, create, redeem, value, step}
 
--- a part of a run: its start and its length
-pub record Span : Type 0 where
-  pub start : ℕ
-  pub size : ℕ
-
+-- a part of a run, from its start and its length
 abbrev pub span : ℕ → ℕ → Span
 span start size = record { start = start; size = size }
-
--- the parts of the three lent runs that are an order's lists
-pub record Spans : Type 0 where
-  pub records : Span
-  pub investor : Span
-  pub fund : Span
 
 abbrev pub no_spans : Spans
 no_spans = record { records = span 0 0; investor = span 0 0; fund = span 0 0 }
@@ -61,12 +53,12 @@ row_of row =
     (cond (eqb (cell row 0) 5) (call value no_spans) none))))
 
 -- the row that a call of the code stands for
-abbrev pub call_named : List ℕ → Option Named → Row
-call_named row (Some (Price line p)) = call (price line p) no_spans
-call_named row (Some (Trade t)) = call (trade t.line t.quantity t.price.0 t.seller t.buyer) no_spans
-call_named row (Some (Order ask)) = call (order_of ask) (spans_in row)
-call_named row (Some Value) = call value no_spans
-call_named row None = none
+abbrev pub call_named : Option Named → Row
+call_named (Some (Price line p)) = call (price line p) no_spans
+call_named (Some (Trade t)) = call (trade t.line t.quantity t.price.0 t.seller t.buyer) no_spans
+call_named (Some (Order ask lists)) = call (order_of ask) lists
+call_named (Some Value) = call value no_spans
+call_named None = none
 
 -- the i-th row
 abbrev pub row_at : List ℕ → ℕ → Row

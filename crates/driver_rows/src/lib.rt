@@ -5,14 +5,13 @@
 
 ghost use Rattle.std.specs.Prelude.{◌≡◌, true, ◌+◌, ◌≤◌, ◌<◌, length, Some, IfSome, MatchOption, false};
 ghost use Rattle.layout.specs.Day.{Day, day_at};
-ghost use Rattle.rules.specs.declared.Refusal.TheVariants.{UnsoundDay};
 ghost use Rattle.rules.specs.Sound.{is_sound, is_kept};
 ghost use Rattle.rules.specs.Lent.{lent_of, rooms_in};
 ghost use Rattle.rules.specs.Replies.{order_answer_reply, value_answer_reply};
 ghost use Rattle.rules.specs.Value.{value_reply};
 ghost use Rattle.rules.specs.Kinds.{asked_reply, asked_book, asked_lists};
 ghost use Rattle.answers.specs.Numbers.{reply_of};
-ghost use Rattle.driver_rows.specs.Rows.{call, call_named, span, spans_in, span_within, row_of, result_of, row_reply, row_leaves, order_of, work_of};
+ghost use Rattle.driver_rows.specs.Rows.{call, call_named, spans_in, span_within, row_of, result_of, row_reply, row_leaves, order_of, work_of};
 ghost use Rattle.driver_rows.specs.Lent.{work_in, left_work};
 
 use answers::Numbers;
@@ -21,8 +20,8 @@ use rules::{Ask, Counts, Lists, Refusal, Trade};
 use std::ops::Range;
 use units::{Money, ReferenceValue};
 
-// What the calls of a list work on. Records, investor's and fund's reports are those of all rows, of which each row names parts; a
-// `rules::Lists` has those of one order.
+// What the calls of a list work on: lent once for the whole list, so that each call takes one reference. Records, investor's and fund's
+// reports are those of all rows, of which each row names parts; a `rules::Lists` has those of one order.
 #[derive(Drop)]
 pub struct Work<'a> {
     pub book: &'a mut [u64],
@@ -32,28 +31,45 @@ pub struct Work<'a> {
     pub fund: &'a mut [u64],
 }
 
-// The call that a row names. The call of an item in `program_replay` has other kinds and other numbers: one type for both is no plainer.
+// A part of a lent run, as a row names it. Two numbers from outside, which need not lie within the run.
+#[derive(Clone, Copy)]
+struct Span {
+    start: u64,
+    size: u64,
+}
+
+impl Span {
+    // The part that is lent: the empty one at the front, where the part named lies outside the run. No Option: that is what such a row means.
+    #[tactic(auto, unfolding(crate::specs::Rows::span_within))]
+    fn within(self, run: usize) -> Range<usize>
+        ensures start_value { result.start ≡ (span_within run self).start }
+        ensures end { result.end ≡ result.start + (span_within run self).size }
+        ensures within { result.end ≤ run }
+    {
+        let start = self.start as usize;
+        let size = self.size as usize;
+        if start > run || size > run - start {
+            return 0..0;
+        }
+        start..start + size
+    }
+}
+
+// The parts of the three lent runs that are an order's lists.
+#[derive(Clone, Copy)]
+struct Spans {
+    records: Span,
+    investor: Span,
+    fund: Span,
+}
+
+// The call that a row names. An item of `program_replay` names tests too, and lengths of lists, not parts of runs: one type is no plainer.
 #[derive(Clone, Copy)]
 enum Call {
     Price { line: usize, price: u64 },
     Trade(Trade),
-    Order(Ask),
+    Order { ask: Ask, lists: Spans },
     Value,
-}
-
-// The part that is lent: the empty one at the front, where the part named lies outside the run. No Option: that is what such a row means.
-#[tactic(auto, unfolding(crate::specs::Rows::span_within))]
-fn part_in(run: usize, start: u64, size: u64) -> Range<usize>
-    ensures start_value { result.start ≡ (span_within run (span start size)).start }
-    ensures end { result.end ≡ result.start + (span_within run (span start size)).size }
-    ensures within { result.end ≤ run }
-{
-    let start = start as usize;
-    let size = size as usize;
-    if start > run || size > run - start {
-        return 0..0;
-    }
-    start..start + size
 }
 
 // An order on a sound day, with its lists one by one, as `flat_order` in order_structs on any day. Tried as a struct of parts of the
@@ -91,15 +107,15 @@ fn order_row(
     investor: &mut [u64],
     fund: &mut [u64],
     ask: Ask,
-    row: &[u64; layout::ROW_WIDTH],
+    lists: Spans,
 ) -> Numbers
     requires prices_value { is_sound day.now book.old prices.now ≡ true }
-    ensures result_value { reply_of result ≡ (result_of (work_of day.now book.old prices.now (lent_of records.old investor.old fund.old)) (order_of ask) (spans_in row.now)).reply }
-    ensures left { work_of day.now book.new prices.now (lent_of records.new investor.new fund.new) ≡ row_leaves (work_of day.now book.old prices.now (lent_of records.old investor.old fund.old)) (call (order_of ask) (spans_in row.now)) }
+    ensures result_value { reply_of result ≡ (result_of (work_of day.now book.old prices.now (lent_of records.old investor.old fund.old)) (order_of ask) lists).reply }
+    ensures left { work_of day.now book.new prices.now (lent_of records.new investor.new fund.new) ≡ row_leaves (work_of day.now book.old prices.now (lent_of records.old investor.old fund.old)) (call (order_of ask) lists) }
 {
-    let r = part_in(records.len(), row[3], row[4]);
-    let i = part_in(investor.len(), row[5], row[6]);
-    let f = part_in(fund.len(), row[7], row[8]);
+    let r = lists.records.within(records.len());
+    let i = lists.investor.within(investor.len());
+    let f = lists.fund.within(fund.len());
     let answer = order_in(
         day,
         book,
@@ -112,35 +128,72 @@ fn order_row(
     Numbers::from(answer)
 }
 
-// The call that a row names by its kind, or none.
+// The parts that an order's row names.
+fn spans_in(row: &[u64; layout::ROW_WIDTH]) -> Spans
+    ensures { result ≡ spans_in row.now }
+{
+    let [
+        _,
+        _,
+        _,
+        records,
+        records_size,
+        investor,
+        investor_size,
+        fund,
+        fund_size,
+    ] = *row;
+    Spans {
+        records: Span {
+            start: records,
+            size: records_size,
+        },
+        investor: Span {
+            start: investor,
+            size: investor_size,
+        },
+        fund: Span {
+            start: fund,
+            size: fund_size,
+        },
+    }
+}
+
+// The call that a row names by its kind, or none. The patterns test the kind alone: a row has all its places.
 #[tactic(auto, unfolding(crate::specs::Rows::row_of))]
 fn call_of(row: &[u64; layout::ROW_WIDTH]) -> Option<Call>
-    ensures { call_named row.now result ≡ row_of row.now }
+    ensures { call_named result ≡ row_of row.now }
 {
-    match row[0] {
-        1 => Some(Call::Price {
-            line: row[1] as usize,
-            price: row[2],
+    match *row {
+        [1, line, price, ..] => Some(Call::Price {
+            line: line as usize,
+            price,
         }),
-        2 => Some(Call::Trade(Trade {
-            line: row[1] as usize,
-            quantity: row[2],
-            price: Money::new(row[3]),
-            seller: row[4] as usize,
-            buyer: row[5] as usize,
+        [2, line, quantity, price, seller, buyer, ..] => Some(Call::Trade(Trade {
+            line: line as usize,
+            quantity,
+            price: Money::new(price),
+            seller: seller as usize,
+            buyer: buyer as usize,
         })),
-        3 => Some(Call::Order(rules::Kind::Creation.ask(row[1] as usize, row[2]))),
-        4 => Some(Call::Order(rules::Kind::Redemption.ask(row[1] as usize, row[2]))),
-        5 => Some(Call::Value),
+        [3, account, units, ..] => Some(Call::Order {
+            ask: rules::Kind::Creation.ask(account as usize, units),
+            lists: spans_in(row),
+        }),
+        [4, account, units, ..] => Some(Call::Order {
+            ask: rules::Kind::Redemption.ask(account as usize, units),
+            lists: spans_in(row),
+        }),
+        [5, ..] => Some(Call::Value),
         _ => None,
     }
 }
 
-// The call that a row names, made on a sound day.
-fn make(day: &DayView, work: &mut Work, call: Call, row: &[u64; layout::ROW_WIDTH]) -> Numbers
+// The call, made on a sound day.
+fn make(day: &DayView, work: &mut Work, call: Call) -> Numbers
     requires sound { is_sound day.now work.old.book.now work.old.prices.now ≡ true }
-    ensures result_value { reply_of result ≡ row_reply (work_in day.now work.old) (call_named row.now (Some call)) }
-    ensures left { work.new ≡ left_work work.old (row_leaves (work_in day.now work.old) (call_named row.now (Some call))) }
+    ensures result_value { reply_of result ≡ row_reply (work_in day.now work.old) (call_named (Some call)) }
+    ensures left { work.new ≡ left_work work.old (row_leaves (work_in day.now work.old) (call_named (Some call))) }
 {
     match call {
         Call::Price { line, price } => {
@@ -149,7 +202,9 @@ fn make(day: &DayView, work: &mut Work, call: Call, row: &[u64; layout::ROW_WIDT
         Call::Trade(trade) => {
             Numbers::from(trades::trade(day.accounts(), day.count(), work.book, trade))
         }
-        Call::Order(ask) => {
+        Call::Order { ask, lists } => {
+            // In a variable, and unique: the field itself and `&*` of it were tried, and the borrow checker has no rule for either beside the
+            // fields that are lent.
             let prices = &mut *work.prices;
             order_row(
                 day,
@@ -159,7 +214,7 @@ fn make(day: &DayView, work: &mut Work, call: Call, row: &[u64; layout::ROW_WIDT
                 work.investor,
                 work.fund,
                 ask,
-                row,
+                lists,
             )
         }
         Call::Value => Numbers::from(work.reference_value(day)),
@@ -176,7 +231,8 @@ impl<'a> Work<'a> {
         value::reference_value(day, self.prices)
     }
 
-    // The day in a run, where it is sound with the book and the prices.
+    // The day in a run, where it is sound with the book and the prices. The one refusal of the test is written by `row_call`: tried with the
+    // `Result` kept there, the borrow checker does not cover a day that is borrowed on one path and has no value on another.
     fn sound_day<'b>(&self, run: &'b [u64]) -> Option<DayView<'b>>
         ensures { MatchOption result (is_sound (day_at run.now) self.now.book.now self.now.prices.now ≡ false) (λ day. (day ≡ day_at run.now) × (is_sound (day_at run.now) self.now.book.now self.now.prices.now ≡ true)) }
     {
@@ -212,7 +268,7 @@ pub fn row_call(
         None => work.sound_day(run),
     };
     match known.or(tested.as_ref()) {
-        Some(day) => make(day, work, call, row),
+        Some(day) => make(day, work, call),
         None => Numbers::from(Refusal::UnsoundDay),
     }
 }

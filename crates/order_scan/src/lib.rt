@@ -7,7 +7,7 @@ ghost use Rattle.layout.specs.Places.{most_components};
 ghost use Rattle.rules.specs.Creation.{available};
 ghost use Rattle.rules.specs.Kinds.{all_cash, by_kind};
 ghost use Rattle.order_lines.specs.Lines.{worth_in, effect_of};
-ghost use Rattle.order_scan.specs.Lines.{held_of, stock_count, with_missing, with_cash, with_line, cash_count, scan_counts};
+ghost use Rattle.order_scan.specs.Lines.{held_of, stock_count, with_missing, with_line, cash_count, scan_counts};
 ghost use Rattle.order_scan.specs.Scans.{order_scan};
 ghost use Rattle.order_scan.specs.Ready.{Room, Scannable};
 
@@ -49,7 +49,7 @@ impl<'a> Parties<'a> {
     }
 }
 
-// What an order of m baskets makes of the basket.
+// What an order of m baskets makes of the basket. The default is the scan of no component.
 #[derive(Clone, Copy, Default)]
 pub struct Scan {
     // The first component of which there is not enough.
@@ -59,6 +59,51 @@ pub struct Scan {
     pub cash: CashByMarket,
     // How many components have stock moved.
     pub stock_records: usize,
+}
+
+impl Scan {
+    // The scan of the first i components with the next one.
+    #[tactic(auto, using(crate::proofs::Lines::no_more), unfolding(crate::specs::Lines::with_line, crate::specs::Lines::with_cash))]
+    fn with_line(self, i: usize, line: Line) -> Scan
+        requires { Room self i (effect_of line) }
+        ensures { result ≡ with_line self i (effect_of line) }
+    {
+        match line {
+            Line::Stock { short, moved } => Scan {
+                short: self.short.or(short.then_some(i)),
+                stock_records: self.stock_records + stock_count(moved),
+                ..self
+            },
+            Line::InCash {
+                worth,
+                cash,
+                moved,
+                ..
+            } => Scan {
+                missing: with_missing(self.missing, worth),
+                cash: self.cash + cash,
+                stock_records: self.stock_records + stock_count(moved),
+                ..self
+            },
+            Line::Amount(amount) => Scan {
+                cash: self.cash + amount,
+                ..self
+            },
+        }
+    }
+
+    // How many records the order makes, with the two of the unit, and how many reports to a party, with the unit's.
+    pub fn counts(self) -> Counts
+        requires { (self.stock_records ≤ most_components) × (all_cash self.cash < 2 ^ 64) }
+        ensures { result ≡ scan_counts self }
+    {
+        let stock = self.stock_records;
+        let cash = self.cash;
+        Counts {
+            records: 2 + stock + cash_count(cash.other) + cash_count(cash.shanghai),
+            reports: 1 + stock + cash.reports(),
+        }
+    }
 }
 
 // What an account can hand in of a line. That the line lies in the stretch is a clause, here and in `held_at`: a stretch is lent as the
@@ -76,22 +121,7 @@ fn with_missing(found: Option<Money>, more: Money) -> Option<Money>
     requires { worth_in found + more.0 < 2 ^ 64 }
     ensures { result ≡ with_missing found (Some more) }
 {
-    match found {
-        Some(worth) => Some(worth + more),
-        None => Some(more),
-    }
-}
-
-// The cash with that of one component more. A function and no `Add`: only the crate of `CashByMarket`, where nothing adds, could have it.
-#[tactic(auto, unfolding(crate::specs::Lines::with_cash))]
-fn with_cash(cash: CashByMarket, more: CashByMarket) -> CashByMarket
-    requires { (cash.shanghai.0 + more.shanghai.0 < 2 ^ 64) × (cash.other.0 + more.other.0 < 2 ^ 64) }
-    ensures { result ≡ with_cash cash more }
-{
-    CashByMarket {
-        shanghai: cash.shanghai + more.shanghai,
-        other: cash.other + more.other,
-    }
+    Some(found.unwrap_or_default() + more)
 }
 
 // A record for stock that moved.
@@ -99,57 +129,6 @@ fn stock_count(moved: u64) -> usize
     ensures { result ≡ stock_count moved }
 {
     usize::from(0 < moved)
-}
-
-// The scan of the first i components with the next one.
-#[tactic(auto, using(crate::proofs::Lines::no_more), unfolding(crate::specs::Lines::with_line))]
-fn with_line(t: Scan, i: usize, line: Line) -> Scan
-    requires { Room t i (effect_of line) }
-    ensures { result ≡ with_line t i (effect_of line) }
-{
-    match line {
-        Line::Stock { short, moved } => Scan {
-            short: t.short.or(short.then_some(i)),
-            stock_records: t.stock_records + stock_count(moved),
-            ..t
-        },
-        Line::InCash {
-            worth,
-            cash,
-            moved,
-            ..
-        } => Scan {
-            missing: with_missing(t.missing, worth),
-            cash: with_cash(t.cash, cash),
-            stock_records: t.stock_records + stock_count(moved),
-            ..t
-        },
-        Line::Amount(cash) => Scan {
-            cash: with_cash(t.cash, cash),
-            ..t
-        },
-    }
-}
-
-// An order of m baskets between the two parties.
-#[tactic(auto, using(crate::proofs::Lines::scan_none))]
-pub fn order_scan(kind: Kind, day: &DayView, parties: &Parties, prices: &[u64], m: u64) -> Scan
-    requires { Scannable day.now parties.now.account.now parties.now.fund.now prices.now m }
-    ensures { result ≡ order_scan kind day.now parties.now.account.now parties.now.fund.now prices.now m }
-{
-    let mut t = Scan::default();
-    for (i, price) in prices.iter().enumerate() {
-        let part = Part {
-            component: day.component(i),
-            baskets: m,
-        };
-        t = with_line(
-            t,
-            i,
-            part.order_line(kind, parties.held_at(kind, i), *price),
-        );
-    }
-    t
 }
 
 // How many records an amount of cash takes. `order_records::Out::put_cash` writes them by the same cases, and says why.
@@ -166,15 +145,19 @@ fn cash_count(cash: Money) -> usize
     }
 }
 
-// How many records the order makes, with the two of the unit, and how many reports to a party, with the unit's.
-pub fn counts_of(t: Scan) -> Counts
-    requires { (t.stock_records ≤ most_components) × (all_cash t.cash < 2 ^ 64) }
-    ensures { result ≡ scan_counts t }
+// An order of m baskets between the two parties.
+#[tactic(auto, using(crate::proofs::Lines::scan_none))]
+pub fn order_scan(kind: Kind, day: &DayView, parties: &Parties, prices: &[u64], m: u64) -> Scan
+    requires { Scannable day.now parties.now.account.now parties.now.fund.now prices.now m }
+    ensures { result ≡ order_scan kind day.now parties.now.account.now parties.now.fund.now prices.now m }
 {
-    let stock = t.stock_records;
-    let cash = t.cash;
-    Counts {
-        records: 2 + stock + cash_count(cash.other) + cash_count(cash.shanghai),
-        reports: 1 + stock + cash.reports(),
+    let mut t = Scan::default();
+    for (i, price) in prices.iter().enumerate() {
+        let part = Part {
+            component: day.component(i),
+            baskets: m,
+        };
+        t = t.with_line(i, part.order_line(kind, parties.held_at(kind, i), *price));
     }
+    t
 }

@@ -12,6 +12,7 @@ ghost use Rattle.order_records.specs.Ready.{Writable};
 
 use layout::DayView;
 use order_records::Out;
+use order_stock::StockOrder;
 use rules::{Ask, CashByMarket};
 use units::Money;
 
@@ -25,20 +26,24 @@ fn settle_stock(ask: Ask, day: &DayView, book: &mut [u64], m: u64, out: &mut Out
     ensures out { out.new ≡ wrote (stock_records ask.kind day.now (account day.now book.old ask.account) m) out.old }
     ensures book { book.new ≡ stock_moves ask.kind day.now ask.account m day.now.count book.old }
 {
-    let kind = ask.kind;
-    let a = ask.account;
     let count = day.count();
-    let w = layout::width_of(count);
-    let side = order_records::stock_side(kind);
+    let width = layout::width_of(count);
+    let order = StockOrder {
+        kind: ask.kind,
+        width,
+        account: ask.account,
+        baskets: m,
+    };
+    let side = order_records::stock_side(ask.kind);
     for i in 0..count {
         let c = day.component(i);
-        let moved = order_stock::move_line(kind, c, book, w, a, m, i);
+        let moved = order.move_line(book, c, i);
         out.put_line(c.code, side, moved);
     }
 }
 
-// Settles an order in `m` baskets with its cash. The records tell what moves. `m` comes beside the order, whose units say it only with
-// the day's basket size, and what is promised holds for any.
+// Settles an order in `m` baskets with its cash. The records tell what moves. `m` comes beside the order, as its tests had it: what is
+// promised holds for any count of baskets that is ready, and units over the basket size would ask here that the size is not 0.
 pub fn settle(
     ask: Ask,
     day: &DayView,

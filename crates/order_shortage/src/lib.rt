@@ -31,7 +31,7 @@ fn is_too_short(rooms: Rooms, counts: Counts) -> bool
     rooms.records < counts.records || rooms.investor < counts.reports || rooms.fund < counts.reports
 }
 
-// The tests 10 or 17 at cash, and 16.
+// The tests 10 or 17 at cash, and then 16: an order that lacks cash is refused for that, whatever room its lists have.
 #[tactic(auto, unfolding(crate::specs::Tests::last_tests, sequences::specs::Checks::answering))]
 pub fn last_answer(
     kind: Kind,

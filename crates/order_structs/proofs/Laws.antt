@@ -1,11 +1,11 @@
 -- An order settled into a flat run: what its tests give, and the records and reports that it leaves.
 use mathlib.Core.Path.{◌≡◌, refl, sym, ap, ◌∙◌}
 use mathlib.Core.Bool.{true}
-use mathlib.Core.List.{List, ◌++◌, append_assoc}
-use Prim.Native.Nat.{ℕ, ◌*◌, ◌≤◌, ◌<◌}
+use mathlib.Core.List.{List, [], ◌++◌, append_assoc, append-nil}
+use Prim.Native.Nat.{ℕ, ◌*◌, ◌/◌, ◌≤◌, ◌<◌}
 use native.Mathlib.Omega.{arith}
 use lib.ListN.{length, get_or, take, drop}
-use lib.Seq.{length-take-le, drop-append_seam}
+use lib.Seq.{length-take-le, take-append_seam, drop-nil}
 use Rattle.sequences.specs.Below.{tabulate}
 use Rattle.sequences.specs.Checks.{Reply, is_accepted}
 use Rattle.sequences.proofs.Below.{table_ext}
@@ -28,7 +28,7 @@ use Rattle.rules.proofs.Accepted.{creation_facts, creation_made, redemption_fact
 use Rattle.rules.proofs.Asked.{by_ask}
 use Rattle.rules.proofs.Replies.{refused, is_accepted_lem}
 use Rattle.order_structs.specs.Made.{records_of, at_front, rooms_beside, made_records}
-use Rattle.order_structs.specs.Settling.{most_records, lent_records}
+use Rattle.order_structs.specs.Room.{most_records, lent_records}
 use Rattle.record_writer.specs.Stored.{with_first}
 use Rattle.order_structs.proofs.Room.{lent_most, lent_rooms, reply_room, book_room}
 
@@ -38,22 +38,31 @@ use Rattle.order_structs.proofs.Room.{lent_most, lent_rooms, reply_room, book_ro
 front_room : (n : ℕ) (flat : List ℕ) → length flat ≡ record_width * most_records → n ≤ most_records → room_of record_width (length (take (record_width * n) flat)) ≡ n
 front_room n flat e h = omega (arith, length-take-le (record_width * n) flat (omega (arith, e, h)))
 
-read_front : (rs : List Record) (rest : List ℕ) (k : ℕ) (r : Record) → k < length rs → record_at (flatten rs ++ rest) k ≡ get_or rs k r
+read_front : (rs : List Record) (k : ℕ) (r : Record) → k < length rs → record_at (flatten rs) k ≡ get_or rs k r
 unfolding with_records with_laid flatten
-read_front rs rest k r h =
-    let behind = ap (λ (n : ℕ). drop n (flatten rs ++ rest)) (sym (flatten-length rs)) ∙ drop-append_seam (flatten rs) rest in
-    ap (λ (t : List ℕ). record_at (flatten rs ++ t) k) (sym behind) ∙ record_read rs (flatten rs ++ rest) k r h
+read_front rs k r h =
+    let all : with_records rs [] ≡ flatten rs = ap (λ (t : List ℕ). flatten rs ++ t) (drop-nil (record_width * length rs)) ∙ append-nil (flatten rs) in
+    ap (λ (t : List ℕ). record_at t k) (sym all) ∙ record_read rs [] k r h
 
 -- what was written is read
-records_back : (rs : List Record) (rest : List ℕ) → tabulate (record_at (flatten rs ++ rest)) (length rs) ≡ rs
-records_back rs rest =
+records_back : (rs : List Record) → tabulate (record_at (flatten rs)) (length rs) ≡ rs
+records_back rs =
     let none = record_of 0 0 0 0 in
-    sym (table_ext (record_at (flatten rs ++ rest)) (length rs) none rs refl (λ k h. sym (read_front rs rest k none h)))
+    sym (table_ext (record_at (flatten rs)) (length rs) none rs refl (λ k h. sym (read_front rs k none h)))
 
--- the first of a run at whose front they stand, in a list
-pub first_is : (rs : List Record) (rest : List ℕ) (list : List Record) → with_first (length rs) (flatten rs ++ rest) list ≡ at_front rs list
+-- so many at the front of a flat run
+abbrev cut_of : ℕ → List ℕ → List ℕ
+cut_of n flat = take (record_width * n) flat
+
+-- those of a run at whose front they stand, in a list
+pub first_is : (rs : List Record) (rest : List ℕ) (list : List Record)
+    → with_first (length (cut_of (length rs) (flatten rs ++ rest)) / record_width) (cut_of (length rs) (flatten rs ++ rest)) list ≡ at_front rs list
 unfolding with_first
-first_is rs rest list = rw (records_back rs rest)
+first_is rs rest list =
+    let cut : cut_of (length rs) (flatten rs ++ rest) ≡ flatten rs =
+    ap (λ (n : ℕ). take n (flatten rs ++ rest)) (sym (flatten-length rs)) ∙ take-append_seam (flatten rs) rest in
+    let count : length (flatten rs) / record_width ≡ length rs = omega (arith, flatten-length rs) in
+    rw (cut, count, records_back rs)
 
 pub written_is : (rs : List Record) (list : List ℕ) → with_records rs list ≡ flatten rs ++ drop (record_width * length rs) list
 unfolding with_records with_laid flatten
@@ -104,9 +113,9 @@ module _ (d : Day) (b ps : List ℕ) (ask : Ask) where
             let facts = accepted_count (rooms_in (lent_of front investor fund)) taken in
             (ap (λ (r : Reply). r.value) made ∙ facts.0, rw is (rw (is, front_rooms room flat investor fund full) at facts.1))
 
-        -- and they are the first of the run
+        -- and they stand at the front of the run
         pub records_first : {left own other : List ℕ} (rest : List ℕ) (list : List Record) → lent_of left own other ≡ asked_lists d b ps ask (lent_of front investor fund)
-            → with_first counts.records (left ++ rest) list ≡ made_records d b ps ask (rooms_beside room investor fund) list
+            → with_first (length (cut_of counts.records (left ++ rest)) / record_width) (cut_of counts.records (left ++ rest)) list ≡ made_records d b ps ask (rooms_beside room investor fund) list
         unfolding made_records records_of asked_lists with_order
         records_first {left} rest list lists =
             let behind = drop (record_width * length rs) front in

@@ -24,7 +24,7 @@ use Rattle.rules.specs.Redemption.{redemption_records, redemption_counts, redemp
 use Rattle.rules.specs.Kinds.{asked_checks, asked_reply, asked_book}
 use Rattle.rules.proofs.SoundDay.{sound_facts}
 use Rattle.order_calls.proofs.Laws.{order_five}
-use Rattle.order_structs.specs.Settling.{most_records, lent_records}
+use Rattle.order_structs.specs.Room.{most_records, lent_records}
 
 -- The most records.
 

@@ -1,2 +1,2 @@
 pub mod Made
-pub mod Settling
+pub mod Room

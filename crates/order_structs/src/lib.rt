@@ -8,19 +8,16 @@ ghost use Rattle.rules.specs.Replies.{order_answer_reply};
 ghost use Rattle.rules.specs.Lent.{lent_of, rooms_in};
 ghost use Rattle.rules.specs.Kinds.{asked_reply, asked_book, asked_lists};
 ghost use Rattle.order_structs.specs.Made.{rooms_beside, made_records, made_reports};
-ghost use Rattle.order_structs.specs.Settling.{lent_records};
+ghost use Rattle.order_structs.specs.Room.{lent_records};
 
 use layout::Record;
-use rules::{Ask, Counts, Lists, Refusal};
-
-// For callers that size their lists.
-pub use rules::MOST_RECORDS;
+use rules::{Ask, Counts, Lists, MOST_RECORDS, Refusal};
 
 // How many numbers the most records of an order take in a flat run: the library has no heap, and the writer hands the records on.
 const FLAT_LENGTH: usize = layout::RECORD_WIDTH * MOST_RECORDS;
 
-// The fewer of a list's room and the most records of an order.
-#[tactic(auto, unfolding(crate::specs::Settling::lent_records))]
+// How many records of the flat run are lent: what the list takes, so that the order tests the list's room, and no more than an order has.
+#[tactic(auto, unfolding(crate::specs::Room::lent_records))]
 fn records_lent(room: usize) -> usize
     ensures { result ≡ lent_records room }
 {
@@ -70,6 +67,7 @@ pub fn order(
     let lent = layout::RECORD_WIDTH * records_lent(list.len());
     let run = &mut flat[..lent];
     let counts = flat_order(day, book, prices, ask, run, investor, fund)?;
-    record_writer::fill(list, &flat, counts.records);
+    let records = &flat[..layout::RECORD_WIDTH * counts.records];
+    record_writer::fill(list, records);
     Ok(counts)
 }

@@ -75,7 +75,7 @@ pub fn order_means(
     let t = order_scan::order_scan(ask.kind, day, parties, prices, m);
     let held = parties.cash_held(ask.kind);
     let due = t.cash.total();
-    let counts = order_scan::counts_of(t);
+    let counts = t.counts();
     order_shortage::stock_answer(ask, n, parties.account, t.short)?;
     ratio_answer(day, prices, m, t.missing)?;
     order_shortage::last_answer(ask.kind, n, held, due, rooms, counts)?;

@@ -83,11 +83,10 @@ pub fn order(
     let accepted = order_tested(day, book, prices, ask, lists.rooms())?;
     let m = order_tests::baskets_in(day, ask.units);
     let cash = accepted.cash;
+    // In a variable: `report` reads it beside the two lists that it is lent, and the borrow checker has no rule for such a read of a field.
     let records = &mut *lists.records;
-    let investor = &mut *lists.investor;
-    let fund = &mut *lists.fund;
     order_settlement::settle(ask, day, book, m, cash, records);
     let reports = accepted.counts.reports;
-    order_reports::report(ask.kind, reports, cash, records, investor, fund);
+    order_reports::report(ask.kind, reports, cash, records, lists.investor, lists.fund);
     Ok(accepted.counts)
 }

@@ -34,16 +34,15 @@ module _ (l : List Record) (flat : List ℕ) where
       ∙ sym (append_snoc front r (drop (suc n) l))
       ∙ rw next refl
 
--- the record in a stretch of the front of a flat run is the run's
-module _ (flat : List ℕ) (n k : ℕ) (h : k * record_width + record_width ≤ record_width * n) where
-  number_in : (j : ℕ) → j < record_width → get_or (take record_width (drop (k * record_width) (take (record_width * n) flat))) j 0 ≡ get_or flat (record_width * k + j) 0
+-- the record in a stretch of a flat run is the run's
+module _ (flat : List ℕ) (k : ℕ) where
+  number_in : (j : ℕ) → j < record_width → get_or (take record_width (drop (k * record_width) flat)) j 0 ≡ get_or flat (record_width * k + j) 0
   number_in j low =
-      get_or-take record_width (drop (k * record_width) (take (record_width * n) flat)) j 0 low
-      ∙ get_or-drop (k * record_width) (take (record_width * n) flat) j 0
-      ∙ get_or-take (record_width * n) flat (k * record_width + j) 0 (omega (arith, h))
+      get_or-take record_width (drop (k * record_width) flat) j 0 low
+      ∙ get_or-drop (k * record_width) flat j 0
       ∙ ap (λ (i : ℕ). get_or flat i 0) (omega arith)
 
-  pub record_in : (numbers : List ℕ) → numbers ≡ take record_width (drop (k * record_width) (take (record_width * n) flat)) → record_at numbers 0 ≡ record_at flat k
+  pub record_in : (numbers : List ℕ) → numbers ≡ take record_width (drop (k * record_width) flat) → record_at numbers 0 ≡ record_at flat k
   unfolding record_at
   record_in numbers e =
       let same : record_width * k + 0 ≡ record_width * k = omega arith in

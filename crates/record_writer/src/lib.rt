@@ -1,7 +1,7 @@
 // A writer over a lent list of records, and the list filled from a flat run.
 #![tactic(auto)]
 
-ghost use Rattle.std.specs.Prelude.{◌≡◌, ◌*◌, ◌≤◌, ◌<◌, length};
+ghost use Rattle.std.specs.Prelude.{◌≡◌, ◌/◌, ◌≤◌, ◌<◌, length};
 ghost use Rattle.layout.specs.Places.{record_width};
 ghost use Rattle.record_writer.specs.Stored.{pushed, with_first};
 
@@ -39,15 +39,14 @@ impl<'a> Writer<'a> {
     }
 }
 
-// Stores the first `count` records of a flat run in the list, and gives how many. A chunk is a run of its own with one record.
+// Stores the records of a flat run at the front of the list, and gives how many. A chunk is a run of its own with one record.
 #[tactic(auto, using(crate::proofs::Filled::first_none))]
-pub fn fill(list: &mut [Record], flat: &[u64], count: usize) -> usize
-    requires { (count ≤ length list.old) × (record_width * count ≤ length flat.now) }
-    ensures { (result ≡ count) × (list.new ≡ with_first count flat.now list.old) }
+pub fn fill(list: &mut [Record], flat: &[u64]) -> usize
+    requires { length flat.now / record_width ≤ length list.old }
+    ensures { (result ≡ length flat.now / record_width) × (list.new ≡ with_first (length flat.now / record_width) flat.now list.old) }
 {
     let mut writer = Writer::new(list);
-    let records = &flat[..layout::RECORD_WIDTH * count];
-    for numbers in records.chunks_exact(layout::RECORD_WIDTH) {
+    for numbers in flat.chunks_exact(layout::RECORD_WIDTH) {
         writer.push(layout::record_at(numbers, 0));
     }
     writer.finish()

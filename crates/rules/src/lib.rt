@@ -1,7 +1,7 @@
 // What the day book promises: the types of the day and its answers. The definitions are in specs/, their laws in proofs/.
 #![tactic(auto)]
 
-ghost use Rattle.std.specs.Prelude.{◌≡◌, ◌<◌, ◌^◌};
+ghost use Rattle.std.specs.Prelude.{◌≡◌, ◌+◌, ◌<◌, ◌^◌};
 ghost use Rattle.layout.specs.Book.{counter};
 ghost use Rattle.rules.specs.Kinds.{all_cash, cash_report_count, ask_of};
 ghost use Rattle.rules.specs.Lent.{rooms_of, rooms_in};
@@ -10,6 +10,7 @@ ghost use Rattle.rules.specs.Orders.{number_of, opposite_kind};
 ghost use Rattle.rules.specs.Records.{side_number, side_at};
 ghost use Rattle.rules.specs.Reports.{turned, type_number, cash_number};
 
+use std::ops::Add;
 use units::Money;
 
 // Why a call is turned back, with a place where the paper gives one. specs/Replies.antt has the paper's numbers.
@@ -167,6 +168,21 @@ impl CashByMarket {
         ensures { result ≡ cash_report_count self }
     {
         usize::from(self.total() != Money(0))
+    }
+}
+
+impl Add for CashByMarket {
+    type Output = CashByMarket;
+
+    ghost can_add = { λ x y. (x.shanghai.0 + y.shanghai.0 < 2 ^ 64) × (x.other.0 + y.other.0 < 2 ^ 64) };
+
+    ghost add_gives = { λ x y sum. (sum.shanghai.0 ≡ x.shanghai.0 + y.shanghai.0) × (sum.other.0 ≡ x.other.0 + y.other.0) };
+
+    fn add(self, more: CashByMarket) -> CashByMarket {
+        CashByMarket {
+            shanghai: self.shanghai + more.shanghai,
+            other: self.other + more.other,
+        }
     }
 }
 

@@ -16,13 +16,13 @@ move_line-moved-requires c =
     let p = c.requires in
     rw c.component-c.ensures
     (line_ready a.ask.kind a.day.now _ _ _ p.account_nonzero.0 p.account_nonzero.1 _ _ c.loop-i.invariant.0 _
-    (c.width_of-w.ensures ∙ ap width_of c.count-count.ensures) p.stock_ready p.fund_ready (omega (arith, c.count-count.ensures)))
+    (c.width_of-width.ensures ∙ ap width_of c.count-count.ensures) p.stock_ready p.fund_ready (omega (arith, c.count-count.ensures)))
 
 pub put_line-requires : goal.put_line-requires
 put_line-requires c =
     let a = c.args in
     let p = c.requires in
-    let moved = moved_here a.ask.kind a.day.now _ _ _ p.account_nonzero.0 p.account_nonzero.1 _ _ c.loop-i.invariant.0 _ (c.width_of-w.ensures ∙ ap width_of c.count-count.ensures) in
+    let moved = moved_here a.ask.kind a.day.now _ _ _ p.account_nonzero.0 p.account_nonzero.1 _ _ c.loop-i.invariant.0 _ (c.width_of-width.ensures ∙ ap width_of c.count-count.ensures) in
     rw (quantity_told _ _ _ c.move_line-moved.ensures.value, c.component-c.ensures, c.stock_side-side.ensures, moved)
     (line_room a.ask.kind a.day.now _ _ (omega (arith, c.count-count.ensures)) p.fits c.loop-i.invariant.1)
 
@@ -31,7 +31,7 @@ loop-i-preserved c =
     let a = c.args in
     let p = c.requires in
     let l = c.loop-i in
-    let wide = c.width_of-w.ensures ∙ ap width_of c.count-count.ensures in
+    let wide = c.width_of-width.ensures ∙ ap width_of c.count-count.ensures in
     let moved = moved_here a.ask.kind a.day.now _ _ _ p.account_nonzero.0 p.account_nonzero.1 _ _ l.invariant.0 _ wide in
     let book = rw c.component-c.ensures at c.move_line-moved.ensures.book in
     let line = rw (quantity_told _ _ _ c.move_line-moved.ensures.value, c.component-c.ensures, c.stock_side-side.ensures, moved) at c.put_line.ensures in (

@@ -9,5 +9,5 @@ use Rattle.order_settlement.proofs.settle_stock.Given as goal
 
 abbrev pub invariant-loop-i : goal.invariant-loop-i
 invariant-loop-i l =
-    (l.book ≡ stock_moves l.kind l.day l.a l.m l.i l.initial.book)
-    × (l.out ≡ wrote (stock_below l.kind l.day (account l.day l.initial.book l.a) l.m l.i) l.initial.out)
+    (l.book ≡ stock_moves l.fn.ask.kind l.day l.fn.ask.account l.m l.i l.initial.book)
+    × (l.out ≡ wrote (stock_below l.fn.ask.kind l.day (account l.day l.initial.book l.fn.ask.account) l.m l.i) l.initial.out)

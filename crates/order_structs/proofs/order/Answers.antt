@@ -12,12 +12,29 @@ use Rattle.order_structs.proofs.order.Goals as goal
 pub slice_bounds-run-end : goal.slice_bounds-run-end
 slice_bounds-run-end c = sym (length-take-le _ _ (omega (arith, lent_bound _ _ c.records_lent-lent.ensures)))
 
+pub overflow_mul-flat : goal.overflow_mul-flat
+overflow_mul-flat c =
+    let a = c.args in
+    let n = counted _ _ _ _ (length a.list.now) _ a.investor.now a.fund.now refl _ c.records_lent-lent.ensures _ c.in_ok-counts.ensures.result_value in
+    omega (arith, n, lent_bound _ _ c.records_lent-lent.ensures)
+
+pub slice_bounds-flat-end-2 : goal.slice_bounds-flat-end-2
+slice_bounds-flat-end-2 c =
+    let a = c.args in
+    let n = counted _ _ _ _ (length a.list.now) _ a.investor.now a.fund.now refl _ c.records_lent-lent.ensures _ c.in_ok-counts.ensures.result_value in
+    grind (arith, common_steps, n, lent_bound _ _ c.records_lent-lent.ensures)
+
+pub slice_bounds-records-end : goal.slice_bounds-records-end
+slice_bounds-records-end c =
+    let a = c.args in
+    let n = counted _ _ _ _ (length a.list.now) _ a.investor.now a.fund.now refl _ c.records_lent-lent.ensures _ c.in_ok-counts.ensures.result_value in
+    sym (length-take-le _ _ (grind (arith, common_steps, n, lent_bound _ _ c.records_lent-lent.ensures)))
+
 pub fill-requires : goal.fill-requires
 fill-requires c =
     let a = c.args in
     let n = counted _ _ _ _ (length a.list.now) _ a.investor.now a.fund.now refl _ c.records_lent-lent.ensures _ c.in_ok-counts.ensures.result_value in
-    let most = lent_bound _ _ c.records_lent-lent.ensures in
-    (omega (arith, n, c.records_lent-lent.ensures, lent_fits (length a.list.now)), grind (arith, common_steps, n, most))
+    grind (arith, common_steps, n, c.records_lent-lent.ensures, lent_fits)
 
 pub returns-clause-list : goal.returns-clause-list
 returns-clause-list c =

@@ -1,4 +1,4 @@
--- `order_stock::move_line` meets its contract: what moves is at most what the baskets need, on a creation what the account has, and on a
+-- `order_stock::StockOrder::move_line` meets its contract: what moves is at most what the baskets need, on a creation what the account has, and on a
 -- redemption what the fund has; where it is nothing, every lot stays.
 use mathlib.Core.Path.{◌≡◌, ap, ◌∙◌}
 use Prim.Native.Nat.{ℕ}
@@ -12,7 +12,7 @@ use Rattle.rules.specs.declared.Kind.{Kind}
 use Rattle.book.specs.Moved.{moved_of}
 use Rattle.book.proofs.Stock.{moved-le, moved_there}
 use Rattle.book.proofs.Turns.{line_none, fund_lots_kept, line_moved}
-use Rattle.order_stock.proofs.move_line.Goals as goal
+use Rattle.order_stock.proofs.StockOrder.move_line.Goals as goal
 
 -- what moves, as the code finds it: a number above 0, or none
 module _ {Q : Type 0} (get : Q → ℕ) (kind : Kind) (c : Component) (m : ℕ) (x y : Lots) {o : Option Q}
@@ -26,25 +26,25 @@ module _ {Q : Type 0} (get : Q → ℕ) (kind : Kind) (c : Component) (m : ℕ) 
 pub returns-in_err-moved-clause-book : goal.returns-in_err-moved-clause-book
 returns-in_err-moved-clause-book c =
     let a = c.args in
-    let none = nothing _ a.kind a.c a.m _ _ c.stock_moved.ensures c.lots_of-x.ensures c.in_err-moved.was in
-    rw none (line_none a.kind a.w a.a a.line a.book.now c.requires.account_low c.requires.account_in)
+    let none = nothing _ a.self.kind a.c a.self.baskets _ _ c.stock_moved.ensures c.lots_of-x.ensures c.in_err-moved.was in
+    rw none (line_none a.self.kind a.self.width a.self.account a.line a.book.now c.requires.account_low c.requires.account_in)
 
 pub account_lots-own-requires : goal.account_lots-own-requires
 account_lots-own-requires c =
     let a = c.args in
     let p = c.requires in
-    let own = lots_at (stretch_of a.w a.book.now a.a) a.line in
+    let own = lots_at (stretch_of a.self.width a.book.now a.self.account) a.line in
     rw (found _ _ _ _ _ _ c.stock_moved.ensures c.lots_of-x.ensures _ _ c.in_ok-moved.was c.get-q.ensures.value, c.lots_of-x.ensures)
-    (record { there = λ k. rw k (moved_there a.c a.m own); fits = omega (arith, p.need, p.held, moved-le a.c a.m own a.kind) })
+    (record { there = λ k. rw k (moved_there a.c a.self.baskets own); fits = omega (arith, p.need, p.held, moved-le a.c a.self.baskets own a.self.kind) })
 
 pub fund_lots-fund-requires : goal.fund_lots-fund-requires
 fund_lots-fund-requires c =
     let a = c.args in
     let p = c.requires in
-    let own = lots_at (stretch_of a.w a.book.now a.a) a.line in
+    let own = lots_at (stretch_of a.self.width a.book.now a.self.account) a.line in
     let e = found _ _ _ _ _ _ c.stock_moved.ensures c.lots_of-x.ensures _ _ c.in_ok-moved.was c.get-q.ensures.value in
-    let kept = fund_lots_kept a.kind a.w a.a a.line a.book.now p.account_low p.account_in _ _ c.put_lots_of.ensures in
-    rw (c.lots_of-f.ensures, kept, e) (record { q_le_x = p.delivers; q_bound = omega (arith, p.need, p.room, moved-le a.c a.m own a.kind) })
+    let kept = fund_lots_kept a.self.kind a.self.width a.self.account a.line a.book.now p.account_low p.account_in _ _ c.put_lots_of.ensures in
+    rw (c.lots_of-f.ensures, kept, e) (record { q_le_x = p.delivers; q_bound = omega (arith, p.need, p.room, moved-le a.c a.self.baskets own a.self.kind) })
 
 pub returns-clause-book : goal.returns-clause-book
 returns-clause-book c =
