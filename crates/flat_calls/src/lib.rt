@@ -1,12 +1,11 @@
 // Opening and the list text with the fund and the fields as runs of numbers: refusal 1 where they have not their width.
 #![tactic(auto)]
 
-ghost use Rattle.std.specs.Prelude.{◌≡◌, cond, eqb, nat_abs, length, ◌/◌, ◌≤◌};
-ghost use Rattle.digits.specs.Digits.{cap};
+ghost use Rattle.std.specs.Prelude.{◌≡◌};
 ghost use Rattle.rules.specs.Replies.{answer_reply, count_answer_reply};
 ghost use Rattle.list_rules.specs.Reading.{name_place, letters_place};
 ghost use Rattle.list_rules.specs.Writing.{listing};
-ghost use Rattle.list_layout.specs.Run.{fields_width, fields_at, fields_numbers};
+ghost use Rattle.list_layout.specs.Run.{fields_at};
 ghost use Rattle.flat_calls.specs.Opening.{flat_given, FlatOutcome};
 ghost use Rattle.flat_calls.specs.Text.{taking, TextRead, part_kept, TextWritten};
 
