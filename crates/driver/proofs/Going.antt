@@ -1,4 +1,4 @@
--- The loop over the rows: what is done and what is to come, the kept property, and the lengths.
+-- The loop over the rows: what is done and what is to come, the kept property, and the answers' length.
 use mathlib.Core.Path.{◌≡◌, refl, sym, ap, subst, ◌∙◌}
 use mathlib.Core.Bool.{true}
 use mathlib.Core.List.{List, []}

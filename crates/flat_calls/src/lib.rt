@@ -2,12 +2,11 @@
 // The casts by `as` lose nothing: usize and u64 both have 64 bits.
 #![tactic(auto)]
 
-ghost use Rattle.std.specs.Prelude.{◌≡◌, cond, eqb, nat_abs, length, ◌/◌, ◌≤◌};
-ghost use Rattle.digits.specs.Digits.{cap};
+ghost use Rattle.std.specs.Prelude.{◌≡◌};
 ghost use Rattle.rules.specs.Replies.{answer_reply, count_answer_reply};
 ghost use Rattle.list_rules.specs.Reading.{name_place, letters_place};
 ghost use Rattle.list_rules.specs.Writing.{listing};
-ghost use Rattle.list_layout.specs.Run.{fields_width, fields_at, fields_numbers};
+ghost use Rattle.list_layout.specs.Run.{fields_at};
 ghost use Rattle.flat_calls.specs.Opening.{flat_given, FlatOutcome};
 ghost use Rattle.flat_calls.specs.Text.{taking, TextRead, part_kept, TextWritten};
 

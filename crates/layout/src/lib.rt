@@ -28,7 +28,7 @@ pub struct Component {
     pub amount: Money,
 }
 
-#[derive(Clone, Copy)]
+#[derive(Clone, Copy, Default)]
 pub struct Fund {
     pub first_code: u64,
     pub basket_size: u64,

@@ -73,7 +73,7 @@ fields_in_range l =
     ∷ leb l.nav 9_999_999
     ∷ [])
 
--- the fields where no list is read
+-- zeros: the fields that `fields_handed` says of a refused text
 abbrev pub blank_fields : ListFields
 blank_fields =
     record {

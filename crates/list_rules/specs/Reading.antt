@@ -59,7 +59,8 @@ read_checks text room =
 unfoldable pub read_reply : List ℕ → ℕ → Reply
 read_reply text room = answered (read_checks text room) (row_count shanghai text)
 
--- ---- handed back: the fields, where the component lines start, and the lent run
+-- ---- read: the fields, where the component lines start, and the lent run after. Of a refused text the code hands back neither fields nor
+-- a place: here these are blank fields and 0, so that a row of vectors can say that it hands back none
 unfoldable pub fields_handed : List ℕ → ℕ → ListFields
 fields_handed text room = if_accepted (read_reply text room) (fields_read text) blank_fields
 

@@ -1,7 +1,7 @@
 // Writing the list text.
 #![tactic(auto)]
 
-ghost use Rattle.std.specs.Prelude.{◌≡◌, ◌+◌, ◌*◌, ◌≤◌, length};
+ghost use Rattle.std.specs.Prelude.{◌≡◌, ◌+◌, ◌≤◌, length};
 ghost use Rattle.digits.specs.Written.{put, Written};
 ghost use Rattle.list_rules.specs.Writing.{listed, text_of};
 ghost use Rattle.list_writing_tests.specs.Parts.{head_of, lines_of};
