@@ -28,7 +28,7 @@ pub struct Component {
     pub amount: Money,
 }
 
-#[derive(Clone, Copy, Default)]
+#[derive(Clone, Copy)]
 pub struct Fund {
     pub first_code: u64,
     pub basket_size: u64,

@@ -3,6 +3,7 @@
 
 ghost use Rattle.std.specs.Prelude.{◌≡◌, get_or};
 ghost use Rattle.digits.specs.Digits.{plain};
+ghost use Rattle.list_rules.specs.Fields.{blank_fields};
 ghost use Rattle.list_rules.specs.Shanghai.{shanghai_fields, shanghai_lines};
 ghost use Rattle.list_rules.specs.Places.{column_place, field_place};
 
@@ -10,9 +11,10 @@ use digits::{Figure, Form};
 use layout::Fund;
 use rules::Refusal;
 use text_rules::{Column, Field, Fields, LineForm, MOST_FIELDS, Use, ValueKind};
+use units::Rate;
 
 // The fields of a list but its components, its names and the letters of its first line.
-#[derive(Clone, Copy, Default)]
+#[derive(Clone, Copy)]
 pub struct ListFields {
     pub fund: Fund,
     // 0 or 1, as any number: it comes from a run that crosses from C, and refusal 2 tests it.
@@ -26,6 +28,32 @@ pub struct ListFields {
     // In ten-thousandths of a yuan.
     pub nav: u64,
     pub count: usize,
+}
+
+// The fields where there are none. No derive: of the limits it says each by itself, and not that all are the definitions' blank fields.
+impl Default for ListFields {
+    ghost is_default = { λ l. l ≡ blank_fields };
+
+    fn default() -> ListFields {
+        let fund = Fund {
+            first_code: 0,
+            basket_size: 0,
+            max_cash_ratio: Rate(0),
+            switch: 0,
+            estimated_cash: 0,
+            limits: [0; layout::LIMITS],
+        };
+        ListFields {
+            fund,
+            publish: 0,
+            trading_day: 0,
+            pre_trading_day: 0,
+            cash_component: 0,
+            nav_per_cu: 0,
+            nav: 0,
+            count: 0,
+        }
+    }
 }
 
 // What reading hands back: the fields, and where the component lines start.

@@ -1,6 +1,6 @@
 -- What the tests on totals, on the fund's stretch and on sizes say, fact by fact.
 use mathlib.Core.Path.{◌≡◌, sym, ap, ◌∙◌}
-use mathlib.Core.Bool.{Bool, true, ◌&&◌}
+use mathlib.Core.Bool.{Bool, true, false, ◌&&◌}
 use mathlib.Core.List.{List}
 use Prim.Native.Nat.{ℕ, ◌+◌, ◌≤◌, ◌<◌, min}
 use native.Mathlib.Omega.{arith}
@@ -13,7 +13,7 @@ use Rattle.std.proofs.lemmas.Bool.Decides.{nat_tests}
 use Rattle.sequences.specs.Every.{every}
 use Rattle.sequences.specs.Below.{all_below}
 use Rattle.sequences.proofs.Below.{all_at, all_true, all_more, cond_le}
-use Rattle.sequences.proofs.Every.{every_at, same_test}
+use Rattle.sequences.proofs.Every.{every_at, false_of, same_test}
 use Rattle.sequences.proofs.Stretch.{within}
 use Rattle.fund.specs.Fund.{ceiling}
 use Rattle.layout.specs.Book.{cash, created, redeemed, width_of, line_from}
@@ -73,6 +73,9 @@ module _ (n : ℕ) (t : ℕ → ℕ) where
         redeemed_most = leb-true _ _ (at 2);
         lines = all_at (line_fits n t) (n + 1) (at 3);
       }
+
+  pub fits-false : (Fits n t → ⊥) → totals_fit n t ≡ false
+  fits-false h = false_of (totals_fit n t) (λ e. h (fits_facts e))
 
 -- every line of a component within its limit, and the unit within its own
 pub lines_apart : (n : ℕ) (t : ℕ → ℕ) → (all_below (λ l. leb (line_of t l) most_of_line) n && leb (line_of t n) most_units) ≡ all_below (line_fits n t) (n + 1)
