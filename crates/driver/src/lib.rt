@@ -3,15 +3,26 @@
 #![tactic(auto)]
 
 ghost use Rattle.std.specs.Prelude.{◌≡◌, true, ◌*◌, IfSome};
+ghost use Rattle.layout.specs.Places.{row_width, answer_width};
 ghost use Rattle.layout.specs.Day.{day_at};
 ghost use Rattle.rules.specs.Replies.{answer_reply};
 ghost use Rattle.rules.specs.Sound.{is_kept};
 ghost use Rattle.driver_rows.specs.Lent.{state_in, left_work};
-ghost use Rattle.driver.specs.Batch.{batch_in, run_reply, ran, events_of, Demand3};
+ghost use Rattle.driver.specs.Batch.{batch_in, rows_fit, run_reply, ran, events_of, Demand3};
 
 use driver_rows::Work;
 use layout::DayView;
 use rules::Refusal;
+
+// Whether the rows are whole and have an answer each. Measured here and then cut: with `as_chunks` alone, its rest and its count tested, a
+// trade in a list took 131 instructions and 9.6 ns, and so 130 and 8.8.
+#[tactic(auto, unfolding(crate::specs::Batch::rows_fit, sequences::specs::Every::every))]
+fn rows_fit(rows: usize, answers: usize) -> bool
+    ensures { result ≡ rows_fit rows answers }
+{
+    let n = rows / layout::ROW_WIDTH;
+    rows == layout::ROW_WIDTH * n && answers == layout::ANSWER_WIDTH * n
+}
 
 // The list of calls: on a day of which it is known that every call keeps it sound, or with a test of the day in each.
 fn run_rows(
@@ -26,10 +37,10 @@ fn run_rows(
     ensures work { work.new ≡ left_work work.old (ran rows.now (batch_in (day_at run.now) work.old answers.old)).work }
     ensures answers { answers.new ≡ (ran rows.now (batch_in (day_at run.now) work.old answers.old)).answers }
 {
-    let (each, rest) = rows.as_chunks::<{ layout::ROW_WIDTH }>();
-    if !rest.is_empty() || answers.len() != layout::ANSWER_WIDTH * each.len() {
+    if !rows_fit(rows.len(), answers.len()) {
         return Err(Refusal::Sizes);
     }
+    let (each, _) = rows.as_chunks::<{ layout::ROW_WIDTH }>();
     // The answers by number: of what `as_chunks_mut` leaves nothing is known.
     for (i, row) in each.iter().enumerate() {
         let reply = driver_rows::row_call(run, kept, work, row);

@@ -26,7 +26,7 @@ use Rattle.driver_rows.specs.declared.Call.{Call as Named}
 use Rattle.driver_rows.specs.declared.Call.TheVariants.{Price, Trade, Order, Value}
 use Rattle.driver_rows.specs.declared.Work.{Work as Runs}
 use Rattle.driver_rows.specs.Lent.{work_in, left_work}
-use Rattle.driver_rows.specs.Rows.{Row, call, call_named, none, no_spans, span_within, order_of, Work, state_of, work_of, lent_to, result_of, row_reply, row_leaves}
+use Rattle.driver_rows.specs.Rows.{Row, call, call_named, none, no_spans, spans_in, span_within, order_of, Work, state_of, work_of, lent_to, result_of, row_reply, row_leaves}
 use Rattle.driver_rows.proofs.Parts.{none_within, own_back}
 
 -- a part of a run from a start to before an end, and the run with another in its place
@@ -114,11 +114,11 @@ module _ (d : Day) (w : Runs) (unsound : is_sound d w.book.now w.prices.now ≡ 
         rw (stays, own_back w.records.now parts.records, own_back w.investor.now parts.investor, own_back w.fund.now parts.fund) refl,
       )
 
-  pub named_meets : (named : Named) → Meets d w (call_named (Some named)) (reply 5 0 0) w
-  named_meets (Price line p) = five_meets (price line p) no_spans
-  named_meets (Trade t) = five_meets (trade t.line t.quantity t.price.0 t.seller t.buyer) no_spans
-  named_meets (Order ask lists) = five_meets (order_of ask) lists
-  named_meets Value = five_meets value no_spans
+  pub named_meets : (row : List ℕ) (named : Named) → Meets d w (call_named row (Some named)) (reply 5 0 0) w
+  named_meets row (Price line p) = five_meets (price line p) no_spans
+  named_meets row (Trade t) = five_meets (trade t.line t.quantity t.price.0 t.seller t.buyer) no_spans
+  named_meets row (Order ask) = five_meets (order_of ask) (spans_in row)
+  named_meets row Value = five_meets value no_spans
 
 -- An order on the parts of the runs that its row names, from what it answers and leaves: each part by its start and the first place behind it.
 module _ (d : Day) (b ps : List ℕ) (runs : Lent) (ask : Ask) (parts : Spans) where

@@ -53,12 +53,12 @@ row_of row =
     (cond (eqb (cell row 0) 5) (call value no_spans) none))))
 
 -- the row that a call of the code stands for
-abbrev pub call_named : Option Named → Row
-call_named (Some (Price line p)) = call (price line p) no_spans
-call_named (Some (Trade t)) = call (trade t.line t.quantity t.price.0 t.seller t.buyer) no_spans
-call_named (Some (Order ask lists)) = call (order_of ask) lists
-call_named (Some Value) = call value no_spans
-call_named None = none
+abbrev pub call_named : List ℕ → Option Named → Row
+call_named row (Some (Price line p)) = call (price line p) no_spans
+call_named row (Some (Trade t)) = call (trade t.line t.quantity t.price.0 t.seller t.buyer) no_spans
+call_named row (Some (Order ask)) = call (order_of ask) (spans_in row)
+call_named row (Some Value) = call value no_spans
+call_named row None = none
 
 -- the i-th row
 abbrev pub row_at : List ℕ → ℕ → Row

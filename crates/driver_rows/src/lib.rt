@@ -68,7 +68,7 @@ struct Spans {
 enum Call {
     Price { line: usize, price: u64 },
     Trade(Trade),
-    Order { ask: Ask, lists: Spans },
+    Order(Ask),
     Value,
 }
 
@@ -162,7 +162,7 @@ fn spans_in(row: &[u64; layout::ROW_WIDTH]) -> Spans
 // The call that a row names by its kind, or none. The patterns test the kind alone: a row has all its places.
 #[tactic(auto, unfolding(crate::specs::Rows::row_of))]
 fn call_of(row: &[u64; layout::ROW_WIDTH]) -> Option<Call>
-    ensures { call_named result ≡ row_of row.now }
+    ensures { call_named row.now result ≡ row_of row.now }
 {
     match *row {
         [1, line, price, ..] => Some(Call::Price {
@@ -176,24 +176,25 @@ fn call_of(row: &[u64; layout::ROW_WIDTH]) -> Option<Call>
             seller: seller as usize,
             buyer: buyer as usize,
         })),
-        [3, account, units, ..] => Some(Call::Order {
-            ask: rules::Kind::Creation.ask(account as usize, units),
-            lists: spans_in(row),
-        }),
-        [4, account, units, ..] => Some(Call::Order {
-            ask: rules::Kind::Redemption.ask(account as usize, units),
-            lists: spans_in(row),
-        }),
+        [3, account, units, ..] => Some(Call::Order(rules::Kind::Creation.ask(
+            account as usize,
+            units,
+        ))),
+        [4, account, units, ..] => Some(Call::Order(rules::Kind::Redemption.ask(
+            account as usize,
+            units,
+        ))),
         [5, ..] => Some(Call::Value),
         _ => None,
     }
 }
 
-// The call, made on a sound day.
-fn make(day: &DayView, work: &mut Work, call: Call) -> Numbers
+// The call that a row names, made on a sound day. An order's lists are read off the row here: with the row in the call a trade in a list
+// took 133 instructions and 9.4 ns, with its lists in it 139 and 10.5, and so 130 and 8.8.
+fn make(day: &DayView, work: &mut Work, call: Call, row: &[u64; layout::ROW_WIDTH]) -> Numbers
     requires sound { is_sound day.now work.old.book.now work.old.prices.now ≡ true }
-    ensures result_value { reply_of result ≡ row_reply (work_in day.now work.old) (call_named (Some call)) }
-    ensures left { work.new ≡ left_work work.old (row_leaves (work_in day.now work.old) (call_named (Some call))) }
+    ensures result_value { reply_of result ≡ row_reply (work_in day.now work.old) (call_named row.now (Some call)) }
+    ensures left { work.new ≡ left_work work.old (row_leaves (work_in day.now work.old) (call_named row.now (Some call))) }
 {
     match call {
         Call::Price { line, price } => {
@@ -202,7 +203,7 @@ fn make(day: &DayView, work: &mut Work, call: Call) -> Numbers
         Call::Trade(trade) => {
             Numbers::from(trades::trade(day.accounts(), day.count(), work.book, trade))
         }
-        Call::Order { ask, lists } => {
+        Call::Order(ask) => {
             // In a variable, and unique: the field itself and `&*` of it were tried, and the borrow checker has no rule for either beside the
             // fields that are lent.
             let prices = &mut *work.prices;
@@ -214,7 +215,7 @@ fn make(day: &DayView, work: &mut Work, call: Call) -> Numbers
                 work.investor,
                 work.fund,
                 ask,
-                lists,
+                spans_in(row),
             )
         }
         Call::Value => Numbers::from(work.reference_value(day)),
@@ -268,7 +269,7 @@ pub fn row_call(
         None => work.sound_day(run),
     };
     match known.or(tested.as_ref()) {
-        Some(day) => make(day, work, call),
+        Some(day) => make(day, work, call, row),
         None => Numbers::from(Refusal::UnsoundDay),
     }
 }

@@ -29,7 +29,7 @@ returns-in-Trade c =
 
 pub returns-in-Order-clause-result_value : goal.returns-in-Order-clause-result_value
 unfolding row_reply
-returns-in-Order-clause-result_value c = rw c.in-Order.is c.order_row.ensures.result_value
+returns-in-Order-clause-result_value c = rw c.in-Order.is (rw c.spans_in.ensures at c.order_row.ensures.result_value)
 
 pub returns-in-Value : goal.returns-in-Value
 returns-in-Value c =

@@ -20,6 +20,6 @@ returns-in-None-or c =
       | in-None w ↦
           let untested = ap is_some (sym w.tested-is) ∙ sym c.as_ref.ensures.variant ∙ not_second _ _ none in
           let unsound = none_told _ _ _ untested w.sound_day-tested.ensures in
-          let met = named_meets _ c.args.work.now unsound c.in-Some.call in
+          let met = named_meets _ c.args.work.now unsound c.args.row.now c.in-Some.call in
           rw (← c.in-Some.ensures) (record { result_value = c.from-in-None-or.ensures ∙ met.0; left = met.1 })
     ]
