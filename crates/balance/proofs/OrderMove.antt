@@ -110,7 +110,7 @@ module _ (d : Day) (b ps : List ℕ) (kind : Kind) (a units : ℕ) (m : Move) (s
   fund_heads : (k : ℕ) → 0 < k → k < lines_from → head_at (account d moved 0) k ≡ head_at fund k
   fund_heads k p q = ap (λ (x : List ℕ). head_at x k) changed.first ∙ fund_head d.count m.fund_component (m.fund_cash_after fund) fund k p q
 
-  -- counters: the order's own kind rises for its account and fund_wide, the other kind stays
+  -- counters: the order's own kind rises for its account and fund-wide, the other kind stays
   own_count : head_at investor_after (counter (number_of kind)) ≡ head_at investor (counter (number_of kind)) + units
   own_count = account_count d.count kind units m.component m.unit (m.cash_after investor) investor wide
 

@@ -24,10 +24,9 @@ pub fn sound_day<'a>(run: &'a [u64], book: &[u64], prices: &[u64]) -> Result<Day
     ensures sound { OnOk result (is_sound (day_at run.now) book.now prices.now ≡ true) }
     ensures err { IfErr result (λ why. (why ≡ UnsoundDay) × (is_sound (day_at run.now) book.now prices.now ≡ false)) }
 {
-    match day_in(run) {
-        Some(day) if sound::is_sound(&day, book, prices) => Ok(day),
-        _ => Err(Refusal::UnsoundDay),
-    }
+    day_in(run)
+        .filter(|day| sound::is_sound(day, book, prices))
+        .ok_or(Refusal::UnsoundDay)
 }
 
 // The day in a run, where it has what every call keeps. Not one function with the above: their contracts are of two tests, and the one
@@ -36,8 +35,5 @@ pub fn sound_day<'a>(run: &'a [u64], book: &[u64], prices: &[u64]) -> Result<Day
 pub fn kept_day<'a>(run: &'a [u64], book: &[u64], prices: &[u64]) -> Option<DayView<'a>>
     ensures { MatchOption result (is_kept (day_at run.now) book.now prices.now ≡ false) (λ day. (day ≡ day_at run.now) × (is_kept (day_at run.now) book.now prices.now ≡ true)) }
 {
-    match day_in(run) {
-        Some(day) if sound::is_kept(&day, book, prices) => Some(day),
-        _ => None,
-    }
+    day_in(run).filter(|day| sound::is_kept(day, book, prices))
 }

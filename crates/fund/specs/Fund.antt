@@ -7,7 +7,7 @@ use Rattle.layout.specs.Places.{limit_count}
 use Rattle.fund.specs.declared.Limit.{Limit}
 use Rattle.fund.specs.declared.Limit.TheVariants.{Cumulative, CumulativeEach, Net, NetEach}
 
--- the ceiling on limits and on fund_wide created and redeemed units
+-- the ceiling on limits and on fund-wide created and redeemed units
 abbrev pub ceiling : ℕ
 ceiling = 999_999_999_999
 

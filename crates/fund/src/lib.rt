@@ -1,4 +1,4 @@
-// The fund and its components, and the tests of refusals 2 and 3.
+// The fund and its components, and the tests of refusals 2 and 3. The casts by `as` lose nothing: usize and u64 both have 64 bits.
 #![tactic(auto)]
 
 ghost use Rattle.std.specs.Prelude.{◌≡◌, ◌*◌, ◌≤◌, ◌<◌, length};
@@ -41,20 +41,18 @@ pub fn cash_in_range(e: i64) -> bool
 
 #[tactic(auto, using(std::proofs::lemmas::Bool::Decides::nat_tests), unfolding(crate::specs::Fund::limit_in_range, sequences::specs::Every::every))]
 fn limit_in_range(size: u64, limit: u64) -> bool
-    requires { 0 < size }
     ensures { result ≡ limit_in_range size limit }
 {
-    limit <= CEILING && limit % size == 0
+    limit <= CEILING && limit.is_multiple_of(size)
 }
 
 fn limits_in_range(size: u64, limits: [u64; layout::LIMITS]) -> bool
-    requires { 0 < size }
     ensures { result ≡ limits_in_range size limits }
 {
     limits.iter().all(|limit| limit_in_range(size, *limit))
 }
 
-// Refusal 2's test. The basket size comes before the limits, which are divided by it.
+// Refusal 2's test.
 #[tactic(auto, using(std::proofs::lemmas::Bool::Decides::nat_tests), unfolding(crate::specs::Fund::fund_in_range, sequences::specs::Every::every, sequences::specs::Every::inside))]
 pub fn fund_in_range(f: Fund) -> bool
     ensures { result ≡ fund_in_range f }

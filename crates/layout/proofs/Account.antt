@@ -16,7 +16,7 @@ use Rattle.layout.specs.Places.{lines_from, line_width}
 use Rattle.layout.specs.Book.{head_at, put_head, lots_at, put_lots, on_line, each_line, line_from, behind_line}
 
 -- a number of a part of w numbers
-part_at : (w n : ℕ) (xs : List ℕ) (i k : ℕ) → i < n → k < w → get_or (get_or (first_chunks w n xs) i []) k 0 ≡ get_or xs (w * i + k) 0
+pub part_at : (w n : ℕ) (xs : List ℕ) (i k : ℕ) → i < n → k < w → get_or (get_or (first_chunks w n xs) i []) k 0 ≡ get_or xs (w * i + k) 0
 part_at w zero xs i k h l = absurd (omega arith)
 part_at w (suc n) xs zero k h l = get_or-take w xs k 0 l ∙ ap (λ (j : ℕ). get_or xs j 0) (omega arith)
 part_at w (suc n) xs (suc i) k h l = part_at w n (drop w xs) i k (omega arith) l ∙ get_or-drop w xs (w * i + k) 0 ∙ ap (λ (j : ℕ). get_or xs j 0) (rw mul-suc (omega arith))

@@ -3,32 +3,24 @@
 ghost use Rattle.std.specs.Prelude.{◌≡◌, ◌+◌, ◌≤◌, nat_abs, length, get_or};
 ghost use Rattle.std.proofs.lemmas.List.Edits.{sets};
 ghost use Rattle.sequences.specs.Below.{tabulate};
-ghost use Rattle.digits.specs.Digits.{cap, capped};
+ghost use Rattle.digits.specs.Digits.{cap};
 ghost use Rattle.layout.specs.Places.{limit_count, fund_width};
 ghost use Rattle.layout.specs.Fund.{signed_at, signed_numbers, fund_at, fund_numbers};
 
 use crate::{CASH_AT, Fund, LIMITS, LIMITS_FROM};
 use digits::Figure;
+use std::array;
 use units::Rate;
 
-// What is read of a signed number's size.
-#[tactic(auto, using(std::proofs::lemmas::Bool::Decides::nat_tests), unfolding(digits::specs::Digits::capped))]
-fn capped_size(size: u64) -> u64
-    ensures { result ≡ capped size }
-{
-    size.min(digits::CAP)
-}
-
 // A signed number, of a sign and a size.
-#[tactic(auto, using(digits::proofs::Read::capped_within), unfolding(crate::specs::Fund::signed_at))]
+#[tactic(auto, using(std::proofs::lemmas::Bool::Decides::nat_tests, digits::proofs::Read::capped_within), unfolding(crate::specs::Fund::signed_at, digits::specs::Digits::capped))]
 pub fn signed_at(run: &[u64], at: usize) -> i64
     requires { at + 2 ≤ length run.now }
     ensures { result ≡ signed_at run.now at }
 {
-    let size = capped_size(run[at + 1]);
     digits::signed_of(Figure {
         negative: run[at] == 1,
-        size,
+        size: run[at + 1].min(digits::CAP),
     })
 }
 
@@ -47,9 +39,7 @@ fn limits_at(run: &[u64], at: usize) -> [u64; LIMITS]
     requires { at + limit_count ≤ length run.now }
     ensures { result ≡ tabulate (λ k. get_or run.now (at + k) 0) limit_count }
 {
-    let mut limits = [0; LIMITS];
-    limits.copy_from_slice(&run[at..at + LIMITS]);
-    limits
+    array::from_fn(|k| run[at + k])
 }
 
 #[tactic(auto, using(crate::proofs::Stored::limits_stored))]

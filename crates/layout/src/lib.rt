@@ -14,7 +14,7 @@ pub use basket::component_at;
 pub use days::{DayView, put_day, view_of};
 pub use funds::{fund_of, put_fund, put_signed, signed_at};
 pub use results::{put_answer, put_record, put_report, record_at};
-pub use stretches::{lots_at, put_lots, stretch_at, width_of};
+pub use stretches::{line_at, lots_at, put_lots, stretch_at, width_of};
 
 #[derive(Clone, Copy, Default)]
 pub struct Component {
@@ -37,7 +37,7 @@ pub struct Fund {
     pub switch: u64,
     // In hundredths of a yuan.
     pub estimated_cash: i64,
-    // In the list text's order. Eight numbers, as they lie in runs that cross to C; only `order_form::limit_of` asks for one.
+    // In the list text's order. Eight numbers, as they lie in runs that cross to C; only `order_form::limit_of` asks for one by its kind.
     pub limits: [u64; LIMITS],
 }
 

@@ -1,5 +1,5 @@
 // Records, reports and the answers of a list of calls, in runs. Three stores and no generic one: a trait with its law would be longer
-// than the three copies. No `From`, since only this module takes them apart.
+// than the three copies. No `From`, since only this module takes them apart; one record of a chunk is read by `record_at` at 0.
 ghost use Rattle.std.specs.Prelude.{◌≡◌, ◌+◌, ◌*◌, ◌≤◌, length};
 ghost use Rattle.std.proofs.lemmas.List.Edits.{sets};
 ghost use Rattle.layout.specs.Places.{record_width, report_width, answer_width};
@@ -11,18 +11,19 @@ use crate::{ANSWER_WIDTH, RECORD_WIDTH, REPORT_WIDTH, Record, Report};
 use units::Money;
 
 // The k-th record of a run.
-#[tactic(auto, unfolding(crate::specs::Records::record_at))]
+#[tactic(auto, using(crate::proofs::Account::part_at), unfolding(crate::specs::Records::record_at))]
 pub fn record_at(list: &[u64], k: usize) -> Record
     requires { record_width * k + record_width ≤ length list.now }
     ensures { result ≡ record_at list.now k }
 {
-    let at = RECORD_WIDTH * k;
+    let (records, _) = list.as_chunks::<RECORD_WIDTH>();
+    let [code, side, quantity, price, amount] = records[k];
     Record {
-        code: list[at],
-        side: list[at + 1],
-        quantity: list[at + 2],
-        price: Money::new(list[at + 3]),
-        amount: Money::new(list[at + 4]),
+        code,
+        side,
+        quantity,
+        price: Money::new(price),
+        amount: Money::new(amount),
     }
 }
 

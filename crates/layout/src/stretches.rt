@@ -2,7 +2,7 @@
 // whose length the day's count of components says.
 ghost use Rattle.std.specs.Prelude.{◌≡◌, ◌+◌, ◌*◌, ◌^◌, ◌≤◌, ◌<◌, length};
 ghost use Rattle.layout.specs.Places.{most_components};
-ghost use Rattle.layout.specs.Book.{width_of, behind_line, lots_at, put_lots};
+ghost use Rattle.layout.specs.Book.{width_of, line_from, behind_line, lots_at, put_lots};
 
 use crate::{LINE_WIDTH, LINES_FROM};
 use lots::Lots;
@@ -13,7 +13,15 @@ pub fn width_of(count: usize) -> usize
     requires { count ≤ most_components }
     ensures { result ≡ width_of count }
 {
-    LINES_FROM + LINE_WIDTH * (count + 1)
+    line_at(count + 1)
+}
+
+// Where the lots of a line start.
+pub fn line_at(line: usize) -> usize
+    requires { line_from line < 2 ^ 64 }
+    ensures { result ≡ line_from line }
+{
+    LINES_FROM + LINE_WIDTH * line
 }
 
 // Where an account's stretch lies in a book of stretches of a width.
@@ -42,7 +50,7 @@ pub fn put_lots(stretch: &mut [u64], line: usize, x: Lots)
     requires { behind_line line ≤ length stretch.old }
     ensures { stretch.new ≡ put_lots stretch.old line x }
 {
-    let at = LINES_FROM + LINE_WIDTH * line;
+    let at = line_at(line);
     stretch[at] = x.old;
     stretch[at + 1] = x.bought;
     stretch[at + 2] = x.got;

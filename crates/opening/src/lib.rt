@@ -60,6 +60,7 @@ fn total_fault(holdings: &[u64], accounts: usize, count: usize) -> Option<usize>
         rows: accounts,
         width,
     };
+    // In room for the widest row, since the library has no heap.
     let mut places = [0u64; layout::MOST_WIDTH];
     let totals = &mut places[..width];
     rows.fill(totals);

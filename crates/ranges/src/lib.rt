@@ -1,4 +1,4 @@
-// Small tests that calls share.
+// Small tests that calls share. The cast by `as` loses nothing: usize and u64 both have 64 bits.
 #![tactic(auto)]
 
 ghost use Rattle.std.specs.Prelude.{◌≡◌, [], ◌∷◌, ◌||◌, ◌+◌, ◌/◌, ◌%◌, ◌<◌, eqb};
@@ -9,7 +9,7 @@ ghost use Rattle.rules.specs.Orders.{most_baskets, number_of, within_limit};
 use rules::Kind;
 use std::num::NonZeroU64;
 
-// Whether x is lo to hi.
+// Whether x is lo to hi. One call, and a function for its contract: who asks it cites `inside` and unfolds nothing.
 #[tactic(auto, using(std::proofs::lemmas::Bool::Decides::nat_tests), unfolding(sequences::specs::Every::inside))]
 pub fn is_inside(lo: u64, hi: u64, x: u64) -> bool
     ensures { result ≡ inside lo hi x }
@@ -25,14 +25,13 @@ pub fn is_investor(accounts: usize, a: usize) -> bool
     (1..accounts).contains(&a)
 }
 
-// Whether so many units are a whole count of baskets from 1 to the most. A size above 0 is a clause, here and in `fund`, which tests it
-// before it divides.
+// Whether so many units are a whole count of baskets from 1 to the most. A size above 0 is a clause: the count is divided by it.
 #[tactic(auto, using(std::proofs::lemmas::Bool::Decides::nat_tests), unfolding(sequences::specs::Every::every))]
 pub fn whole_baskets(size: u64, units: u64) -> bool
     requires { 0 < size }
     ensures { result ≡ every (eqb (units % size) 0 ∷ inside 1 most_baskets (units / size) ∷ []) }
 {
-    units % size == 0 && is_inside(1, rules::MOST_BASKETS, units / size)
+    units.is_multiple_of(size) && is_inside(1, rules::MOST_BASKETS, units / size)
 }
 
 // Whether the switch, a number as it lies in a run, allows a kind of order: 1 both, 2 creation only, 3 redemption only.

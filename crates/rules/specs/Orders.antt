@@ -49,7 +49,7 @@ switch_allows d kind = eqb d.fund.switch 1 || eqb d.fund.switch (2 + number_of k
 unfoldable pub within_limit : ℕ → ℕ → Bool
 within_limit limit units = eqb limit 0 || leb units limit
 
--- units created (or redeemed) by an account, and fund_wide
+-- units created (or redeemed) by an account, and fund-wide
 unfoldable pub count_of : Day → List ℕ → Kind → ℕ → ℕ
 count_of d b kind a = head_at (account d b a) (counter (number_of kind))
 

@@ -92,14 +92,14 @@ fn lines_still(book: &[u64], n: usize) -> bool
 }
 
 // Whether the fund, the first account, has no units, and counters and bought and got lots of 0.
-#[tactic(auto, using(std::proofs::lemmas::Bool::Decides::nat_tests), unfolding(crate::specs::Parts::stretch_still, sequences::specs::Every::every))]
+#[tactic(auto, using(std::proofs::lemmas::Bool::Decides::nat_tests), unfolding(crate::specs::Parts::stretch_still, layout::specs::Book::lots_at, sequences::specs::Every::every))]
 fn fund_still(book: &[u64], n: usize) -> bool
     requires { (n ≤ most_components) × (width_of n ≤ length book.now) }
     ensures { result ≡ stretch_still n book.now }
 {
     book[layout::CREATED] == 0
         && book[layout::REDEEMED] == 0
-        && book[layout::LINES_FROM + layout::LINE_WIDTH * n] == 0
+        && layout::lots_at(book, n).old == 0
         && lines_still(book, n)
 }
 
@@ -109,15 +109,13 @@ fn prices_fit(prices: &[u64]) -> bool
     prices.iter().all(|price| *price <= rules::MOST_PRICE)
 }
 
-// A, N and the lengths of the book and of the prices, bound by bound, as in the definition: ranges by `contains` would be no shorter.
+// A, N and the lengths of the book and of the prices.
 #[tactic(auto, using(std::proofs::lemmas::Bool::Decides::nat_tests), unfolding(rules::specs::Opening::day_sizes_fit, sequences::specs::Every::every, sequences::specs::Every::inside))]
 pub fn sizes_fit(accounts: usize, n: usize, book: usize, prices: usize) -> bool
     ensures { result ≡ day_sizes_fit accounts n book prices }
 {
-    2 <= accounts
-        && accounts <= 64
-        && 1 <= n
-        && n <= layout::MOST_COMPONENTS
+    (2..=64).contains(&accounts)
+        && (1..=layout::MOST_COMPONENTS).contains(&n)
         && book == accounts * layout::width_of(n)
         && prices == n
 }
@@ -147,7 +145,7 @@ fn room_left(book: &Rows, n: usize) -> bool
     requires { (n ≤ most_components) × (book.now.width ≡ width_of n) × (totals_fit n (total book.now.run.now (width_of n) book.now.rows) ≡ true) }
     ensures { result ≡ room_left n (total book.now.run.now (width_of n) book.now.rows) }
 {
-    let at = layout::LINES_FROM + layout::LINE_WIDTH * n;
+    let at = layout::line_at(n);
     let old = book.total_at(at);
     let bought = book.total_at(at + 1);
     let got = book.total_at(at + 2);

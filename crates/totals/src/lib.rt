@@ -6,7 +6,7 @@ ghost use Rattle.sequences.specs.Below.{any_below};
 ghost use Rattle.totals.specs.Totals.{most_rows, top, quick_most, total, capped_total, plus_row, plus_block, reaches, Low};
 
 // 2^62: above every limit of a day, and four numbers below it add up without wrapping.
-pub const TOP: u64 = 4_611_686_018_427_387_904;
+pub const TOP: u64 = 1 << 62;
 
 // How many rows are added in one pass: one by one, the totals took 1.25 s where eight at a time took 0.43.
 const EIGHT: usize = 8;
@@ -82,8 +82,8 @@ fn add_block(totals: &mut [u64], block: &[u64]) -> bool
 }
 
 // Fills the totals with those of the first rows, eight at a time, and says of how many. Where all their numbers are below 2^56 no total
-// reaches 2^62, so that none has to be looked at. Else the totals are 0, those of no row. `rows ≤ most_rows` is asked here and by the
-// two that call this, and is no fact of `Rows`: `total_at` is of any number of rows.
+// reaches 2^62, so that none has to be looked at. Else the totals are 0, those of no row. `rows ≤ most_rows` is asked here and of all that
+// lead here, and is no fact of `Rows`: `total_at` is of any number of rows.
 fn add_blocks(totals: &mut [u64], rows: &Rows) -> usize
     requires { (0 < rows.now.width) × (length totals.old ≡ rows.now.width) × (rows.now.rows ≤ most_rows) }
     ensures upper_bound { result ≤ rows.now.rows }
@@ -144,6 +144,7 @@ impl<'a> Rows<'a> {
         requires { (length totals.old ≡ self.now.width) × (self.now.rows ≤ most_rows) }
         ensures { (k : ℕ) → k < self.now.width → slice_index totals.new k ≡ capped_total self.now.run.now self.now.width self.now.rows k }
     {
+        // No places: a run is not cut into rows of none.
         if totals.is_empty() {
             return;
         }

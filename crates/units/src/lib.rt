@@ -30,6 +30,8 @@ impl Money {
         Money(thousandths)
     }
 
+    // Two functions of one line: the paper's two roundings, each with its definition.
+
     // The amount times (100,000 + rate) / 100,000, rounded.
     #[tactic(auto, unfolding(crate::specs::Units::premium))]
     pub fn with_premium(self, rate: Rate) -> Money

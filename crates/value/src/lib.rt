@@ -41,11 +41,11 @@ fn lacks_price(c: Component, price: u64) -> bool
 
 // The sum of the components with the estimated cash, which is signed. None where it falls below zero.
 #[tactic(auto, using(std::proofs::lemmas::Int::wraps, crate::proofs::Sign::ten_fits, crate::proofs::Sign::with_cash_lem))]
-fn with_cash(sum: Money, e: i64) -> Option<u64>
+fn with_cash(sum: Money, e: i64) -> Option<Money>
     requires { (sum.0 ≤ 300_000_000_000_000_000) × (cash_in_range e ≡ true) }
-    ensures { SomeIff result (cash_taken e ≤ sum.0 + cash_added e) (sum.0 + cash_added e - cash_taken e) }
+    ensures { SomeIff result (cash_taken e ≤ sum.0 + cash_added e) (record { 0 = sum.0 + cash_added e - cash_taken e }) }
 {
-    sum.0.checked_add_signed(10 * e)
+    sum.0.checked_add_signed(10 * e).map(Money::new)
 }
 
 // A basket's worth by the unit, rounded.
@@ -65,7 +65,7 @@ fn value_with(sum: Money, cash: i64, size: u64) -> Result<ReferenceValue, Refusa
     ensures { value_answer_reply result ≡ value_from (sum.0 + cash_added cash) (cash_taken cash) size }
 {
     let rest = with_cash(sum, cash).ok_or(Refusal::NoReferenceValue)?;
-    let value = per_unit(Money(rest), size);
+    let value = per_unit(rest, size);
     if MOST_VALUE < value {
         return Err(Refusal::NoReferenceValue);
     }
