@@ -190,7 +190,7 @@ fn call_of(row: &[u64; layout::ROW_WIDTH]) -> Option<Call>
 }
 
 // The call that a row names, made on a sound day. An order's lists are read off the row here: with the row in the call a trade in a list
-// took 133 instructions and 9.4 ns, with its lists in it 139 and 10.5, and so 130 and 8.8.
+// took 133 instructions and 9.4 ns, with the lists in the call still more, and so 130 and 8.8.
 fn make(day: &DayView, work: &mut Work, call: Call, row: &[u64; layout::ROW_WIDTH]) -> Numbers
     requires sound { is_sound day.now work.old.book.now work.old.prices.now ≡ true }
     ensures result_value { reply_of result ≡ row_reply (work_in day.now work.old) (call_named row.now (Some call)) }
