@@ -1,7 +1,7 @@
 -- Reading: digits one by one, as far as the cap, and a number before and after its point.
 use Rattle.std.proofs.lemmas.Grind.{common_steps}
 use mathlib.Core.Path.{◌≡◌, refl, sym, ◌∙◌}
-use mathlib.Core.Bool.{Bool, true, false, not, and-false, and-true}
+use mathlib.Core.Bool.{Bool, true, false, and-false, and-true}
 use mathlib.Core.List.{List, [], ◌∷◌}
 use Prim.Native.Nat.{ℕ, suc, ◌+◌, ◌-◌, ◌*◌, ◌≤◌, ◌<◌}
 use native.Mathlib.Omega.{arith}
@@ -10,13 +10,13 @@ use native.Mathlib.Decide.{dec_le}
 use native.Mathlib.Nat.{lt_of_not-le}
 use lib.ListN.{length, get_or, take, drop, drop_of_length-le}
 use lib.Seq.{drop-cons}
-use lib.Dec.{leb, eqb}
+use lib.Dec.{leb}
 use borrow.Author.Tests.{le-leb, lt-leb, le-ltb, eq-eqb, ne_eqb}
 use Rattle.sequences.specs.Every.{every, inside}
 use Rattle.sequences.proofs.Every.{every_at, inside-true, inside_facts}
 use Rattle.digits.specs.declared.Form.{Form}
 use Rattle.std.specs.Prelude.{Option, Some, None}
-use Rattle.digits.specs.Digits.{is_digit, all_digits, from, spare, cap, capped, is_shaped, is_whole, point_at, is_plain, plain_size, size_reading, read_on}
+use Rattle.digits.specs.Digits.{is_digit, all_digits, from, cap, capped, is_shaped, is_whole, point_at, is_plain, plain_size, size_reading, read_on}
 
 -- a is at most b, or more
 pub compare {ℓ} : {X : Type ℓ} (a b : ℕ) → (a ≤ b → X) → (b < a → X) → X
@@ -98,23 +98,6 @@ module _ (s : List ℕ) (before : ℕ) where
     read_end h = rw (t.well, t.size, drop_of_length-le s h, capped_small a t.within)
 
 -- ---- before the point
-
-pub shaped_none : (s : List ℕ) → length s ≡ 0 → is_shaped None s ≡ false
-unfolding is_shaped spare
-shaped_none [] h = refl
-shaped_none (b ∷ r) h = absurd (omega arith)
-
-pub shaped_one : (s : List ℕ) → length s ≡ 1 → is_shaped None s ≡ true
-unfolding is_shaped spare
-shaped_one [] h = absurd (omega arith)
-shaped_one (b ∷ []) h = refl
-shaped_one (b ∷ d ∷ r) h = absurd (omega arith)
-
-pub shaped_first : (s : List ℕ) → 1 < length s → not (eqb (get_or s 0 0) 48) ≡ is_shaped None s
-unfolding is_shaped spare
-shaped_first [] h = absurd (omega arith)
-shaped_first (b ∷ []) h = absurd (omega arith)
-shaped_first (b ∷ d ∷ r) h = refl
 
 pub shaped_fixed : (digits : ℕ) (s : List ℕ) → length s ≡ digits → is_shaped (Some digits) s ≡ true
 unfolding is_shaped

@@ -3,9 +3,9 @@ use Rattle.std.proofs.lemmas.Grind.{common_steps}
 use mathlib.Core.Path.{◌≡◌, refl, sym}
 use mathlib.Core.Bool.{Bool, true, false, not, and-false, false≢true}
 use mathlib.Core.List.{List, [], ◌∷◌}
-use Prim.Native.Nat.{ℕ, ◌-◌, ◌≤◌}
+use Prim.Native.Nat.{ℕ, ◌≤◌}
 use native.Mathlib.Omega.{arith}
-use lib.ListN.{length, get_or, take, drop, get_or-eq_default}
+use lib.ListN.{length, get_or, drop, get_or-eq_default}
 use lib.Dec.{eqb}
 use borrow.Author.Tests.{eq-eqb, ne_eqb}
 use Rattle.sequences.specs.Every.{every}
@@ -13,7 +13,6 @@ use Rattle.digits.specs.declared.Form.{Form}
 use Rattle.std.specs.Prelude.{Option, Some, None, is_none}
 use Rattle.digits.specs.Digits.{plain, blanks, minus_figure, is_plain, plain_size, has_minus, is_signed}
 use Rattle.digits.specs.Digits.{signed_figure, trimmed_by, trimmed, is_number, figure_of, size_reading, reading, below_zero, above_zero}
-use Rattle.std.proofs.lemmas.List.{take_rest}
 
 -- ---- with and without a width
 
@@ -68,8 +67,6 @@ module _ (f : Form) (s : List ℕ) where
   unfolding is_number figure_of trimmed trimmed_by
   number_plain e = rw (is-none f.width e)
 
-  pub number_right : (b : ℕ) → is_none f.width ≡ false → b ≡ blanks s
-      → reading (is_signed f (take (length s - b) (drop b s))) (signed_figure f (take (length s - b) (drop b s)))
-      ≡ reading (is_number f s) (figure_of f s)
+  pub number_right : is_none f.width ≡ false → reading (is_signed f (drop (blanks s) s)) (signed_figure f (drop (blanks s) s)) ≡ reading (is_number f s) (figure_of f s)
   unfolding is_number figure_of trimmed trimmed_by
-  number_right b h e = let w = is-some f.width h in rw (take_rest s b, w.1, e)
+  number_right h = rw (is-some f.width h).1

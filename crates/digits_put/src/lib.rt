@@ -1,22 +1,11 @@
-// Puts bytes, blanks and digits into a run.
+// Puts bytes and digits into a run.
 #![tactic(auto)]
 
-ghost use Rattle.std.specs.Prelude.{◌≡◌, ◌+◌, ◌/◌, ◌%◌, ◌^◌, ◌≤◌, ◌<◌, true, suc, [], ◌∷◌, length};
+ghost use Rattle.std.specs.Prelude.{◌≡◌, ◌+◌, ◌/◌, ◌%◌, ◌^◌, ◌≤◌, ◌<◌, true, suc, length};
 ghost use Rattle.digits.specs.Digits.{fixed, tens, decimal};
 ghost use Rattle.digits.specs.Written.{Written};
 
-// Each gives the place behind what it writes, where the next one writes: a slice behind it would have to be lent anew for each.
-
-// Writes one byte.
-pub fn put_byte(dst: &mut [u8], at: usize, b: u8) -> usize
-    requires { at < length dst.old }
-    ensures { Written dst.old at (b ∷ []) dst.new result }
-{
-    dst[at] = b;
-    at + 1
-}
-
-// Writes all of src.
+// Writes all of src, and gives the place behind it, where the next one writes: a slice behind it would have to be lent anew for each.
 pub fn put_bytes(dst: &mut [u8], at: usize, src: &[u8]) -> usize
     requires { at + length src.now ≤ length dst.old }
     ensures { Written dst.old at src.now dst.new result }
@@ -56,16 +45,16 @@ pub fn put_last<const SMALL: bool>(digits: &mut [u8], n: u64) -> u64
     m
 }
 
-// Puts n with as many digits as it has before a place, and says where they start. With `put_last` behind a count of the digits, in the
+// Puts n with as many digits as it has at the end of a run, and says where they start. With `put_last` behind a count of the digits, in the
 // place of a loop of its own, six digits take 107 instructions (in plain Rust), 88 as it is.
-pub fn put_all<const SMALL: bool>(dst: &mut [u8], end: usize, n: u64) -> usize
-    requires room { (suc (tens n) ≤ end) × (end ≤ length dst.old) }
+pub fn put_all<const SMALL: bool>(dst: &mut [u8], n: u64) -> usize
+    requires room { suc (tens n) ≤ length dst.old }
     requires small { SMALL ≡ true → n < 4_294_967_296 }
-    ensures { Written dst.old result (decimal n) dst.new end }
+    ensures { Written dst.old result (decimal n) dst.new (length dst.old) }
 {
     let mut m = n;
     // By place: where the first digit stands is the answer.
-    for i in (0..end).rev() {
+    for i in (0..dst.len()).rev() {
         let (rest, digit) = split_last::<SMALL>(m);
         dst[i] = digit;
         if rest == 0 {
@@ -73,6 +62,6 @@ pub fn put_all<const SMALL: bool>(dst: &mut [u8], end: usize, n: u64) -> usize
         }
         m = rest;
     }
-    // Not reached: the last digit had room.
-    0
+    // The last digit had room.
+    unreachable!()
 }

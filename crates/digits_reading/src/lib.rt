@@ -64,6 +64,5 @@ pub fn read_number(form: Form, s: &[u8]) -> Option<Figure>
     if form.width.is_none() {
         return read_signed(form, s);
     }
-    let b = digits_scan::leading_blanks(s);
-    read_signed(form, &s[b..])
+    read_signed(form, digits_scan::trimmed(s))
 }

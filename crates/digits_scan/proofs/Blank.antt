@@ -1,11 +1,11 @@
--- Blanks, and the shape of digits: what the code's tests and chains say.
+-- Blanks and digits: what the code's tests and chains say.
 use Rattle.std.proofs.Common.{◌≡◌, refl, ℕ, suc, ◌+◌, ◌≤◌, Bool, true, false, cond, not, ◌&&◌, eqb, List, [], ◌∷◌, ◌++◌, length, sym, ◌∙◌, arith, ne_eqb}
 use mathlib.Core.Bool.{and-true, and_assoc}
 use Rattle.std.specs.List.{position_or_len}
 use Prim.Native.Nat.compare
 use Rattle.std.proofs.lemmas.Bool.Decides.{nat_tests}
 use Rattle.digits.specs.Digits.{blanks, all_blank}
-use Rattle.digits.proofs.Read.{digit_yes, digit_low, digit_high, shaped_none, shaped_one, shaped_first}
+use Rattle.digits.proofs.Read.{digit_yes, digit_low, digit_high}
 
 -- byte by byte
 blank_first : (b : ℕ) (r : List ℕ) → all_blank (b ∷ r) ≡ eqb b 32 && all_blank r
@@ -43,7 +43,5 @@ blanks_within (b ∷ r) = by_byte (eqb b 32) (blanks r) (length r) (blanks_withi
     by_byte : (t : Bool) (n m : ℕ) → n ≤ m → cond t (suc n) 0 ≤ suc m
     by_byte true n m h = omega arith
     by_byte false n m h = omega arith
-
-pub ruleset shapes = (nat_tests, shaped_none, shaped_one, shaped_first)
 
 pub ruleset digit_tests = (nat_tests, digit_yes, digit_low, digit_high)

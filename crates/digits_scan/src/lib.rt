@@ -1,7 +1,7 @@
 // Digits and blanks of a field, byte by byte.
 #![tactic(auto)]
 
-ghost use Rattle.std.specs.Prelude.{◌≡◌, ◌+◌, ◌-◌, ◌*◌, ◌^◌, ◌<◌, ◌≤◌, true, false, length, cond, Some, None};
+ghost use Rattle.std.specs.Prelude.{◌≡◌, ◌+◌, ◌-◌, ◌*◌, ◌^◌, ◌<◌, ◌≤◌, true, false, length, drop, cond, Some, None};
 ghost use Rattle.digits.specs.Digits.{cap, capped, is_digit, is_shaped, blanks, all_blank, read_on};
 
 use digits::CAP;
@@ -44,21 +44,22 @@ pub fn read_digits<const CAPPED: bool>(s: &[u8], before: u64) -> Option<u64>
 }
 
 // Whether there are so many digits, or some and no spare zero.
-#[tactic(auto, using(crate::proofs::Blank::shapes), unfolding(digits::specs::Digits::is_shaped))]
+#[tactic(auto, using(std::proofs::lemmas::Bool::Decides::nat_tests), unfolding(digits::specs::Digits::is_shaped, digits::specs::Digits::spare))]
 pub fn is_shaped(digits: Option<usize>, s: &[u8]) -> bool
     ensures { result ≡ is_shaped digits s.now }
 {
     match digits {
         Some(digits) => s.len() == digits,
-        None => s.len() == 1 || 1 < s.len() && s[0] != b'0',
+        None => !matches!(s, [] | [b'0', _, ..]),
     }
 }
 
-// How many blanks stand first.
-pub fn leading_blanks(s: &[u8]) -> usize
-    ensures { (result ≡ blanks s.now) × (result ≤ length s.now) }
+// The field behind the blanks that stand first.
+pub fn trimmed(s: &[u8]) -> &[u8]
+    ensures { result.now ≡ drop (blanks s.now) s.now }
 {
-    s.iter().position(|b| *b != b' ').unwrap_or(s.len())
+    let b = s.iter().position(|b| *b != b' ').unwrap_or(s.len());
+    &s[b..]
 }
 
 // Whether the field is nothing but blanks. By `fold`, with one branch for a field: 56 instructions for 12 bytes, by `all` 91.

@@ -1,5 +1,5 @@
 -- A number that ends a field: its parts are written from the right.
-use Rattle.std.proofs.Common.{Option, Some, ◌≡◌, refl, ap, ◌∙◌, ℕ, ◌+◌, ◌-◌, ◌/◌, ◌^◌, ◌≤◌, true, List, ◌∷◌, length, take, drop, set, replicate, length-take, length-drop, arith}
+use Rattle.std.proofs.Common.{Option, Some, ◌≡◌, refl, ap, ◌∙◌, ℕ, ◌+◌, ◌-◌, ◌/◌, ◌^◌, ◌≤◌, true, List, ◌∷◌, ◌++◌, length, take, drop, set, replicate, sym, length-take, length-drop, length-set, arith}
 use Rattle.std.proofs.lemmas.Grind.{common_steps}
 use borrow.Rule.Slice.PartMut.{put_mid}
 use Rattle.digits.specs.declared.Form.{Form}
@@ -11,20 +11,29 @@ use Rattle.digits.proofs.Count.{fixed-length, decimal-length}
 use Rattle.digits.proofs.Write.{plain_free, free_put, plain_pointed, plain-length, signed_below, signed_above, signed-length, number-length, blanks_put, blanks-put}
 
 -- digits before the point: so many
-module _ (d : List ℕ) (end size n : ℕ) {digits : Option ℕ} (are : digits ≡ Some size) (room : length (whole_text digits n) ≤ end) where
-  fixed_room : size ≤ end
+module _ (d : List ℕ) (size n : ℕ) {digits : Option ℕ} (are : digits ≡ Some size) (room : length (whole_text digits n) ≤ length d) where
+  fixed_room : size ≤ length d
   unfolding whole_text
   fixed_room = omega (arith, ap (λ (o : Option ℕ). length (whole_text o n)) are, fixed-length size n)
 
-  pub fixed_put : end ≤ length d → {xs : List ℕ} → xs ≡ fixed (length (take (end - (end - size)) (drop (end - size) d))) n
-      → Written d (end - size) (whole_text digits n) (put_mid (end - size) (end - (end - size)) d xs) end
+  pub fixed_put : {xs : List ℕ} → xs ≡ fixed (length (take (length d - (length d - size)) (drop (length d - size) d))) n
+      → Written d (length d - size) (whole_text digits n) (put_mid (length d - size) (length d - (length d - size)) d xs) (length d)
   unfolding whole_text
-  fixed_put fits {xs} bytes = grind (arith, common_steps, fixed_room, fixed-length, written_part)
+  fixed_put {xs} bytes = grind (arith, common_steps, fixed_room, fixed-length, written_part)
 
 -- with decimals: they and the point are written first
 pub point_long : (f : Form) (n : ℕ) → (f.decimals ≡ 0 → ⊥)
     → length (plain_text f n) ≡ length (whole_text f.digits (n / 10 ^ f.decimals)) + (f.decimals + 1)
 point_long f n some = plain-length f n some (10 ^ f.decimals) refl
+
+-- what ends the first bytes of d, where those behind them stay
+front_written : (k : ℕ) (d : List ℕ) → k ≤ length d → {d' xs : List ℕ} {r : ℕ} → Written (take k d) r xs d' (length (take k d))
+    → Written d r xs (d' ++ drop k d) k
+unfolding put
+front_written k d h {d'} {xs} {r} w =
+    let long : length (take k d) ≡ k = grind (arith, common_steps) in
+    let next : k ≡ r + length xs = sym long ∙ w.next in
+    record { bytes = grind (arith, common_steps, long, next, w.bytes); next = next }
 
 module _ (f : Form) (n : ℕ) (d : List ℕ) (some : f.decimals ≡ 0 → ⊥) (room : length (plain_text f n) ≤ length d) where
   abbrev point : ℕ
@@ -59,9 +68,12 @@ module _ (f : Form) (n : ℕ) (d : List ℕ) (some : f.decimals ≡ 0 → ⊥) (
     pointed_is : set tail point 46 ≡ put d point (46 ∷ fixed f.decimals n)
     pointed_is = grind (arith, common_steps, tail_is, put-before, point_room, fixed-length)
 
-    pub plain_written : {d' : List ℕ} {r : ℕ} → Written (set tail point 46) r (whole_text f.digits left) d' point
-        → Written d r (plain_text f n) d' (length d)
-    plain_written {d'} {r} w = grind (arith, common_steps, whole_left, pointed_is, put_front, point_room, fixed-length, plain_pointed, point_long)
+    -- what is written before the point
+    pub plain_written : {d' : List ℕ} {r : ℕ} → Written (take point (set tail point 46)) r (whole_text f.digits left) d' (length (take point (set tail point 46)))
+        → Written d r (plain_text f n) (d' ++ drop point (set tail point 46)) (length d)
+    plain_written {d'} {r} w =
+        let front = front_written point _ (omega (arith, point_room, tail_long, length-set tail point 46)) w in
+        grind (arith, common_steps, front, whole_left, pointed_is, put_front, point_room, fixed-length, plain_pointed, point_long)
 
 -- the sign before it
 module _ (f : Form) (z : Figure) (d : List ℕ) (room : length (signed_text f z) ≤ length d) {d' : List ℕ} {r : ℕ} where

@@ -1,4 +1,5 @@
-// Writes a number's field, by its form.
+// Writes a number's field, by its form. That a form is `Writable` is asked by four functions and not held by `Form`: reading takes
+// any form.
 #![tactic(auto)]
 
 ghost use Rattle.std.specs.Prelude.{◌≡◌, ◌+◌, ◌-◌, ◌≤◌, ◌<◌, ◌^◌, true, length};
@@ -35,7 +36,7 @@ fn whole_size(digits: Option<usize>, n: u64) -> usize
     }
 }
 
-// How many bytes the number takes, without its sign and its blanks. The bounds are asked here and not of `Form`: reading takes any form.
+// How many bytes the number takes, without its sign and its blanks.
 #[tactic(auto, using(crate::proofs::Sizes::plain_sizes))]
 fn plain_size(form: Form, n: u64) -> usize
     requires { Writable form }
@@ -66,25 +67,20 @@ pub fn number_size(form: Form, z: Figure) -> usize
     signed_size(form, z).max(form.width.unwrap_or(0))
 }
 
-// Writes the digits of n before the point so that they end before a place, and says where they start.
+// Writes the digits of n before the point at the end of a field, and says where they start.
 #[tactic(auto, using(crate::proofs::Ending::whole_put), unfolding(digits::specs::Digits::whole_text))]
-fn put_whole<const SMALL: bool>(
-    field: &mut [u8],
-    end: usize,
-    digits: Option<usize>,
-    n: u64,
-) -> usize
-    requires room { (length (whole_text digits n) ≤ end) × (end ≤ length field.old) }
+fn put_whole<const SMALL: bool>(field: &mut [u8], digits: Option<usize>, n: u64) -> usize
+    requires room { length (whole_text digits n) ≤ length field.old }
     requires small { SMALL ≡ true → n < 4_294_967_296 }
-    ensures { Written field.old result (whole_text digits n) field.new end }
+    ensures { Written field.old result (whole_text digits n) field.new (length field.old) }
 {
     match digits {
         Some(k) => {
-            let start = end - k;
-            digits_put::put_last::<SMALL>(&mut field[start..end], n);
+            let start = field.len() - k;
+            digits_put::put_last::<SMALL>(&mut field[start..], n);
             start
         }
-        None => digits_put::put_all::<SMALL>(field, end, n),
+        None => digits_put::put_all::<SMALL>(field, n),
     }
 }
 
@@ -95,15 +91,14 @@ fn put_plain<const SMALL: bool>(field: &mut [u8], form: Form, n: u64) -> usize
     requires small { SMALL ≡ true → n < 4_294_967_296 }
     ensures { Written field.old result (plain_text form n) field.new (length field.old) }
 {
-    let end = field.len();
     let k = form.decimals;
     if k == 0 {
-        return put_whole::<SMALL>(field, end, form.digits, n);
+        return put_whole::<SMALL>(field, form.digits, n);
     }
-    let point = end - (k + 1);
+    let point = field.len() - (k + 1);
     let whole = digits_put::put_last::<SMALL>(&mut field[point + 1..], n);
     field[point] = b'.';
-    put_whole::<SMALL>(field, point, form.digits, whole)
+    put_whole::<SMALL>(&mut field[..point], form.digits, whole)
 }
 
 // The same, quick where the number has 32 bits, as almost all have: `digits_put::split_last` says how much.
@@ -142,8 +137,8 @@ fn put_right(field: &mut [u8], form: Form, z: Figure)
 // Writes the number's field into its place, and gives the place behind it.
 #[tactic(auto, using(digits::proofs::Put::written_part, crate::proofs::Sizes::number_sizes))]
 pub fn put_number(dst: &mut [u8], at: usize, form: Form, z: Figure) -> usize
-    requires decimals_bound { Writable form }
-    requires z_in_bounds { at + length (number_text form z) ≤ length dst.old }
+    requires writable { Writable form }
+    requires room { at + length (number_text form z) ≤ length dst.old }
     ensures { Written dst.old at (number_text form z) dst.new result }
 {
     let end = at + number_size(form, z);

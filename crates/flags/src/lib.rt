@@ -1,4 +1,4 @@
-// The flag table, the only place that knows a flag's columns.
+// The flag table, the only place that knows a flag's columns. The casts by `as` lose nothing: usize and u64 both have 64 bits.
 #![tactic(auto)]
 
 ghost use Rattle.std.specs.Prelude.{◌≡◌};
@@ -29,8 +29,11 @@ impl Column {
     }
 }
 
+// A table of that many rows and columns: the array of arrays that the project names, as a user lends it.
+pub type Table = [[bool; COLUMNS]; FLAGS];
+
 // The table.
-pub const TABLE: [[bool; COLUMNS]; FLAGS] = [
+pub const TABLE: Table = [
     [true, false, false, false, true, true],
     [true, true, true, false, true, true],
     [false, false, false, true, true, false],
@@ -49,7 +52,7 @@ pub fn entry_of(flag: u64, column: Column) -> bool
 // What a table has for a flag in a column, row by row: of a table that is known only tests of the flag are left. By index, the form
 // that the project names and in which a lent table is read, an order's pass takes 7 % more instructions.
 #[tactic(auto, using(std::proofs::lemmas::Bool::Decides::nat_tests), unfolding(crate::specs::Table::entry_in))]
-fn entry_by_row(table: &[[bool; COLUMNS]; FLAGS], flag: u64, column: usize) -> bool
+fn entry_by_row(table: &Table, flag: u64, column: usize) -> bool
     ensures { result ≡ entry_in table.now flag column }
 {
     column < COLUMNS
@@ -62,7 +65,7 @@ fn entry_by_row(table: &[[bool; COLUMNS]; FLAGS], flag: u64, column: usize) -> b
 // The same of a table that is lent, by flag and column, the form that the project names. A column by its place, as a text's table of
 // columns has it; false past either end.
 #[tactic(auto, using(std::proofs::lemmas::Bool::Decides::nat_tests), unfolding(crate::specs::Table::entry_in))]
-pub fn entry_in(table: &[[bool; COLUMNS]; FLAGS], flag: u64, column: usize) -> bool
+pub fn entry_in(table: &Table, flag: u64, column: usize) -> bool
     ensures { result ≡ entry_in table.now flag column }
 {
     flag < FLAGS as u64 && column < COLUMNS && table[flag as usize][column]

@@ -13,17 +13,13 @@ use Rattle.digits.specs.declared.Form.{Form}
 use Rattle.digits.specs.Digits.{plain, signed_text, blanks_left, number_text}
 use Rattle.digits.specs.Fits.{Fits}
 use Rattle.digits.specs.Written.{put}
-use Rattle.digits.proofs.Put.{put-length, written_then, growing_again}
+use Rattle.digits.proofs.Put.{put-length, growing_again}
 use Rattle.digits.proofs.Trip.{number_width}
 use Rattle.digits.proofs.Write.{blanks-put}
 use Rattle.text_rules.specs.declared.Column.{Column}
 use Rattle.text_rules.specs.Columns.{number_form, column_form}
 use Rattle.text_rules.proofs.Well.{WellColumn}
 use Rattle.text_cells_writing.specs.Cells.{used_text}
-
--- a text written behind another
-pub put_put : (d : List ℕ) (at : ℕ) (xs ys : List ℕ) → at + length xs + length ys ≤ length d → put (put d at xs) (at + length xs) ys ≡ put d at (xs ++ ys)
-put_put d at xs ys h = (written_then {d = d} {at = at} {xs = xs} {ys = ys} (record { bytes = refl; next = refl }) (record { bytes = refl; next = refl }) h).bytes
 
 -- a cell of a line with its bar
 module _ (d : List ℕ) (at : ℕ) (xs : List ℕ) (room : at + length xs < length d) where
@@ -95,3 +91,6 @@ module _ (c : Column) (n : ℕ) (d : List ℕ) (at : ℕ) (room : at + c.width <
         (ap (λ (x : List ℕ). set x (at + c.width) 124) (part-put d at s (omega (arith, part_long)) {k = at + c.width - at} (omega (arith, part_long)))
         ∙ bar_put d at s (omega (arith, part_long)) (omega (arith, part_long))
         ∙ ap (λ (x : List ℕ). put d at (x ++ 124 ∷ [])) number)
+
+-- words with their bar
+pub ruleset words_put = (put-length, bar_put)

@@ -25,35 +25,33 @@ fn put_number(cell: &mut [u8], column: Column, n: u64)
 // Writes a number into its place in a line, where the column is used, and the bar behind it. `used` and no Option: the run has the
 // column's number either way.
 #[tactic(auto, using(crate::proofs::Cells::unused_put, crate::proofs::Cells::used_put, text_rules::proofs::Well::column_facts))]
-pub fn put_cell(line: &mut [u8], at: usize, column: Column, used: bool, n: u64)
-    requires column_value { (column_well column ≡ true) × (at + column.width < length line.old) }
-    requires line_value { take column.width (drop at line.old) ≡ replicate column.width 32 }
+pub fn put_cell(rows: &mut [u8], at: usize, column: Column, used: bool, n: u64)
+    requires column_value { (column_well column ≡ true) × (at + column.width < length rows.old) }
+    requires cell_value { take column.width (drop at rows.old) ≡ replicate column.width 32 }
     requires fits { used ≡ true → Fits (number_form column) (plain n) }
-    ensures { line.new ≡ put line.old at (used_text used column n) }
+    ensures { rows.new ≡ put rows.old at (used_text used column n) }
 {
     let e = at + column.width;
-    if !used {
-        line[e] = text_rules::BAR;
-        return;
+    if used {
+        put_number(&mut rows[at..e], column, n);
     }
-    put_number(&mut line[at..e], column, n);
-    line[e] = text_rules::BAR;
+    rows[e] = text_rules::BAR;
 }
 
 // Writes words into their place in a line, and the bar behind them.
-#[tactic(auto, using(crate::proofs::Cells::put_put))]
-pub fn put_words(line: &mut [u8], at: usize, words: &[u8])
-    requires { at + length words.now < length line.old }
-    ensures { line.new ≡ put line.old at (words.now ++ 124 ∷ []) }
+#[tactic(auto, using(crate::proofs::Cells::words_put))]
+pub fn put_words(rows: &mut [u8], at: usize, words: &[u8])
+    requires { at + length words.now < length rows.old }
+    ensures { rows.new ≡ put rows.old at (words.now ++ 124 ∷ []) }
 {
-    let e = digits_put::put_bytes(line, at, words);
-    digits_put::put_byte(line, e, text_rules::BAR);
+    let bar = digits_put::put_bytes(rows, at, words);
+    rows[bar] = text_rules::BAR;
 }
 
 // Writes the end of a line.
-pub fn put_end(line: &mut [u8], at: usize)
-    requires { at + 2 ≤ length line.old }
-    ensures { line.new ≡ put line.old at (13 ∷ 10 ∷ []) }
+pub fn put_end(rows: &mut [u8], at: usize)
+    requires { at + 2 ≤ length rows.old }
+    ensures { rows.new ≡ put rows.old at (13 ∷ 10 ∷ []) }
 {
-    digits_put::put_bytes(line, at, b"\r\n");
+    digits_put::put_bytes(rows, at, b"\r\n");
 }

@@ -1,16 +1,15 @@
 -- A number right in its column: behind its blanks it stands with no sign, and is too short for the cap.
 use Rattle.std.proofs.lemmas.Grind.{common_steps}
-use Prim.Native.Nat.{ℕ, ◌-◌, ◌^◌, ◌≤◌}
+use Prim.Native.Nat.{ℕ, ◌^◌, ◌≤◌}
 use mathlib.Core.Path.{◌≡◌, refl, ◌∙◌}
 use mathlib.Core.Bool.{Bool, true}
 use mathlib.Core.List.{List}
 use native.Mathlib.Nat.{pow-le-pow_right}
 use native.Mathlib.Omega.{arith}
-use lib.ListN.{length, take, drop}
+use lib.ListN.{length, drop, length-drop}
 use Rattle.std.specs.Prelude.{Option, None}
 use Rattle.digits.specs.declared.Form.{Form}
 use Rattle.digits.specs.Digits.{blanks, cap, is_plain, plain_size, has_minus, is_signed, signed_figure, trimmed_by, trimmed, is_number, figure_of, size_reading}
-use Rattle.std.proofs.lemmas.List.{take_rest}
 use Rattle.text_rules.specs.declared.Column.{Column}
 use Rattle.text_rules.specs.Columns.{column_form}
 use Rattle.text_rules.specs.Well.{most_width}
@@ -24,17 +23,14 @@ number_bare : (c : Column) (s : List ℕ)
 unfolding number_size right_form is_number figure_of trimmed trimmed_by is_signed signed_figure has_minus is_plain plain_size
 number_bare c s = refl
 
--- what stands behind the blanks, as the code has it
-module _ (s : List ℕ) (b : ℕ) where
-  abbrev rest : List ℕ
-  rest = take (length s - b) (drop b s)
+-- the same of the field that the code reads
+module _ (s : List ℕ) {r : List ℕ} (behind : r ≡ drop (blanks s) s) where
+  pub rest_few : length s ≤ most_width → 10 ^ length r ≤ cap
+  rest_few h = grind (arith, common_steps, behind, length-drop, pow-le-pow_right)
 
-  pub rest_few : length s ≤ most_width → 10 ^ length rest ≤ cap
-  rest_few h = grind (arith, common_steps, take_rest, pow-le-pow_right)
-
-  pub cell_number : (c : Column) → b ≡ blanks s → {used : Bool} → used ≡ true → {f : Form} → f ≡ column_form c None
-      → {r : Option ℕ} → r ≡ size_reading (is_plain f rest) (plain_size f rest) → r ≡ cell_size used c.digits c.decimals s
+  pub cell_number : (c : Column) → {used : Bool} → used ≡ true → {f : Form} → f ≡ column_form c None
+      → {n : Option ℕ} → n ≡ size_reading (is_plain f r) (plain_size f r) → n ≡ cell_size used c.digits c.decimals s
   unfolding cell_size
-  cell_number c first u is e = e ∙ rw (is, take_rest s b, first, u) (number_bare c s)
+  cell_number c u is e = e ∙ rw (is, behind, u) (number_bare c s)
 
 pub ruleset cells = (cell_blank, rest_few, cell_number)

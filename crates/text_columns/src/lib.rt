@@ -9,7 +9,7 @@ ghost use Rattle.text_columns.specs.Read.{cell_size};
 
 use text_rules::{BAR, Column, Columns};
 
-// Whether the line has its width and its bars.
+// Whether the line has its width and its bars. `width` is the columns', added up once for all lines by `text_lines::row_count`.
 #[tactic(auto, using(crate::proofs::Columns::bars))]
 pub fn is_row(columns: &Columns, width: usize, line: &[u8]) -> bool
     requires { width ≡ line_width columns.now }
@@ -45,7 +45,7 @@ fn read_blanks(s: &[u8]) -> Option<u64>
 }
 
 // The number of a column; 0 for its blanks where it is not used, as the flag table says. Its form has no width: the blanks are passed
-// over here.
+// over here. `used` and no Option, as in `text_cells_writing::put_cell`: it is what the flag table says of the line, which the caller has.
 #[tactic(auto, using(crate::proofs::Numbers::cells))]
 pub fn read_cell(column: Column, used: bool, s: &[u8]) -> Option<u64>
     requires { length s.now ≤ most_width }
@@ -54,7 +54,6 @@ pub fn read_cell(column: Column, used: bool, s: &[u8]) -> Option<u64>
     if !used {
         return read_blanks(s);
     }
-    let b = digits_scan::leading_blanks(s);
     // A column is too narrow for the cap.
-    digits_reading::read_plain::<false>(column.form(None), &s[b..])
+    digits_reading::read_plain::<false>(column.form(None), digits_scan::trimmed(s))
 }

@@ -9,7 +9,10 @@ ghost use Rattle.text_rules.specs.Reading.{wrong_line};
 ghost use Rattle.text_head.specs.Head.{field_reading, line_passed, shape_found, fields_found};
 
 use digits::Figure;
-use text_rules::{Field, Fields, MOST_FIELDS, ValueKind};
+use text_rules::{Field, Fields, LINE_END, MOST_FIELDS, ValueKind};
+
+// Code reads the place of a fault and the figures of a head that has none. The rest is for the contracts, which say what is found where
+// there is a fault too (`shape_found`, `fields_found`).
 
 // The first wrong line of the head, counted from 0, and its place.
 #[derive(Clone, Copy, PartialEq, Eq, Debug)]
@@ -69,11 +72,9 @@ fn pass_line<F: FnOnce(&[u8]) -> bool>(
         → result ≡ line_passed said text.now k at }
 {
     let wrong = WrongLine { line: k, place: at };
-    let Some(line) = lines::first_line(&text[at..]) else {
-        return Err(wrong);
-    };
+    let line = lines::first_line(&text[at..]).ok_or(wrong)?;
     if test(line) {
-        Ok(at + (line.len() + 2))
+        Ok(at + (line.len() + LINE_END))
     } else {
         Err(wrong)
     }
@@ -105,7 +106,7 @@ pub fn head_fields(fields: &Fields, text: &[u8]) -> Result<HeadFields, WrongFiel
 {
     let table = fields.table();
     let mut figures = [Figure::from(0u64); MOST_FIELDS];
-    let mut at = lines::first_line(text).unwrap().len() + 2;
+    let mut at = lines::first_line(text).unwrap().len() + LINE_END;
     for (k, field) in table.iter().enumerate() {
         let line = lines::first_line(&text[at..]).unwrap();
         let start = field.name.len() + 1;
@@ -117,7 +118,7 @@ pub fn head_fields(fields: &Fields, text: &[u8]) -> Result<HeadFields, WrongFiel
             });
         };
         figures[k] = figure;
-        at += line.len() + 2;
+        at += line.len() + LINE_END;
     }
     Ok(HeadFields { place: at, figures })
 }

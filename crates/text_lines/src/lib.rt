@@ -34,7 +34,8 @@ pub fn is_opening(line: &[u8]) -> bool
     letters_of(line).is_some()
 }
 
-// The letters of a text's first line, as that part of it; nothing where the line is another.
+// The letters of a text's first line, as that part of it; nothing where the line is another. No Option: it goes on to C as a place and a
+// length.
 #[tactic(auto, using(crate::proofs::Opening::letters_open, crate::proofs::Opening::letters_other, crate::proofs::Opening::letters_said))]
 pub fn letters(text: &[u8]) -> &[u8]
     ensures { result.now ≡ letters_read text.now }

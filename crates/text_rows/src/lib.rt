@@ -41,7 +41,7 @@ pub fn words_fault(rows: &[u8], pitch: usize, from: usize, width: usize) -> Opti
 #[tactic(auto, using(crate::proofs::Turns::used_always))]
 fn is_used<const ALWAYS: bool>(
     used: Use,
-    flags: &[[bool; flags::COLUMNS]; flags::FLAGS],
+    flags: &flags::Table,
     row: &[u8],
     flag_start: usize,
 ) -> bool

@@ -11,10 +11,12 @@ use text_rules::{Column, LineForm, Taken};
 
 // `count`, which is ghost in each contract, is how many lines the numbers, the words and the bytes are of. No code takes it.
 
-// Writes a column of numbers into so many lines. `taken` is what the columns before it take, and `line` what all take. They come beside
-// the column: these are private steps of one call, and each would take a struct of them apart.
+// Writes a column of numbers into so many lines. `taken` is what the columns before it take, and `line` what all take. By its
+// parts, and not by the form and the column's number as `text_rows` reads: so the contracts speak of one column alone, by one
+// definition (`lines_put`) for numbers, words and ends. The lengths are asked in each: they tie `rows`, which is lent for writing, to
+// runs that are only read.
 fn put_numbers_column(
-    flags: &[[bool; flags::COLUMNS]; flags::FLAGS],
+    flags: &flags::Table,
     column: Column,
     taken: Taken,
     line: Taken,
@@ -69,7 +71,7 @@ fn put_ends(line: Taken, rows: &mut [u8])
 }
 
 // Writes every column into the lines, which hold only blanks. `line` is what a whole line takes.
-#[tactic(auto, using(crate::proofs::Rows::rows_start, crate::proofs::Rows::rows_all))]
+#[tactic(auto, using(crate::proofs::Rows::rows_start, crate::proofs::Rows::rows_all, text_rules::proofs::Placed::before_first))]
 fn put_columns(form: &LineForm, line: Taken, run: &[u64], texts: &[u8], rows: &mut [u8])
     ghost count: { ℕ }
     requires table_ready { TableReady form.now.columns form.now.flag_at line }
@@ -80,7 +82,7 @@ fn put_columns(form: &LineForm, line: Taken, run: &[u64], texts: &[u8], rows: &m
     let columns = form.columns();
     let flags = form.flags();
     let flag_place = form.before_flag().numbers;
-    let mut taken = columns.taken_before(0);
+    let mut taken = Taken::default();
     for (k, column) in columns.table().iter().enumerate() {
         if column.used.is_text() {
             put_words_column(column.width, taken, line, texts, rows);

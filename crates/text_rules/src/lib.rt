@@ -29,7 +29,7 @@ impl Use {
 
     // Whether a column that is not for text has a number in a line with that flag.
     #[tactic(auto, unfolding(crate::specs::Columns::used_by))]
-    pub fn has_number(self, flags: &[[bool; flags::COLUMNS]; flags::FLAGS], flag: u64) -> bool
+    pub fn has_number(self, flags: &flags::Table, flag: u64) -> bool
         ensures { result ≡ used_by flags.now flag self }
     {
         match self {
@@ -197,7 +197,7 @@ impl<'a> Columns<'a> {
 pub struct LineForm<'a> {
     columns: Columns<'a>,
     flag_at: usize,
-    flags: &'a [[bool; flags::COLUMNS]; flags::FLAGS],
+    flags: &'a flags::Table,
 }
 
 impl<'a> Model for LineForm<'a> {
@@ -212,11 +212,7 @@ impl<'a> Model for LineForm<'a> {
 }
 
 impl<'a> LineForm<'a> {
-    pub fn new(
-        columns: &'a [Column],
-        flag_at: usize,
-        flags: &'a [[bool; flags::COLUMNS]; flags::FLAGS],
-    ) -> Self
+    pub fn new(columns: &'a [Column], flag_at: usize, flags: &'a flags::Table) -> Self
         requires { (columns_well columns.now ≡ true) × (flag_at < length columns.now) }
         ensures { result ≡ line_form columns.now flag_at flags.now }
     {
@@ -245,7 +241,7 @@ impl<'a> LineForm<'a> {
         self.columns.table()[k]
     }
 
-    pub fn flags(&self) -> &[[bool; flags::COLUMNS]; flags::FLAGS]
+    pub fn flags(&self) -> &flags::Table
         ensures { result.now ≡ self.now.flags }
     {
         self.flags
@@ -333,11 +329,11 @@ pub const END: &[u8] = b"ENDENDEND";
 pub const LETTERS_START: usize = OPENING.len();
 
 // How many bytes these lines take with their ends, the first beside its letters.
-pub const OPENING_REST: usize = OPENING.len() + CLOSING.len() + 2;
+pub const OPENING_REST: usize = OPENING.len() + CLOSING.len() + LINE_END;
 
-pub const TAG_SIZE: usize = TAG.len() + 2;
+pub const TAG_SIZE: usize = TAG.len() + LINE_END;
 
-pub const END_SIZE: usize = END.len() + 2;
+pub const END_SIZE: usize = END.len() + LINE_END;
 
 // What stands behind each column.
 pub const BAR: u8 = b'|';

@@ -7,5 +7,4 @@ pub returns-then-is_none : goal.returns-then-is_none
 returns-then-is_none c = c.read_signed.ensures ∙ number_plain _ _ (search rules)
 
 pub returns : goal.returns
-returns c =
-    c.read_signed-2.ensures ∙ number_right _ _ _ (search rules) c.leading_blanks-b.ensures.0
+returns c = c.read_signed-2.ensures ∙ rw c.trimmed.ensures (number_right _ _ (search rules))

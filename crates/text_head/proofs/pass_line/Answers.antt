@@ -5,8 +5,10 @@ use Rattle.text_head.proofs.pass_line.Goals as goal
 
 pub returns-then-test : goal.returns-then-test
 returns-then-test g c =
-    λ said f. passed_on said _ _ _ c.in-Some.ensures.line.0 _ c.in-Some.ensures.line.1 _ (f _ _ (_, c.test.ensures, refl)) c.if-test.true
+    let line = (rw c.in_ok-line.ensures.ok_part at c.first_line.ensures).line in
+    λ said f. passed_on said _ _ _ line.0 _ line.1 _ (f _ _ (_, c.test.ensures, refl)) c.if-test.true
 
 pub returns-else-test : goal.returns-else-test
 returns-else-test g c =
-    λ said f. passed_other said _ _ _ c.in-Some.ensures.line.0 _ c.in-Some.ensures.line.1 _ (f _ _ (_, c.test.ensures, refl)) c.if-test.false
+    let line = (rw c.in_ok-line.ensures.ok_part at c.first_line.ensures).line in
+    λ said f. passed_other said _ _ _ line.0 _ line.1 _ (f _ _ (_, c.test.ensures, refl)) c.if-test.false

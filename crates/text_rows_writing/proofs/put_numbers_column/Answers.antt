@@ -40,7 +40,7 @@ put_cell-requires g c =
     let below = piece_below p.1.0.0 (omega (arith, p.1.0.1)) (chunk_room _ _ v.0 _ _ step.0.1) in
     record {
       column_value = (p.0.0, rw (step.1, c.pitch-pitch.ensures) (omega (arith, put_here v.1 below, p.0.1)));
-      line_value = rw (step.1, c.pitch-pitch.ensures) (put_later v.1 below _ p.0.1 ∙ p.1.1.0.1 _ below);
+      cell_value = rw (step.1, c.pitch-pitch.ensures) (put_later v.1 below _ p.0.1 ∙ p.1.1.0.1 _ below);
       fits = number_fits _ _ _ _ _ _ _ (chunk_is _ _ v.0 _ _ step.0.1) p.1.0.1 p.1.0.2 c.has_number-used.ensures p.1.1.1 below;
     }
 
