@@ -1,7 +1,7 @@
 // The fund and its components, and the tests of refusals 2 and 3. The casts by `as` lose nothing: usize and u64 both have 64 bits.
 #![tactic(auto)]
 
-ghost use Rattle.std.specs.Prelude.{◌≡◌, ◌*◌, ◌≤◌, ◌<◌, length};
+ghost use Rattle.std.specs.Prelude.{◌≡◌, ◌*◌, ◌≤◌, length};
 ghost use Rattle.sequences.specs.Below.{below};
 ghost use Rattle.fund.specs.Fund.{cash_in_range, limit_in_range, limits_in_range, fund_in_range, limit_number};
 ghost use Rattle.layout.specs.Places.{most_components, component_width};
@@ -39,7 +39,7 @@ pub fn cash_in_range(e: i64) -> bool
     (-999_999_999..=9_999_999_999).contains(&e)
 }
 
-#[tactic(auto, using(std::proofs::lemmas::Bool::Decides::nat_tests), unfolding(crate::specs::Fund::limit_in_range, sequences::specs::Every::every))]
+#[tactic(auto, unfolding(crate::specs::Fund::limit_in_range, sequences::specs::Every::every))]
 fn limit_in_range(size: u64, limit: u64) -> bool
     ensures { result ≡ limit_in_range size limit }
 {

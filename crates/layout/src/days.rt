@@ -3,7 +3,7 @@ ghost use Rattle.std.specs.Prelude.{◌≡◌, ◌-◌, ◌≤◌, ◌<◌, ◌+
 ghost use Rattle.digits.specs.Digits.{cap};
 ghost use Rattle.layout.specs.Places.{most_components, basket_width, day_width};
 ghost use Rattle.layout.specs.Components.{blank, component_at, places_of};
-ghost use Rattle.layout.specs.Day.{Day, day_of, day_at, day_numbers};
+ghost use Rattle.layout.specs.Day.{Day, day_at, day_numbers};
 
 use crate::basket::component_at;
 use crate::funds::{fund_of, put_fund};

@@ -13,7 +13,7 @@ use std::array;
 use units::Rate;
 
 // A signed number, of a sign and a size.
-#[tactic(auto, using(std::proofs::lemmas::Bool::Decides::nat_tests, digits::proofs::Read::capped_within), unfolding(crate::specs::Fund::signed_at, digits::specs::Digits::capped))]
+#[tactic(auto, unfolding(crate::specs::Fund::signed_at, digits::specs::Digits::capped))]
 pub fn signed_at(run: &[u64], at: usize) -> i64
     requires { at + 2 ≤ length run.now }
     ensures { result ≡ signed_at run.now at }

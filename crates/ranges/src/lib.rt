@@ -26,7 +26,7 @@ pub fn is_investor(accounts: usize, a: usize) -> bool
 }
 
 // Whether so many units are a whole count of baskets from 1 to the most. A size above 0 is a clause: the count is divided by it.
-#[tactic(auto, using(std::proofs::lemmas::Bool::Decides::nat_tests), unfolding(sequences::specs::Every::every))]
+#[tactic(auto, unfolding(sequences::specs::Every::every))]
 pub fn whole_baskets(size: u64, units: u64) -> bool
     requires { 0 < size }
     ensures { result ≡ every (eqb (units % size) 0 ∷ inside 1 most_baskets (units / size) ∷ []) }
