@@ -1,9 +1,10 @@
 // Writes the head of a text, line by line, by a table of fields that is lent.
 #![tactic(auto)]
 
-ghost use Rattle.std.specs.Prelude.{◌≡◌, true, ◌++◌, ◌+◌, ◌≤◌, length, unwrap_or};
+ghost use Rattle.std.specs.Prelude.{◌≡◌, true, ◌++◌, ◌+◌, ◌≤◌, length};
 ghost use Rattle.digits.specs.Digits.{number_text};
 ghost use Rattle.digits.specs.Written.{Written};
+ghost use Rattle.digits_writing.specs.Writable.{Writable};
 ghost use Rattle.lines.specs.Lines.{line_text};
 ghost use Rattle.text_rules.specs.Tables.{field_of};
 ghost use Rattle.text_rules.specs.Head.{opening_word, closing_word, field_line, most_letters, opening_rest};
@@ -19,7 +20,7 @@ fn field_size(field: &Field, z: Figure) -> usize
     requires { field_well (field_of field.now) ≡ true }
     ensures { (result ≡ length (line_text (field_line (field_of field.now) z))) × (result ≤ most_head_line) }
 {
-    field.name.len() + (digits_writing::number_size(field.form, z) + 3)
+    field.name.len() + (digits_writing::number_size(field.form, z) + (1 + text_rules::LINE_END))
 }
 
 // How many bytes the head takes.
@@ -54,7 +55,7 @@ impl<'a> Out<'a> {
 
     // Writes a number.
     fn put_number(&mut self, form: Form, z: Figure)
-        requires form_value { (form.decimals ≤ 9) × (unwrap_or form.digits 0 ≤ 20) }
+        requires form_value { Writable form }
         requires room { Fits (number_text form z) self.old }
         ensures { self.new ≡ wrote (number_text form z) self.old }
     {

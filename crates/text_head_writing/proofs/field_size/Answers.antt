@@ -6,11 +6,11 @@ use Rattle.text_head_writing.proofs.field_size.Goals as goal
 pub number_size-requires : goal.number_size-requires
 number_size-requires c = number_made _ c.args.z c.requires
 
-pub overflow_add-result : goal.overflow_add-result
-overflow_add-result c = record { fits = omega (arith, field_size _ c.args.z c.requires, field_short _ c.args.z c.requires, c.number_size.ensures) }
-
 pub overflow_add-result-2 : goal.overflow_add-result-2
 overflow_add-result-2 c = record { fits = omega (arith, field_size _ c.args.z c.requires, field_short _ c.args.z c.requires, c.number_size.ensures) }
+
+pub overflow_add-result-3 : goal.overflow_add-result-3
+overflow_add-result-3 c = record { fits = omega (arith, field_size _ c.args.z c.requires, field_short _ c.args.z c.requires, c.number_size.ensures) }
 
 pub returns : goal.returns
 returns c =
