@@ -9,12 +9,12 @@ use Rattle.digits.specs.Digits.{fixed, tens, decimal}
 use Rattle.digits.specs.Written.{put, Written}
 use Rattle.digits.proofs.Count.{fixed-length, Passed, passed_start, passed_again, passed_end, FixedFrom, fixed_start, fixed_again, fixed_end}
 
--- one place to the left, between the start a and the length d e
+-- one place to the left, between the start a and the end e
 one_left : (a i e : ℕ) → a < i → i < e
     → (e - suc (i - 1) ≡ e - suc i + 1) × (suc (i - 1) - a ≡ suc i - a - 1) × (a ≤ i - 1) × (i - 1 < e)
 one_left a i e h l = (omega arith, omega arith, omega arith, omega arith)
 
--- where n starts that ends at the end of d
+-- where n starts that ends d
 abbrev start_of : List ℕ → ℕ → ℕ
 start_of d n = length d - suc (tens n)
 

@@ -55,7 +55,7 @@ impl<'a> Out<'a> {
 
     // Writes a number.
     fn put_number(&mut self, form: Form, z: Figure)
-        requires form_value { Writable form }
+        requires writable { Writable form }
         requires room { Fits (number_text form z) self.old }
         ensures { self.new ≡ wrote (number_text form z) self.old }
     {

@@ -9,7 +9,7 @@ put-requires-2 c = fits_first _ (fits_next _ c.put.ensures (fits_as (field_parts
 pub put_number-requires : goal.put_number-requires
 put_number-requires c =
     let equals = fits_next _ c.put.ensures (fits_as (field_parts _ c.args.z) c.requires.room) in
-    record { form_value = number_made _ c.args.z c.requires.well; room = fits_first _ (fits_next _ c.put-2.ensures equals) }
+    record { writable = number_made _ c.args.z c.requires.well; room = fits_first _ (fits_next _ c.put-2.ensures equals) }
 
 pub put-requires-3 : goal.put-requires-3
 put-requires-3 c =
