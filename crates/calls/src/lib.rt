@@ -1,4 +1,5 @@
-// Refusal 5: a call looks at its day first. A run of another length than a day's is the blank day, which is not sound.
+// Refusal 5: a call looks at its day first. A run of another length than a day's is the blank day, which is not sound. Day, book and prices
+// are parameters of their own, as in `day`.
 #![tactic(auto)]
 
 ghost use Rattle.std.specs.Prelude.{◌≡◌, true, false, MatchOption, OnOk, IfOk, IfErr};

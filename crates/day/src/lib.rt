@@ -1,8 +1,8 @@
 // The calls of the day. Each takes any day, book, prices and numbers, and a refusal, by the paper's numbers, changes nothing. The day is
 // a lent run of numbers, which `day_at` reads; a run of another length than a day's is not sound.
 // Day, book and prices are three parameters, since a price writes the prices alone, and a trade or an order the book alone: one struct of
-// them would lend more for writing. `create` and `redeem` are the paper's calls, one function for both is in `order_calls`; `open` takes
-// its parts one by one, as the C interface gives them.
+// them would lend more for writing. `create`, `redeem` and the tests of each are the paper's calls, and one function for both is in
+// `order_calls`; `open` takes its parts one by one, as the C interface gives them.
 #![tactic(auto)]
 
 ghost use Rattle.std.specs.Prelude.{◌≡◌};

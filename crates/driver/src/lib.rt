@@ -14,8 +14,8 @@ use driver_rows::Work;
 use layout::DayView;
 use rules::Refusal;
 
-// Whether the rows are whole and have an answer each. Measured here and then cut: with `as_chunks` alone, its rest and its count tested, a
-// trade in a list took 131 instructions and 9.6 ns, and so 130 and 8.8.
+// Whether the rows are whole and have an answer each, as the definition says it. Measured here and then cut: with `as_chunks` alone, its
+// rest and its count tested, a trade in a list took 131 instructions and 9.6 ns, and so 130 and 8.8.
 #[tactic(auto, unfolding(crate::specs::Batch::rows_fit, sequences::specs::Every::every))]
 fn rows_fit(rows: usize, answers: usize) -> bool
     ensures { result ≡ rows_fit rows answers }

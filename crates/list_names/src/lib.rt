@@ -30,7 +30,8 @@ pub fn name_place(text: &[u8], first: usize, j: usize) -> TextPart
 }
 
 // That name, as the part of the text, without looking at the text's lines: `first` is where reading found the first component line. With
-// another place it is the name that a component line from there on would have. No Option: it goes on to C as a place and a length.
+// another place it is the name that a component line from there on would have. No Option: a part of the caller's text is the form that the
+// project names, and the empty one is what `name_from` says.
 #[tactic(auto, unfolding(list_rules::specs::Reading::name_from, list_rules::specs::Reading::part_in))]
 pub fn name_from(text: &[u8], first: usize, j: usize) -> &[u8]
     ensures { result.now ≡ name_from text.now first j }

@@ -109,7 +109,8 @@ pub fn letters_place(text: &[u8]) -> TextPart
     }
 }
 
-// The name of component j, as that part of the text; an empty part where the text has no such component line.
+// The name of component j, as that part of the text; an empty part where the text has no such component line. No Option: a part of the
+// caller's text is the form that the project names, and the empty one is what `name_read` says.
 #[tactic(auto, using(std::proofs::lemmas::Bool::Decides::nat_tests), unfolding(list_rules::specs::Reading::name_read))]
 pub fn name(text: &[u8], j: usize) -> &[u8]
     ensures { result.now ≡ name_read text.now j }

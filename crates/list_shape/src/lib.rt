@@ -1,4 +1,5 @@
 // The lines of a list text in the Shanghai form and its head: refusals 18, 19 and 20 there, and where the component lines stand.
+// The casts by `as` lose nothing: usize and u64 both have 64 bits.
 #![tactic(auto)]
 
 ghost use Rattle.std.specs.Prelude.{◌≡◌, ◌≤◌, length};

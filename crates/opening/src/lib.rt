@@ -34,10 +34,11 @@ fn line_over(lines: &[u64]) -> Option<usize>
 }
 
 // `count ≤ most_components` stands in the contracts: refusal 1's test says it of any number, and what is given is a caller's, so that a
-// type that carries it would be made between the two.
+// type that carries it would be made between the two. Holdings, accounts and count come one by one from here on, and not as `Given`: what
+// is asked is of these three alone, and in `open_book` the accounts are for the contract, which says how many stretches there are.
 
 // Refusal 4 by the totals of the holdings' rows, cash first and the unit last, and the fund's units: the lowest place that is over its
-// limit, a line, of which `count` is the unit, or one past it for cash.
+// limit, a line, of which `count` is the unit, or one past it for cash. `count` is beside the totals for these two places.
 fn first_over(totals: &[u64], units: u64, count: usize) -> Option<usize>
     requires { (count ≤ most_components) × (length totals.now ≡ count + 2) }
     ensures { result ≡ below (count + 2) (total_fault count (totals_in totals.now units)) }

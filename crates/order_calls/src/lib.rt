@@ -1,6 +1,6 @@
 // Orders on any day, made or only tested: 5 where the day is not sound, or what the core answers. The tests alone only read. With the
 // rooms of the three lists they give the answer that the order would give on lists with such rooms, 5 and 16 among it;
-// `order_foretold` has that as theorems.
+// `order_foretold` has that as theorems. Day, book and prices are parameters of their own, as in `day`.
 #![tactic(auto)]
 
 ghost use Rattle.std.specs.Prelude.{◌≡◌};

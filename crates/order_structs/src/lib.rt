@@ -47,7 +47,8 @@ fn flat_order(
     order_calls::order(day, book, prices, ask, &mut lists)
 }
 
-// Creates or redeems units, by the kind of order; the records and the reports to both parties go to the lent lists.
+// Creates or redeems units, by the kind of order; the records and the reports to both parties go to the lent lists. These one by one: tried
+// as a struct, which behind `&mut` could not be taken apart into `rules::Lists`.
 #[tactic(auto, using(crate::proofs::Laws::front_laws), unfolding(crate::specs::Made::made_records, crate::specs::Made::made_reports, rules::specs::Kinds::asked_lists, rules::specs::Lent::with_order, sequences::specs::Checks::is_accepted))]
 pub fn order(
     day: &[u64],

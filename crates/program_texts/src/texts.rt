@@ -1,4 +1,5 @@
 // Items that are texts: each is read, what reading answers and leaves is printed, and a list that was read is written again.
+// The casts by `as` lose nothing: usize and u64 both have 64 bits.
 use crate::read_text::ReadText;
 use program_io::fault::Fault;
 use program_io::rows::Row;

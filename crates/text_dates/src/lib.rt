@@ -8,7 +8,7 @@ ghost use Rattle.text_rules.specs.Dates.{is_leap, days_in, is_date};
 fn is_leap(year: u64) -> bool
     ensures { result ≡ is_leap year }
 {
-    year % 4 == 0 && (year % 100 != 0 || year % 400 == 0)
+    year.is_multiple_of(4) && (!year.is_multiple_of(100) || year.is_multiple_of(400))
 }
 
 #[tactic(auto, using(std::proofs::lemmas::Bool::Decides::nat_tests), unfolding(text_rules::specs::Dates::days_in))]

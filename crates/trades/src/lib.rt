@@ -34,7 +34,8 @@ fn price_answer(count: usize, line: usize, price: u64) -> Result<(), Refusal>
     Ok(())
 }
 
-// The price call on a sound day. The price is a number, where a trade has `Money`: a run of prices holds numbers.
+// The price call on a sound day. The price is a number, where a trade has `Money`: a run of prices holds numbers. The count stands beside
+// the prices, since the tests speak of the day's count, which each caller has: by the length each would owe a law.
 #[tactic(auto, using(rules::proofs::Replies::leaves_after, crate::proofs::Laws::priced_line))]
 pub fn set_price(count: usize, prices: &mut [u64], line: usize, price: u64) -> Result<(), Refusal>
     requires { length prices.old ≡ count }
