@@ -134,7 +134,7 @@ fn put_right(field: &mut [u8], form: Form, z: Figure)
     put_signed(field, form, z);
 }
 
-// Writes the number's field into its place, and gives the place behind it, where the next one writes, as `digits_put::put_bytes` does.
+// Writes the number's field into its place, and gives the place behind it.
 #[tactic(auto, using(digits::proofs::Put::written_part, crate::proofs::Sizes::number_sizes))]
 pub fn put_number(dst: &mut [u8], at: usize, form: Form, z: Figure) -> usize
     requires writable { Writable form }

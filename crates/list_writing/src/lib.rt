@@ -47,6 +47,7 @@ fn put_list(checked: &Checked, output: &mut [u8])
     let lines = put_head(checked, output);
     let last = put_lines(checked, output, lines);
     let end = digits_put::put_bytes(output, last, text_rules::END);
+    // The two bytes are spelled where they are written, here and in the crates of a text in any form: a name for them is no shorter.
     digits_put::put_bytes(output, end, b"\r\n");
 }
 

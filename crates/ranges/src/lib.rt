@@ -25,8 +25,7 @@ pub fn is_investor(accounts: usize, a: usize) -> bool
     (1..accounts).contains(&a)
 }
 
-// Whether so many units are a whole count of baskets from 1 to the most. A size above 0 is a clause: it is any
-// number of a run, and each caller would make a `NonZeroU64` for this call alone.
+// Whether so many units are a whole count of baskets from 1 to the most. A size above 0 is a clause: the count is divided by it.
 #[tactic(auto, unfolding(sequences::specs::Every::every))]
 pub fn whole_baskets(size: u64, units: u64) -> bool
     requires { 0 < size }

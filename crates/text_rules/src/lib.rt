@@ -62,7 +62,7 @@ impl Column {
     }
 }
 
-// How many bytes end a line: 0D 0A. The two are spelled where they are written: a name for them is no shorter.
+// How many bytes end a line: 0D 0A.
 pub const LINE_END: usize = 2;
 
 // What some columns take of a line: bytes with their bars, numbers, and bytes of text.
