@@ -64,16 +64,20 @@ pub fn numbered(text: &str, start: &str, middle: &str) -> Refusals {
     refusals
 }
 
-/// The constants of a file that are numbers, or sums and products of numbers
-/// and of other constants, its own or those `below`.
+/// The constants of a file that are numbers, or sums and products of numbers,
+/// of the lengths of its byte strings and of other constants, its own or those
+/// `below`. A byte string stands among the known ones by its length.
 pub fn constants(text: &str, below: &BTreeMap<String, usize>) -> BTreeMap<String, usize> {
     let mut known = below.clone();
     let mut own = BTreeMap::new();
     for line in text.lines().map(|line| line.trim_start_matches("pub ")) {
-        let Some((name, value)) = line
-            .strip_prefix("const ")
-            .and_then(|rest| rest.split_once(": usize = "))
-        else {
+        let Some(constant) = line.strip_prefix("const ") else {
+            continue;
+        };
+        if let Some((name, bytes)) = constant.split_once(": &[u8] = b\"") {
+            known.insert(format!("{name}.len"), bytes.trim_end_matches("\";").len());
+        }
+        let Some((name, value)) = constant.split_once(": usize = ") else {
             continue;
         };
         let value = Sum::new(value.trim_end_matches(';'), &known).value();
@@ -147,6 +151,9 @@ impl<'t> Sum<'t> {
         }
         let word = self.words[self.at];
         self.at += 1;
+        if word.ends_with(".len") {
+            assert!(self.takes("(") && self.takes(")"), "{:?}", self.words);
+        }
         self.word(word)
     }
 
