@@ -22,7 +22,8 @@ pub enum Line {
         short: bool,
         moved: u64,
     },
-    // Stock of which some is missing, for which cash stands: what that is worth, without the premium, and how much moves.
+    // Stock of which some is missing, for which cash stands: how much is missing, which no code reads and the contract says, what that is
+    // worth, without the premium, its cash, and how much moves.
     InCash {
         missing: u64,
         worth: Money,

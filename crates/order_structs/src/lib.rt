@@ -17,6 +17,7 @@ use rules::{Ask, Counts, Lists, MOST_RECORDS, Refusal};
 const FLAT_LENGTH: usize = layout::RECORD_WIDTH * MOST_RECORDS;
 
 // How many records of the flat run are lent: what the list takes, so that the order tests the list's room, and no more than an order has.
+// A function of its own: its contract gives the number the name by which the definitions speak of it.
 #[tactic(auto, unfolding(crate::specs::Room::lent_records))]
 fn records_lent(room: usize) -> usize
     ensures { result ≡ lent_records room }

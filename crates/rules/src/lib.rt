@@ -24,6 +24,8 @@ pub enum Refusal {
     NoSuchLine,
     QuantityOrPrice,
     Account,
+    // 0 in a trade and a redemption, where the paper gives no place. No Option: none and 0 would have one reply, and `order_foretold` says
+    // that two answers with one reply are the same.
     ShortOfStock(usize),
     ShortOfCash,
     NotWholeBaskets,

@@ -16,8 +16,8 @@ use units::{Money, ReferenceValue};
 // The most that a reference value may be.
 const MOST_VALUE: ReferenceValue = ReferenceValue(9_999_999);
 
-// What the value is reckoned from lies in its ranges by `Priceable`, a fact of a sound day: a type that carries it would be made for
-// this one call of a view and its prices.
+// What the value is reckoned from lies in its ranges by `Priceable`, a fact of a sound day and its prices. No type carries it: each caller
+// has the two apart and would make one for its call.
 
 // What a component adds to the sum.
 #[tactic(auto, unfolding(crate::specs::Worth::worth))]
