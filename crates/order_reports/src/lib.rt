@@ -2,14 +2,14 @@
 // written: the first is the unit's, and those of stock follow it.
 #![tactic(auto)]
 
-ghost use Rattle.std.specs.Prelude.{◌≡◌, ◌+◌, ◌-◌, ◌*◌, ◌≤◌, ◌<◌, ◌^◌, length};
+ghost use Rattle.std.specs.Prelude.{◌≡◌, ◌+◌, ◌-◌, ◌*◌, ◌≤◌, ◌<◌, ◌^◌, length, [], ◌∷◌, MatchOption};
 ghost use Rattle.std.proofs.lemmas.List.Edits.{sets};
 ghost use Rattle.sequences.specs.Below.{tabulate};
 ghost use Rattle.layout.specs.Places.{record_width, report_width};
 ghost use Rattle.layout.specs.Laid.{laid};
 ghost use Rattle.layout.specs.Reports.{report_numbers, with_reports};
 ghost use Rattle.rules.specs.Records.{side_number};
-ghost use Rattle.rules.specs.Reports.{cash_groups, cash_number, cash_report, turned, type_number};
+ghost use Rattle.rules.specs.Reports.{cash_number, turned, type_number};
 ghost use Rattle.rules.specs.Kinds.{all_cash, cash_report_count, stock_side, rest_side};
 ghost use Rattle.order_reports.specs.Told.{group_there, told, told_stock, told_cash, told_reports};
 
@@ -50,21 +50,23 @@ fn told(report_type: ReportType, side: Side, r: Record) -> Report
     }
 }
 
-// The report of all cash: Shanghai, then other, which moves up where there is none of Shanghai.
-fn cash_report(side: Side, cash: CashByMarket) -> Report
-    ensures { result ≡ cash_report (side_number side) (cash_groups cash.other.0 cash.shanghai.0) }
+// The report of all cash, none where there is none: Shanghai, then other, which moves up where there is none of Shanghai.
+#[tactic(auto, unfolding(crate::specs::Told::group_there, rules::specs::Reports::cash_groups, rules::specs::Reports::present))]
+fn cash_report(side: Side, cash: CashByMarket) -> Option<Report>
+    ensures { MatchOption result (told_cash (side_number side) cash ≡ []) (λ r. told_cash (side_number side) cash ≡ r ∷ []) }
 {
     let shanghai = group(CashKind::Shanghai, cash.shanghai);
     let other = group(CashKind::Other, cash.other);
-    Report {
+    let first = shanghai.or(other)?;
+    Some(Report {
         report_type: u64::from(ReportType::Cash),
         side: u64::from(side),
         code: 0,
         quantity: 0,
-        first: shanghai.or(other).unwrap_or(NO_GROUP),
+        first,
         second: shanghai.and(other).unwrap_or(NO_GROUP),
         third: NO_GROUP,
-    }
+    })
 }
 
 // The reports of stock, behind the unit's, from the `n` records of stock. By number: chunks of both runs, zipped, would also have to
@@ -81,14 +83,14 @@ fn put_stock(list: &mut [u64], records: &[u64], n: usize, side: Side)
 
 // The report of cash, as the k-th: none where there is no cash. That all cash fits one number stands in six contracts, from
 // `CashByMarket::total` on: two amounts of which each fits are a `CashByMarket` too, and the definitions have such.
+#[tactic(auto, unfolding(layout::specs::Laid::laid))]
 fn put_cash(list: &mut [u64], k: usize, side: Side, cash: CashByMarket)
     requires { (all_cash cash < 2 ^ 64) × (report_width * (k + cash_report_count cash) ≤ length list.old) }
     ensures { list.new ≡ sets list.old (report_width * k) (laid report_numbers (told_cash (side_number side) cash)) }
 {
-    if cash.reports() == 0 {
-        return;
+    if let Some(r) = cash_report(side, cash) {
+        layout::put_report(list, k, r);
     }
-    layout::put_report(list, k, cash_report(side, cash));
 }
 
 // All reports to one party, with `n` of stock: stock on one side and the rest on the other.
