@@ -81,11 +81,10 @@ fn put_stock(list: &mut [u64], records: &[u64], n: usize, side: Side)
     }
 }
 
-// The report of cash, as the k-th: none where there is no cash. That all cash fits one number stands in six contracts, from
-// `CashByMarket::total` on: two amounts of which each fits are a `CashByMarket` too, and the definitions have such.
+// The report of cash, as the k-th: none where there is no cash.
 #[tactic(auto, unfolding(layout::specs::Laid::laid))]
 fn put_cash(list: &mut [u64], k: usize, side: Side, cash: CashByMarket)
-    requires { (all_cash cash < 2 ^ 64) × (report_width * (k + cash_report_count cash) ≤ length list.old) }
+    requires { report_width * (k + cash_report_count cash) ≤ length list.old }
     ensures { list.new ≡ sets list.old (report_width * k) (laid report_numbers (told_cash (side_number side) cash)) }
 {
     if let Some(r) = cash_report(side, cash) {
@@ -95,7 +94,7 @@ fn put_cash(list: &mut [u64], k: usize, side: Side, cash: CashByMarket)
 
 // All reports to one party, with `n` of stock: stock on one side and the rest on the other.
 fn put_reports(list: &mut [u64], records: &[u64], n: usize, stock: Side, cash: CashByMarket)
-    requires { (all_cash cash < 2 ^ 64) × (report_width * (1 + n + cash_report_count cash) ≤ length list.old) × (record_width * (1 + n) ≤ length records.now) }
+    requires { (report_width * (1 + n + cash_report_count cash) ≤ length list.old) × (record_width * (1 + n) ≤ length records.now) }
     ensures { list.new ≡ with_reports (told_reports (side_number stock) (turned (side_number stock)) records.now n cash) list.old }
 {
     let rest = stock.opposite();
@@ -106,7 +105,8 @@ fn put_reports(list: &mut [u64], records: &[u64], n: usize, stock: Side, cash: C
 }
 
 // The reports of an order, so many to each party. The fund's have all sides opposite to the investor's. The runs come one by one, not
-// as `rules::Lists`: the records are only read.
+// as `rules::Lists`: the records are only read. That all cash fits one number stands in four contracts, from `CashByMarket::total` on:
+// two amounts of which each fits are a `CashByMarket` too, and the definitions have such.
 #[tactic(auto, using(rules::proofs::Reports::turned_stock, rules::proofs::Reports::turned_rest))]
 pub fn report(
     kind: Kind,

@@ -5,5 +5,5 @@ use Rattle.order_reports.proofs.put_reports.Goals as goal
 pub returns : goal.returns
 returns c =
     rw (← c.opposite-rest.ensures)
-    (all_stored _ _ _ _ _ _ _ _ _ _ _ c.requires.1 c.record_at-unit.ensures c.told.ensures
+    (all_stored _ _ _ _ _ _ _ _ _ _ _ c.requires.0 c.record_at-unit.ensures c.told.ensures
     c.put_report.ensures c.put_stock.ensures c.put_cash.ensures)
