@@ -1,30 +1,27 @@
--- The groups of cash, and reports stored one behind another.
+-- How many reports cash makes, and reports stored one behind another.
 use mathlib.Core.Path.{◌≡◌, refl, sym, ap, ◌∙◌}
 use mathlib.Core.Bool.{Bool, true, false, cond}
 use mathlib.Core.List.{List, [], ◌∷◌, ◌++◌}
 use Prim.Native.Nat.{ℕ, suc, ◌+◌, ◌*◌, ◌≤◌}
 use native.Mathlib.Omega.{arith}
 use lib.Dec.{eqb}
-use lib.ListN.{length, get_or, length-append}
+use lib.ListN.{length, length-append}
 use lib.Seq.{sets}
 use borrow.Author.Tests.{eqb-true, eq-eqb}
-use Rattle.std.specs.Prelude.{Option, None, Some}
-use Rattle.std.specs.Option.{unwrap_or, option_or, option_and}
 use Rattle.sequences.specs.Below.{tabulate}
 use Rattle.sequences.proofs.Below.{table_length}
 use Rattle.layout.specs.Places.{report_width}
 use Rattle.layout.specs.Laid.{laid}
-use Rattle.layout.specs.declared.Group.{Group}
 use Rattle.layout.specs.declared.Record.{Record}
 use Rattle.layout.specs.declared.Report.{Report}
 use Rattle.layout.specs.Records.{record_at}
-use Rattle.layout.specs.Reports.{group_of, report_numbers, with_reports}
+use Rattle.layout.specs.Reports.{report_numbers, with_reports}
 use Rattle.layout.proofs.Laid.{laid_one, laid_then, laid_more, laid_front}
 use Rattle.rules.specs.declared.CashByMarket.{CashByMarket}
-use Rattle.rules.specs.Reports.{unit_type, stock_type, shanghai_kind, other_kind, no_group, cash_report, present, cash_groups}
+use Rattle.rules.specs.Reports.{unit_type, stock_type, cash_report, present, cash_groups}
 use Rattle.rules.specs.Kinds.{all_cash, cash_report_count}
 use Rattle.rules.proofs.Reports.{cash_count_lem}
-use Rattle.order_reports.specs.Told.{group_there, told, told_stock, told_cash, told_reports}
+use Rattle.order_reports.specs.Told.{told, told_stock, told_cash, told_reports}
 
 -- no cash makes no report, and any makes one
 module _ (c : CashByMarket) where
@@ -51,27 +48,6 @@ module _ (c : CashByMarket) where
       go true p false q = rw (p, q)
       go false p true q = rw (p, q)
       go false p false q = rw (p, q)
-
--- the groups of an order's cash: the first is the first that there is, the second is there where both are, and there is no third
-pub groups_there : (other shanghai : ℕ) (first second : Option Group)
-    → first ≡ option_or (group_there shanghai_kind shanghai) (group_there other_kind other)
-    → second ≡ option_and (group_there shanghai_kind shanghai) (group_there other_kind other)
-    → (get_or (cash_groups other shanghai) 0 no_group ≡ unwrap_or first no_group)
-    × (get_or (cash_groups other shanghai) 1 no_group ≡ unwrap_or second no_group)
-    × (get_or (cash_groups other shanghai) 2 no_group ≡ no_group)
-unfolding cash_groups present group_there
-groups_there other shanghai first second e f = rw (e, f) (go (eqb shanghai 0) (eqb other 0))
-  where
-    go : (a b : Bool)
-        → (get_or (cond a (cond b [] (group_of other_kind other ∷ [])) (group_of shanghai_kind shanghai ∷ cond b [] (group_of other_kind other ∷ []))) 0 no_group
-        ≡ unwrap_or (option_or (cond a None (Some (group_of shanghai_kind shanghai))) (cond b None (Some (group_of other_kind other)))) no_group)
-        × (get_or (cond a (cond b [] (group_of other_kind other ∷ [])) (group_of shanghai_kind shanghai ∷ cond b [] (group_of other_kind other ∷ []))) 1 no_group
-        ≡ unwrap_or (option_and (cond a None (Some (group_of shanghai_kind shanghai))) (cond b None (Some (group_of other_kind other)))) no_group)
-        × (get_or (cond a (cond b [] (group_of other_kind other ∷ [])) (group_of shanghai_kind shanghai ∷ cond b [] (group_of other_kind other ∷ []))) 2 no_group ≡ no_group)
-    go true true = (refl, refl, refl)
-    go true false = (refl, refl, refl)
-    go false true = (refl, refl, refl)
-    go false false = (refl, refl, refl)
 
 -- the report of a component behind those of the components before it
 pub stock_stored : (side : ℕ) (records list before after : List ℕ) (k : ℕ) (r : Record) (t : Report)
