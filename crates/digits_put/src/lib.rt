@@ -1,7 +1,7 @@
 // Puts bytes and digits into a run.
 #![tactic(auto)]
 
-ghost use Rattle.std.specs.Prelude.{◌≡◌, ◌+◌, ◌/◌, ◌%◌, ◌^◌, ◌≤◌, ◌<◌, true, suc, length};
+ghost use Rattle.std.specs.Prelude.{◌≡◌, ◌+◌, ◌/◌, ◌%◌, ◌^◌, ◌≤◌, suc, length};
 ghost use Rattle.digits.specs.Digits.{fixed, tens, decimal};
 ghost use Rattle.digits.specs.Written.{Written};
 
@@ -15,30 +15,23 @@ pub fn put_bytes(dst: &mut [u8], at: usize, src: &[u8]) -> usize
     next
 }
 
-// The last digit of a number as a byte, and the number before it. A number of 32 bits is divided faster than one of 64 (in plain Rust six
-// digits take `put_last` 73 instructions, by 64 bits 86). The bound stands in each contract: a type of 32 bits beside would make a trait of
-// one division.
-fn split_last<const SMALL: bool>(m: u64) -> (u64, u8)
-    requires { SMALL ≡ true → m < 4_294_967_296 }
+// The number before the last digit, and that digit as a byte. By 64 bits at any size: with a division of 32 bits beside it for small
+// numbers, a list of 300 components takes 198,900 instructions to write, so 178,500.
+fn split_last(m: u64) -> (u64, u8)
     ensures { (result.0 ≡ m / 10) × (result.1 ≡ 48 + m % 10) }
 {
-    if SMALL {
-        let m = m as u32;
-        return (u64::from(m / 10), b'0' + (m % 10) as u8);
-    }
     (m / 10, b'0' + (m % 10) as u8)
 }
 
 // Fills a run with the last digits of n, and gives what is left of n before them.
-pub fn put_last<const SMALL: bool>(digits: &mut [u8], n: u64) -> u64
-    requires { SMALL ≡ true → n < 4_294_967_296 }
+pub fn put_last(digits: &mut [u8], n: u64) -> u64
     ensures bytes { digits.new ≡ fixed (length digits.old) n }
     ensures left { result ≡ n / 10 ^ length digits.old }
 {
     let mut m = n;
     // By place: of what `iter_mut().rev()` writes nothing is known behind the loop (the library says it of `iter_mut` alone).
     for i in (0..digits.len()).rev() {
-        let (rest, digit) = split_last::<SMALL>(m);
+        let (rest, digit) = split_last(m);
         digits[i] = digit;
         m = rest;
     }
@@ -47,15 +40,14 @@ pub fn put_last<const SMALL: bool>(digits: &mut [u8], n: u64) -> u64
 
 // Puts n with as many digits as it has at the end of a run, and says where they start. With `put_last` behind a count of the digits, in the
 // place of a loop of its own, six digits take 107 instructions (in plain Rust), 88 as it is.
-pub fn put_all<const SMALL: bool>(dst: &mut [u8], n: u64) -> usize
-    requires room { suc (tens n) ≤ length dst.old }
-    requires small { SMALL ≡ true → n < 4_294_967_296 }
+pub fn put_all(dst: &mut [u8], n: u64) -> usize
+    requires { suc (tens n) ≤ length dst.old }
     ensures { Written dst.old result (decimal n) dst.new (length dst.old) }
 {
     let mut m = n;
     // By place: where the first digit stands is the answer.
     for i in (0..dst.len()).rev() {
-        let (rest, digit) = split_last::<SMALL>(m);
+        let (rest, digit) = split_last(m);
         dst[i] = digit;
         if rest == 0 {
             return i;

@@ -2,7 +2,7 @@
 // any form.
 #![tactic(auto)]
 
-ghost use Rattle.std.specs.Prelude.{◌≡◌, ◌+◌, ◌-◌, ◌≤◌, ◌<◌, ◌^◌, true, length};
+ghost use Rattle.std.specs.Prelude.{◌≡◌, ◌+◌, ◌-◌, ◌≤◌, length};
 ghost use Rattle.digits.specs.Digits.{tens, whole_text, plain_text, signed_text, number_text};
 ghost use Rattle.digits.specs.Written.{put, Written};
 ghost use Rattle.digits_writing.specs.Writable.{Writable};
@@ -15,14 +15,6 @@ fn more_digits(n: u64) -> usize
     ensures { (result ≡ tens n) × (result ≤ 19) }
 {
     n.checked_ilog10().unwrap_or(0) as usize
-}
-
-// 10 ^ k.
-fn power(k: usize) -> u64
-    requires { k ≤ 9 }
-    ensures { result ≡ 10 ^ k }
-{
-    10u64.pow(k as u32)
 }
 
 // How many digits stand before the point.
@@ -46,7 +38,7 @@ fn plain_size(form: Form, n: u64) -> usize
     if k == 0 {
         return whole_size(form.digits, n);
     }
-    whole_size(form.digits, n / power(k)) + (k + 1)
+    whole_size(form.digits, n / 10u64.pow(k as u32)) + (k + 1)
 }
 
 // How many bytes the number takes, without its blanks.
@@ -69,47 +61,34 @@ pub fn number_size(form: Form, z: Figure) -> usize
 
 // Writes the digits of n before the point at the end of a field, and says where they start.
 #[tactic(auto, using(crate::proofs::Ending::whole_put), unfolding(digits::specs::Digits::whole_text))]
-fn put_whole<const SMALL: bool>(field: &mut [u8], digits: Option<usize>, n: u64) -> usize
-    requires room { length (whole_text digits n) ≤ length field.old }
-    requires small { SMALL ≡ true → n < 4_294_967_296 }
+fn put_whole(field: &mut [u8], digits: Option<usize>, n: u64) -> usize
+    requires { length (whole_text digits n) ≤ length field.old }
     ensures { Written field.old result (whole_text digits n) field.new (length field.old) }
 {
     match digits {
         Some(k) => {
             let start = field.len() - k;
-            digits_put::put_last::<SMALL>(&mut field[start..], n);
+            digits_put::put_last(&mut field[start..], n);
             start
         }
-        None => digits_put::put_all::<SMALL>(field, n),
+        None => digits_put::put_all(field, n),
     }
 }
 
 // Writes the number without its sign at the end of a field, and says where it starts.
 #[tactic(auto, using(crate::proofs::Ending::plain_put))]
-fn put_plain<const SMALL: bool>(field: &mut [u8], form: Form, n: u64) -> usize
-    requires room { length (plain_text form n) ≤ length field.old }
-    requires small { SMALL ≡ true → n < 4_294_967_296 }
+fn put_plain(field: &mut [u8], form: Form, n: u64) -> usize
+    requires { length (plain_text form n) ≤ length field.old }
     ensures { Written field.old result (plain_text form n) field.new (length field.old) }
 {
     let k = form.decimals;
     if k == 0 {
-        return put_whole::<SMALL>(field, form.digits, n);
+        return put_whole(field, form.digits, n);
     }
     let point = field.len() - (k + 1);
-    let whole = digits_put::put_last::<SMALL>(&mut field[point + 1..], n);
+    let whole = digits_put::put_last(&mut field[point + 1..], n);
     field[point] = b'.';
-    put_whole::<SMALL>(&mut field[..point], form.digits, whole)
-}
-
-// The same, quick where the number has 32 bits, as almost all have: `digits_put::split_last` says how much.
-fn put_size(field: &mut [u8], form: Form, n: u64) -> usize
-    requires { length (plain_text form n) ≤ length field.old }
-    ensures { Written field.old result (plain_text form n) field.new (length field.old) }
-{
-    if n <= u64::from(u32::MAX) {
-        return put_plain::<true>(field, form, n);
-    }
-    put_plain::<false>(field, form, n)
+    put_whole(&mut field[..point], form.digits, whole)
 }
 
 // Writes the number with its sign at the end of a field; what stands before it stays.
@@ -118,7 +97,7 @@ pub fn put_signed(field: &mut [u8], form: Form, z: Figure)
     requires { length (signed_text form z) ≤ length field.old }
     ensures { field.new ≡ put field.old (length field.old - length (signed_text form z)) (signed_text form z) }
 {
-    let start = put_size(field, form, z.size);
+    let start = put_plain(field, form, z.size);
     if z.negative {
         field[start - 1] = b'-';
     }

@@ -3,12 +3,12 @@ use Rattle.digits_put.proofs.Whole.{all_start, all_again, all_end}
 use Rattle.digits_put.proofs.put_all.Goals as goal
 
 pub loop-i-init : goal.loop-i-init
-loop-i-init g c = all_start _ _ c.requires.room (omega arith)
+loop-i-init c = all_start _ _ c.requires (omega arith)
 
 pub loop-i-preserved : goal.loop-i-preserved
-loop-i-preserved g c =
-    all_again _ _ c.requires.room _ _ _ c.loop-i.invariant c.split_last-rest.ensures.0 c.split_last-rest.ensures.1 c.if-rest-eq0.false
+loop-i-preserved c =
+    all_again _ _ c.requires _ _ _ c.loop-i.invariant c.split_last-rest.ensures.0 c.split_last-rest.ensures.1 c.if-rest-eq0.false
 
 pub returns-then-rest-eq0 : goal.returns-then-rest-eq0
-returns-then-rest-eq0 g c =
-    all_end _ _ c.requires.room _ _ _ c.loop-i.invariant c.split_last-rest.ensures.0 c.split_last-rest.ensures.1 c.if-rest-eq0.true
+returns-then-rest-eq0 c =
+    all_end _ _ c.requires _ _ _ c.loop-i.invariant c.split_last-rest.ensures.0 c.split_last-rest.ensures.1 c.if-rest-eq0.true

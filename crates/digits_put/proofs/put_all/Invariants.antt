@@ -3,4 +3,4 @@ use Rattle.digits_put.proofs.Whole.{AllFrom}
 use Rattle.digits_put.proofs.put_all.Given as goal
 
 abbrev pub invariant-loop-i : goal.invariant-loop-i
-invariant-loop-i g l = AllFrom l.initial.dst l.n l.dst l.i l.m
+invariant-loop-i l = AllFrom l.initial.dst l.n l.dst l.i l.m

@@ -3,4 +3,4 @@ use Rattle.digits_put.proofs.Last.{LastFrom}
 use Rattle.digits_put.proofs.put_last.Given as goal
 
 abbrev pub invariant-loop-i : goal.invariant-loop-i
-invariant-loop-i g l = LastFrom l.initial.digits l.n l.digits l.m l.i
+invariant-loop-i l = LastFrom l.initial.digits l.n l.digits l.m l.i
