@@ -25,8 +25,9 @@ use Rattle.fund.specs.Components.{code_before, fault_at, component_fault}
 use Rattle.layout.proofs.Components.{places_at}
 use Rattle.layout.specs.Day.{Day}
 use Rattle.layout.specs.Book.{cash, created, redeemed, head_at, lots_at, width, width_of, account, head_total, line_total, line_from}
+use Rattle.rules.specs.Opening.{day_sizes_fit}
 use Rattle.rules.specs.Sound.{is_sound, is_kept, most_units}
-use Rattle.rules.proofs.SoundDay.{DaySizes, SoundDay, sound_facts, sound-true, Kept, kept_facts, kept_true}
+use Rattle.rules.proofs.SoundDay.{DaySizes, SoundDay, sizes_facts, sizes_true, sound_sizes, sound_facts, sound-true, Kept, kept_facts, kept_true}
 use Rattle.totals.specs.Totals.{place_at, total}
 use Rattle.sound.specs.Parts.{most_of, line_of, price_fits, room_left, stretch_still, totals_fit}
 use Rattle.sound.proofs.Limits.{Fits, Still, still_true, still_facts, fits_true, fits_facts, most_line_lem, most_unit, line-true, line_facts, line_still_lem, still_line}
@@ -150,9 +151,6 @@ day_sound {d} {b} {ps} sizes fund components prices still fits =
     }
 
 module _ (d : Day) (b ps : List ℕ) where
-  pub unsound : (SoundDay d b ps → ⊥) → is_sound d b ps ≡ false
-  unsound h = false_of (is_sound d b ps) (λ e. h (sound_facts d b ps e))
-
   pub unkept : (Kept d b ps → ⊥) → is_kept d b ps ≡ false
   unkept h = false_of (is_kept d b ps) (λ e. h (kept_facts d b ps e))
 
@@ -161,46 +159,51 @@ module _ (d : Day) (b ps : List ℕ) where
   unfolding room_left
   room_same = rw (line_total_lem d b d.count (omega arith), head_total_lem d b created (omega arith))
 
--- of sizes that fit, the tests that are left decide
-module _ (d : Day) (b ps basket : List ℕ) {f : Fund} {accounts n : ℕ} (sizes : DaySizes accounts n (length b) (length ps))
+-- the tests decide, in the order in which the code makes them
+module _ (d : Day) (b ps basket : List ℕ) {f : Fund} {accounts n : ℕ}
     (a : accounts ≡ d.accounts) (e : n ≡ d.count) (g : f ≡ d.fund) (c : places_of (component_at basket) most_components ≡ d.components) where
   abbrev fault : ℕ
   fault = component_fault f.first_code (places_of (component_at basket) n) n
 
   -- the search in the basket is the search in the day's components
-  fault_same : fault ≡ component_fault d.fund.first_code d.components d.count
-  fault_same = fault_places f.first_code (component_at basket) n sizes.count_high ∙ rw (c, e, g)
+  fault_same : n ≤ most_components → fault ≡ component_fault d.fund.first_code d.components d.count
+  fault_same most = fault_places f.first_code (component_at basket) n most ∙ rw (c, e, g)
 
-  none_true : component_fault d.fund.first_code d.components d.count ≡ d.count → is_none (below n fault) ≡ true
-  none_true q = ap is_none (below-none n fault (le_of_eq (e ∙ sym (fault_same ∙ q))))
+  none_true : n ≤ most_components → component_fault d.fund.first_code d.components d.count ≡ d.count → is_none (below n fault) ≡ true
+  none_true most q = ap is_none (below-none n fault (le_of_eq (e ∙ sym (fault_same most ∙ q))))
 
-  none_fact : is_none (below n fault) ≡ true → component_fault d.fund.first_code d.components d.count ≡ d.count
-  none_fact q = sym fault_same ∙ no_fault f.first_code (places_of (component_at basket) n) n (none_is _ q) ∙ e
+  none_fact : n ≤ most_components → is_none (below n fault) ≡ true → component_fault d.fund.first_code d.components d.count ≡ d.count
+  none_fact most q = sym (fault_same most) ∙ no_fault f.first_code (places_of (component_at basket) n) n (none_is _ q) ∙ e
 
   pub sound_tests :
       is_sound d b ps ≡
       every
-      (fund_in_range f
+      (day_sizes_fit accounts n (length b) (length ps)
+      ∷ fund_in_range f
       ∷ is_none (below n fault)
       ∷ all_below (price_fits ps) (length ps)
       ∷ stretch_still n b
       ∷ totals_fit n (total b (width_of n) accounts)
       ∷ [])
   sound_tests =
-      let own : DaySizes d.accounts d.count (length b) (length ps) = rw (a, e) at sizes in
       same_test _ _
       (λ t.
       let s = sound_facts d b ps t in
-      every_more _ _ (rw g s.own.fund_fields)
-      (every_more _ _ (none_true s.own.components)
+      let own = sound_sizes s in
+      let fit : DaySizes accounts n (length b) (length ps) = rw (a, e) own in
+      every_more _ _ (sizes_true _ _ _ _ fit)
+      (every_more _ _ (rw g s.own.fund_fields)
+      (every_more _ _ (none_true fit.count_high s.own.components)
       (every_more _ _ (rw own.prices_size (day_prices s))
       (every_more _ _ (rw e (still_true _ _ (day_still s)))
-      (every_more _ _ (rw (a, e) (fits_true _ _ (day_fits s))) every_none)))))
+      (every_more _ _ (rw (a, e) (fits_true _ _ (day_fits s))) every_none))))))
       (λ t.
       let at = every_at _ t in
+      let fit = sizes_facts _ _ _ _ (at 0) in
+      let own : DaySizes d.accounts d.count (length b) (length ps) = rw (a, e) at fit in
       sound-true d b ps
-      (day_sound own (rw g at (at 0)) (none_fact (at 1)) (rw own.prices_size at (at 2)) (still_facts d.count b (rw e at (at 3)))
-      (fits_facts d.count (totals d b) (rw (a, e) at (at 4)))))
+      (day_sound own (rw g at (at 1)) (none_fact fit.count_high (at 2)) (rw own.prices_size at (at 3)) (still_facts d.count b (rw e at (at 4)))
+      (fits_facts d.count (totals d b) (rw (a, e) at (at 5)))))
 
 -- a sound day is kept where there is room, and no other is
 pub kept_room : {d : Day} {b ps : List ℕ} → SoundDay d b ps → room_left d.count (totals d b) ≡ is_kept d b ps

@@ -121,7 +121,7 @@ pub fn sizes_fit(accounts: usize, n: usize, book: usize, prices: usize) -> bool
 }
 
 // Refusal 5's test.
-#[tactic(auto, using(rules::proofs::SoundDay::sizes_facts, crate::proofs::Limits::sizes_first, crate::proofs::Day::unsound, rules::proofs::SoundDay::sizes_true, rules::proofs::SoundDay::sound_sizes))]
+#[tactic(auto, using(rules::proofs::SoundDay::sizes_facts, crate::proofs::Limits::sizes_first))]
 pub fn is_sound(day: &DayView, book: &[u64], prices: &[u64]) -> bool
     ensures { result ≡ is_sound day.now book.now prices.now }
 {
@@ -129,10 +129,8 @@ pub fn is_sound(day: &DayView, book: &[u64], prices: &[u64]) -> bool
     let n = day.count();
     let fund = day.fund();
     let basket = day.basket();
-    if !sizes_fit(accounts, n, book.len(), prices.len()) {
-        return false;
-    }
-    fund::fund_in_range(fund)
+    sizes_fit(accounts, n, book.len(), prices.len())
+        && fund::fund_in_range(fund)
         && fund::run_fault(fund.first_code, basket, n).is_none()
         && prices_fit(prices)
         && fund_still(book, n)
