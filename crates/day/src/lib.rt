@@ -18,7 +18,7 @@ ghost use Rattle.rules.specs.Creation.{creation_reply, created_book, created_lis
 ghost use Rattle.rules.specs.Redemption.{redemption_reply, redeemed_book, redeemed_lists};
 ghost use Rattle.opening.specs.Given.{given, Outcome};
 
-use layout::Fund;
+use layout::{DayHead, Fund};
 use opening::Given;
 use rules::{Counts, Kind, Lists, Refusal, Rooms, Trade};
 use units::ReferenceValue;
@@ -36,10 +36,13 @@ pub fn open(
 ) -> Result<(), Refusal>
     ensures { Outcome (given accounts count fund components.now holdings.now book.old prices.old day.old) result book.new prices.new day.new }
 {
-    let given = Given {
+    let head = DayHead {
         accounts,
         count,
         fund,
+    };
+    let given = Given {
+        head,
         components,
         holdings,
     };

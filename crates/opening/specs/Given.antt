@@ -16,7 +16,7 @@ given accounts count fund components holdings book prices day =
 
 -- the same of the code's
 abbrev pub given_in : Given → List ℕ → List ℕ → List ℕ → Opening
-given_in g = given g.accounts g.count g.fund g.components.now g.holdings.now
+given_in g = given g.head.accounts g.head.count g.head.fund g.components.now g.holdings.now
 
 -- opening's answer, and what it leaves of the book, the prices and the day
 pub record Outcome (o : Opening) (answer : Result ⊤ Refusal) (book prices day : List ℕ) : Type 0 where

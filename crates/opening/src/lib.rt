@@ -11,17 +11,15 @@ ghost use Rattle.totals.specs.Totals.{most_rows};
 ghost use Rattle.rules.specs.Opening.{most_of_line, total_fault, lent_sizes_fit, opening_reply, opened_stretch};
 ghost use Rattle.opening.specs.Given.{given_in, Outcome, totals_in, totals_of};
 
-use layout::{DayHead, Fund};
+use layout::DayHead;
 use lots::Lots;
 use rules::Refusal;
 use totals::Rows;
 
-// What an opening is given: A, N, the fund, the components, and for each account its cash and its holding of each line.
+// What an opening is given: the head (A, N and the fund), the components, and for each account its cash and its holding of each line.
 #[derive(Drop)]
 pub struct Given<'a> {
-    pub accounts: usize,
-    pub count: usize,
-    pub fund: Fund,
+    pub head: DayHead,
     pub components: &'a [u64],
     pub holdings: &'a [u64],
 }
@@ -71,11 +69,12 @@ fn total_fault(holdings: &[u64], accounts: usize, count: usize) -> Option<usize>
 // Refusal 1's test. The ranges come first, so that no product is too large.
 #[tactic(auto, using(std::proofs::lemmas::Bool::Decides::nat_tests), unfolding(rules::specs::Opening::lent_sizes_fit, rules::specs::Opening::day_sizes_fit, sequences::specs::Every::every, sequences::specs::Every::inside))]
 fn sizes_fit(given: &Given, book: usize, prices: usize, day: usize) -> bool
-    ensures { result ≡ lent_sizes_fit given.now.accounts given.now.count (length given.now.components.now) (length given.now.holdings.now) book prices day }
+    ensures { result ≡ lent_sizes_fit given.now.head.accounts given.now.head.count (length given.now.components.now) (length given.now.holdings.now) book prices day }
 {
-    sound::sizes_fit(given.accounts, given.count, book, prices)
-        && given.components.len() == layout::COMPONENT_WIDTH * given.count
-        && given.holdings.len() == given.accounts * (given.count + 2)
+    let head = given.head;
+    sound::sizes_fit(head.accounts, head.count, book, prices)
+        && given.components.len() == layout::COMPONENT_WIDTH * head.count
+        && given.holdings.len() == head.accounts * (head.count + 2)
         && day == layout::DAY_WIDTH
 }
 
@@ -87,13 +86,14 @@ fn opening_answer(given: &Given, book: &[u64], prices: &[u64], day: &[u64]) -> R
     if !sizes_fit(given, book.len(), prices.len(), day.len()) {
         return Err(Refusal::Sizes);
     }
-    if !fund::fund_in_range(given.fund) {
+    let head = given.head;
+    if !fund::fund_in_range(head.fund) {
         return Err(Refusal::FundField);
     }
-    if let Some(place) = fund::run_fault(given.fund.first_code, given.components, given.count) {
+    if let Some(place) = fund::run_fault(head.fund.first_code, given.components, head.count) {
         return Err(Refusal::Component(place));
     }
-    if let Some(place) = total_fault(given.holdings, given.accounts, given.count) {
+    if let Some(place) = total_fault(given.holdings, head.accounts, head.count) {
         return Err(Refusal::Total(place));
     }
     Ok(())
@@ -151,13 +151,8 @@ pub fn open(
     ensures { Outcome (given_in given.entry book.old prices.old day.old) result book.new prices.new day.new }
 {
     opening_answer(&given, book, prices, day)?;
-    open_book(book, given.holdings, given.accounts, given.count);
+    open_book(book, given.holdings, given.head.accounts, given.head.count);
     prices.fill(0);
-    let head = DayHead {
-        accounts: given.accounts,
-        count: given.count,
-        fund: given.fund,
-    };
-    layout::put_day(day, head, given.components);
+    layout::put_day(day, given.head, given.components);
     Ok(())
 }

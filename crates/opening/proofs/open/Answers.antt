@@ -17,7 +17,7 @@ abbrev opening : Start → Opening
 opening c = given_in c.args.given c.args.book.now c.args.prices.now c.args.day.now
 
 -- the fund has all its limits
-limits : (c : Start) → length c.args.given.fund.limits ≡ limit_count
+limits : (c : Start) → length c.args.given.head.fund.limits ≡ limit_count
 limits c = search rules
 
 pub open_book-requires : goal.open_book-requires
