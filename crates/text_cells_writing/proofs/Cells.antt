@@ -18,7 +18,6 @@ use Rattle.digits.proofs.Trip.{number_width}
 use Rattle.digits.proofs.Write.{blanks-put}
 use Rattle.text_rules.specs.declared.Column.{Column}
 use Rattle.text_rules.specs.Columns.{number_form, column_form}
-use Rattle.text_rules.proofs.Well.{WellColumn}
 use Rattle.text_cells_writing.specs.Cells.{used_text}
 
 -- a cell of a line with its bar
@@ -43,9 +42,9 @@ module _ (d : List ℕ) (at : ℕ) (xs : List ℕ) (room : at + length xs < leng
       ∙ rw (take-append-drop, take-append-drop)
 
 -- a number fills its cell
-pub number-length : (c : Column) (n : ℕ) → WellColumn c → Fits (number_form c) (plain n) → length (number_text (number_form c) (plain n)) ≡ c.width
+pub number-length : (c : Column) (n : ℕ) → Fits (number_form c) (plain n) → length (number_text (number_form c) (plain n)) ≡ c.width
 unfolding number_form
-number-length c n well fits = number_width (number_form c) (plain n) fits c.width refl
+number-length c n fits = number_width (number_form c) (plain n) fits c.width refl
 
 -- it has room at the end of its cell d, which holds only blanks, and is right in it
 module _ (c : Column) (n : ℕ) (fits : Fits (number_form c) (plain n)) {d : List ℕ} (blank : d ≡ replicate c.width 32) where
@@ -61,10 +60,10 @@ module _ (c : Column) (n : ℕ) (fits : Fits (number_form c) (plain n)) {d : Lis
         e ∙ rw (form, is, wide, blank) (blanks-put c.width (signed_text (number_form c) (plain n)) (fits.width c.width refl))
 
 -- with its bar
-pub used-length : (c : Column) (n : ℕ) → WellColumn c → (used : Bool) → (used ≡ true → Fits (number_form c) (plain n)) → length (used_text used c n) ≡ c.width + 1
+pub used-length : (c : Column) (n : ℕ) → (used : Bool) → (used ≡ true → Fits (number_form c) (plain n)) → length (used_text used c n) ≡ c.width + 1
 unfolding used_text
-used-length c n well true f = length-append (number_text (number_form c) (plain n)) (124 ∷ []) ∙ omega (arith, number-length c n well (f refl))
-used-length c n well false f = length-append (replicate c.width 32) (124 ∷ []) ∙ omega (arith, length-replicate {A = ℕ} c.width 32)
+used-length c n true f = length-append (number_text (number_form c) (plain n)) (124 ∷ []) ∙ omega (arith, number-length c n (f refl))
+used-length c n false f = length-append (replicate c.width 32) (124 ∷ []) ∙ omega (arith, length-replicate {A = ℕ} c.width 32)
 
 -- ---- a cell in its line d, with its bar
 module _ (c : Column) (n : ℕ) (d : List ℕ) (at : ℕ) (room : at + c.width < length d) where
@@ -80,9 +79,9 @@ module _ (c : Column) (n : ℕ) (d : List ℕ) (at : ℕ) (room : at + c.width <
       ∙ bar_put d at xs (omega arith) (omega arith))
 
   -- a number that came back in its part
-  module _ (well : WellColumn c) (fits : Fits (number_form c) (plain n)) {s : List ℕ} (number : s ≡ number_text (number_form c) (plain n)) where
+  module _ (fits : Fits (number_form c) (plain n)) {s : List ℕ} (number : s ≡ number_text (number_form c) (plain n)) where
     part_long : length s ≡ c.width
-    part_long = ap length number ∙ number-length c n well fits
+    part_long = ap length number ∙ number-length c n fits
 
     pub used_put : (used : Bool) → used ≡ true → set (put_mid at (at + c.width - at) d s) (at + c.width) 124 ≡ put d at (used_text used c n)
     unfolding used_text

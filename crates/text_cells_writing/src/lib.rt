@@ -6,16 +6,15 @@ ghost use Rattle.digits.specs.Digits.{plain, number_text};
 ghost use Rattle.digits.specs.Fits.{Fits};
 ghost use Rattle.digits.specs.Written.{put};
 ghost use Rattle.text_rules.specs.Columns.{number_form};
-ghost use Rattle.text_rules.specs.Well.{column_well};
 ghost use Rattle.text_cells_writing.specs.Cells.{used_text};
 
 use digits::Figure;
 use text_rules::Column;
 
-// Writes a number into its cell, which holds only blanks. That the column is well is asked of it alone: `Columns` holds it of all.
+// Writes a number into its cell, which holds only blanks.
 #[tactic(auto, using(crate::proofs::Cells::number_room, crate::proofs::Cells::number_put), unfolding(text_rules::specs::Columns::number_form))]
 fn put_number(cell: &mut [u8], column: Column, n: u64)
-    requires column_value { (column_well column ≡ true) × (cell.old ≡ replicate column.width 32) }
+    requires cell_value { cell.old ≡ replicate column.width 32 }
     requires fits { Fits (number_form column) (plain n) }
     ensures { cell.new ≡ number_text (number_form column) (plain n) }
 {
@@ -24,9 +23,9 @@ fn put_number(cell: &mut [u8], column: Column, n: u64)
 
 // Writes a number into its place in a line, where the column is used, and the bar behind it. `used` and no Option: the run has the
 // column's number either way.
-#[tactic(auto, using(crate::proofs::Cells::unused_put, crate::proofs::Cells::used_put, text_rules::proofs::Well::column_facts))]
+#[tactic(auto, using(crate::proofs::Cells::unused_put, crate::proofs::Cells::used_put))]
 pub fn put_cell(rows: &mut [u8], at: usize, column: Column, used: bool, n: u64)
-    requires column_value { (column_well column ≡ true) × (at + column.width < length rows.old) }
+    requires room { at + column.width < length rows.old }
     requires cell_value { take column.width (drop at rows.old) ≡ replicate column.width 32 }
     requires fits { used ≡ true → Fits (number_form column) (plain n) }
     ensures { rows.new ≡ put rows.old at (used_text used column n) }

@@ -20,9 +20,7 @@ use Rattle.text_rules.specs.declared.Column.{Column}
 use Rattle.text_rules.specs.Tables.{TextForm, column_at}
 use Rattle.text_rules.specs.Columns.{column_width, column_start, line_width, line_pitch, is_text, holds_text, words_before, line_words, number_cell}
 use Rattle.text_rules.specs.Columns.{blank_cell, content_by, used_by, number_form, cell_text, cell_at, part_at, content_at, column_text, row_text}
-use Rattle.text_rules.specs.Well.{columns_well}
 use Rattle.text_rules.proofs.Tables.{end_line}
-use Rattle.text_rules.proofs.Well.{WellColumn, column_well_lem}
 use Rattle.text_trip.specs.Trips.{CellFits, RowFits}
 use Rattle.text_cells_writing.specs.Cells.{used_text}
 use Rattle.text_cells_writing.proofs.Cells.{number-length}
@@ -58,17 +56,17 @@ module _ (flags : List (List Bool)) (flag : ℕ) (c : Column) (n : ℕ) (s : Lis
   words_text Text h = refl
 
   -- a cell has its width
-  switch_length : (b : Bool) → WellColumn c → CellFits (cond b number_cell blank_cell) c n s → length (cell_text (cond b number_cell blank_cell) c n s) ≡ c.width
+  switch_length : (b : Bool) → CellFits (cond b number_cell blank_cell) c n s → length (cell_text (cond b number_cell blank_cell) c n s) ≡ c.width
   unfolding cell_text
-  switch_length true well f = number-length c n well f
-  switch_length false well f = length-replicate {A = ℕ} c.width 32
+  switch_length true f = number-length c n f
+  switch_length false f = length-replicate {A = ℕ} c.width 32
 
-  cell-length : (u : Use) → WellColumn c → CellFits (content_by flags flag u) c n s → (is_text u ≡ true → length s ≡ c.width)
+  cell-length : (u : Use) → CellFits (content_by flags flag u) c n s → (is_text u ≡ true → length s ≡ c.width)
       → length (cell_text (content_by flags flag u) c n s) ≡ c.width
   unfolding is_text content_by
-  cell-length Always well f h = switch_length true well f
-  cell-length (ByFlag column) well f h = switch_length (entry_in flags flag column) well f
-  cell-length Text well f h = rw (words_text Text refl) (h refl)
+  cell-length Always f h = switch_length true f
+  cell-length (ByFlag column) f h = switch_length (entry_in flags flag column) f
+  cell-length Text f h = rw (words_text Text refl) (h refl)
 
 -- ---- blanks
 three : (m a w : ℕ) → a + w ≤ m → m ≡ a + (w + (m - (a + w)))
@@ -112,8 +110,7 @@ pub words_room : (cs : List Column) (k : ℕ) → k < length cs → holds_text c
 unfolding words_before line_words sum_below
 words_room cs k h e = rw e at (sum_grows (λ i. cond (holds_text cs i) (column_width cs i) 0) (suc k) (length cs) h)
 
-module _ (t : TextForm) (numbers words : List ℕ) (well : columns_well t.columns ≡ true) (there : length words ≡ line_words t.columns)
-    (fits : RowFits t numbers words) where
+module _ (t : TextForm) (numbers words : List ℕ) (there : length words ≡ line_words t.columns) (fits : RowFits t numbers words) where
   part_length : (k : ℕ) → k < length t.columns → holds_text t.columns k ≡ true → length (part_at t.columns words k) ≡ column_width t.columns k
   unfolding part_at
   part_length k h e = length-take-le _ _ (rw length-drop (omega (arith, words_room t.columns k h e)))
@@ -122,7 +119,7 @@ module _ (t : TextForm) (numbers words : List ℕ) (well : columns_well t.column
   unfolding column_text content_at column_width holds_text
   text-length k h =
       cell-length t.flags (cell_at t.columns numbers t.flag_at) (column_at t.columns k) (cell_at t.columns numbers k) (part_at t.columns words k)
-      (column_at t.columns k).used (column_well_lem t.columns well k h) (fits k h) (part_length k h)
+      (column_at t.columns k).used (fits k h) (part_length k h)
 
   columns_long : (k : ℕ) → k ≤ length t.columns → length (first_columns t numbers words k) ≡ column_start t.columns k
   unfolding join_below column_start sum_below

@@ -19,9 +19,9 @@ use Rattle.text_rules.specs.Tables.{TextForm, column_at}
 use Rattle.text_rules.specs.Columns.{column_width, column_start, line_width, line_pitch, is_text, holds_text, numbers_before, words_before, line_numbers, line_words}
 use Rattle.text_rules.specs.Columns.{number_form, used_by, cell_at, part_at, content_at, column_text}
 use Rattle.text_rules.specs.Writing.{numbers_at, words_at, rows_text}
-use Rattle.text_rules.specs.Well.{columns_well, flag_well}
+use Rattle.text_rules.specs.Well.{flag_well}
 use Rattle.text_rules.proofs.Tables.{end_line}
-use Rattle.text_rules.proofs.Well.{WellColumn, flag_facts}
+use Rattle.text_rules.proofs.Well.{flag_facts}
 use Rattle.text_cells_writing.specs.Cells.{used_text}
 use Rattle.text_cells_writing.proofs.Cells.{used-length}
 use Rattle.text_rows_writing.specs.Lines.{number_at, word_at, lines_put, BlankAt, NumbersFit, RowsReady, RowsSoFar}
@@ -54,10 +54,10 @@ module _ (flags : List (List Bool)) (c : Column) (run : List ℕ) (stride flagPl
     number_fits fit h u = rw (piece_at place there) (fit i h (sym told_run ∙ u))
 
   -- what is written into a line ends in it
-  pub numbers_held : (at w count : ℕ) → WellColumn c → at + c.width < w → NumbersFit flags c run stride flagPlace place count
+  pub numbers_held : (at w count : ℕ) → at + c.width < w → NumbersFit flags c run stride flagPlace place count
       → (i : ℕ) → i < count → at + length (number_at flags c run stride flagPlace place i) ≤ w
   unfolding number_at
-  numbers_held at w count well room fit i h = omega (arith, used-length c _ well _ (fit i h))
+  numbers_held at w count room fit i h = omega (arith, used-length c _ _ (fit i h))
 
 -- ---- words, from the line's piece x of the texts
 pub part_long : (q k : ℕ) (s : List ℕ) → q + k ≤ length s → length (take (q + k - q) (drop q s)) ≡ k
@@ -82,7 +82,7 @@ module _ (width : ℕ) (texts : List ℕ) (stride place : ℕ) where
 pub rows_all : {t : TextForm} {run texts : List ℕ} {count k n : ℕ} {b : List ℕ} → k ≡ n → RowsSoFar t run texts count k b → RowsSoFar t run texts count n b
 rows_all {t} {run} {texts} {count} {k} {n} {b} e v = subst (λ (i : ℕ). RowsSoFar t run texts count i b) e v
 
-module _ (t : TextForm) (run texts : List ℕ) (count : ℕ) (well : columns_well t.columns ≡ true) (ready : RowsReady t run texts count) where
+module _ (t : TextForm) (run texts : List ℕ) (count : ℕ) (ready : RowsReady t run texts count) where
   words_there : (i : ℕ) → i < count → length (words_at t texts i) ≡ line_words t.columns
   unfolding words_at
   words_there i h = stretch-length (line_words t.columns) texts i (rw ready.words (within (line_words t.columns) i count h))
@@ -97,13 +97,13 @@ module _ (t : TextForm) (run texts : List ℕ) (count : ℕ) (well : columns_wel
         lines =
             λ i h.
             rw e (blank_part (count * w) (i * w) w (within w i count h))
-            ∙ line_first t (numbers_at t run i) (words_at t texts i) well (words_there i h) (ready.fits i h);
+            ∙ line_first t (numbers_at t run i) (words_at t texts i) (words_there i h) (ready.fits i h);
       }
 
   module _ (k : ℕ) (inside : k < length t.columns) {b : List ℕ} (v : RowsSoFar t run texts count k b) where
     pub rows_blank : BlankAt (line_pitch t.columns) (column_start t.columns k) (column_width t.columns k) count b
     rows_blank i h =
-        rw (v.lines i h) (line_blank t (numbers_at t run i) (words_at t texts i) well (words_there i h) (ready.fits i h) k inside)
+        rw (v.lines i h) (line_blank t (numbers_at t run i) (words_at t texts i) (words_there i h) (ready.fits i h) k inside)
 
     -- the text of column k with its bar, in line i
     barred : ℕ → List ℕ
@@ -116,7 +116,7 @@ module _ (t : TextForm) (run texts : List ℕ) (count : ℕ) (well : columns_wel
         (omega (
           arith,
           end_line t.columns k inside,
-          text-length t (numbers_at t run i) (words_at t texts i) well (words_there i h) (ready.fits i h) k inside,
+          text-length t (numbers_at t run i) (words_at t texts i) (words_there i h) (ready.fits i h) k inside,
         ))
 
     rows_next : {b' : List ℕ} → b' ≡ lines_put (line_pitch t.columns) (column_start t.columns k) barred count b → RowsSoFar t run texts count (k + 1) b'
@@ -130,7 +130,7 @@ module _ (t : TextForm) (run texts : List ℕ) (count : ℕ) (well : columns_wel
               λ i h.
               rw (e, add-one k)
               (lines_here w at barred b count v.long barred_room count i (omega arith) h
-              ∙ rw (v.lines i h) (line_next t (numbers_at t run i) (words_at t texts i) well (words_there i h) (ready.fits i h) k inside));
+              ∙ rw (v.lines i h) (line_next t (numbers_at t run i) (words_at t texts i) (words_there i h) (ready.fits i h) k inside));
         }
 
     -- words
@@ -196,4 +196,4 @@ module _ (t : TextForm) (run texts : List ℕ) (count : ℕ) (well : columns_wel
       (λ i h.
       rw e
       (lines_here w (line_width t.columns) (λ _. 13 ∷ 10 ∷ []) b count v.long room count i (omega arith) h
-      ∙ rw (v.lines i h) (line_last t (numbers_at t run i) (words_at t texts i) well (words_there i h) (ready.fits i h))))
+      ∙ rw (v.lines i h) (line_last t (numbers_at t run i) (words_at t texts i) (words_there i h) (ready.fits i h))))

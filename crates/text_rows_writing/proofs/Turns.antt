@@ -1,16 +1,15 @@
 -- A turn of the loop over the columns, with the places as the code has them: what the column's function asks, and what it leaves.
 use mathlib.Core.Path.{◌≡◌, sym, ap, ◌∙◌}
-use mathlib.Core.Bool.{Bool, true, false, and-eq-true_iff}
+use mathlib.Core.Bool.{Bool, true, false}
 use mathlib.Core.List.{List}
 use Prim.Native.Nat.{ℕ, ◌+◌, ◌*◌, ◌≤◌, ◌<◌}
 use native.Mathlib.Omega.{arith}
 use lib.ListN.{length, get_or}
-use Rattle.sequences.proofs.Below.{all_at}
 use Rattle.text_rules.specs.declared.Column.{Column}
 use Rattle.text_rules.specs.declared.Taken.{Taken}
 use Rattle.text_rules.specs.Tables.{TextForm, no_column, column_at}
 use Rattle.text_rules.specs.Columns.{column_width, line_width, line_pitch, is_text, holds_text, numbers_before, line_numbers, line_words, taken_before, taken_pitch}
-use Rattle.text_rules.specs.Well.{most_line, column_well, columns_well, flag_well}
+use Rattle.text_rules.specs.Well.{most_line, columns_well, flag_well}
 use Rattle.text_rules.proofs.Tables.{end_line}
 use Rattle.text_rules.proofs.Well.{column_well_lem}
 use Rattle.text_rules.proofs.Placed.{whole_low}
@@ -56,34 +55,34 @@ module _ {t : TextForm} {line : Taken} (whole : TableReady t.columns t.flag_at l
     words_ask =
         rw here.column (
           ((column_well_lem t.columns whole.well k here.inside).some, cell_room, whole_low _ whole.whole whole.well),
-          ((rw whole.whole ready.words, rw (here.place, whole.whole) (word_room _ _ _ _ whole.well ready k here.inside v text)), rows-length),
+          ((rw whole.whole ready.words, rw (here.place, whole.whole) (word_room _ _ _ _ ready k here.inside v text)), rows-length),
         )
 
     pub words_turn : {b' : List ℕ} → b' ≡ lines_put (taken_pitch line) taken.bytes (word_at c.width texts line.words taken.words) count b
         → RowsSoFar t run texts count (k + 1) b'
     unfolding taken_before line_words line_width line_pitch column_width
-    words_turn f = words_next _ _ _ _ whole.well ready k here.inside v text (rw (here.place, whole.whole, here.column) at f)
+    words_turn f = words_next _ _ _ _ ready k here.inside v text (rw (here.place, whole.whole, here.column) at f)
 
   -- numbers
   module _ (number : holds_text t.columns k ≡ false) {flags : List (List Bool)} (table : flags ≡ t.flags) {flagPlace : ℕ}
       (flag : flagPlace ≡ numbers_before t.columns t.flag_at) where
-    pub numbers_ask : ((column_well c ≡ true) × (taken.bytes + c.width < taken_pitch line) × (line.bytes ≤ most_line))
+    pub numbers_ask : ((taken.bytes + c.width < taken_pitch line) × (line.bytes ≤ most_line))
         × (((length run ≡ count * line.numbers) × (flagPlace < line.numbers) × (taken.numbers < line.numbers))
         × (((length b ≡ count * taken_pitch line) × BlankAt (taken_pitch line) taken.bytes c.width count b)
         × NumbersFit flags c run line.numbers flagPlace taken.numbers count))
-    unfolding taken_before line_numbers line_width line_pitch column_width columns_well
+    unfolding taken_before line_numbers line_width line_pitch column_width
     numbers_ask =
         rw here.column (
-          (all_at _ (length t.columns) ((and-eq-true_iff _ _).0 whole.well).0 k here.inside, cell_room, whole_low _ whole.whole whole.well),
+          (cell_room, whole_low _ whole.whole whole.well),
           rw (flag, table, here.place, whole.whole) (
             (
               ready.numbers,
-              flag_room _ _ _ _ whole.well ready k here.inside v whole.flag number,
-              number_room _ _ _ _ whole.well ready k here.inside v whole.flag number,
+              flag_room _ _ _ _ ready k here.inside v whole.flag number,
+              number_room _ _ _ _ ready k here.inside v whole.flag number,
             ),
             (
-              (v.long, rows_blank _ _ _ _ whole.well ready k here.inside v),
-              numbers_fit _ _ _ _ whole.well ready k here.inside v whole.flag number,
+              (v.long, rows_blank _ _ _ _ ready k here.inside v),
+              numbers_fit _ _ _ _ ready k here.inside v whole.flag number,
             ),
           ),
         )
@@ -92,4 +91,4 @@ module _ {t : TextForm} {line : Taken} (whole : TableReady t.columns t.flag_at l
         → RowsSoFar t run texts count (k + 1) b'
     unfolding taken_before line_numbers line_width line_pitch
     numbers_turn f =
-        numbers_next _ _ _ _ whole.well ready k here.inside v whole.flag number (rw (flag, table, here.place, whole.whole, here.column) at f)
+        numbers_next _ _ _ _ ready k here.inside v whole.flag number (rw (flag, table, here.place, whole.whole, here.column) at f)

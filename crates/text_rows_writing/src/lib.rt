@@ -4,7 +4,7 @@
 ghost use Rattle.std.specs.Prelude.{ℕ, ◌≡◌, true, [], ◌∷◌, ◌+◌, ◌*◌, ◌≤◌, ◌<◌, length, replicate};
 ghost use Rattle.text_rules.specs.Columns.{line_pitch, line_numbers, line_words, taken_pitch};
 ghost use Rattle.text_rules.specs.Writing.{rows_text};
-ghost use Rattle.text_rules.specs.Well.{most_line, column_well, flag_well};
+ghost use Rattle.text_rules.specs.Well.{most_line, flag_well};
 ghost use Rattle.text_rows_writing.specs.Lines.{number_at, word_at, lines_put, BlankAt, NumbersFit, TableReady, RowsFit, RowsReady, RowsSoFar};
 
 use text_rules::{Column, LineForm, Taken};
@@ -25,7 +25,7 @@ fn put_numbers_column(
     rows: &mut [u8],
 )
     ghost count: { ℕ }
-    requires column_value { (column_well column ≡ true) × (taken.bytes + column.width < taken_pitch line) × (line.bytes ≤ most_line) }
+    requires column_place { (taken.bytes + column.width < taken_pitch line) × (line.bytes ≤ most_line) }
     requires run_len { (length run.now ≡ count * line.numbers) × (flag_place < line.numbers) × (taken.numbers < line.numbers) }
     requires rows_len { (length rows.old ≡ count * taken_pitch line) × BlankAt (taken_pitch line) taken.bytes column.width count rows.old }
     requires numbers_fit { NumbersFit flags.now column run.now line.numbers flag_place taken.numbers count }

@@ -14,5 +14,5 @@ pub returns : goal.returns
 returns g c =
     let p = c.requires in
     let table = table_ready c.columns.ensures.well p.0 c.columns.ensures.value c.whole-line.ensures.value in
-    rows_end _ _ _ _ c.columns.ensures.well (record { numbers = p.1.0.0; words = p.1.0.1; fits = p.1.1.1 }) c.put_columns.ensures
+    rows_end _ _ _ _ (record { numbers = p.1.0.0; words = p.1.0.1; fits = p.1.1.1 }) c.put_columns.ensures
     (rw (whole_pitch _ table.whole, whole_bytes _ table.whole) at c.put_ends.ensures)
