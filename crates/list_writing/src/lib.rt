@@ -18,13 +18,7 @@ fn put_head(checked: &Checked, output: &mut [u8]) -> usize
 {
     let list = &checked.list;
     let figures = list_fields::figures_of(list.fields);
-    text_head_writing::put_head(
-        &list_rules::field_table(),
-        list.letters,
-        &figures,
-        output,
-        0,
-    )
+    text_head_writing::put_head(&list_rules::field_table(), list.letters, &figures, output)
 }
 
 // Writes its component lines from a place on, and answers where they end.

@@ -54,25 +54,25 @@ field_parts f z = simp append_assoc
 pub ruleset line_laws = (fits_first, fits_next, fits_as, opening_parts, field_parts)
 
 -- ---- the first k lines are written
-module _ (fs : List Field) (letters : List ℕ) (figures : List Figure) (d : List ℕ) (at : ℕ) where
+module _ (fs : List Field) (letters : List ℕ) (figures : List Figure) (d : List ℕ) where
   pub record Lined (o : Out) (k : ℕ) : Type 0 where
-    pub written : Written d at (lines fs letters figures k) o.run.now o.at
+    pub written : Written d 0 (lines fs letters figures k) o.run.now o.at
     pub long : length o.run.now ≡ length d
 
-  module _ (room : at + length (whole_head fs letters figures) ≤ length d) where
+  module _ (room : length (whole_head fs letters figures) ≤ length d) where
     all_room : length (whole_head fs letters figures) ≡ length (lines fs letters figures (length fs + 1)) + tag_size
     all_room = ap length (whole_is fs letters figures) ∙ length-append (lines fs letters figures (length fs + 1)) (line_text tag_word) ∙ omega (arith, length-line_text tag_word)
 
-    pub first_room : at + length (line_text (opening_word ++ (letters ++ closing_word))) ≤ length d
+    pub first_room : length (line_text (opening_word ++ (letters ++ closing_word))) ≤ length d
     first_room = omega (arith, all_room, head_grows fs letters figures (length fs + 1) 1 (omega arith), ap length (first_is fs letters figures))
 
-    pub lined_start : {o p : Out} → o.run.now ≡ d → o.at ≡ at → p ≡ wrote (line_text (opening_word ++ (letters ++ closing_word))) o → Lined p 1
+    pub lined_start : {o p : Out} → o.run.now ≡ d → o.at ≡ 0 → p ≡ wrote (line_text (opening_word ++ (letters ++ closing_word))) o → Lined p 1
     lined_start e f g =
         let w = rw (e, f) at (wrote_is g) in
-        record { written = rw (first_is fs letters figures) w; long = written-length w first_room }
+        record { written = rw (first_is fs letters figures) w; long = written-length w (omega (arith, first_room)) }
 
     module _ {o : Out} {i : ℕ} {f : Field} {z : Figure} (v : Lined o (i + 1)) (r : Reached fs figures i f z) where
-      line_room : at + length (lines fs letters figures (i + 1)) + length (line_text (field_line f z)) ≤ length d
+      line_room : length (lines fs letters figures (i + 1)) + length (line_text (field_line f z)) ≤ length d
       line_room =
           omega (
             arith,
@@ -89,7 +89,7 @@ module _ (fs : List Field) (letters : List ℕ) (figures : List Figure) (d : Lis
 
       pub lined_again : {p : Out} → p ≡ wrote (line_text (field_line f z)) o → {j : ℕ} → j ≡ i + 1 → Lined p (j + 1)
       lined_again e next =
-          let y = written_then v.written (wrote_is e) line_room in
+          let y = written_then v.written (wrote_is e) (omega (arith, line_room)) in
           rw next
           (record {
             written = rw (head_more fs letters figures (i + 1), field_is fs letters figures r) y;
@@ -103,5 +103,5 @@ module _ (fs : List Field) (letters : List ℕ) (figures : List Figure) (d : Lis
       pub tag_room : Fits (line_text tag_word) o
       tag_room = record { room = omega (arith, all_room, last.written.next, v.long, length-line_text tag_word) }
 
-      pub lined_end : {p : Out} → p ≡ wrote (line_text tag_word) o → Written d at (whole_head fs letters figures) p.run.now p.at
+      pub lined_end : {p : Out} → p ≡ wrote (line_text tag_word) o → Written d 0 (whole_head fs letters figures) p.run.now p.at
       lined_end w = rw (whole_is fs letters figures) (written_then last.written (wrote_is w) (omega (arith, all_room, length-line_text tag_word)))

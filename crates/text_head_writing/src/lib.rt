@@ -96,19 +96,18 @@ impl<'a> Out<'a> {
     }
 }
 
-// Writes the head, and gives the place behind it.
+// Writes the head at the front of a run, and gives the place behind it.
 pub fn put_head(
     fields: &Fields,
     letters: &[u8],
     figures: &[Figure; MOST_FIELDS],
     dst: &mut [u8],
-    at: usize,
 ) -> usize
-    requires { at + length (whole_head fields.now letters.now figures.now) ≤ length dst.old }
-    ensures { Written dst.old at (whole_head fields.now letters.now figures.now) dst.new result }
+    requires { length (whole_head fields.now letters.now figures.now) ≤ length dst.old }
+    ensures { Written dst.old 0 (whole_head fields.now letters.now figures.now) dst.new result }
 {
     let table = fields.table();
-    let mut out = Out { run: dst, at };
+    let mut out = Out { run: dst, at: 0 };
     out.put_opening(letters);
     for (field, z) in table.iter().zip(figures) {
         out.put_field(field, *z);

@@ -8,6 +8,6 @@ use Rattle.text_head_writing.proofs.put_head.Given as goal
 
 abbrev pub invariant-loop-field : goal.invariant-loop-field
 invariant-loop-field l = record {
-  lined : Lined l.fields l.letters l.figures l.fn.dst l.at l.out (length l.yielded + 1);
+  lined : Lined l.fields l.letters l.figures l.fn.dst l.out (length l.yielded + 1);
   same_borrow : l.out.run.ghost_name ≡ l.initial.out.run.ghost_name;
 }
