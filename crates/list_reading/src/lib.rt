@@ -76,7 +76,8 @@ fn read_fields(text: &[u8], rows: Rows, run: &mut [u64]) -> Result<ListRead, Ref
     requires { RowsStand text.now rows }
     ensures { ReadOutcome text.now run.old result run.new }
 {
-    let head = list_shape::head_fields(text).map_err(|wrong| Refusal::TextField(wrong.place))?;
+    let found = text_head::head_fields(&list_rules::field_table(), text);
+    let head = found.map_err(|wrong| Refusal::TextField(wrong.place))?;
     let mut numbers = [0u64; layout::BASKET_WIDTH];
     match list_rows::read_rows(text, rows, &mut numbers) {
         Some(fault) => Err(Refusal::TextField(fault.place)),

@@ -1,4 +1,4 @@
-// The lines of a list text in the Shanghai form and its head: refusals 18, 19 and 20 there, and where the component lines stand.
+// The lines of a list text in the Shanghai form: refusals 18 and 20 there, and where the component lines stand.
 // The casts by `as` lose nothing: usize and u64 both have 64 bits.
 #![tactic(auto)]
 
@@ -6,13 +6,11 @@ ghost use Rattle.std.specs.Prelude.{◌≡◌, ◌≤◌, length};
 ghost use Rattle.lines.specs.Lines.{same};
 ghost use Rattle.text_rules.specs.Head.{head_lines, end_word};
 ghost use Rattle.text_rules.specs.Reading.{line_stands, wrong_line, body_start};
-ghost use Rattle.text_head.specs.Head.{fields_found};
 ghost use Rattle.list_rules.specs.Shanghai.{shanghai, shanghai_fields};
 ghost use Rattle.list_rules.specs.Reading.{is_counted};
 ghost use Rattle.list_shape.specs.Shape.{Shaped};
 
 use list_rules::Rows;
-use text_head::{HeadFields, WrongField};
 
 // Whether ENDENDEND with its end stands at a place.
 #[tactic(auto, using(text_lines::proofs::Standing::stands_some, text_lines::proofs::Standing::stands_none))]
@@ -24,7 +22,7 @@ fn end_stands(text: &[u8], at: usize) -> bool
 }
 
 // Refusal 18 behind the head. The error is a place alone: no other refusal stands here. That the head's lines stand is asked here and by
-// `head_fields`: it is a fact of the text, and a struct of the text and this fact would be made for these two calls alone.
+// `text_head::head_fields`: it is a fact of the text, and a struct of the text and this fact would be made for these two calls alone.
 fn body_shape(text: &[u8], start: usize) -> Result<Rows, usize>
     requires head_stands { wrong_line shanghai_fields text.now ≡ head_lines shanghai_fields }
     requires start_value { (start ≡ body_start shanghai text.now) × (start ≤ length text.now) }
@@ -52,14 +50,6 @@ pub fn shape_of(text: &[u8]) -> Result<Rows, usize>
     let fields = list_rules::field_table();
     let start = text_head::head_shape(&fields, text).map_err(|wrong| wrong.place)?;
     body_shape(text, start)
-}
-
-// Refusal 19 in the head, where its lines stand: the figures, or the first wrong field.
-pub fn head_fields(text: &[u8]) -> Result<HeadFields, WrongField>
-    requires { wrong_line shanghai_fields text.now ≡ head_lines shanghai_fields }
-    ensures { result ≡ fields_found shanghai_fields text.now }
-{
-    text_head::head_fields(&list_rules::field_table(), text)
 }
 
 // Refusal 20's test.
