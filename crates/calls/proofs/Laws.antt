@@ -76,7 +76,7 @@ module _ (d : Day) (b ps : List ℕ) (sound : is_sound d b ps ≡ true) where
   pub prices_long : length ps ≡ d.count
   prices_long = (sound_facts d b ps sound).prices.prices_size
 
-  pub book_fits : BookFits d.accounts d.count b
+  pub book_fits : BookFits d b
   book_fits = sound_fits d b ps (sound_facts d b ps sound)
 
   pub priceable : Priceable d ps

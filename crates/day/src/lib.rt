@@ -62,7 +62,7 @@ pub fn price(
     ensures prices { prices.new ≡ priced_prices (day_at day.now) book.now prices.old line price }
 {
     let day = calls::sound_day(day, book, prices)?;
-    trades::set_price(day.count(), prices, line, price)
+    trades::set_price(&day, prices, line, price)
 }
 
 // Trades a quantity of a line at a price.
@@ -72,7 +72,7 @@ pub fn trade(day: &[u64], book: &mut [u64], prices: &[u64], trade: Trade) -> Res
     ensures book { book.new ≡ book_of_trade (day_at day.now) book.old prices.now trade }
 {
     let day = calls::sound_day(day, book, prices)?;
-    trades::trade(day.accounts(), day.count(), book, trade)
+    trades::trade(&day, book, trade)
 }
 
 // The reference value at this moment.

@@ -198,11 +198,9 @@ fn make(day: &DayView, work: &mut Work, call: Call, row: &[u64; layout::ROW_WIDT
 {
     match call {
         Call::Price { line, price } => {
-            Numbers::from(trades::set_price(day.count(), work.prices, line, price))
+            Numbers::from(trades::set_price(day, work.prices, line, price))
         }
-        Call::Trade(trade) => {
-            Numbers::from(trades::trade(day.accounts(), day.count(), work.book, trade))
-        }
+        Call::Trade(trade) => Numbers::from(trades::trade(day, work.book, trade)),
         Call::Order(ask) => {
             // In a variable, and unique: the field itself and `&*` of it were tried, and the borrow checker has no rule for either beside the
             // fields that are lent.

@@ -29,24 +29,25 @@ pub priced_line : (n line p : ℕ) → reply 0 0 0 ≡ answered (price_checks n 
 unfolding price_checks
 priced_line n line p e = leb-false _ _ (all_passed (price_checks n line p) _ tt (is_accepted_lem _ _ refl e)).0
 
--- an account of the fits
-pub in_book : {k n : ℕ} {b : List ℕ} → BookFits k n b → (a : ℕ) → a < k → a * width_of n + width_of n ≤ length b
-in_book {k} {n} f a h = rw f.size (within (width_of n) a k h)
+-- an account's place in a book that fits
+pub in_book : {d : Day} {b : List ℕ} → BookFits d b → (a : ℕ) → a < d.accounts → a * width_of d.count + width_of d.count ≤ length b
+in_book {d} f a h = rw f.size (within (width_of d.count) a d.accounts h)
 
 -- the amount of a trade fits 64 bits
 pub amount_fits : (q p : ℕ) → inside 1 999_999_999 q ≡ true → inside 1 most_price p ≡ true → q * p ≤ 9_999_998_990_000_001
 amount_fits q p e f = mul-le-mul {m₂ = 9_999_999} (inside_facts 1 999_999_999 q e).1 (inside_facts 1 most_price p f).1
 
 -- an accepted trade can be moved
-pub tradable : (k n : ℕ) (b : List ℕ) (line q p seller buyer : ℕ) → BookFits k n b → reply 0 0 0 ≡ answered (trade_checks k n b line q p seller buyer) 0 → Tradable n b line q p seller buyer
+pub tradable : (d : Day) (b : List ℕ) (line q p seller buyer : ℕ) → BookFits d b → reply 0 0 0 ≡ answered (trade_checks d.accounts d.count b line q p seller buyer) 0
+    → Tradable d.count b line q p seller buyer
 unfolding trade_checks trade_means
-tradable k n b line q p seller buyer f e =
-    let t = all_passed (trade_checks k n b line q p seller buyer) _ tt (is_accepted_lem _ _ refl e) in
-    let line_in_lem : line ≤ n = ltb-false _ _ t.0 in
+tradable d b line q p seller buyer f e =
+    let t = all_passed (trade_checks d.accounts d.count b line q p seller buyer) _ tt (is_accepted_lem _ _ refl e) in
+    let line_in_lem : line ≤ d.count = ltb-false _ _ t.0 in
     let qs = inside_facts 1 999_999_999 q (not-false _ t.1.0) in
     let amount = amount_fits q p (not-false _ t.1.0) (not-false _ t.1.1.0) in
-    let sells = investor_facts k seller f.accounts_low (not-false _ t.1.1.1.0) in
-    let buys = investor_facts k buyer f.accounts_low (not-false _ t.1.1.1.1.0) in
+    let sells = investor_facts d.accounts seller f.accounts_low (not-false _ t.1.1.1.0) in
+    let buys = investor_facts d.accounts buyer f.accounts_low (not-false _ t.1.1.1.1.0) in
     record {
       count_high = f.count_high;
       line_in_lem = line_in_lem;
@@ -60,7 +61,7 @@ tradable k n b line q p seller buyer f e =
     }
 
 -- a sound day gives the fits: what one account has is at most the total
-pub sound_fits : (d : Day) (b ps : List ℕ) → SoundDay d b ps → BookFits d.accounts d.count b
+pub sound_fits : (d : Day) (b ps : List ℕ) → SoundDay d b ps → BookFits d b
 sound_fits d b ps s =
     record {
       accounts_low = s.own.accounts_low;

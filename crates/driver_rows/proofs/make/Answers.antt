@@ -1,30 +1,30 @@
 -- `driver_rows::make` meets its contract: what the core of each call answers and leaves is what the definitions say of the call.
-use mathlib.Core.Path.{sym, ◌∙◌}
+use mathlib.Core.Path.{◌∙◌}
 use Rattle.calls.proofs.Laws.{price_own, prices_own, trade_own, traded_own, prices_long, book_fits}
 use Rattle.driver_rows.proofs.Rows.{price_meets, trade_meets, value_meets}
 use Rattle.driver_rows.specs.Rows.{row_reply}
 use Rattle.driver_rows.proofs.make.Goals as goal
 
 pub set_price-requires : goal.set_price-requires
-set_price-requires c = prices_long _ _ _ c.requires.sound ∙ sym c.count.ensures
+set_price-requires c = prices_long _ _ _ c.requires.sound
 
 pub trade-requires : goal.trade-requires
-trade-requires c = rw (c.accounts.ensures, c.count-in-Trade.ensures) (book_fits _ _ _ c.requires.sound)
+trade-requires c = book_fits _ _ _ c.requires.sound
 
 pub returns-in-Price : goal.returns-in-Price
 returns-in-Price c =
     let s = c.requires.sound in
     let met = price_meets _ c.args.work.now _ _ _ _
-    (c.from.ensures ∙ (rw c.count.ensures at c.set_price.ensures.result_value) ∙ price_own _ _ _ s _ _)
-    ((rw c.count.ensures at c.set_price.ensures.prices) ∙ prices_own _ _ _ s _ _) in
+    (c.from.ensures ∙ c.set_price.ensures.result_value ∙ price_own _ _ _ s _ _)
+    (c.set_price.ensures.prices ∙ prices_own _ _ _ s _ _) in
     rw c.in-Price.is (record { result_value = met.0; left = met.1 })
 
 pub returns-in-Trade : goal.returns-in-Trade
 returns-in-Trade c =
     let s = c.requires.sound in
     let met = trade_meets _ c.args.work.now _ _ _ _ _ _ _
-    (c.from-in-Trade.ensures ∙ (rw (c.accounts.ensures, c.count-in-Trade.ensures) at c.trade.ensures.result_value) ∙ trade_own _ _ _ s _ _ _ _ _)
-    ((rw (c.accounts.ensures, c.count-in-Trade.ensures) at c.trade.ensures.book) ∙ traded_own _ _ _ s _ _ _ _ _) in
+    (c.from-in-Trade.ensures ∙ c.trade.ensures.result_value ∙ trade_own _ _ _ s _ _ _ _ _)
+    (c.trade.ensures.book ∙ traded_own _ _ _ s _ _ _ _ _) in
     rw c.in-Trade.is (record { result_value = met.0; left = met.1 })
 
 pub returns-in-Order-clause-result_value : goal.returns-in-Order-clause-result_value

@@ -5,4 +5,4 @@ use Rattle.rules.proofs.Replies.{leaves_before}
 use Rattle.trades.proofs.set_price.Goals as goal
 
 pub returns-in_err-price_answer-clause-prices : goal.returns-in_err-price_answer-clause-prices
-returns-in_err-price_answer-clause-prices c = leaves_before _ _ _ _ (ap answer_reply (sym c.in_err-price_answer.was) ∙ c.price_answer.ensures)
+returns-in_err-price_answer-clause-prices c = leaves_before _ _ _ _ (ap answer_reply (sym c.in_err-price_answer.was) ∙ rw c.count.ensures at c.price_answer.ensures)
