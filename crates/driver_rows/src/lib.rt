@@ -248,7 +248,7 @@ impl<'a> Work<'a> {
 
 // The call that a row names, on any day: 1 where the row names none, and 5 where the day is not sound. The day is tested here where it
 // is not known to be sound. No closure from the driver for each way: with two places at which a call is made it is no part of the loop,
-// and a trade in a list took 23 ns, with this one 17.
+// and a trade in a list took 23 ns where this form then took 17.
 pub fn row_call(
     run: &[u64],
     known: Option<&DayView>,
