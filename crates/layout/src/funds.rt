@@ -1,9 +1,8 @@
 // A fund in a run, with its signed number and its limits. The place stands beside the run: what a store leaves is said of the whole
 // run, which has other numbers around the fund, and a part lent would be named by the same place.
-ghost use Rattle.std.specs.Prelude.{◌≡◌, ◌+◌, ◌≤◌, nat_abs, length, get_or};
+ghost use Rattle.std.specs.Prelude.{◌≡◌, ◌+◌, ◌≤◌, length, get_or};
 ghost use Rattle.std.proofs.lemmas.List.Edits.{sets};
 ghost use Rattle.sequences.specs.Below.{tabulate};
-ghost use Rattle.digits.specs.Digits.{cap};
 ghost use Rattle.layout.specs.Places.{limit_count, fund_width};
 ghost use Rattle.layout.specs.Fund.{signed_at, signed_numbers, fund_at, fund_numbers};
 
@@ -26,8 +25,7 @@ pub fn signed_at(run: &[u64], at: usize) -> i64
 
 #[tactic(auto, using(crate::proofs::Stored::signed_stored))]
 pub fn put_signed(run: &mut [u64], at: usize, e: i64)
-    requires at_in_bounds { at + 2 ≤ length run.old }
-    requires e_bound { nat_abs e ≤ cap }
+    requires { at + 2 ≤ length run.old }
     ensures { run.new ≡ sets run.old at (signed_numbers e) }
 {
     let z = Figure::from(e);
@@ -69,8 +67,7 @@ pub fn fund_of(run: &[u64], at: usize) -> Fund
 // Stores a fund's numbers from a place on.
 #[tactic(auto, using(crate::proofs::Stored::fund_stored))]
 pub fn put_fund(run: &mut [u64], at: usize, f: Fund)
-    requires fund_width_in_bounds { at + fund_width ≤ length run.old }
-    requires estimated_cash_bound { nat_abs f.estimated_cash ≤ cap }
+    requires { at + fund_width ≤ length run.old }
     ensures { run.new ≡ sets run.old at (fund_numbers f) }
 {
     run[at] = f.first_code;
