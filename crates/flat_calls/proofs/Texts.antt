@@ -1,43 +1,22 @@
--- Reading through the flat layout: its cash is in its range, and its fields are those that were read.
-use mathlib.Core.Path.{◌≡◌, ap, ◌∙◌}
+-- Reading through the flat layout: its fields are those that were read.
+use mathlib.Core.Path.{◌≡◌}
 use mathlib.Core.Bool.{true}
 use mathlib.Core.List.{List}
-use Prim.Native.Nat.{ℕ, ◌≤◌}
+use Prim.Native.Nat.{ℕ}
 use native.Mathlib.Omega.{arith}
 use Rattle.std.proofs.lemmas.Bool.Decides.{nat_tests}
-use lib.IntN.{nat_abs}
 use lib.ListN.{length}
 use Rattle.sequences.specs.Checks.{is_accepted}
 use Rattle.sequences.proofs.Below.{table_length}
-use Rattle.digits.specs.Digits.{cap}
 use Rattle.layout.specs.Places.{limit_count}
-use Rattle.fund.specs.Fund.{cash_in_range}
 use Rattle.fund.proofs.Laws.{fund_sound, cash_size}
-use Rattle.list_rules.specs.declared.ListFields.{ListFields}
-use Rattle.list_rules.specs.declared.ListRead.{ListRead}
-use Rattle.std.proofs.Common.{Ok}
 use Rattle.list_rules.specs.Fields.{fields_from}
 use Rattle.list_rules.specs.Reading.{fields_read, read_reply}
 use Rattle.list_rules.proofs.Ranges.{fields_sound}
 use Rattle.list_trip.proofs.ReadTests.{reads}
-use Rattle.list_reading.specs.Outcome.{ReadOutcome}
 use Rattle.list_layout.specs.Run.{fields_at}
 use Rattle.list_layout.proofs.Laws.{fields_flat}
 use Rattle.flat_calls.specs.Text.{Taking, of_width, taking_reply, TextRead}
-
--- the cash of the fields that are read is in its range
-module _ (text run run' : List ℕ) (read : ListRead) (out : ReadOutcome text run (Ok read) run') where
-  accepted : is_accepted (read_reply text (length run)) ≡ true
-  unfolding is_accepted
-  accepted = rw (← out.answer_is)
-
-  pub read_cash : (nat_abs read.fields.fund.estimated_cash ≤ cap) × (nat_abs read.fields.cash_component ≤ cap)
-  read_cash =
-      let ranges = fields_sound (fields_read text) (reads text (length run) accepted).ranges in
-      let fields = out.handed.fields_is in (
-        cash_size _ (ap (λ (l : ListFields). cash_in_range l.fund.estimated_cash) fields ∙ (fund_sound _ ranges.fund).cash),
-        cash_size _ (ap (λ (l : ListFields). cash_in_range l.cash_component) fields ∙ ranges.cash),
-      )
 
 -- the chain: the fields that an accepted reading leaves are those that it read
 module _ (text : List ℕ) (t : Taking) (accepted : is_accepted (taking_reply text t) ≡ true) where

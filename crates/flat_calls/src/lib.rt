@@ -56,7 +56,7 @@ pub fn read(
         return Err(Refusal::Sizes);
     }
     let read = list_reading::read(text, run)?;
-    list_layout::put_fields(fields, read.fields);
+    fields.copy_from_slice(&list_layout::numbers_of(read.fields));
     *first_row = read.first_row as u64;
     Ok(read.fields.count)
 }

@@ -16,7 +16,6 @@ use mir.Val.{bool_byte}
 use Rattle.sequences.specs.Below.{tabulate}
 use Rattle.sequences.proofs.Below.{table_length, table_ext}
 use Rattle.sequences.proofs.Runs.{sets_append, sets_front}
-use Rattle.digits.specs.Signed.{figure_signed}
 use Rattle.layout.specs.declared.Fund.{Fund}
 use Rattle.layout.specs.Places.{basket_width, limit_count, cash_place, limits_from, fund_width, fund_from, basket_from, day_width, answer_width}
 use Rattle.layout.specs.Answers.{put_reply, reply_in}
@@ -41,14 +40,15 @@ pub signed_length : (e : ℤ) → length (signed_numbers e) ≡ limits_from - ca
 unfolding signed_numbers
 signed_length e = refl
 
-as_number : (t : Bool) → bool_byte t ≡ cond t 1 0
+pub as_number : (t : Bool) → bool_byte t ≡ cond t 1 0
 as_number true = refl
 as_number false = refl
 
-pub signed_stored : (run : List ℕ) (at : ℕ) (e : ℤ)
-    → set (set run at (bool_byte (figure_signed e).negative)) (at + 1) (figure_signed e).size ≡ sets run at (signed_numbers e)
-unfolding signed_numbers
-signed_stored run at e = rw (add-one at, as_number (figure_signed e).negative)
+pub signed_stored : (run : List ℕ) (at n : ℕ) (e : ℤ) (part : List ℕ) → n ≡ 2 → at + 2 ≤ length run → part ≡ signed_numbers e
+    → put_mid at n run part ≡ sets run at (signed_numbers e)
+signed_stored run at n e part size h p =
+    let long = signed_length e in
+    numbers_stored run at n part (signed_numbers e) (omega (arith, size, long)) (omega (arith, h, long)) p
 
 -- A fund.
 

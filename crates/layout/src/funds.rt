@@ -23,14 +23,21 @@ pub fn signed_at(run: &[u64], at: usize) -> i64
     })
 }
 
+// A signed number's two numbers.
+#[tactic(auto, using(crate::proofs::Stored::as_number), unfolding(crate::specs::Fund::signed_numbers))]
+pub fn signed_numbers(e: i64) -> [u64; 2]
+    ensures { result ≡ signed_numbers e }
+{
+    let z = Figure::from(e);
+    [u64::from(z.negative), z.size]
+}
+
 #[tactic(auto, using(crate::proofs::Stored::signed_stored))]
-pub fn put_signed(run: &mut [u64], at: usize, e: i64)
+fn put_signed(run: &mut [u64], at: usize, e: i64)
     requires { at + 2 ≤ length run.old }
     ensures { run.new ≡ sets run.old at (signed_numbers e) }
 {
-    let z = Figure::from(e);
-    run[at] = u64::from(z.negative);
-    run[at + 1] = z.size;
+    run[at..at + 2].copy_from_slice(&signed_numbers(e));
 }
 
 fn limits_at(run: &[u64], at: usize) -> [u64; LIMITS]

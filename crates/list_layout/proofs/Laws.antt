@@ -29,11 +29,11 @@ rest_numbers l = l.publish ∷ l.trading_day ∷ l.pre_trading_day ∷ (signed_n
 
 module _ (l : ListFields) (run : List ℕ) (full : length run ≡ fields_width) where
   pub fields_stored : (fund rest : List ℕ) → fund ≡ sets run 0 (fund_numbers l.fund) → rest ≡ rest_numbers l
-      → put_mid fund_width (length fund - fund_width) fund rest ≡ fields_numbers l
+      → put_mid fund_width (fields_width - fund_width) fund rest ≡ fields_numbers l
   unfolding fields_numbers signed_numbers
   fields_stored fund rest p q =
       let long : length fund ≡ fields_width = ap length p ∙ length-sets run 0 (fund_numbers l.fund) ∙ full in
-      numbers_stored fund fund_width (length fund - fund_width) rest (rest_numbers l) (omega (arith, long)) (omega (arith, long)) q
+      numbers_stored fund fund_width (fields_width - fund_width) rest (rest_numbers l) (omega arith) (omega (arith, long)) q
       ∙ ap₂ (λ (f : List ℕ) (n : ℕ). sets f n (rest_numbers l)) p (omega (arith, fund-length l.fund))
       ∙ sets_append (fund_numbers l.fund) (rest_numbers l) run 0
       ∙ all_stored (fund_numbers l.fund ++ rest_numbers l) run (rw length-append (omega (arith, fund-length l.fund)))

@@ -2,9 +2,8 @@
 // The casts by `as` lose nothing: usize and u64 both have 64 bits.
 #![tactic(auto)]
 
-ghost use Rattle.std.specs.Prelude.{◌≡◌, ◌≤◌, nat_abs, length};
-ghost use Rattle.digits.specs.Digits.{cap};
-ghost use Rattle.list_layout.specs.Run.{fields_width, fields_at, fields_numbers};
+ghost use Rattle.std.specs.Prelude.{◌≡◌};
+ghost use Rattle.list_layout.specs.Run.{fields_at, fields_numbers};
 
 use list_rules::ListFields;
 
@@ -39,18 +38,11 @@ pub fn fields_at(run: &[u64; FIELDS_WIDTH]) -> ListFields
     }
 }
 
-// Stores a list's fields. A slice, and no array: the C interface lends one, and of what is stored through an array that `try_into` makes of
-// it nothing is known after the call.
-#[tactic(auto, using(crate::proofs::Laws::fields_stored), unfolding(layout::specs::Fund::signed_numbers))]
-pub fn put_fields(run: &mut [u64], l: ListFields)
-    requires run_len { length run.old ≡ fields_width }
-    requires estimated_cash_bound { nat_abs l.fund.estimated_cash ≤ cap }
-    requires cash_component_bound { nat_abs l.cash_component ≤ cap }
-    ensures { run.new ≡ fields_numbers l }
+// A list's fields in their places.
+pub fn numbers_of(l: ListFields) -> [u64; FIELDS_WIDTH]
+    ensures { result ≡ fields_numbers l }
 {
-    let mut cash = [0; 2];
-    layout::put_signed(&mut cash, 0, l.cash_component);
-    let [sign, size] = cash;
+    let [sign, size] = layout::signed_numbers(l.cash_component);
     let rest = [
         l.publish,
         l.trading_day,
@@ -61,6 +53,8 @@ pub fn put_fields(run: &mut [u64], l: ListFields)
         l.nav,
         l.count as u64,
     ];
-    layout::put_fund(run, 0, l.fund);
+    let mut run = [0; FIELDS_WIDTH];
+    layout::put_fund(&mut run, 0, l.fund);
     run[layout::FUND_WIDTH..].copy_from_slice(&rest);
+    run
 }

@@ -1,6 +1,7 @@
 // Items that are lists: each is written, what writing answers and leaves is printed, and a text that was written is read again.
 // The casts by `as` lose nothing: usize and u64 both have 64 bits.
 use crate::read_text::ReadText;
+use list_layout::FIELDS_WIDTH;
 use list_rules::Listing;
 use program_io::fault::Fault;
 use program_io::items::split;
@@ -22,7 +23,7 @@ pub struct List<'a> {
     row: u64,
     // The length of the lent output.
     room: usize,
-    fields: [u64; fields::WIDTH],
+    fields: [u64; FIELDS_WIDTH],
     components: &'a [u64],
     names: Vec<u8>,
     letters: Vec<u8>,
@@ -53,7 +54,7 @@ impl<'a> List<'a> {
         let [row, room, components, names, body @ ..] = numbers else {
             return Err(Fault::BadInput);
         };
-        let Some((given, behind)) = body.split_first_chunk::<{ fields::WIDTH }>() else {
+        let Some((given, behind)) = body.split_first_chunk::<FIELDS_WIDTH>() else {
             return Err(Fault::BadInput);
         };
         let (components, behind) = split(behind, *components as usize)?;
@@ -78,16 +79,13 @@ impl<'a> List<'a> {
         Ok(is_lettered && joined.is_some_and(|names| names.as_slice() == self.names.as_slice()))
     }
 
-    // Fields that no run holds differ from the first on.
     fn difference(
         &self,
         alloc: Global,
         back: &ReadText<'_>,
     ) -> Result<Option<Difference>, AllocError> {
-        let field = match fields::numbers_of(back.read.fields) {
-            Some(numbers) => marks::first_difference(&numbers, &self.fields),
-            None => Some(0),
-        };
+        let numbers = list_layout::numbers_of(back.read.fields);
+        let field = marks::first_difference(&numbers, &self.fields);
         let difference = field.map(Difference::Field).or_else(|| {
             marks::first_difference(self.components, back.run).map(Difference::Component)
         });

@@ -7,7 +7,7 @@ use std::alloc::Global;
 use std::io;
 use std::io::Write;
 use text_parts::names::Names;
-use text_parts::{bytes, fields, replies};
+use text_parts::{bytes, replies};
 
 // The bytes of a written text are printed up to this length.
 const SHOWN: usize = 2000;
@@ -61,9 +61,7 @@ impl<'a> ReadText<'a> {
 
     // The list, and what is written of it again.
     pub fn print<W: Write>(&self, alloc: Global, out: &mut W) -> Result<(), Fault> {
-        let Some(numbers) = fields::numbers_of(self.read.fields) else {
-            return Ok(writeln!(out, "fields wrong")?);
-        };
+        let numbers = list_layout::numbers_of(self.read.fields);
         writeln!(out, "fields{}", Row(&numbers))?;
         writeln!(out, "first {}", self.read.first_row)?;
         writeln!(out, "components{}", Row(self.run))?;

@@ -1,8 +1,7 @@
-// The fields of a list as a run of numbers, in the order of `list_layout`: estimated cash and the cash component are a sign and a size
+// The fields of a list from a run of numbers, in the order of `list_layout`: estimated cash and the cash component are a sign and a size
 // each.
+use list_layout::FIELDS_WIDTH;
 use list_rules::ListFields;
-
-pub const WIDTH: usize = list_layout::FIELDS_WIDTH;
 
 // An amount of cash. Any sign but 0 is minus, and one that no number holds counts as 0.
 fn signed(sign: u64, size: u64) -> i64 {
@@ -13,25 +12,13 @@ fn signed(sign: u64, size: u64) -> i64 {
 }
 
 // As the library takes them from a run, but with cash of any size.
-pub fn of_numbers(numbers: &[u64; WIDTH]) -> ListFields {
+pub fn of_numbers(numbers: &[u64; FIELDS_WIDTH]) -> ListFields {
     let [_, _, _, _, estimated_sign, estimated_size, ..] = *numbers;
     let [.., sign, size, _, _, _] = *numbers;
     let mut fields = list_layout::fields_at(numbers);
     fields.fund.estimated_cash = signed(estimated_sign, estimated_size);
     fields.cash_component = signed(sign, size);
     fields
-}
-
-// As the library stores them. It stores no cash past the most, and no list that was read has any.
-pub fn numbers_of(l: ListFields) -> Option<[u64; WIDTH]> {
-    if digits::CAP < l.fund.estimated_cash.unsigned_abs()
-        || digits::CAP < l.cash_component.unsigned_abs()
-    {
-        return None;
-    }
-    let mut numbers = [0; WIDTH];
-    list_layout::put_fields(&mut numbers, l);
-    Some(numbers)
 }
 
 #[cfg(test)]
