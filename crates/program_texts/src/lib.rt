@@ -22,41 +22,6 @@ const MOST_RUN: usize = layout::BASKET_WIDTH + 600;
 
 const MOST_BYTES: usize = 20_000;
 
-// What an item says.
-#[derive(Drop)]
-enum Said<'a> {
-    // A text that is given whole.
-    Text(Reading, &'a [u64]),
-    Changed(Reading, Change<'a>),
-    Grown(Reading, Grown<'a>),
-    // A text of which only the letters and one component's name are asked for.
-    Parts(Asking, Change<'a>),
-    List(List<'a>),
-}
-
-impl<'a> Said<'a> {
-    // No `TryFrom`: a list keeps its names and its letters as bytes, which takes memory.
-    fn new(alloc: Global, item: &'a Item) -> Result<Said<'a>, Fault> {
-        match (item.tag, item.numbers.as_slice()) {
-            (1, [row, room, bytes @ ..]) => Ok(Said::Text(Reading::new(*row, *room), bytes)),
-            (2, [row, room, change @ ..]) => Ok(Said::Changed(
-                Reading::new(*row, *room),
-                Change::try_from(change)?,
-            )),
-            (3, [row, room, grown @ ..]) => Ok(Said::Grown(
-                Reading::new(*row, *room),
-                Grown::try_from(grown)?,
-            )),
-            (4, [row, component, change @ ..]) => Ok(Said::Parts(
-                Asking::new(*row, *component),
-                Change::try_from(change)?,
-            )),
-            (5, numbers) => Ok(Said::List(List::new(alloc, numbers)?)),
-            _ => Err(Fault::BadInput),
-        }
-    }
-}
-
 #[derive(Drop)]
 struct Replay {
     alloc: Global,
@@ -85,19 +50,27 @@ impl Player for Replay {
 
     fn obey<W: Write>(&mut self, item: &Item, out: &mut W) -> Result<(), Fault> {
         let alloc = self.alloc;
-        match Said::new(alloc, item)? {
-            Said::Text(reading, numbers) => {
-                self.take(numbers)?;
-                reading.read(alloc, &self.base, out)
+        match (item.tag, item.numbers.as_slice()) {
+            // A text that is given whole.
+            (1, [row, room, bytes @ ..]) => {
+                self.take(bytes)?;
+                Reading::new(*row, *room).read(alloc, &self.base, out)
             }
-            Said::Changed(reading, change) => {
-                reading.read(alloc, &change.made(alloc, &self.base)?, out)
+            (2, [row, room, change @ ..]) => {
+                let text = Change::try_from(change)?.made(alloc, &self.base)?;
+                Reading::new(*row, *room).read(alloc, &text, out)
             }
-            Said::Grown(reading, grown) => reading.read(alloc, &grown.made(alloc)?, out),
-            Said::Parts(asking, change) => {
-                Ok(asking.print(&change.made(alloc, &self.base)?, out)?)
+            (3, [row, room, grown @ ..]) => {
+                let text = Grown::try_from(grown)?.made(alloc)?;
+                Reading::new(*row, *room).read(alloc, &text, out)
             }
-            Said::List(list) => list.write(alloc, out),
+            // A text of which only the letters and one component's name are asked for.
+            (4, [row, component, change @ ..]) => {
+                let text = Change::try_from(change)?.made(alloc, &self.base)?;
+                Ok(Asking::new(*row, *component).print(&text, out)?)
+            }
+            (5, numbers) => List::new(alloc, numbers)?.write(alloc, out),
+            _ => Err(Fault::BadInput),
         }
     }
 }
