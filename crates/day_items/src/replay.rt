@@ -7,14 +7,15 @@ use program_io::player::Player;
 use std::alloc::{AllocError, Global};
 use std::io::Write;
 
-// What makes a program's calls on a session. Each opening and each state begins with the default.
+// What makes a program's calls on a session. From each opening and each state that `Replay` reads it is the default again; a state may
+// also be an item of the program's own.
 pub trait Caller: Default + Drop {
     // The most numbers that an item may have, and the longest book and prices.
     const MOST_NUMBERS: usize;
 
     const LONGEST: Lengths;
 
-    // Does what an item says that is neither an opening nor a state, and prints what comes of it.
+    // Does what any other item says, and prints what comes of it.
     fn obey<W: Write>(
         &mut self,
         session: &mut Session,
