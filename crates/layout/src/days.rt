@@ -1,6 +1,5 @@
 // A day in a run, and a day where it lies.
-ghost use Rattle.std.specs.Prelude.{◌≡◌, ◌-◌, ◌≤◌, ◌<◌, ◌++◌, nat_abs, length, get_or, replicate};
-ghost use Rattle.digits.specs.Digits.{cap};
+ghost use Rattle.std.specs.Prelude.{◌≡◌, ◌-◌, ◌≤◌, ◌<◌, ◌++◌, length, get_or, replicate};
 ghost use Rattle.layout.specs.Places.{most_components, basket_width, day_width};
 ghost use Rattle.layout.specs.Components.{blank, component_at, places_of};
 ghost use Rattle.layout.specs.Day.{Day, day_at, day_numbers};
@@ -99,7 +98,7 @@ fn put_basket(basket: &mut [u64], components: &[u64])
 #[tactic(auto, using(crate::proofs::Stored::day_stored))]
 pub fn put_day(day: &mut [u64], head: DayHead, components: &[u64])
     requires day_len { length day.old ≡ day_width }
-    requires components_len_bound { (length components.now ≤ basket_width) × (nat_abs head.fund.estimated_cash ≤ cap) }
+    requires components_len_bound { length components.now ≤ basket_width }
     ensures { day.new ≡ day_numbers head.accounts head.count head.fund components.now }
 {
     day[ACCOUNTS_AT] = head.accounts as u64;

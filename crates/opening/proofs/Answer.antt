@@ -4,16 +4,13 @@ use mathlib.Core.Bool.{true, false, not, false≢true}
 use mathlib.Core.List.{List, [], ◌∷◌}
 use Prim.Native.Nat.{ℕ, ◌+◌, ◌≤◌}
 use lib.Dec.{ltb}
-use lib.IntN.{nat_abs}
 use lib.ListN.{length, replicate}
 use borrow.Author.Tests.{lt-ltb, le-ltb}
 use Rattle.std.specs.Prelude.{Option, Some, None, Ok, Err}
 use Rattle.sequences.specs.Below.{join_below, below}
 use Rattle.sequences.proofs.Below.{below_some_facts, below_none_fact}
 use Rattle.sequences.specs.Checks.{Check, check, reply, answering, answered, is_accepted}
-use Rattle.digits.specs.Digits.{cap}
 use Rattle.fund.specs.Fund.{fund_in_range}
-use Rattle.fund.proofs.Laws.{fund_sound, cash_size}
 use Rattle.fund.specs.Components.{component_fault}
 use Rattle.layout.specs.Places.{limit_count}
 use Rattle.layout.specs.Day.{day_at, day_numbers}
@@ -91,10 +88,6 @@ module _ (o : Opening) where
 
     pub done_sizes : Sizes
     done_sizes = accepted_sizes done
-
-    -- the estimated cash is stored as it is
-    pub done_fund : nat_abs o.fund.estimated_cash ≤ cap
-    done_fund = cash_size o.fund.estimated_cash (fund_sound o.fund (opened_opens o done).fund_fields).cash
 
     -- an accepted opening
     pub outcome_done : (book prices day : List ℕ) → length o.fund.limits ≡ limit_count

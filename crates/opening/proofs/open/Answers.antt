@@ -8,7 +8,7 @@ use Rattle.std.proofs.lemmas.Result.{err_from_is_err_and}
 use Rattle.layout.specs.Places.{limit_count}
 use Rattle.rules.specs.Opening.{Opening}
 use Rattle.opening.specs.Given.{given_in}
-use Rattle.opening.proofs.Answer.{done_sizes, done_fund, outcome_done, outcome_refused}
+use Rattle.opening.proofs.Answer.{done_sizes, outcome_done, outcome_refused}
 use Rattle.opening.proofs.open.Goals.{Start}
 use Rattle.opening.proofs.open.Goals as goal
 
@@ -27,12 +27,8 @@ open_book-requires c =
 
 pub put_day-requires : goal.put_day-requires
 put_day-requires c =
-    let o = opening (goal.at.put_day-requires c).Start in
-    let s = done_sizes o c.in_ok-opening_answer.ensures in
-    record {
-      day_len = s.day_size;
-      components_len_bound = (omega (arith, s.components_size, s.own.count_high), done_fund o c.in_ok-opening_answer.ensures);
-    }
+    let s = done_sizes (opening (goal.at.put_day-requires c).Start) c.in_ok-opening_answer.ensures in
+    record { day_len = s.day_size; components_len_bound = omega (arith, s.components_size, s.own.count_high) }
 
 pub returns : goal.returns
 returns c =
