@@ -2,8 +2,7 @@
 // a lent run of numbers, which `day_at` reads; a run of another length than a day's is not sound.
 // Day, book and prices are three parameters, since a price writes the prices alone, and a trade or an order the book alone: one struct of
 // them would lend more for writing. `create`, `redeem` and the tests of each are the paper's calls, and one function for both is in
-// `order_calls`.
-// `open` takes its parts one by one, as C gives them; C gives the fund as a run of numbers, from which `flat_calls::open` makes the `Fund`.
+// `order_calls`; `open` takes its parts one by one, as C gives them, but for the fund, which `flat_calls::open` reads off a run.
 #![tactic(auto)]
 
 ghost use Rattle.std.specs.Prelude.{◌≡◌};

@@ -35,9 +35,9 @@ impl<'a> TryFrom<&'a Item> for Given<'a> {
 
     // Cash is of one of two signs, and of a size that an amount can have.
     fn try_from(item: &'a Item) -> Result<Given<'a>, Fault> {
-        // Neither of the next two patterns can fail. Tried with the head as an array, by `split_first_chunk`: a part of an array behind a
-        // reference (`day @ ..`) has no proof.
         let (head, body) = split(&item.numbers, HEAD)?;
+        // Neither of the next two `let .. else` can fail. Tried with the head as an array, by `split_first_chunk`: a part of an array
+        // behind a reference (`day @ ..`) has no proof.
         let [row, day @ .., components, book, prices] = head else {
             return Err(Fault::BadInput);
         };

@@ -39,7 +39,7 @@ pub fn put_last(digits: &mut [u8], n: u64) -> u64
 }
 
 // Puts n with as many digits as it has at the end of a run, and says where they start. With `put_last` behind a count of the digits, in the
-// place of a loop of its own, six digits take 107 instructions (in plain Rust), 88 as it is.
+// place of a loop of its own, six digits take 123 instructions (in plain Rust), 100 as it is.
 pub fn put_all(dst: &mut [u8], n: u64) -> usize
     requires { suc (tens n) ≤ length dst.old }
     ensures { Written dst.old result (decimal n) dst.new (length dst.old) }

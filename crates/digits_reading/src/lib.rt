@@ -27,7 +27,7 @@ pub fn read_plain<const CAPPED: bool>(form: Form, s: &[u8]) -> Option<u64>
     if k == 0 {
         return read_whole::<CAPPED>(form.digits, s);
     }
-    // A test, and no `checked_sub` with `?`, of which a list of 300 components takes 14 % more time.
+    // A test, and no `checked_sub` with `?`: by that a list of 300 components takes 264,100 instructions and 12 % more time, so 260,800.
     if s.len() <= k {
         return None;
     }

@@ -3,8 +3,8 @@
 // The casts by `as` lose nothing: usize and u64 both have 64 bits.
 #![tactic(auto)]
 
-ghost use Rattle.std.specs.Prelude.{◌≡◌, true, ◌+◌, ◌≤◌, ◌<◌, length, Some, IfSome, MatchOption, false};
-ghost use Rattle.layout.specs.Day.{Day, day_at};
+ghost use Rattle.std.specs.Prelude.{◌≡◌, true, ◌+◌, ◌≤◌, Some, IfSome, MatchOption, false};
+ghost use Rattle.layout.specs.Day.{day_at};
 ghost use Rattle.rules.specs.Sound.{is_sound, is_kept};
 ghost use Rattle.rules.specs.Lent.{lent_of, rooms_in};
 ghost use Rattle.rules.specs.Replies.{order_answer_reply, value_answer_reply};

@@ -51,7 +51,7 @@ pub fn read(
 ) -> Result<usize, Refusal>
     ensures { TextRead text.now (taking run.old fields.old first_row.old) (count_answer_reply result).number (count_answer_reply result).place (count_answer_reply result).value (taking run.new fields.new first_row.new) }
 {
-    // By length: tried as `write` has it, by `try_into`, but then nothing is known of what the lent run holds after the call.
+    // By length: tried by `try_into`, but then nothing is known of what the lent run holds after the call.
     if fields.len() != list_layout::FIELDS_WIDTH {
         return Err(Refusal::Sizes);
     }

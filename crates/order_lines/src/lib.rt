@@ -1,9 +1,8 @@
 // What an order makes of one component.
 #![tactic(auto)]
 
-ghost use Rattle.std.specs.Prelude.{true, ◌≡◌, ◌*◌, ◌≤◌};
+ghost use Rattle.std.specs.Prelude.{true, ◌≡◌, ◌≤◌};
 ghost use Rattle.flags.specs.Table.{entry, column_number, stock_moves};
-ghost use Rattle.rules.specs.Kinds.{no_cash};
 ghost use Rattle.rules.specs.Sound.{most_price};
 ghost use Rattle.rules.specs.Orders.{most_baskets};
 ghost use Rattle.order_lines.specs.Lines.{effect_of, in_market, need_of, creation_line, redemption_line, amount_due, amount_line, order_line};
@@ -22,8 +21,8 @@ pub enum Line {
         short: bool,
         moved: u64,
     },
-    // Stock of which some is missing, for which cash stands: how much is missing, which no code reads and the contract says, what that is
-    // worth, without the premium, its cash, and how much moves.
+    // Stock of which some is missing, for which cash stands: how much is missing (no code reads it; the contract says it), its worth
+    // without the premium, the cash for it, and how much moves.
     InCash {
         missing: u64,
         worth: Money,

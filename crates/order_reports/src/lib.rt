@@ -105,8 +105,7 @@ fn put_reports(list: &mut [u64], records: &[u64], n: usize, stock: Side, cash: C
 }
 
 // The reports of an order, so many to each party. The fund's have all sides opposite to the investor's. The runs come one by one, not
-// as `rules::Lists`: the records are only read. That all cash fits one number stands in four contracts, from `CashByMarket::total` on:
-// two amounts of which each fits are a `CashByMarket` too, and the definitions have such.
+// as `rules::Lists`: the records are only read.
 #[tactic(auto, using(rules::proofs::Reports::turned_stock, rules::proofs::Reports::turned_rest))]
 pub fn report(
     kind: Kind,

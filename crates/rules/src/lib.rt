@@ -155,7 +155,8 @@ pub struct CashByMarket {
 }
 
 impl CashByMarket {
-    // All of it.
+    // All of it. That it fits one number stands in four contracts, from here on: two amounts of which each fits are a `CashByMarket` too,
+    // and the definitions have such.
     pub fn total(self) -> Money
         requires { all_cash self < 2 ^ 64 }
         ensures { result.0 ≡ all_cash self }

@@ -21,9 +21,10 @@ fn put_number(cell: &mut [u8], column: Column, n: u64)
     digits_writing::put_signed(cell, column.form(Some(column.width)), Figure::from(n));
 }
 
+// All rows and a place, and not the part alone: the laws of the loops over the lines speak of what is put at a place of all rows.
+
 // Writes a number into its place in a line, where the column is used, and the bar behind it. `used` and no Option: the run has the
-// column's number either way. All rows and a place, here and below, and not the part alone: the laws of the loops over the lines speak
-// of what is put at a place of all rows, and a part would be turned into that at each call.
+// column's number either way.
 #[tactic(auto, using(crate::proofs::Cells::unused_put, crate::proofs::Cells::used_put))]
 pub fn put_cell(rows: &mut [u8], at: usize, column: Column, used: bool, n: u64)
     requires room { at + column.width < length rows.old }

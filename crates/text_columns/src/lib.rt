@@ -30,7 +30,7 @@ pub fn is_row(columns: &Columns, width: usize, line: &[u8]) -> bool
     true
 }
 
-// The byte less "0": the flag's digit; 0 for a lower byte, and for a higher one a number that no flag has.
+// The byte less "0": the flag's digit; 0 for a byte below "0", and for one above "9" a number that no flag has.
 pub fn flag_digit(b: u8) -> u64
     ensures { result ≡ b - 48 }
 {

@@ -1,13 +1,13 @@
 // Writes the head of a text, line by line, by a table of fields that is lent.
 #![tactic(auto)]
 
-ghost use Rattle.std.specs.Prelude.{◌≡◌, true, ◌++◌, ◌+◌, ◌≤◌, length};
+ghost use Rattle.std.specs.Prelude.{◌≡◌, true, ◌++◌, ◌≤◌, length};
 ghost use Rattle.digits.specs.Digits.{number_text};
 ghost use Rattle.digits.specs.Written.{Written};
 ghost use Rattle.digits_writing.specs.Writable.{Writable};
 ghost use Rattle.lines.specs.Lines.{line_text};
 ghost use Rattle.text_rules.specs.Tables.{field_of};
-ghost use Rattle.text_rules.specs.Head.{opening_word, closing_word, field_line, most_letters, opening_rest};
+ghost use Rattle.text_rules.specs.Head.{opening_word, closing_word, field_line, most_letters};
 ghost use Rattle.text_rules.specs.Well.{field_well};
 ghost use Rattle.text_head_writing.specs.Lines.{whole_head, most_head_line, most_head};
 ghost use Rattle.text_head_writing.specs.Out.{Fits, wrote};

@@ -11,11 +11,11 @@ use text_rules::{Column, LineForm, Taken};
 
 // `count`, which is ghost in each contract, is how many lines the numbers, the words and the bytes are of. No code takes it.
 
-// Writes a column of numbers into so many lines. `taken` is what the columns before it take, and `line` what all take. By its
-// parts, and not by the form and the column's number as `text_rows` reads: so the contracts speak of one column alone, by one
-// definition (`lines_put`) for numbers, words and ends. The lengths are asked in each: they tie `rows`, which is lent for writing, to
-// runs that are only read. `line` and not the columns: it is added up once, and not anew for each column. Its bound is asked with it:
-// a `Taken` alone holds none.
+// A column by its parts, and not by the form and its number as `text_rows` reads: the contracts speak of one column alone, by one
+// definition (`lines_put`) for numbers, words and ends. The lengths tie `rows`, which is lent for writing, to runs that are only read.
+
+// Writes a column of numbers into so many lines. `taken` is what the columns before it take, and `line` what all take, added up once;
+// its bound is asked with it, since a `Taken` alone holds none.
 fn put_numbers_column(
     flags: &flags::Table,
     column: Column,
