@@ -72,8 +72,8 @@ enum Call {
     Value,
 }
 
-// An order on a sound day, with its lists one by one, as `flat_order` in order_structs on any day. Tried as a struct of parts of the
-// runs, of which no proof can say that what is written in the part is written in the run.
+// An order on a sound day, with its lists one by one. Tried as a struct of parts of the runs, of which no proof can say that what is
+// written in the part is written in the run.
 #[tactic(auto, using(order_calls::proofs::Laws::order_own, order_calls::proofs::Laws::leaves_own))]
 fn order_in(
     day: &DayView,

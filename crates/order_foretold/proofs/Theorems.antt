@@ -16,7 +16,7 @@ use Rattle.rules.specs.Creation.{creation_reply}
 use Rattle.rules.specs.Redemption.{redemption_reply}
 use Rattle.rules.specs.Kinds.{asked_reply}
 use Rattle.balance.specs.Calls.{State, step, create, redeem}
-use Rattle.order_structs.specs.Made.{rooms_beside}
+use Rattle.orders.specs.Orders.{rooms_beside}
 use Rattle.order_foretold.specs.Foretold.{Lengths, Foretells}
 use Rattle.order_foretold.proofs.Answers.{same_answer}
 

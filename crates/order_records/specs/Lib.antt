@@ -1,2 +1,3 @@
-pub mod Written
+pub mod Put
+pub mod Flat
 pub mod Ready

@@ -1,85 +1,116 @@
--- How many reports cash makes, and reports stored one behind another.
-use mathlib.Core.Path.{◌≡◌, refl, sym, ap, ◌∙◌}
-use mathlib.Core.Bool.{Bool, true, false, cond}
-use mathlib.Core.List.{List, [], ◌∷◌, ◌++◌}
-use Prim.Native.Nat.{ℕ, suc, ◌+◌, ◌*◌, ◌≤◌}
+-- Reports put one behind another, and the parts of an order's reports.
+use mathlib.Core.Path.{◌≡◌, refl, ap, ◌∙◌}
+use mathlib.Core.List.{List, [], ◌∷◌, ◌++◌, map}
+use Prim.Native.Nat.{ℕ, ◌+◌, ◌-◌, ◌*◌, ◌≤◌, ◌<◌}
 use native.Mathlib.Omega.{arith}
-use lib.Dec.{eqb}
-use lib.ListN.{length, length-append}
-use lib.Seq.{sets}
-use borrow.Author.Tests.{eqb-true, eq-eqb}
-use Rattle.sequences.specs.Below.{tabulate}
-use Rattle.sequences.proofs.Below.{table_length}
+use lib.ListN.{length, length-map}
+use lib.Seq.{sets, length-sets}
+use borrow.Author.Tests.{lt-ltb}
+use Rattle.sequences.specs.Below.{join_below}
+use Rattle.sequences.proofs.Below.{join-none, join_more}
+use Rattle.sequences.proofs.Runs.{join_grows, sets_append}
 use Rattle.layout.specs.Places.{report_width}
 use Rattle.layout.specs.Laid.{laid}
-use Rattle.layout.specs.declared.Record.{Record}
+use Rattle.layout.specs.Day.{Day}
 use Rattle.layout.specs.declared.Report.{Report}
-use Rattle.layout.specs.Records.{record_at}
 use Rattle.layout.specs.Reports.{report_numbers, with_reports}
-use Rattle.layout.proofs.Laid.{laid_one, laid_then, laid_more, laid_front}
+use Rattle.layout.proofs.Laid.{laid_front}
+use Rattle.rules.specs.declared.Kind.{Kind}
+use Rattle.rules.specs.declared.Ask.{Ask}
 use Rattle.rules.specs.declared.CashByMarket.{CashByMarket}
-use Rattle.rules.specs.Reports.{unit_type, stock_type, cash_report, present, cash_groups}
-use Rattle.rules.specs.Kinds.{all_cash, cash_report_count}
-use Rattle.rules.proofs.Reports.{cash_count_lem}
-use Rattle.order_reports.specs.Told.{told, told_stock, told_cash, told_reports}
+use Rattle.rules.specs.Lines.{component_of, code_of}
+use Rattle.rules.specs.Reports.{unit_type, stock_type, move_report, stock_report, order_reports, opposite}
+use Rattle.rules.specs.Kinds.{moved_by, stock_side, rest_side, reports_by}
+use Rattle.order_records.specs.Put.{put_all}
+use Rattle.order_reports.specs.declared.Reports.{Reports}
+use Rattle.order_reports.specs.Put.{reports_left, with_report, line_report, stock_reports, told_cash}
 
--- no cash makes no report, and any makes one
-module _ (c : CashByMarket) where
-  none_of : cash_report_count c ≡ 0 → all_cash c ≡ 0
-  unfolding cash_report_count
-  none_of e = go (eqb (all_cash c) 0) refl e
-    where
-      go : (b : Bool) → eqb (all_cash c) 0 ≡ b → cond {A = ℕ} b 0 1 ≡ 0 → all_cash c ≡ 0
-      go true p q = eqb-true (all_cash c) 0 p
-      go false p q = absurd (omega (arith, q))
+-- a report takes one place
+pub left_less : (o : Reports) (r : Report) → reports_left (with_report o r) ≡ reports_left o - 1
+unfolding reports_left
+left_less o r =
+    omega (
+      arith,
+      length-sets o.investor.now (report_width * o.at) (report_numbers r),
+      length-sets o.fund.now (report_width * o.at) (report_numbers (opposite r)),
+    )
 
-  pub cash_none : (side : ℕ) → cash_report_count c ≡ 0 → told_cash side c ≡ []
-  unfolding cash_groups present
-  cash_none side e =
-      let all = none_of e in
-      rw (eq-eqb c.shanghai.0 0 (omega arith), eq-eqb c.other.0 0 (omega arith))
+-- both runs with the reports, and the place behind them
+abbrev wrote : List Report → Reports → Reports
+wrote rs o =
+    record o {
+      investor = record o.investor { now = sets o.investor.now (report_width * o.at) (laid report_numbers rs) };
+      fund = record o.fund { now = sets o.fund.now (report_width * o.at) (laid report_numbers (map opposite rs)) };
+      at = o.at + length rs;
+    }
 
-  pub cash_one : (side : ℕ) → (cash_report_count c ≡ 0 → ⊥) → told_cash side c ≡ cash_report side (cash_groups c.other.0 c.shanghai.0) ∷ []
-  unfolding cash_groups present cash_report_count
-  cash_one side n = go (eqb c.shanghai.0 0) refl (eqb c.other.0 0) refl
-    where
-      go : (a : Bool) → eqb c.shanghai.0 0 ≡ a → (b : Bool) → eqb c.other.0 0 ≡ b → told_cash side c ≡ cash_report side (cash_groups c.other.0 c.shanghai.0) ∷ []
-      go true p true q = absurd (n (rw (eq-eqb (all_cash c) 0 (omega (arith, eqb-true c.shanghai.0 0 p, eqb-true c.other.0 0 q)))))
-      go true p false q = rw (p, q)
-      go false p true q = rw (p, q)
-      go false p false q = rw (p, q)
+put_wrote : (rs : List Report) (o : Reports) → put_all with_report o rs ≡ wrote rs o
+unfolding put_all laid
+put_wrote [] o = ap (λ (next : ℕ). record o { at = next }) (omega arith)
+put_wrote (r ∷ rs) o =
+    let place : report_width * (o.at + 1) ≡ report_width * o.at + report_width = omega arith in
+    let next : o.at + 1 + length rs ≡ o.at + length (r ∷ rs) = omega arith in
+    put_wrote rs (with_report o r)
+    ∙ rw (
+      place,
+      sets_append (report_numbers r) (laid report_numbers rs) o.investor.now (report_width * o.at),
+      sets_append (report_numbers (opposite r)) (laid report_numbers (map opposite rs)) o.fund.now (report_width * o.at),
+      next,
+    )
 
--- the report of a component behind those of the components before it
-pub stock_stored : (side : ℕ) (records list before after : List ℕ) (k : ℕ) (r : Record) (t : Report)
-    → before ≡ sets list report_width (laid report_numbers (tabulate (told_stock side records) k))
-    → r ≡ record_at records (1 + k) → t ≡ told stock_type side r → after ≡ sets before (report_width * (1 + k)) (report_numbers t)
-    → after ≡ sets list report_width (laid report_numbers (tabulate (told_stock side records) (k + 1)))
-stock_stored side records list before after k r t stands of-record is stored =
-    let next : 1 + k ≡ suc k = omega arith in
-    let report : t ≡ told_stock side records k = is ∙ ap (told stock_type side) (of-record ∙ ap (record_at records) next) in
-    stored
-    ∙ rw (stands, report) (laid_more report_numbers report_width (λ x. refl) (told_stock side records) k list report_width (report_width * (1 + k)) (omega arith))
+-- they are the runs that they were
+pub same_runs : (rs : List Report) (o : Reports)
+    → ((put_all with_report o rs).investor.ghost_name ≡ o.investor.ghost_name) × ((put_all with_report o rs).fund.ghost_name ≡ o.fund.ghost_name)
+same_runs rs o = rw (put_wrote rs o) (refl, refl)
 
--- the unit's report, those of stock and that of cash, stored one behind another from the first place on
-pub all_stored : (stock rest n : ℕ) (c : CashByMarket) (records list one two three : List ℕ) (r : Record) (unit : Report)
-    → report_width * (1 + n + cash_report_count c) ≤ length list
-    → r ≡ record_at records 0
-    → unit ≡ told unit_type rest r
-    → one ≡ sets list 0 (report_numbers unit)
-    → two ≡ sets one report_width (laid report_numbers (tabulate (told_stock stock records) n))
-    → three ≡ sets two (report_width * (1 + n)) (laid report_numbers (told_cash rest c))
-    → three ≡ with_reports (told_reports stock rest records n c) list
-unfolding with_reports told_reports
-all_stored stock rest n c records list one two three r unit room of-record is first second third =
-    let lines = tabulate (told_stock stock records) n in
-    let long = table_length (told_stock stock records) n in
-    let behind : report_width * (1 + n) ≡ 0 + report_width * length ((unit ∷ []) ++ lines) = rw length-append (omega (arith, long)) in
-    let size : length (unit ∷ (lines ++ told_cash rest c)) ≡ 1 + n + cash_report_count c = rw length-append (omega (arith, long, cash_count_lem rest c)) in
-    third
-    ∙ ap (λ (l : List ℕ). sets l (report_width * (1 + n)) (laid report_numbers (told_cash rest c)))
-    (second
-    ∙ ap (λ (l : List ℕ). sets l report_width (laid report_numbers lines)) (first ∙ ap (sets list 0) (sym (laid_one report_numbers unit)))
-    ∙ laid_then report_numbers report_width (λ r. refl) (unit ∷ []) lines list 0 report_width refl)
-    ∙ laid_then report_numbers report_width (λ r. refl) ((unit ∷ []) ++ lines) (told_cash rest c) list 0 (report_width * (1 + n)) behind
-    ∙ laid_front report_numbers report_width (λ r. refl) (unit ∷ (lines ++ told_cash rest c)) list (omega (arith, size, room))
-    ∙ rw (is, of-record)
+-- from the first place on they stand at the front of both runs
+pub put_first : (rs : List Report) (o : Reports) → o.at ≡ 0 → length rs ≤ reports_left o
+    → ((put_all with_report o rs).investor.now ≡ with_reports rs o.investor.now) × ((put_all with_report o rs).fund.now ≡ with_reports (map opposite rs) o.fund.now)
+unfolding with_reports reports_left
+put_first rs o e h =
+    let front : (ts : List Report) (list : List ℕ) → report_width * length ts ≤ length list → sets list 0 (laid report_numbers ts) ≡ with_reports ts list =
+    laid_front report_numbers report_width (λ r. refl) in
+    rw (put_wrote rs o, e)
+    (front rs o.investor.now (omega (arith, e, h)), front (map opposite rs) o.fund.now (omega (arith, e, h, length-map rs opposite)))
+
+-- stock that moves takes one, and what does not move none
+pub line_none : (code side q : ℕ) → q ≡ 0 → line_report code side q ≡ []
+unfolding line_report
+line_none code side q e = rw e refl
+
+pub line_some : (code side q : ℕ) → 0 < q → line_report code side q ≡ move_report stock_type side code q ∷ []
+unfolding line_report
+line_some code side q l = rw (lt-ltb 0 q l)
+
+module _ (kind : Kind) (d : Day) (s : List ℕ) (m : ℕ) where
+  -- the reports of the components below i
+  unfoldable pub told_below : ℕ → List Report
+  told_below i = join_below (stock_report d (stock_side kind) (moved_by kind d s m)) i
+
+  pub told_none : told_below 0 ≡ []
+  unfolding told_below
+  told_none = join-none _
+
+  abbrev pub told_line : ℕ → List Report
+  told_line i = line_report (component_of d i).code (stock_side kind) (moved_by kind d s m i)
+
+  pub told_more : (i : ℕ) → told_below (i + 1) ≡ told_below i ++ told_line i
+  unfolding told_below stock_report code_of line_report
+  told_more i = join_more _ i
+
+  pub told_all : told_below d.count ≡ stock_reports kind d s m
+  unfolding told_below stock_reports
+  told_all = refl
+
+  -- the i-th line's are among them, behind those below it
+  pub told_grows : {i : ℕ} → i < d.count → length (told_below i ++ told_line i) ≤ length (stock_reports kind d s m)
+  unfolding told_below stock_reports
+  told_grows {i} l =
+      let grows = join_grows (stock_report d (stock_side kind) (moved_by kind d s m)) d.count (i + 1) (omega arith) in
+      omega (arith, grows, ap length (told_more i))
+
+-- an order's reports: the unit, stock, and cash
+pub reports_are : (d : Day) (s : List ℕ) (ask : Ask) (m : ℕ) (c : CashByMarket) {g side : ℕ} → g ≡ d.fund.first_code → side ≡ rest_side ask.kind
+    → (move_report unit_type side g ask.units ∷ []) ++ (stock_reports ask.kind d s m ++ told_cash side c) ≡ reports_by ask.kind d s ask.units m c
+unfolding reports_by order_reports stock_reports
+reports_are d s ask m c first rest = rw (rest, first)

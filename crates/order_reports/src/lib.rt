@@ -1,20 +1,17 @@
-// The reports of an order to its two parties, written to lent runs of numbers. What moves is told by the records, which stand
-// written: the first is the unit's, and those of stock follow it.
+// The reports of an order to its two parties, written to lent runs of numbers one behind another: the fund's are the investor's with the
+// side turned.
 #![tactic(auto)]
 
-ghost use Rattle.std.specs.Prelude.{◌≡◌, ◌+◌, ◌-◌, ◌*◌, ◌≤◌, ◌<◌, ◌^◌, length, [], ◌∷◌, MatchOption};
-ghost use Rattle.std.proofs.lemmas.List.Edits.{sets};
-ghost use Rattle.sequences.specs.Below.{tabulate};
-ghost use Rattle.layout.specs.Places.{record_width, report_width};
-ghost use Rattle.layout.specs.Laid.{laid};
-ghost use Rattle.layout.specs.Reports.{report_numbers, with_reports};
+ghost use Rattle.std.specs.Prelude.{◌≡◌, ◌≤◌, ◌<◌, length, [], ◌∷◌, MatchOption};
+ghost use Rattle.std.specs.Int.NonZero.{non_zero_u64_get};
 ghost use Rattle.rules.specs.Records.{side_number};
-ghost use Rattle.rules.specs.Reports.{cash_number, turned, type_number};
-ghost use Rattle.rules.specs.Kinds.{all_cash, cash_report_count, stock_side, rest_side};
-ghost use Rattle.order_reports.specs.Told.{group_there, told, told_stock, told_cash, told_reports};
+ghost use Rattle.rules.specs.Reports.{cash_number, type_number, unit_type, move_report, opposite};
+ghost use Rattle.order_records.specs.Put.{put_all, quantity_in};
+ghost use Rattle.order_reports.specs.Put.{group_there, reports_left, with_report, line_report, told_cash};
 
-use layout::{Group, Record, Report};
-use rules::{CashByMarket, CashKind, Kind, ReportType, Side};
+use layout::{Group, Report};
+use rules::{CashByMarket, CashKind, ReportType, Side};
+use std::num::NonZeroU64;
 use units::Money;
 
 // The group where a report has none. No `Default` of `layout::Group`: kind 0 is none of `CashKind`, which `layout` does not know. A report
@@ -25,7 +22,7 @@ const NO_GROUP: Group = Group {
 };
 
 // The group of an amount of cash, none where the amount is 0.
-#[tactic(auto, unfolding(crate::specs::Told::group_there))]
+#[tactic(auto, unfolding(crate::specs::Put::group_there))]
 fn group(kind: CashKind, amount: Money) -> Option<Group>
     ensures { result ≡ group_there (cash_number kind) amount.0 }
 {
@@ -35,15 +32,15 @@ fn group(kind: CashKind, amount: Money) -> Option<Group>
     })
 }
 
-// A report of the unit or of stock: what a record tells.
-fn told(report_type: ReportType, side: Side, r: Record) -> Report
-    ensures { result ≡ told (type_number report_type) (side_number side) r }
+// A report of the unit or of stock: so many of a code.
+fn told(report_type: ReportType, side: Side, code: u64, quantity: u64) -> Report
+    ensures { result ≡ move_report (type_number report_type) (side_number side) code quantity }
 {
     Report {
         report_type: u64::from(report_type),
         side: u64::from(side),
-        code: r.code,
-        quantity: r.quantity,
+        code,
+        quantity,
         first: NO_GROUP,
         second: NO_GROUP,
         third: NO_GROUP,
@@ -51,7 +48,7 @@ fn told(report_type: ReportType, side: Side, r: Record) -> Report
 }
 
 // The report of all cash, none where there is none: Shanghai, then other, which moves up where there is none of Shanghai.
-#[tactic(auto, unfolding(crate::specs::Told::group_there, rules::specs::Reports::cash_groups, rules::specs::Reports::present))]
+#[tactic(auto, unfolding(crate::specs::Put::group_there, rules::specs::Reports::cash_groups, rules::specs::Reports::present))]
 fn cash_report(side: Side, cash: CashByMarket) -> Option<Report>
     ensures { MatchOption result (told_cash (side_number side) cash ≡ []) (λ r. told_cash (side_number side) cash ≡ r ∷ []) }
 {
@@ -69,60 +66,69 @@ fn cash_report(side: Side, cash: CashByMarket) -> Option<Report>
     })
 }
 
-// The reports of stock, behind the unit's, from the `n` records of stock. By number: chunks of both runs, zipped, would also have to
-// leave out the unit in front and the cash behind.
-fn put_stock(list: &mut [u64], records: &[u64], n: usize, side: Side)
-    requires { (report_width * (1 + n) ≤ length list.old) × (record_width * (1 + n) ≤ length records.now) }
-    ensures { list.new ≡ sets list.old report_width (laid report_numbers (tabulate (told_stock (side_number side) records.now) n)) }
+// The same report to the other party.
+#[tactic(auto, unfolding(rules::specs::Reports::turned))]
+fn opposite(r: Report) -> Report
+    ensures { result ≡ opposite r }
 {
-    for k in 0..n {
-        let r = layout::record_at(records, 1 + k);
-        layout::put_report(list, 1 + k, told(ReportType::Stock, side, r));
+    let side = if r.side == u64::from(Side::B) {
+        Side::S
+    } else {
+        Side::B
+    };
+    Report {
+        side: u64::from(side),
+        ..r
     }
 }
 
-// The report of cash, as the k-th: none where there is no cash.
-#[tactic(auto, unfolding(layout::specs::Laid::laid))]
-fn put_cash(list: &mut [u64], k: usize, side: Side, cash: CashByMarket)
-    requires { report_width * (k + cash_report_count cash) ≤ length list.old }
-    ensures { list.new ≡ sets list.old (report_width * k) (laid report_numbers (told_cash (side_number side) cash)) }
-{
-    if let Some(r) = cash_report(side, cash) {
-        layout::put_report(list, k, r);
+// The runs that an order's reports go to, the investor's and the fund's, and the place of the next report in both.
+#[derive(Drop)]
+pub struct Reports<'a> {
+    pub investor: &'a mut [u64],
+    pub fund: &'a mut [u64],
+    pub at: usize,
+}
+
+impl<'a> Reports<'a> {
+    // Writes a report to both parties.
+    #[tactic(auto, unfolding(crate::specs::Put::reports_left))]
+    fn put(&mut self, r: Report)
+        requires { 0 < reports_left self.old }
+        ensures { self.new ≡ with_report self.old r }
+    {
+        layout::put_report(self.investor, self.at, r);
+        layout::put_report(self.fund, self.at, opposite(r));
+        self.at += 1;
     }
-}
 
-// All reports to one party, with `n` of stock: stock on one side and the rest on the other.
-fn put_reports(list: &mut [u64], records: &[u64], n: usize, stock: Side, cash: CashByMarket)
-    requires { (report_width * (1 + n + cash_report_count cash) ≤ length list.old) × (record_width * (1 + n) ≤ length records.now) }
-    ensures { list.new ≡ with_reports (told_reports (side_number stock) (turned (side_number stock)) records.now n cash) list.old }
-{
-    let rest = stock.opposite();
-    let unit = layout::record_at(records, 0);
-    layout::put_report(list, 0, told(ReportType::Unit, rest, unit));
-    put_stock(list, records, n, stock);
-    put_cash(list, 1 + n, rest, cash);
-}
+    // The report of the units.
+    pub fn tell_unit(&mut self, first_code: u64, side: Side, units: u64)
+        requires { 0 < reports_left self.old }
+        ensures { self.new ≡ with_report self.old (move_report unit_type (side_number side) first_code units) }
+    {
+        self.put(told(ReportType::Unit, side, first_code, units));
+    }
 
-// The reports of an order, so many to each party. The fund's have all sides opposite to the investor's. The runs come one by one, not
-// as `rules::Lists`: the records are only read.
-#[tactic(auto, using(rules::proofs::Reports::turned_stock, rules::proofs::Reports::turned_rest))]
-pub fn report(
-    kind: Kind,
-    reports: usize,
-    cash: CashByMarket,
-    records: &[u64],
-    investor: &mut [u64],
-    fund: &mut [u64],
-)
-    requires cash_bound { (all_cash cash < 2 ^ 64) × (1 + cash_report_count cash ≤ reports) × (record_width * (reports - cash_report_count cash) ≤ length records.now) }
-    requires reports_in_bounds { (report_width * reports ≤ length investor.old) × (report_width * reports ≤ length fund.old) }
-    ensures investor { investor.new ≡ with_reports (told_reports (stock_side kind) (rest_side kind) records.now (reports - cash_report_count cash - 1) cash) investor.old }
-    ensures fund { fund.new ≡ with_reports (told_reports (rest_side kind) (stock_side kind) records.now (reports - cash_report_count cash - 1) cash) fund.old }
-{
-    let stock = order_records::stock_side(kind);
-    let rest = order_records::rest_side(kind);
-    let n = reports - cash.reports() - 1;
-    put_reports(investor, records, n, stock, cash);
-    put_reports(fund, records, n, rest, cash);
+    // The report of a component of which stock moves.
+    #[tactic(auto, using(order_records::proofs::Laws::put_none, order_records::proofs::Laws::put_one, crate::proofs::Laws::line_none, crate::proofs::Laws::line_some))]
+    pub fn tell_line(&mut self, code: u64, side: Side, moved: Option<NonZeroU64>)
+        requires { length (line_report code (side_number side) (quantity_in non_zero_u64_get moved)) ≤ reports_left self.old }
+        ensures { self.new ≡ put_all with_report self.old (line_report code (side_number side) (quantity_in non_zero_u64_get moved)) }
+    {
+        if let Some(q) = moved {
+            self.put(told(ReportType::Stock, side, code, q.get()));
+        }
+    }
+
+    // The report of cash, where there is any.
+    #[tactic(auto, using(order_records::proofs::Laws::put_none, order_records::proofs::Laws::put_one))]
+    pub fn tell_cash(&mut self, side: Side, cash: CashByMarket)
+        requires { length (told_cash (side_number side) cash) ≤ reports_left self.old }
+        ensures { self.new ≡ put_all with_report self.old (told_cash (side_number side) cash) }
+    {
+        if let Some(r) = cash_report(side, cash) {
+            self.put(r);
+        }
+    }
 }

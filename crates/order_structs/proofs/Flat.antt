@@ -19,7 +19,9 @@ use Rattle.rules.specs.Creation.{creation_reply, created_book, created_lists}
 use Rattle.rules.specs.Redemption.{redemption_reply, redeemed_book, redeemed_lists}
 use Rattle.rules.specs.Kinds.{by_kind, asked_records, asked_reports, counts_by, asked_checks, asked_reply, asked_moves, asked_book, asked_lists}
 use Rattle.balance.specs.Calls.{State, Call, Result, step, create, redeem}
-use Rattle.order_structs.specs.Made.{records_of, at_front, rooms_beside, made_records, made_reports}
+use Rattle.record_writer.specs.Stored.{at_front}
+use Rattle.orders.specs.Orders.{records_of, rooms_beside}
+use Rattle.order_structs.specs.Made.{made_records, made_reports}
 use Rattle.rules.proofs.Asked.{by_ask}
 
 -- flattened, a list of records has room for as many as it holds

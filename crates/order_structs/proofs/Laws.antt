@@ -1,127 +1,85 @@
--- An order settled into a flat run: what its tests give, and the records and reports that it leaves.
-use mathlib.Core.Path.{◌≡◌, refl, sym, ap, ◌∙◌}
-use mathlib.Core.Bool.{true}
-use mathlib.Core.List.{List, [], ◌++◌, append_assoc, append-nil}
-use Prim.Native.Nat.{ℕ, ◌*◌, ◌/◌, ◌≤◌, ◌<◌}
+-- From an order of which a writer is a sink to the order in the struct form: the list of structs is the writer's, and on a day that is not
+-- sound everything stays.
+use mathlib.Core.Path.{◌≡◌, refl, ap, ◌∙◌}
+use mathlib.Core.Bool.{Bool, true, false, cond}
+use mathlib.Core.List.{List, map}
+use Prim.Native.Nat.{ℕ, ◌-◌}
 use native.Mathlib.Omega.{arith}
-use lib.ListN.{length, get_or, take, drop}
-use lib.Seq.{length-take-le, take-append_seam, drop-nil}
-use Rattle.sequences.specs.Below.{tabulate}
+use lib.ListN.{length}
 use Rattle.sequences.specs.Checks.{Reply, is_accepted}
-use Rattle.sequences.proofs.Below.{table_ext}
-use Rattle.layout.specs.Places.{record_width}
 use Rattle.layout.specs.Day.{Day}
 use Rattle.layout.specs.declared.Record.{Record}
-use Rattle.layout.specs.Laid.{with_laid, room_of}
-use Rattle.layout.specs.Records.{record_at, flatten, with_records}
-use Rattle.layout.proofs.Records.{flatten-length, record_read}
+use Rattle.layout.specs.Reports.{with_reports}
 use Rattle.rules.specs.declared.Ask.{Ask}
 use Rattle.rules.specs.declared.Rooms.{Rooms}
-use Rattle.rules.specs.declared.Counts.{Counts}
-use Rattle.rules.specs.Records.{record_of}
-use Rattle.rules.specs.Replies.{made_reply}
-use Rattle.rules.specs.Lent.{Lent, lent_of, rooms_in, with_order}
-use Rattle.rules.specs.Creation.{creation_reply}
-use Rattle.rules.specs.Redemption.{redemption_reply}
-use Rattle.rules.specs.Kinds.{asked_records, asked_reports, counts_by, asked_checks, asked_reply, asked_book, asked_lists}
-use Rattle.rules.proofs.Accepted.{creation_facts, creation_made, redemption_facts, redemption_made}
-use Rattle.rules.proofs.Asked.{by_ask}
-use Rattle.rules.proofs.Replies.{refused, is_accepted_lem}
-use Rattle.order_structs.specs.Made.{records_of, at_front, rooms_beside, made_records}
-use Rattle.order_structs.specs.Room.{most_records, lent_records}
-use Rattle.record_writer.specs.Stored.{with_first}
-use Rattle.order_structs.proofs.Room.{lent_most, lent_rooms, reply_room, book_room}
+use Rattle.rules.specs.declared.Refusal.TheVariants.{UnsoundDay}
+use Rattle.rules.specs.Replies.{if_accepted}
+use Rattle.rules.specs.Reports.{opposite}
+use Rattle.rules.specs.Sound.{is_sound}
+use Rattle.rules.specs.Kinds.{asked_reply, asked_moves, asked_book}
+use Rattle.rules.proofs.Replies.{leaves_before}
+use Rattle.order_records.specs.Put.{put_all}
+use Rattle.record_writer.specs.declared.Writer.{Writer}
+use Rattle.record_writer.specs.Stored.{room_left, pushed, at_front}
+use Rattle.record_writer.proofs.Front.{put_first, same_list}
+use Rattle.orders.proofs.Laws.{left_part, left_same, records_fit}
+use Rattle.orders.specs.Orders.{asked_answer, records_of, reports_of, rooms_beside}
+use Rattle.order_calls.proofs.Laws.{order_five, order_own}
+use Rattle.order_structs.specs.Made.{made_records, made_reports}
 
--- Records read off a flat run.
+module _ (d : Day) (b ps : List ℕ) (unsound : is_sound d b ps ≡ false) (ask : Ask) (rooms : Rooms) where
+  pub list_five : (list : List Record) → list ≡ made_records d b ps ask rooms list
+  unfolding made_records
+  list_five list = leaves_before _ _ UnsoundDay _ (order_five d b ps unsound ask rooms)
 
--- its front has room for as many as it was cut for
-front_room : (n : ℕ) (flat : List ℕ) → length flat ≡ record_width * most_records → n ≤ most_records → room_of record_width (length (take (record_width * n) flat)) ≡ n
-front_room n flat e h = omega (arith, length-take-le (record_width * n) flat (omega (arith, e, h)))
+  pub reports_five : (investor fund : List ℕ) → (investor, fund) ≡ made_reports d b ps ask rooms investor fund
+  unfolding made_reports
+  reports_five investor fund = leaves_before {A = List ℕ × List ℕ} _ _ UnsoundDay _ (order_five d b ps unsound ask rooms)
 
-read_front : (rs : List Record) (k : ℕ) (r : Record) → k < length rs → record_at (flatten rs) k ≡ get_or rs k r
-unfolding with_records with_laid flatten
-read_front rs k r h =
-    let all : with_records rs [] ≡ flatten rs = ap (λ (t : List ℕ). flatten rs ++ t) (drop-nil (record_width * length rs)) ∙ append-nil (flatten rs) in
-    ap (λ (t : List ℕ). record_at t k) (sym all) ∙ record_read rs [] k r h
+-- an order whose records go to a writer at the first place of a list
+module _ (d : Day) (b ps : List ℕ) (sound : is_sound d b ps ≡ true) (ask : Ask) (w : Writer) (list : List Record) (stands : w.list.now ≡ list) (z : w.at ≡ 0)
+    (investor fund : List ℕ) where
+  abbrev answer : Reply
+  answer = asked_answer d b ps ask (rooms_beside (room_left w) investor fund)
 
--- what was written is read
-records_back : (rs : List Record) → tabulate (record_at (flatten rs)) (length rs) ≡ rs
-records_back rs =
-    let none = record_of 0 0 0 0 in
-    sym (table_ext (record_at (flatten rs)) (length rs) none rs refl (λ k h. sym (read_front rs k none h)))
+  abbrev listed : Reply
+  listed = asked_reply d b ps ask (rooms_beside (length list) investor fund)
 
--- so many at the front of a flat run
-abbrev cut_of : ℕ → List ℕ → List ℕ
-cut_of n flat = take (record_width * n) flat
+  -- it has the list's room
+  pub writer_answer : answer ≡ listed
+  unfolding room_left
+  writer_answer =
+      let all : length w.list.now - w.at ≡ length list = omega (arith, z, ap length stands) in
+      ap (λ (k : ℕ). asked_answer d b ps ask (rooms_beside k investor fund)) all ∙ order_own d b ps sound ask (rooms_beside (length list) investor fund)
 
--- those of a run at whose front they stand, in a list
-pub first_is : (rs : List Record) (rest : List ℕ) (list : List Record)
-    → with_first (length (cut_of (length rs) (flatten rs ++ rest)) / record_width) (cut_of (length rs) (flatten rs ++ rest)) list ≡ at_front rs list
-unfolding with_first
-first_is rs rest list =
-    let cut : cut_of (length rs) (flatten rs ++ rest) ≡ flatten rs =
-    ap (λ (n : ℕ). take n (flatten rs ++ rest)) (sym (flatten-length rs)) ∙ take-append_seam (flatten rs) rest in
-    let count : length (flatten rs) / record_width ≡ length rs = omega (arith, flatten-length rs) in
-    rw (cut, count, records_back rs)
+  pub writer_book : if_accepted answer (asked_moves d ps ask b) b ≡ asked_book d b ps ask (rooms_beside (length list) investor fund)
+  unfolding asked_book
+  writer_book = ap (λ (r : Reply). if_accepted r (asked_moves d ps ask b) b) writer_answer
 
-pub written_is : (rs : List Record) (list : List ℕ) → with_records rs list ≡ flatten rs ++ drop (record_width * length rs) list
-unfolding with_records with_laid flatten
-written_is rs list = refl
+  -- and leaves the list's records
+  module _ {left : Writer} (e : left ≡ if_accepted answer (put_all pushed w (records_of d b ps ask)) w) where
+    pub list_same : left.list.ghost_name ≡ w.list.ghost_name
+    list_same = left_same (λ (w : Writer). w.list.ghost_name) answer _ _ e (same_list w (records_of d b ps ask))
 
--- the front of a flat run, cut for a list with room for so many records, has the rooms of that list
-pub front_rooms : (room : ℕ) (flat investor fund : List ℕ) → length flat ≡ record_width * most_records
-    → rooms_in (lent_of (take (record_width * lent_records room) flat) investor fund) ≡ lent_rooms (rooms_beside room investor fund)
-unfolding rooms_in
-front_rooms room flat investor fund full =
-    ap (λ (k : ℕ). rooms_beside k investor fund) (front_room (lent_records room) flat full (lent_most room))
+    pub list_left : left.list.now ≡ made_records d b ps ask (rooms_beside (length list) investor fund) list
+    unfolding made_records
+    list_left =
+        left_part (λ (w : Writer). w.list.now) answer _ _ e (λ good. put_first w (records_of d b ps ask) z (records_fit d b ps ask _ sound good))
+        ∙ (λ i. if_accepted (writer_answer i) (at_front (records_of d b ps ask) (stands i)) (stands i))
 
-module _ (d : Day) (b ps : List ℕ) (ask : Ask) where
-  -- an accepted reply has the count of its records, and they have room
-  pub accepted_count : (rooms : Rooms) → is_accepted (asked_reply d b ps ask rooms) ≡ true
-      → ((asked_reply d b ps ask rooms).value ≡ length (records_of d b ps ask)) × (length (records_of d b ps ask) ≤ rooms.records)
-  unfolding asked_reply asked_checks counts_by asked_records asked_reports records_of creation_reply redemption_reply
-  accepted_count rooms =
-      by_ask
-      (λ k. is_accepted (asked_reply d b ps k rooms) ≡ true
-      → ((asked_reply d b ps k rooms).value ≡ length (records_of d b ps k)) × (length (records_of d b ps k) ≤ rooms.records))
-      (λ a units e. (ap (λ (r : Reply). r.value) (creation_made d b ps a units rooms e), (creation_facts d b ps a units rooms e).listed.records))
-      (λ a units e. (ap (λ (r : Reply). r.value) (redemption_made d b ps a units rooms e), (redemption_facts d b ps a units rooms e).listed.records))
-      ask
+  -- and the reports
+  pub told_left : {own other : List ℕ} → own ≡ if_accepted answer (with_reports (reports_of d b ps ask) investor) investor
+      → other ≡ if_accepted answer (with_reports (map opposite (reports_of d b ps ask)) fund) fund
+      → (own, other) ≡ made_reports d b ps ask (rooms_beside (length list) investor fund) investor fund
+  unfolding made_reports
+  told_left {own} {other} i f = rw (i, f, writer_answer) (go (is_accepted listed))
+    where
+      told : List ℕ × List ℕ
+      told = (with_reports (reports_of d b ps ask) investor, with_reports (map opposite (reports_of d b ps ask)) fund)
 
-  -- so an order on it answers and moves what it does with the list
-  module _ (room : ℕ) (flat investor fund : List ℕ) (full : length flat ≡ record_width * most_records) where
-    pub front_reply : asked_reply d b ps ask (rooms_in (lent_of (take (record_width * lent_records room) flat) investor fund)) ≡ asked_reply d b ps ask (rooms_beside room investor fund)
-    front_reply = ap (asked_reply d b ps ask) (front_rooms room flat investor fund full) ∙ reply_room d b ps (rooms_beside room investor fund) ask
+      as_lent : List ℕ × List ℕ
+      as_lent = (investor, fund)
 
-    pub front_book : asked_book d b ps ask (rooms_in (lent_of (take (record_width * lent_records room) flat) investor fund)) ≡ asked_book d b ps ask (rooms_beside room investor fund)
-    front_book = ap (asked_book d b ps ask) (front_rooms room flat investor fund full) ∙ book_room d b ps (rooms_beside room investor fund) ask
-
-    module _ (n : ℕ) (is : n ≡ lent_records room) (counts : Counts) where
-      abbrev front : List ℕ
-      front = take (record_width * n) flat
-
-      abbrev rs : List Record
-      rs = records_of d b ps ask
-
-      module _ (made : made_reply counts ≡ asked_reply d b ps ask (rooms_in (lent_of front investor fund))) where
-        taken : is_accepted (asked_reply d b ps ask (rooms_in (lent_of front investor fund))) ≡ true
-        taken = is_accepted_lem _ _ refl made
-
-        -- its records are counted, and there is room for them in the run and in the list
-        pub counted : (counts.records ≡ length rs) × (length rs ≤ n)
-        counted =
-            let facts = accepted_count (rooms_in (lent_of front investor fund)) taken in
-            (ap (λ (r : Reply). r.value) made ∙ facts.0, rw is (rw (is, front_rooms room flat investor fund full) at facts.1))
-
-        -- and they stand at the front of the run
-        pub records_first : {left own other : List ℕ} (rest : List ℕ) (list : List Record) → lent_of left own other ≡ asked_lists d b ps ask (lent_of front investor fund)
-            → with_first (length (cut_of counts.records (left ++ rest)) / record_width) (cut_of counts.records (left ++ rest)) list ≡ made_records d b ps ask (rooms_beside room investor fund) list
-        unfolding made_records records_of asked_lists with_order
-        records_first {left} rest list lists =
-            let behind = drop (record_width * length rs) front in
-            let left_is : left ≡ flatten rs ++ behind = ap (λ (l : Lent). l.records) (rw taken at lists) ∙ written_is rs front in
-            let same : asked_reply d b ps ask (rooms_in (lent_of front investor fund)) ≡ asked_reply d b ps ask (rooms_beside room investor fund) = rw is front_reply in
-            rw (counted.0, left_is, append_assoc (flatten rs) behind rest, first_is rs (behind ++ rest) list) (rw (← same, taken) refl)
-
--- what an order on the front of a flat run is found by
-pub ruleset front_laws = (lent_most, front_reply, front_book, refused)
+      go : (x : Bool) → ◌≡◌ {A = List ℕ × List ℕ} (cond x told.0 investor, cond x told.1 fund) (cond x told as_lent)
+      go true = refl
+      go false = refl

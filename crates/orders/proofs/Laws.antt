@@ -1,12 +1,11 @@
 -- From a sound day and an order's form to what its third stage, its records and its move ask.
 use mathlib.Core.Path.{◌≡◌, refl, sym, ap, ◌∙◌}
-use mathlib.Core.Bool.{true}
+use mathlib.Core.Bool.{Bool, true, false, cond}
 use mathlib.Core.List.{List, [], ◌++◌, map, append_assoc}
-use Prim.Native.Nat.{ℕ, ◌+◌, ◌-◌, ◌*◌, ◌≤◌, ◌<◌, ◌^◌}
+use Prim.Native.Nat.{ℕ, ◌+◌, ◌*◌, ◌≤◌, ◌<◌}
 use native.Mathlib.Omega.{arith}
 use lib.ListN.{length}
 use borrow.Author.Tests.{not-false}
-use Rattle.sequences.specs.Below.{join_below}
 use Rattle.sequences.specs.Checks.{Check, Reply, answered, is_accepted}
 use Rattle.sequences.proofs.Checks.{all_passed}
 use Rattle.sequences.proofs.Stretch.{within}
@@ -17,32 +16,34 @@ use Rattle.rules.specs.declared.CashByMarket.{CashByMarket}
 use Rattle.rules.specs.declared.Rooms.{Rooms}
 use Rattle.rules.specs.declared.Counts.{Counts}
 use Rattle.rules.specs.Lent.{Lent, lent_of, rooms_in, with_order}
-use Rattle.rules.specs.Records.{stock_record}
 use Rattle.rules.specs.Reports.{opposite}
 use Rattle.layout.specs.declared.Record.{Record}
-use Rattle.layout.specs.Places.{most_components, record_width, report_width}
-use Rattle.layout.specs.Records.{record_numbers, with_records}
+use Rattle.layout.specs.Places.{most_components}
+use Rattle.layout.specs.Records.{with_records}
 use Rattle.layout.specs.Reports.{with_reports}
-use Rattle.layout.proofs.Laid.{with_length}
 use Rattle.layout.specs.Book.{width_of, account}
 use Rattle.rules.specs.Replies.{made_reply, if_accepted}
 use Rattle.rules.specs.Sound.{is_sound}
 use Rattle.rules.specs.Orders.{baskets, form_checks, permission_checks}
 use Rattle.rules.specs.Creation.{available, creation_due, creation_checks, creation_reply}
 use Rattle.rules.specs.Redemption.{redemption_paid, redemption_checks, redemption_reply}
-use Rattle.rules.specs.Kinds.{all_cash, cash_by, moved_by, stock_side, rest_side, records_by, reports_by, cash_report_count}
+use Rattle.rules.specs.Kinds.{all_cash, cash_by, records_by, reports_by}
 use Rattle.rules.specs.Kinds.{asked_cash, asked_records, asked_reports, counts_by, asked_counts, asked_means, asked_checks, asked_reply, with_asked}
 use Rattle.rules.proofs.SoundDay.{SoundDay, sound_facts}
-use Rattle.rules.proofs.Accepted.{Orders, Listed, order_facts, creation_facts, creation_made, redemption_facts, redemption_made}
-use Rattle.rules.proofs.Reports.{report_count}
+use Rattle.rules.proofs.Accepted.{Orders, Listed, order_facts, creation_facts, redemption_facts}
 use Rattle.rules.proofs.Replies.{refused, is_accepted_lem, on_sound}
 use Rattle.rules.proofs.Asked.{by_ask, asked_records_lem, asked_reports_lem}
 use Rattle.book.specs.Ready.{OrderReady}
 use Rattle.book.proofs.Ready.{creation_ready, redemption_ready}
 use Rattle.order_records.specs.Ready.{Writable}
 use Rattle.order_records.proofs.Sound.{sound_writable}
-use Rattle.order_reports.specs.Told.{told_reports}
-use Rattle.order_reports.proofs.Order.{record_count, investor_told, fund_told}
+use Rattle.order_records.specs.declared.Out.{Out}
+use Rattle.order_records.specs.Put.{put_all}
+use Rattle.order_records.specs.Flat.{room_left, with_record}
+use Rattle.order_records.proofs.Flat.{room_first, put_first, same_run}
+use Rattle.order_reports.specs.declared.Reports.{Reports}
+use Rattle.order_reports.specs.Put.{reports_left, with_report}
+use Rattle.order_reports.proofs.Laws.{put_first as reports_first}
 use Rattle.order_tests.specs.Tests.{means_answer}
 use Rattle.order_form.specs.Form.{order_form, Countable}
 use Rattle.order_form.proofs.Laws.{form_of_day, sound_countable, countable_head}
@@ -52,7 +53,7 @@ use Rattle.value.proofs.Laws.{priceable}
 use Rattle.order_scan.specs.Ready.{Scannable}
 use Rattle.order_scan.proofs.Ready.{scannable}
 use Rattle.trades.proofs.Laws.{sound_fits}
-use Rattle.orders.specs.Orders.{asked_answer, Formed}
+use Rattle.orders.specs.Orders.{asked_answer, answered_lists, records_of, reports_of, rooms_beside, Formed}
 
 module _ (d : Day) (b ps : List ℕ) (ask : Ask) (f : Formed d b ps ask) where
   sound : SoundDay d b ps
@@ -130,31 +131,29 @@ accepted d b ps rooms =
     (λ a units e. let t = creation_facts d b ps a units rooms e in record { sound = t.sound; movable = creation_ready t; listed = t.listed })
     (λ a units e. let t = redemption_facts d b ps a units rooms e in record { sound = t.sound; movable = redemption_ready t; listed = t.listed })
 
--- and its reply has its counts
-reply_made : (d : Day) (b ps : List ℕ) (rooms : Rooms) (ask : Ask) → is_accepted (asked_reply d b ps ask rooms) ≡ true
-    → asked_reply d b ps ask rooms ≡ made_reply (asked_counts d b ps ask)
-unfolding asked_reply asked_checks asked_records asked_reports counts_by creation_reply redemption_reply
-reply_made d b ps rooms =
-    by_ask (λ ask. is_accepted (asked_reply d b ps ask rooms) ≡ true → asked_reply d b ps ask rooms ≡ made_reply (asked_counts d b ps ask))
-    (λ a units e. creation_made d b ps a units rooms e)
-    (λ a units e. redemption_made d b ps a units rooms e)
+sound_reply : (d : Day) (b ps : List ℕ) (ask : Ask) (rooms : Rooms) → is_sound d b ps ≡ true → asked_reply d b ps ask rooms ≡ asked_answer d b ps ask rooms
+unfolding asked_answer asked_reply
+sound_reply d b ps ask rooms whole = on_sound d b ps (asked_checks d b ps ask rooms) _ whole
 
--- it can be written, moved and reported, and gives the rules' lists and book; m is its count of baskets, and c its cash
-module _ (d : Day) (b ps : List ℕ) (ask : Ask) (lent : Lent) (whole : is_sound d b ps ≡ true) (counts : Counts)
-    (made : made_reply counts ≡ asked_answer d b ps ask (rooms_in lent)) (m : ℕ) (in-baskets : m ≡ baskets d ask.units) (c : CashByMarket)
+-- where so many records have room, and the runs of both parties their reports: it can be moved and put, and leaves the rules' records and
+-- reports; m is its count of baskets, and c its cash
+module _ (d : Day) (b ps : List ℕ) (ask : Ask) (room : ℕ) (investor fund : List ℕ) (whole : is_sound d b ps ≡ true) (counts : Counts)
+    (made : made_reply counts ≡ asked_answer d b ps ask (rooms_beside room investor fund)) (m : ℕ) (in-baskets : m ≡ baskets d ask.units) (c : CashByMarket)
     (paid : c ≡ asked_cash d (account d b ask.account) ps ask) where
   abbrev s : List ℕ
   s = account d b ask.account
 
-  own_reply : asked_reply d b ps ask (rooms_in lent) ≡ asked_answer d b ps ask (rooms_in lent)
-  unfolding asked_answer asked_reply
-  own_reply = on_sound d b ps (asked_checks d b ps ask (rooms_in lent)) _ whole
+  abbrev rooms : Rooms
+  rooms = rooms_beside room investor fund
 
-  taken : is_accepted (asked_reply d b ps ask (rooms_in lent)) ≡ true
-  taken = ap is_accepted own_reply ∙ is_accepted_lem _ _ refl made
+  taken : is_accepted (asked_reply d b ps ask rooms) ≡ true
+  taken = ap is_accepted (sound_reply d b ps ask rooms whole) ∙ is_accepted_lem _ _ refl made
 
-  facts : Accepted d b ps (rooms_in lent) ask
-  facts = accepted d b ps (rooms_in lent) ask taken
+  facts : Accepted d b ps rooms ask
+  facts = accepted d b ps rooms ask taken
+
+  pub order_ready : OrderReady ask.kind d b ask.account ask.units m (all_cash c)
+  order_ready = rw (in-baskets, paid) facts.movable
 
   records : records_by ask.kind d s ask.units m c ≡ asked_records d s ps ask
   records = rw (in-baskets, paid) (asked_records_lem d s ps ask)
@@ -162,58 +161,82 @@ module _ (d : Day) (b ps : List ℕ) (ask : Ask) (lent : Lent) (whole : is_sound
   reports : reports_by ask.kind d s ask.units m c ≡ asked_reports d s ps ask
   reports = rw (in-baskets, paid) (asked_reports_lem d s ps ask)
 
-  ready : OrderReady ask.kind d b ask.account ask.units m (all_cash c)
-  ready = rw (in-baskets, paid) facts.movable
-
-  writable : Writable d s ask m c lent.records
-  unfolding rooms_in counts_by
-  writable = sound_writable d b ps facts.sound _ ask m c lent.records (rw records facts.listed.records)
-
-  pub order_makes : OrderReady ask.kind d b ask.account ask.units m (all_cash c) × Writable d s ask m c lent.records
-  order_makes = (ready, writable)
-
-  -- how many reports there are of stock
-  abbrev stocked : ℕ
-  stocked = length (join_below (stock_record d (stock_side ask.kind) (moved_by ask.kind d s m)) d.count)
-
-  counted : counts.reports ≡ length (asked_reports d s ps ask)
+  pub order_writable : Writable d s ask m c room
   unfolding counts_by
-  counted = ap (λ (r : Reply). r.reports) (made ∙ sym own_reply ∙ reply_made d b ps (rooms_in lent) ask taken)
+  order_writable = sound_writable d b ps facts.sound _ ask m c room (rw records facts.listed.records)
 
-  told : counts.reports ≡ 1 + stocked + cash_report_count c
-  told = counted ∙ sym (ap length reports) ∙ report_count ask.kind d s ask.units m c
+  pub order_told : (o : Reports) → o.investor.now ≡ investor → o.fund.now ≡ fund → o.at ≡ 0 → length (reports_by ask.kind d s ask.units m c) ≤ reports_left o
+  unfolding counts_by reports_left
+  order_told o i f z = omega (arith, ap length reports, facts.listed.investor, facts.listed.fund, ap length i, ap length f, z)
 
-  -- the records as they stand written
-  module _ (written : List ℕ) (w : written ≡ with_records (records_by ask.kind d s ask.units m c) lent.records) where
-    long : length written ≡ length lent.records
-    unfolding with_records
-    long = ap length w ∙ with_length record_numbers record_width (λ r. refl) (records_by ask.kind d s ask.units m c) lent.records writable.room
+  pub records_left : {S : Type 0} (push : S → Record → S) (old : S) {new : S} → new ≡ put_all push old (records_by ask.kind d s ask.units m c)
+      → new ≡ put_all push old (records_of d b ps ask)
+  unfolding records_of
+  records_left push old e = e ∙ ap (put_all push old) records
 
-    pub order_reports_lem : ((all_cash c < 2 ^ 64) × (1 + cash_report_count c ≤ counts.reports) × (record_width * (counts.reports - cash_report_count c) ≤ length written))
-        × ((report_width * counts.reports ≤ length lent.investor) × (report_width * counts.reports ≤ length lent.fund))
-    unfolding rooms_in counts_by
-    order_reports_lem = (
-      (
-        omega (arith, ready.rest.money.fits),
-        omega (arith, told),
-        omega (arith, told, long, writable.room, record_count ask.kind d s ask.units m c lent.records),
-      ),
-      (omega (arith, counted, facts.listed.investor), omega (arith, counted, facts.listed.fund)),
-    )
+  pub reports_told : (o : Reports) {new : Reports} → o.investor.now ≡ investor → o.fund.now ≡ fund → o.at ≡ 0
+      → new ≡ put_all with_report o (reports_by ask.kind d s ask.units m c)
+      → (new.investor.now ≡ with_reports (reports_of d b ps ask) investor) × (new.fund.now ≡ with_reports (map opposite (reports_of d b ps ask)) fund)
+  reports_told o {new} i f z e =
+      let front = reports_first (reports_by ask.kind d s ask.units m c) o z (order_told o i f z) in (
+        ap (λ (o : Reports). o.investor.now) e ∙ front.0 ∙ (λ j. with_reports (reports j) (i j)),
+        ap (λ (o : Reports). o.fund.now) e ∙ front.1 ∙ (λ j. with_reports (map opposite (reports j)) (f j)),
+      )
 
-    pub order_lists : (own other : List ℕ)
-        → own ≡ with_reports (told_reports (stock_side ask.kind) (rest_side ask.kind) written (counts.reports - cash_report_count c - 1) c) lent.investor
-        → other ≡ with_reports (told_reports (rest_side ask.kind) (stock_side ask.kind) written (counts.reports - cash_report_count c - 1) c) lent.fund
-        → lent_of written own other ≡ with_asked d b ps ask lent
-    unfolding with_order
-    order_lists own other i f =
-        let n : counts.reports - cash_report_count c - 1 ≡ stocked = omega (arith, told) in
-        let to-investor : own ≡ with_reports (asked_reports d s ps ask) lent.investor =
-        i ∙ rw (n, w, investor_told ask.kind d s ask.units m c lent.records, reports) in
-        let to-fund : other ≡ with_reports (map opposite (asked_reports d s ps ask)) lent.fund =
-        f ∙ rw (n, w, fund_told ask.kind d s ask.units m c lent.records, reports) in
-        let all = w ∙ ap (λ (rs : List Record). with_records rs lent.records) records in
-        λ j. record { records = all j; investor = to-investor j; fund = to-fund j }
+-- of what an order leaves: a part is that of what it makes, or that of what was there; and one that it leaves as it was stays in both
+module _ {S X : Type 0} (f : S → X) (r : Reply) (after before : S) {left : S} (e : left ≡ if_accepted r after before) where
+  pub left_part : {x : X} → (is_accepted r ≡ true → f after ≡ x) → f left ≡ if_accepted r x (f before)
+  left_part {x} made = go (is_accepted r) refl
+    where
+      go : (b : Bool) → is_accepted r ≡ b → f left ≡ if_accepted r x (f before)
+      go true good = rw (e, good) (made good)
+      go false bad = rw (e, bad) refl
+
+  pub left_same : f after ≡ f before → f left ≡ f before
+  left_same same = go (is_accepted r) refl
+    where
+      go : (b : Bool) → is_accepted r ≡ b → f left ≡ f before
+      go true good = rw (e, good) same
+      go false bad = rw (e, bad) refl
+
+-- an accepted order's records have room
+pub records_fit : (d : Day) (b ps : List ℕ) (ask : Ask) (rooms : Rooms) → is_sound d b ps ≡ true → is_accepted (asked_answer d b ps ask rooms) ≡ true
+    → length (records_of d b ps ask) ≤ rooms.records
+unfolding counts_by records_of
+records_fit d b ps ask rooms whole taken = (accepted d b ps rooms ask (ap is_accepted (sound_reply d b ps ask rooms whole) ∙ taken)).listed.records
+
+-- an order whose records go to a flat run, from its first place on
+module _ (d : Day) (b ps : List ℕ) (ask : Ask) (whole : is_sound d b ps ≡ true) (o : Out) (z : o.at ≡ 0) (investor fund : List ℕ) where
+  abbrev lent : Lent
+  lent = lent_of o.run.now investor fund
+
+  abbrev answer : Reply
+  answer = asked_answer d b ps ask (rooms_beside (room_left o) investor fund)
+
+  -- its answer
+  pub flat_answer : answer ≡ asked_answer d b ps ask (rooms_in lent)
+  unfolding rooms_in
+  flat_answer = ap (λ (k : ℕ). asked_answer d b ps ask (rooms_beside k investor fund)) (room_first o z)
+
+  -- and its lists
+  module _ {left : Out} (e : left ≡ if_accepted answer (put_all with_record o (records_of d b ps ask)) o) where
+    pub flat_same : left.run.ghost_name ≡ o.run.ghost_name
+    flat_same = left_same (λ (o : Out). o.run.ghost_name) answer _ _ e (same_run (records_of d b ps ask) o)
+
+    pub flat_left : {own other : List ℕ} → own ≡ if_accepted answer (with_reports (reports_of d b ps ask) investor) investor
+        → other ≡ if_accepted answer (with_reports (map opposite (reports_of d b ps ask)) fund) fund
+        → lent_of left.run.now own other ≡ answered_lists d b ps ask lent
+    unfolding records_of with_order
+    flat_left {own} {other} i f =
+        let records : left.run.now ≡ if_accepted answer (with_records (records_of d b ps ask) o.run.now) o.run.now =
+        left_part (λ (o : Out). o.run.now) answer _ _ e (λ good. put_first (records_of d b ps ask) o z (records_fit d b ps ask _ whole good)) in
+        rw (records, i, f, flat_answer) (go (is_accepted (asked_answer d b ps ask (rooms_in lent))))
+      where
+        go : (x : Bool)
+            → lent_of (cond x (with_records (records_of d b ps ask) o.run.now) o.run.now) (cond x (with_reports (reports_of d b ps ask) investor) investor) (cond x (with_reports (map opposite (reports_of d b ps ask)) fund) fund)
+            ≡ cond x (with_asked d b ps ask lent) lent
+        go true = refl
+        go false = refl
 
 -- what the tests of an order are found by
 pub ruleset tested_laws = (form_ready, asked_staged, form_is, refused)

@@ -1,19 +1,24 @@
 // Orders on a sound day: test, settle, and report. A refusal stops after the tests, which only read.
 #![tactic(auto)]
 
-ghost use Rattle.std.specs.Prelude.{◌≡◌, true, ◌+◌, ◌*◌, ◌≤◌, length, IfOk};
+ghost use Rattle.std.specs.Prelude.{◌≡◌, true, ◌+◌, ◌*◌, ◌≤◌, length, map, IfOk};
 ghost use Rattle.sequences.specs.Stretch.{stretch_of};
 ghost use Rattle.layout.specs.Places.{most_components};
 ghost use Rattle.layout.specs.Book.{width_of, account};
+ghost use Rattle.layout.specs.Reports.{with_reports};
+ghost use Rattle.rules.specs.Reports.{opposite};
 ghost use Rattle.rules.specs.Replies.{order_answer_reply, if_accepted};
 ghost use Rattle.rules.specs.Sound.{is_sound};
 ghost use Rattle.rules.specs.Lent.{rooms_in};
 ghost use Rattle.rules.specs.Lists.{lent_in, left_in};
 ghost use Rattle.rules.specs.Kinds.{asked_cash, asked_moves};
+ghost use Rattle.order_records.specs.Put.{put_all};
 ghost use Rattle.order_tests.specs.Tests.{accepted_reply, means_answer};
-ghost use Rattle.orders.specs.Orders.{asked_answer, answered_lists, Formed};
+ghost use Rattle.orders.specs.Orders.{asked_answer, answered_lists, records_of, reports_of, rooms_beside, Formed};
 
 use layout::DayView;
+use order_records::{Out, RecordSink};
+use order_reports::Reports;
 use order_scan::Parties;
 use order_tests::Accepted;
 use rules::{Ask, Counts, Lists, Refusal, Rooms};
@@ -66,8 +71,42 @@ pub fn order_tested(
     order_stage(day, book, prices, ask, rooms)
 }
 
-// An order: its tests, and where they accept it its records, moves and reports.
+// An order whose records go to any sink: its tests, and where they accept it its moves, records and reports.
 #[tactic(auto, using(crate::proofs::Laws::basket_low, rules::proofs::Replies::refused, rules::proofs::Asked::asked_moves_lem), unfolding(sequences::specs::Checks::is_accepted))]
+pub fn order_into<S: RecordSink>(
+    day: &DayView,
+    book: &mut [u64],
+    prices: &[u64],
+    ask: Ask,
+    records: &mut S,
+    investor: &mut [u64],
+    fund: &mut [u64],
+) -> Result<Counts, Refusal>
+    requires prices_value { is_sound day.now book.old prices.now ≡ true }
+    ensures result_value { order_answer_reply result ≡ asked_answer day.now book.old prices.now ask (rooms_beside (S.room records.old) investor.old fund.old) }
+    ensures book { book.new ≡ if_accepted (asked_answer day.now book.old prices.now ask (rooms_beside (S.room records.old) investor.old fund.old)) (asked_moves day.now prices.now ask book.old) book.old }
+    ensures records { records.new ≡ if_accepted (asked_answer day.now book.old prices.now ask (rooms_beside (S.room records.old) investor.old fund.old)) (put_all S.pushed records.old (records_of day.now book.old prices.now ask)) records.old }
+    ensures investor { investor.new ≡ if_accepted (asked_answer day.now book.old prices.now ask (rooms_beside (S.room records.old) investor.old fund.old)) (with_reports (reports_of day.now book.old prices.now ask) investor.old) investor.old }
+    ensures fund { fund.new ≡ if_accepted (asked_answer day.now book.old prices.now ask (rooms_beside (S.room records.old) investor.old fund.old)) (with_reports (map opposite (reports_of day.now book.old prices.now ask)) fund.old) fund.old }
+{
+    let rooms = Rooms {
+        records: records.room(),
+        investor: investor.len() / layout::REPORT_WIDTH,
+        fund: fund.len() / layout::REPORT_WIDTH,
+    };
+    let accepted = order_tested(day, book, prices, ask, rooms)?;
+    let m = order_tests::baskets_in(day, ask.units);
+    let mut reports = Reports {
+        investor,
+        fund,
+        at: 0,
+    };
+    order_settlement::settle(ask, day, book, m, accepted.cash, records, &mut reports);
+    Ok(accepted.counts)
+}
+
+// An order whose records go to a flat run.
+#[tactic(auto)]
 pub fn order(
     day: &DayView,
     book: &mut [u64],
@@ -80,13 +119,17 @@ pub fn order(
     ensures book { book.new ≡ if_accepted (asked_answer day.now book.old prices.now ask (rooms_in (lent_in lists.old))) (asked_moves day.now prices.now ask book.old) book.old }
     ensures lists { lists.new ≡ left_in lists.old (answered_lists day.now book.old prices.now ask (lent_in lists.old)) }
 {
-    let accepted = order_tested(day, book, prices, ask, lists.rooms())?;
-    let m = order_tests::baskets_in(day, ask.units);
-    let cash = accepted.cash;
-    // In a variable: `report` reads it beside the two lists that it is lent, and the borrow checker has no rule for such a read of a field.
-    let records = &mut *lists.records;
-    order_settlement::settle(ask, day, book, m, cash, records);
-    let reports = accepted.counts.reports;
-    order_reports::report(ask.kind, reports, cash, records, lists.investor, lists.fund);
-    Ok(accepted.counts)
+    let mut records = Out {
+        run: lists.records,
+        at: 0,
+    };
+    order_into(
+        day,
+        book,
+        prices,
+        ask,
+        &mut records,
+        lists.investor,
+        lists.fund,
+    )
 }

@@ -1,15 +1,23 @@
 -- Records in a lent list.
-use Rattle.std.specs.Prelude.{ℕ, ◌+◌, List, ◌++◌, set, drop}
-use denote.Ref.{at_last}
-use Rattle.sequences.specs.Below.{tabulate}
+use native.Mathlib.Omega.{arith}
+use lib.ListN.{length-set}
+use Rattle.std.specs.Prelude.{ℕ, ◌≡◌, ◌+◌, ◌-◌, List, ◌++◌, set, length, drop}
 use Rattle.layout.specs.declared.Record.{Record}
-use Rattle.layout.specs.Records.{record_at}
 use Rattle.record_writer.specs.declared.Writer.{Writer}
+
+-- how many more records the list takes
+unfoldable pub room_left : Writer → ℕ
+room_left w = length w.list.now - w.at
 
 -- the same borrow, with r at the writer's place, and the next place
 abbrev pub pushed : Writer → Record → Writer
-pushed w r = record { list = at_last w.list (set w.list.now w.at r); at = w.at + 1 }
+pushed w r = record w { list = record w.list { now = set w.list.now w.at r }; at = w.at + 1 }
 
--- the list with the first n records of a flat run: places past the last stay
-unfoldable pub with_first : ℕ → List ℕ → List Record → List Record
-with_first n flat list = tabulate (record_at flat) n ++ drop n list
+-- a record takes one place
+pub left_less : (w : Writer) (r : Record) → room_left (pushed w r) ≡ room_left w - 1
+unfolding room_left
+left_less w r = omega (arith, length-set w.list.now w.at r)
+
+-- the list with records at its front: places past the last stay
+abbrev pub at_front : List Record → List Record → List Record
+at_front rs list = rs ++ drop (length rs) list

@@ -1,11 +1,11 @@
-// A writer over a lent list of records, and the list filled from a flat run.
+// A writer over a lent list of records.
 #![tactic(auto)]
 
-ghost use Rattle.std.specs.Prelude.{◌≡◌, ◌/◌, ◌≤◌, ◌<◌, length};
-ghost use Rattle.layout.specs.Places.{record_width};
-ghost use Rattle.record_writer.specs.Stored.{pushed, with_first};
+ghost use Rattle.std.specs.Prelude.{◌≡◌};
+ghost use Rattle.record_writer.specs.Stored.{room_left, pushed, left_less};
 
 use layout::Record;
+use order_records::RecordSink;
 
 // A writer over a lent list, the form that the project names: it holds the place of the next record.
 #[derive(Drop)]
@@ -16,38 +16,28 @@ pub struct Writer<'a> {
 
 impl<'a> Writer<'a> {
     // A writer at the first place of a list.
-    fn new(list: &'a mut [Record]) -> Self
+    pub fn new(list: &'a mut [Record]) -> Self
         ensures { (result.list ≡ list.entry) × (result.at ≡ 0) }
     {
         Writer { list, at: 0 }
     }
+}
 
-    // One record more, and the next place.
-    fn push(&mut self, next: Record)
-        requires { self.old.at < length self.old.list.now }
-        ensures { self.new ≡ pushed self.old next }
-    {
-        self.list[self.at] = next;
+impl RecordSink for Writer<'_> {
+    ghost room = { room_left };
+
+    ghost pushed = { pushed };
+
+    #[tactic(auto, unfolding(crate::specs::Stored::room_left))]
+    fn room(&self) -> usize {
+        self.list.len().saturating_sub(self.at)
+    }
+
+    #[tactic(auto, unfolding(crate::specs::Stored::room_left))]
+    fn push(&mut self, r: Record) {
+        self.list[self.at] = r;
         self.at += 1;
     }
 
-    // How many records were written. The list is as it was.
-    fn finish(self) -> usize
-        ensures { (result ≡ self.entry.at) × (self.exit.0.now ≡ self.entry.list.now) }
-    {
-        self.at
-    }
-}
-
-// Stores the records of a flat run at the front of the list, and gives how many. A chunk is a run of its own with one record.
-#[tactic(auto, using(crate::proofs::Filled::first_none))]
-pub fn fill(list: &mut [Record], flat: &[u64]) -> usize
-    requires { length flat.now / record_width ≤ length list.old }
-    ensures { (result ≡ length flat.now / record_width) × (list.new ≡ with_first (length flat.now / record_width) flat.now list.old) }
-{
-    let mut writer = Writer::new(list);
-    for numbers in flat.chunks_exact(layout::RECORD_WIDTH) {
-        writer.push(layout::record_at(numbers, 0));
-    }
-    writer.finish()
+    ghost room_less = { left_less };
 }

@@ -1,40 +1,80 @@
--- `order_settlement::settle` meets its contract: the unit, stock, and what is behind it are written one behind another, from the first place
--- on, and together they are the order's records; what moves with the stock and beside it is all that the order moves.
-use mathlib.Core.Path.{refl, ap}
+-- `order_settlement::settle` meets its contract: the unit, stock, and what is behind it are put one behind another, and together they are the
+-- order's records and its reports; what moves with the stock and beside it is all that the order moves.
+use mathlib.Core.Path.{ap, ◌∙◌}
 use native.Mathlib.Omega.{arith}
 use Rattle.layout.specs.declared.Fund.{Fund}
+use Rattle.layout.specs.Book.{account}
 use Rattle.book.proofs.Whole.{rest_ready, order_is}
-use Rattle.order_records.proofs.Laws.{wrote_then, fits_first, fits_next, order_fits, order_written}
+use Rattle.order_records.specs.Put.{put_all}
+use Rattle.order_records.proofs.Laws.{put_one, put_then, fits_first, fits_next, records_are}
+use Rattle.order_reports.proofs.Laws.{left_less, reports_are}
 use Rattle.order_settlement.proofs.settle.Goals as goal
 
-pub put-requires : goal.put-requires
-put-requires c =
-    let first = ap (λ (f : Fund). f.first_code) c.fund-first_code.ensures in
-    fits_first _ (order_fits first c.rest_side-side.ensures c.record_of.ensures c.requires.writable refl refl)
+pub push-requires : goal.push-requires
+push-requires g c =
+    let a = c.args in
+    let all = records_are a.day.now (account a.day.now a.book.now a.ask.account) a.ask a.m a.cash
+    (ap (λ (f : Fund). f.first_code) c.fund-first_code.ensures) c.rest_side-side.ensures c.record_of.ensures in
+    omega (arith, rw (← all) at c.requires.writable.room_is)
 
-pub settle_stock-requires-clause-fits : goal.settle_stock-requires-clause-fits
-settle_stock-requires-clause-fits c =
-    let first = ap (λ (f : Fund). f.first_code) c.fund-first_code.ensures in
-    fits_first _ (fits_next _ c.put.ensures (order_fits first c.rest_side-side.ensures c.record_of.ensures c.requires.writable refl refl))
+pub tell_unit-requires : goal.tell_unit-requires
+tell_unit-requires g c =
+    let a = c.args in
+    let all = reports_are a.day.now (account a.day.now a.book.now a.ask.account) a.ask a.m a.cash
+    (ap (λ (f : Fund). f.first_code) c.fund-first_code.ensures) c.rest_side-side.ensures in
+    omega (arith, rw (← all) at c.requires.reports_fit)
+
+pub settle_stock-requires-clause-records_fit : goal.settle_stock-requires-clause-records_fit
+settle_stock-requires-clause-records_fit g c =
+    let a = c.args in
+    let less = g.met.S.RecordSink.room_less in
+    let all = records_are a.day.now (account a.day.now a.book.now a.ask.account) a.ask a.m a.cash
+    (ap (λ (f : Fund). f.first_code) c.fund-first_code.ensures) c.rest_side-side.ensures c.record_of.ensures in
+    fits_first _ _ less _ _ _ (fits_next _ _ less _ _ _ (c.push.ensures ∙ put_one _ _ _) (rw (← all) at c.requires.writable.room_is))
+
+pub settle_stock-requires-clause-reports_fit : goal.settle_stock-requires-clause-reports_fit
+settle_stock-requires-clause-reports_fit g c =
+    let a = c.args in
+    let all = reports_are a.day.now (account a.day.now a.book.now a.ask.account) a.ask a.m a.cash
+    (ap (λ (f : Fund). f.first_code) c.fund-first_code.ensures) c.rest_side-side.ensures in
+    fits_first _ _ left_less _ _ _ (fits_next _ _ left_less _ _ _ (c.tell_unit.ensures ∙ put_one _ _ _) (rw (← all) at c.requires.reports_fit))
 
 pub put_after_stock-requires-clause-fits : goal.put_after_stock-requires-clause-fits
-put_after_stock-requires-clause-fits c =
-    let first = ap (λ (f : Fund). f.first_code) c.fund-first_code.ensures in
-    let fits = order_fits first c.rest_side-side.ensures c.record_of.ensures c.requires.writable refl refl in
-    fits_next _ c.settle_stock.ensures.out (fits_next _ c.put.ensures fits)
+put_after_stock-requires-clause-fits g c =
+    let a = c.args in
+    let less = g.met.S.RecordSink.room_less in
+    let all = records_are a.day.now (account a.day.now a.book.now a.ask.account) a.ask a.m a.cash
+    (ap (λ (f : Fund). f.first_code) c.fund-first_code.ensures) c.rest_side-side.ensures c.record_of.ensures in
+    fits_next _ _ less _ _ _ c.settle_stock.ensures.records (fits_next _ _ less _ _ _ (c.push.ensures ∙ put_one _ _ _) (rw (← all) at c.requires.writable.room_is))
+
+pub tell_cash-requires : goal.tell_cash-requires
+tell_cash-requires g c =
+    let a = c.args in
+    let all = reports_are a.day.now (account a.day.now a.book.now a.ask.account) a.ask a.m a.cash
+    (ap (λ (f : Fund). f.first_code) c.fund-first_code.ensures) c.rest_side-side.ensures in
+    fits_next _ _ left_less _ _ _ c.settle_stock.ensures.reports (fits_next _ _ left_less _ _ _ (c.tell_unit.ensures ∙ put_one _ _ _) (rw (← all) at c.requires.reports_fit))
 
 pub move_rest-requires : goal.move_rest-requires
-move_rest-requires c =
-    rw (c.count-count.ensures, c.total.ensures) (rest_ready c.args.ask.kind c.args.day.now _ _ _ _ _ _ c.requires.order_ready c.settle_stock.ensures.book)
+move_rest-requires g c =
+    let a = c.args in
+    rw (c.count-count.ensures, c.total.ensures) (rest_ready a.ask.kind a.day.now _ _ _ _ _ _ c.requires.order_ready c.settle_stock.ensures.book)
 
 pub returns-clause-book : goal.returns-clause-book
-returns-clause-book c =
-    order_is c.args.ask.kind c.args.day.now _ _ _ _ _ _ c.requires.order_ready c.settle_stock.ensures.book _
+returns-clause-book g c =
+    let a = c.args in
+    order_is a.ask.kind a.day.now _ _ _ _ _ _ c.requires.order_ready c.settle_stock.ensures.book _
     (rw (c.count-count.ensures, c.total.ensures) at c.move_rest.ensures)
 
-pub returns-clause-list : goal.returns-clause-list
-returns-clause-list c =
-    let first = ap (λ (f : Fund). f.first_code) c.fund-first_code.ensures in
-    let all = order_written first c.rest_side-side.ensures c.record_of.ensures c.requires.writable refl refl
-    (wrote_then _ _ _ c.put.ensures (wrote_then _ _ _ c.settle_stock.ensures.out c.put_after_stock.ensures)) in
-    grind (arith, all)
+pub returns-clause-records : goal.returns-clause-records
+returns-clause-records g c =
+    let a = c.args in
+    let all = records_are a.day.now (account a.day.now a.book.now a.ask.account) a.ask a.m a.cash
+    (ap (λ (f : Fund). f.first_code) c.fund-first_code.ensures) c.rest_side-side.ensures c.record_of.ensures in
+    put_then _ _ _ _ (c.push.ensures ∙ put_one _ _ _) (put_then _ _ _ _ c.settle_stock.ensures.records c.put_after_stock.ensures) ∙ ap (put_all _ _) all
+
+pub returns-clause-reports : goal.returns-clause-reports
+returns-clause-reports g c =
+    let a = c.args in
+    let all = reports_are a.day.now (account a.day.now a.book.now a.ask.account) a.ask a.m a.cash
+    (ap (λ (f : Fund). f.first_code) c.fund-first_code.ensures) c.rest_side-side.ensures in
+    put_then _ _ _ _ (c.tell_unit.ensures ∙ put_one _ _ _) (put_then _ _ _ _ c.settle_stock.ensures.reports c.tell_cash.ensures) ∙ ap (put_all _ _) all

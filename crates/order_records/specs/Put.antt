@@ -1,32 +1,16 @@
--- Records written to a flat run of numbers from a place on.
-use Rattle.std.specs.Prelude.{ℕ, cond, ltb, ◌+◌, ◌*◌, ◌≤◌, List, [], ◌∷◌, ◌++◌, Option, Some, None, length}
-use Rattle.std.proofs.lemmas.List.Edits.{sets}
+-- What is put one behind another, and the parts of an order's records.
+use Rattle.std.specs.Prelude.{ℕ, cond, ltb, ◌+◌, List, [], ◌∷◌, ◌++◌, Option, Some, None, fold}
 use Rattle.sequences.specs.Below.{join_below}
 use Rattle.layout.specs.Day.{Day}
+use Rattle.layout.specs.declared.Record.{Record}
 use Rattle.rules.specs.declared.Kind.{Kind}
 use Rattle.rules.specs.declared.CashByMarket.{CashByMarket}
-use Rattle.layout.specs.declared.Record.{Record}
-use Rattle.order_records.specs.declared.Out.{Out}
 use Rattle.rules.specs.Kinds.{moved_by, stock_side}
 use Rattle.rules.specs.Records.{record_of, cash_records, stock_record, second_unit, shanghai_step, other_step}
-use Rattle.layout.specs.Places.{record_width}
-use Rattle.layout.specs.Records.{flatten}
 
--- the first place behind the records rs, which stand from the place p on
-abbrev pub behind : List Record → ℕ → ℕ
-behind rs p = p + record_width * length rs
-
--- the run with the records rs from the place p on
-unfoldable pub written : List Record → ℕ → List ℕ → List ℕ
-written rs p list = sets list p (flatten rs)
-
--- they have room in a run from its next free place on
-pub record Fits (rs : List Record) (o : Out) : Type 0 where
-  pub room : behind rs o.at ≤ length o.run.now
-
--- the run with them there, and the next free place behind them
-abbrev pub wrote : List Record → Out → Out
-wrote rs o = record o { run = record o.run { now = written rs o.at o.run.now }; at = behind rs o.at }
+-- things put one behind another
+unfoldable pub put_all : {S A : Type 0} → (S → A → S) → S → List A → S
+put_all push s xs = fold push s xs
 
 -- a quantity that moves, as a number: 0 where none does
 abbrev pub quantity_in : {Q : Type 0} → (Q → ℕ) → Option Q → ℕ
