@@ -13,7 +13,7 @@ mod stretches;
 pub use basket::component_at;
 pub use days::{DayView, put_day, view_of};
 pub use funds::{fund_of, put_fund, signed_at, signed_numbers};
-pub use results::{put_answer, put_record, put_report, record_at};
+pub use results::{put_answer, put_record, put_report, record_at, report_at};
 pub use stretches::{line_at, lots_at, put_lots, stretch_at, width_of};
 
 #[derive(Clone, Copy, Default)]

@@ -4,10 +4,10 @@ ghost use Rattle.std.specs.Prelude.{◌≡◌, ◌+◌, ◌*◌, ◌≤◌, leng
 ghost use Rattle.std.proofs.lemmas.List.Edits.{sets};
 ghost use Rattle.layout.specs.Places.{record_width, report_width, answer_width};
 ghost use Rattle.layout.specs.Records.{record_at, record_numbers};
-ghost use Rattle.layout.specs.Reports.{report_numbers};
+ghost use Rattle.layout.specs.Reports.{group_of, report_at, report_numbers};
 ghost use Rattle.layout.specs.Answers.{put_reply, reply_in};
 
-use crate::{ANSWER_WIDTH, RECORD_WIDTH, REPORT_WIDTH, Record, Report};
+use crate::{ANSWER_WIDTH, Group, RECORD_WIDTH, REPORT_WIDTH, Record, Report};
 use units::Money;
 
 // The k-th record of a run.
@@ -43,6 +43,16 @@ pub fn put_record(list: &mut [u64], at: usize, r: Record)
     list[at..at + RECORD_WIDTH].copy_from_slice(&numbers_of_record(r));
 }
 
+// A group of two numbers of a report.
+fn group_of(kind: u64, amount: u64) -> Group
+    ensures { result ≡ group_of kind amount }
+{
+    Group {
+        kind,
+        amount: Money::new(amount),
+    }
+}
+
 // A report's numbers, in their order.
 fn numbers_of_report(r: Report) -> [u64; REPORT_WIDTH]
     ensures { result ≡ report_numbers r }
@@ -59,6 +69,25 @@ fn numbers_of_report(r: Report) -> [u64; REPORT_WIDTH]
         r.third.kind,
         r.third.amount.0,
     ]
+}
+
+// The k-th report of a run.
+#[tactic(auto, using(crate::proofs::Account::part_at), unfolding(crate::specs::Reports::report_at))]
+pub fn report_at(list: &[u64], k: usize) -> Report
+    requires { report_width * k + report_width ≤ length list.now }
+    ensures { result ≡ report_at list.now k }
+{
+    let (reports, _) = list.as_chunks::<REPORT_WIDTH>();
+    let [report_type, side, code, quantity, k1, m1, k2, m2, k3, m3] = reports[k];
+    Report {
+        report_type,
+        side,
+        code,
+        quantity,
+        first: group_of(k1, m1),
+        second: group_of(k2, m2),
+        third: group_of(k3, m3),
+    }
 }
 
 // Stores the k-th report.

@@ -1,20 +1,21 @@
 -- Reports put one behind another, and the parts of an order's reports.
-use mathlib.Core.Path.{◌≡◌, refl, ap, ◌∙◌}
+use mathlib.Core.Path.{◌≡◌, refl, sym, ap, ◌∙◌}
 use mathlib.Core.List.{List, [], ◌∷◌, ◌++◌, map}
 use Prim.Native.Nat.{ℕ, ◌+◌, ◌-◌, ◌*◌, ◌≤◌, ◌<◌}
 use native.Mathlib.Omega.{arith}
-use lib.ListN.{length, length-map}
+use lib.ListN.{length, length-map, get_or-map}
 use lib.Seq.{sets, length-sets}
 use borrow.Author.Tests.{lt-ltb}
-use Rattle.sequences.specs.Below.{join_below}
-use Rattle.sequences.proofs.Below.{join-none, join_more}
+use Rattle.sequences.specs.Below.{join_below, tabulate}
+use Rattle.sequences.proofs.Below.{join-none, join_more, table_ext}
 use Rattle.sequences.proofs.Runs.{join_grows, sets_append}
 use Rattle.layout.specs.Places.{report_width}
 use Rattle.layout.specs.Laid.{laid}
 use Rattle.layout.specs.Day.{Day}
 use Rattle.layout.specs.declared.Report.{Report}
-use Rattle.layout.specs.Reports.{report_numbers, with_reports}
-use Rattle.layout.proofs.Laid.{laid_front}
+use Rattle.layout.specs.Reports.{report_at, report_numbers, with_reports}
+use Rattle.layout.proofs.Laid.{laid_more, laid_front}
+use Rattle.layout.proofs.Reports.{report_read}
 use Rattle.rules.specs.declared.Kind.{Kind}
 use Rattle.rules.specs.declared.Ask.{Ask}
 use Rattle.rules.specs.declared.CashByMarket.{CashByMarket}
@@ -23,26 +24,16 @@ use Rattle.rules.specs.Reports.{unit_type, stock_type, move_report, stock_report
 use Rattle.rules.specs.Kinds.{moved_by, stock_side, rest_side, reports_by}
 use Rattle.order_records.specs.Put.{put_all}
 use Rattle.order_reports.specs.declared.Reports.{Reports}
-use Rattle.order_reports.specs.Put.{reports_left, with_report, line_report, stock_reports, told_cash}
+use Rattle.order_reports.specs.Put.{reports_left, with_report, line_report, stock_reports, told_cash, mirrored}
 
 -- a report takes one place
 pub left_less : (o : Reports) (r : Report) → reports_left (with_report o r) ≡ reports_left o - 1
 unfolding reports_left
-left_less o r =
-    omega (
-      arith,
-      length-sets o.investor.now (report_width * o.at) (report_numbers r),
-      length-sets o.fund.now (report_width * o.at) (report_numbers (opposite r)),
-    )
+left_less o r = omega (arith, length-sets o.run.now (report_width * o.at) (report_numbers r))
 
--- both runs with the reports, and the place behind them
+-- the run with the reports, and the place behind them
 abbrev wrote : List Report → Reports → Reports
-wrote rs o =
-    record o {
-      investor = record o.investor { now = sets o.investor.now (report_width * o.at) (laid report_numbers rs) };
-      fund = record o.fund { now = sets o.fund.now (report_width * o.at) (laid report_numbers (map opposite rs)) };
-      at = o.at + length rs;
-    }
+wrote rs o = record o { run = record o.run { now = sets o.run.now (report_width * o.at) (laid report_numbers rs) }; at = o.at + length rs }
 
 put_wrote : (rs : List Report) (o : Reports) → put_all with_report o rs ≡ wrote rs o
 unfolding put_all laid
@@ -51,27 +42,48 @@ put_wrote (r ∷ rs) o =
     let place : report_width * (o.at + 1) ≡ report_width * o.at + report_width = omega arith in
     let next : o.at + 1 + length rs ≡ o.at + length (r ∷ rs) = omega arith in
     put_wrote rs (with_report o r)
-    ∙ rw (
-      place,
-      sets_append (report_numbers r) (laid report_numbers rs) o.investor.now (report_width * o.at),
-      sets_append (report_numbers (opposite r)) (laid report_numbers (map opposite rs)) o.fund.now (report_width * o.at),
-      next,
-    )
+    ∙ rw (place, sets_append (report_numbers r) (laid report_numbers rs) o.run.now (report_width * o.at), next)
 
--- they are the runs that they were
-pub same_runs : (rs : List Report) (o : Reports)
-    → ((put_all with_report o rs).investor.ghost_name ≡ o.investor.ghost_name) × ((put_all with_report o rs).fund.ghost_name ≡ o.fund.ghost_name)
-same_runs rs o = rw (put_wrote rs o) (refl, refl)
+-- a run has room for reports of which it takes the numbers
+pub fits_here : (o : Reports) {rs all : List Report} → rs ≡ all → o.at ≡ 0 → report_width * length all ≤ length o.run.now → length rs ≤ reports_left o
+unfolding reports_left
+fits_here o {rs} {all} same e h = omega (arith, ap length same, e, h)
 
--- from the first place on they stand at the front of both runs
-pub put_first : (rs : List Report) (o : Reports) → o.at ≡ 0 → length rs ≤ reports_left o
-    → ((put_all with_report o rs).investor.now ≡ with_reports rs o.investor.now) × ((put_all with_report o rs).fund.now ≡ with_reports (map opposite rs) o.fund.now)
-unfolding with_reports reports_left
-put_first rs o e h =
-    let front : (ts : List Report) (list : List ℕ) → report_width * length ts ≤ length list → sets list 0 (laid report_numbers ts) ≡ with_reports ts list =
-    laid_front report_numbers report_width (λ r. refl) in
-    rw (put_wrote rs o, e)
-    (front rs o.investor.now (omega (arith, e, h)), front (map opposite rs) o.fund.now (omega (arith, e, h, length-map rs opposite)))
+pub first_fits : (o : Reports) {r : Report} {rs all : List Report} → r ∷ rs ≡ all → o.at ≡ 0 → report_width * length all ≤ length o.run.now → 0 < reports_left o
+first_fits o {r} {rs} {all} same e h = omega (arith, fits_here o same e h)
+
+-- it is the run that it was
+pub same_run : (rs : List Report) (o : Reports) → (put_all with_report o rs).run.ghost_name ≡ o.run.ghost_name
+same_run rs o = ap (λ (o : Reports). o.run.ghost_name) (put_wrote rs o)
+
+-- at the front of a run of so many numbers
+front : (rs : List Report) (list : List ℕ) → report_width * length rs ≤ length list → sets list 0 (laid report_numbers rs) ≡ with_reports rs list
+unfolding with_reports
+front = laid_front report_numbers report_width (λ r. refl)
+
+-- from the first place on they stand at the front
+pub put_first : (rs : List Report) (o : Reports) → o.at ≡ 0 → length rs ≤ reports_left o → (put_all with_report o rs).run.now ≡ with_reports rs o.run.now
+unfolding reports_left
+put_first rs o e h = ap (λ (o : Reports). o.run.now) (put_wrote rs o) ∙ rw e (front rs o.run.now (omega (arith, e, h)))
+
+-- of reports that stand at the front of the investor's run, the fund's are the opposite ones
+pub mirrored_all : (rs : List Report) (list fund : List ℕ) (n : ℕ) → n ≡ length rs → report_width * n ≤ length fund
+    → sets fund 0 (laid report_numbers (tabulate (mirrored (with_reports rs list)) n)) ≡ with_reports (map opposite rs) fund
+mirrored_all rs list fund n e h =
+    let none = move_report 0 0 0 0 in
+    let size : length (map opposite rs) ≡ n = length-map rs opposite ∙ sym e in
+    let turned_all : tabulate (mirrored (with_reports rs list)) n ≡ map opposite rs =
+    sym (table_ext (mirrored (with_reports rs list)) n (opposite none) (map opposite rs) size
+    (λ k low. get_or-map opposite rs k none ∙ sym (ap opposite (report_read rs list k none (omega (arith, low, e)))))) in
+    ap (λ (ts : List Report). sets fund 0 (laid report_numbers ts)) turned_all ∙ front (map opposite rs) fund (omega (arith, h, size))
+
+-- one more in the fund's run
+pub mirrored_more : (investor list before after : List ℕ) (k : ℕ) (r t : Report) → before ≡ sets list 0 (laid report_numbers (tabulate (mirrored investor) k))
+    → r ≡ report_at investor k → t ≡ opposite r → after ≡ sets before (report_width * k) (report_numbers t)
+    → after ≡ sets list 0 (laid report_numbers (tabulate (mirrored investor) (k + 1)))
+mirrored_more investor list before after k r t stands read is stored =
+    stored
+    ∙ rw (stands, is, read) (laid_more report_numbers report_width (λ x. refl) (mirrored investor) k list 0 (report_width * k) (omega arith))
 
 -- stock that moves takes one, and what does not move none
 pub line_none : (code side q : ℕ) → q ≡ 0 → line_report code side q ≡ []

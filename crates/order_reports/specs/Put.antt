@@ -1,5 +1,5 @@
--- Reports put one behind another in the runs of both parties, and the parts of an order's reports.
-use Rattle.std.specs.Prelude.{ℕ, ◌+◌, ◌-◌, ◌*◌, min, cond, ltb, eqb, List, [], ◌∷◌, length, Option, None, Some}
+-- Reports put one behind another in a run, and the parts of an order's reports.
+use Rattle.std.specs.Prelude.{ℕ, ◌+◌, ◌-◌, ◌*◌, cond, ltb, eqb, List, [], ◌∷◌, length, Option, None, Some}
 use Rattle.std.proofs.lemmas.List.Edits.{sets}
 use Rattle.sequences.specs.Below.{join_below}
 use Rattle.layout.specs.Places.{report_width}
@@ -7,7 +7,7 @@ use Rattle.layout.specs.Laid.{room_of}
 use Rattle.layout.specs.Day.{Day}
 use Rattle.layout.specs.declared.Group.{Group}
 use Rattle.layout.specs.declared.Report.{Report}
-use Rattle.layout.specs.Reports.{group_of, report_numbers}
+use Rattle.layout.specs.Reports.{group_of, report_at, report_numbers}
 use Rattle.rules.specs.declared.Kind.{Kind}
 use Rattle.rules.specs.declared.CashByMarket.{CashByMarket}
 use Rattle.rules.specs.Reports.{stock_type, move_report, cash_groups, cash_reports, stock_report, opposite}
@@ -18,18 +18,17 @@ use Rattle.order_reports.specs.declared.Reports.{Reports}
 unfoldable pub group_there : ℕ → ℕ → Option Group
 group_there kind amount = cond (eqb amount 0) None (Some (group_of kind amount))
 
--- how many more reports the runs take
+-- how many more reports the run takes
 unfoldable pub reports_left : Reports → ℕ
-reports_left o = min (room_of report_width (length o.investor.now)) (room_of report_width (length o.fund.now)) - o.at
+reports_left o = room_of report_width (length o.run.now) - o.at
 
--- both runs with a report there, and the place behind it
+-- the run with a report there, and the place behind it
 abbrev pub with_report : Reports → Report → Reports
-with_report o r =
-    record o {
-      investor = record o.investor { now = sets o.investor.now (report_width * o.at) (report_numbers r) };
-      fund = record o.fund { now = sets o.fund.now (report_width * o.at) (report_numbers (opposite r)) };
-      at = o.at + 1;
-    }
+with_report o r = record o { run = record o.run { now = sets o.run.now (report_width * o.at) (report_numbers r) }; at = o.at + 1 }
+
+-- the fund's k-th report, from the investor's run
+abbrev pub mirrored : List ℕ → ℕ → Report
+mirrored investor k = opposite (report_at investor k)
 
 -- the report of a component of whose stock so much moves, if any
 unfoldable pub line_report : ℕ → ℕ → ℕ → List Report

@@ -1,13 +1,18 @@
-// The reports of an order to its two parties, written to lent runs of numbers one behind another: the fund's are the investor's with the
-// side turned.
+// The reports of an order to its two parties, written to lent runs of numbers one behind another: the investor's, and the fund's, which are
+// these with the side turned.
 #![tactic(auto)]
 
-ghost use Rattle.std.specs.Prelude.{◌≡◌, ◌≤◌, ◌<◌, length, [], ◌∷◌, MatchOption};
+ghost use Rattle.std.specs.Prelude.{◌≡◌, ◌*◌, ◌≤◌, ◌<◌, length, [], ◌∷◌, MatchOption};
+ghost use Rattle.std.proofs.lemmas.List.Edits.{sets};
+ghost use Rattle.sequences.specs.Below.{tabulate};
+ghost use Rattle.layout.specs.Places.{report_width};
+ghost use Rattle.layout.specs.Laid.{laid};
+ghost use Rattle.layout.specs.Reports.{report_numbers};
 ghost use Rattle.std.specs.Int.NonZero.{non_zero_u64_get};
 ghost use Rattle.rules.specs.Records.{side_number};
 ghost use Rattle.rules.specs.Reports.{cash_number, type_number, unit_type, move_report, opposite};
 ghost use Rattle.order_records.specs.Put.{put_all, quantity_in};
-ghost use Rattle.order_reports.specs.Put.{group_there, reports_left, with_report, line_report, told_cash};
+ghost use Rattle.order_reports.specs.Put.{group_there, reports_left, with_report, line_report, told_cash, mirrored};
 
 use layout::{Group, Report};
 use rules::{CashByMarket, CashKind, ReportType, Side};
@@ -66,39 +71,21 @@ fn cash_report(side: Side, cash: CashByMarket) -> Option<Report>
     })
 }
 
-// The same report to the other party.
-#[tactic(auto, unfolding(rules::specs::Reports::turned))]
-fn opposite(r: Report) -> Report
-    ensures { result ≡ opposite r }
-{
-    let side = if r.side == u64::from(Side::B) {
-        Side::S
-    } else {
-        Side::B
-    };
-    Report {
-        side: u64::from(side),
-        ..r
-    }
-}
-
-// The runs that an order's reports go to, the investor's and the fund's, and the place of the next report in both.
+// The investor's run, to which an order's reports go one behind another, and the place of the next report.
 #[derive(Drop)]
 pub struct Reports<'a> {
-    pub investor: &'a mut [u64],
-    pub fund: &'a mut [u64],
+    pub run: &'a mut [u64],
     pub at: usize,
 }
 
 impl<'a> Reports<'a> {
-    // Writes a report to both parties.
+    // Writes a report.
     #[tactic(auto, unfolding(crate::specs::Put::reports_left))]
     fn put(&mut self, r: Report)
         requires { 0 < reports_left self.old }
         ensures { self.new ≡ with_report self.old r }
     {
-        layout::put_report(self.investor, self.at, r);
-        layout::put_report(self.fund, self.at, opposite(r));
+        layout::put_report(self.run, self.at, r);
         self.at += 1;
     }
 
@@ -130,5 +117,33 @@ impl<'a> Reports<'a> {
         if let Some(r) = cash_report(side, cash) {
             self.put(r);
         }
+    }
+}
+
+// The same report to the other party.
+#[tactic(auto, unfolding(rules::specs::Reports::turned))]
+fn opposite(r: Report) -> Report
+    ensures { result ≡ opposite r }
+{
+    let side = if r.side == u64::from(Side::B) {
+        Side::S
+    } else {
+        Side::B
+    };
+    Report {
+        side: u64::from(side),
+        ..r
+    }
+}
+
+// Writes the fund's reports, so many: the investor's, each with its side turned. A pass of its own: told with the investor's as the stock
+// moves, they cost a creation of 300 components 9 % more of its time.
+pub fn mirror(investor: &[u64], fund: &mut [u64], count: usize)
+    requires { (report_width * count ≤ length investor.now) × (report_width * count ≤ length fund.old) }
+    ensures { fund.new ≡ sets fund.old 0 (laid report_numbers (tabulate (mirrored investor.now) count)) }
+{
+    for k in 0..count {
+        let r = layout::report_at(investor, k);
+        layout::put_report(fund, k, opposite(r));
     }
 }

@@ -5,6 +5,8 @@ use mathlib.Core.List.{List, [], ◌++◌, map, append_assoc}
 use Prim.Native.Nat.{ℕ, ◌+◌, ◌*◌, ◌≤◌, ◌<◌}
 use native.Mathlib.Omega.{arith}
 use lib.ListN.{length}
+use lib.Seq.{sets}
+use Rattle.sequences.specs.Below.{tabulate}
 use borrow.Author.Tests.{not-false}
 use Rattle.sequences.specs.Checks.{Check, Reply, answered, is_accepted}
 use Rattle.sequences.proofs.Checks.{all_passed}
@@ -18,9 +20,12 @@ use Rattle.rules.specs.declared.Counts.{Counts}
 use Rattle.rules.specs.Lent.{Lent, lent_of, rooms_in, with_order}
 use Rattle.rules.specs.Reports.{opposite}
 use Rattle.layout.specs.declared.Record.{Record}
-use Rattle.layout.specs.Places.{most_components}
+use Rattle.layout.specs.declared.Report.{Report}
+use Rattle.layout.specs.Places.{most_components, report_width}
 use Rattle.layout.specs.Records.{with_records}
-use Rattle.layout.specs.Reports.{with_reports}
+use Rattle.layout.specs.Laid.{laid}
+use Rattle.layout.proofs.Laid.{with_length}
+use Rattle.layout.specs.Reports.{report_numbers, with_reports}
 use Rattle.layout.specs.Book.{width_of, account}
 use Rattle.rules.specs.Replies.{made_reply, if_accepted}
 use Rattle.rules.specs.Sound.{is_sound}
@@ -30,7 +35,7 @@ use Rattle.rules.specs.Redemption.{redemption_paid, redemption_checks, redemptio
 use Rattle.rules.specs.Kinds.{all_cash, cash_by, records_by, reports_by}
 use Rattle.rules.specs.Kinds.{asked_cash, asked_records, asked_reports, counts_by, asked_counts, asked_means, asked_checks, asked_reply, with_asked}
 use Rattle.rules.proofs.SoundDay.{SoundDay, sound_facts}
-use Rattle.rules.proofs.Accepted.{Orders, Listed, order_facts, creation_facts, redemption_facts}
+use Rattle.rules.proofs.Accepted.{Orders, Listed, order_facts, creation_facts, creation_made, redemption_facts, redemption_made}
 use Rattle.rules.proofs.Replies.{refused, is_accepted_lem, on_sound}
 use Rattle.rules.proofs.Asked.{by_ask, asked_records_lem, asked_reports_lem}
 use Rattle.book.specs.Ready.{OrderReady}
@@ -41,9 +46,8 @@ use Rattle.order_records.specs.declared.Out.{Out}
 use Rattle.order_records.specs.Put.{put_all}
 use Rattle.order_records.specs.Flat.{room_left, with_record}
 use Rattle.order_records.proofs.Flat.{room_first, put_first, same_run}
-use Rattle.order_reports.specs.declared.Reports.{Reports}
-use Rattle.order_reports.specs.Put.{reports_left, with_report}
-use Rattle.order_reports.proofs.Laws.{put_first as reports_first}
+use Rattle.order_reports.specs.Put.{mirrored}
+use Rattle.order_reports.proofs.Laws.{mirrored_all}
 use Rattle.order_tests.specs.Tests.{means_answer}
 use Rattle.order_form.specs.Form.{order_form, Countable}
 use Rattle.order_form.proofs.Laws.{form_of_day, sound_countable, countable_head}
@@ -131,6 +135,15 @@ accepted d b ps rooms =
     (λ a units e. let t = creation_facts d b ps a units rooms e in record { sound = t.sound; movable = creation_ready t; listed = t.listed })
     (λ a units e. let t = redemption_facts d b ps a units rooms e in record { sound = t.sound; movable = redemption_ready t; listed = t.listed })
 
+-- and its reply has its counts
+reply_made : (d : Day) (b ps : List ℕ) (rooms : Rooms) (ask : Ask) → is_accepted (asked_reply d b ps ask rooms) ≡ true
+    → asked_reply d b ps ask rooms ≡ made_reply (asked_counts d b ps ask)
+unfolding asked_reply asked_checks asked_records asked_reports counts_by creation_reply redemption_reply
+reply_made d b ps rooms =
+    by_ask (λ ask. is_accepted (asked_reply d b ps ask rooms) ≡ true → asked_reply d b ps ask rooms ≡ made_reply (asked_counts d b ps ask))
+    (λ a units e. creation_made d b ps a units rooms e)
+    (λ a units e. redemption_made d b ps a units rooms e)
+
 sound_reply : (d : Day) (b ps : List ℕ) (ask : Ask) (rooms : Rooms) → is_sound d b ps ≡ true → asked_reply d b ps ask rooms ≡ asked_answer d b ps ask rooms
 unfolding asked_answer asked_reply
 sound_reply d b ps ask rooms whole = on_sound d b ps (asked_checks d b ps ask rooms) _ whole
@@ -165,23 +178,42 @@ module _ (d : Day) (b ps : List ℕ) (ask : Ask) (room : ℕ) (investor fund : L
   unfolding counts_by
   order_writable = sound_writable d b ps facts.sound _ ask m c room (rw records facts.listed.records)
 
-  pub order_told : (o : Reports) → o.investor.now ≡ investor → o.fund.now ≡ fund → o.at ≡ 0 → length (reports_by ask.kind d s ask.units m c) ≤ reports_left o
-  unfolding counts_by reports_left
-  order_told o i f z = omega (arith, ap length reports, facts.listed.investor, facts.listed.fund, ap length i, ap length f, z)
+  -- how many reports there are, and that they fit both runs
+  counted : counts.reports ≡ length (reports_by ask.kind d s ask.units m c)
+  unfolding counts_by
+  counted =
+      ap (λ (r : Reply). r.reports) (made ∙ sym (sound_reply d b ps ask rooms whole) ∙ reply_made d b ps rooms ask taken)
+      ∙ sym (ap length reports)
+
+  order_fits : (report_width * counts.reports ≤ length investor) × (report_width * counts.reports ≤ length fund)
+  unfolding counts_by
+  order_fits = (omega (arith, counted, ap length reports, facts.listed.investor), omega (arith, counted, ap length reports, facts.listed.fund))
+
+  pub order_told : report_width * length (reports_by ask.kind d s ask.units m c) ≤ length investor
+  unfolding counts_by
+  order_told = omega (arith, ap length reports, facts.listed.investor)
 
   pub records_left : {S : Type 0} (push : S → Record → S) (old : S) {new : S} → new ≡ put_all push old (records_by ask.kind d s ask.units m c)
       → new ≡ put_all push old (records_of d b ps ask)
   unfolding records_of
   records_left push old e = e ∙ ap (put_all push old) records
 
-  pub reports_told : (o : Reports) {new : Reports} → o.investor.now ≡ investor → o.fund.now ≡ fund → o.at ≡ 0
-      → new ≡ put_all with_report o (reports_by ask.kind d s ask.units m c)
-      → (new.investor.now ≡ with_reports (reports_of d b ps ask) investor) × (new.fund.now ≡ with_reports (map opposite (reports_of d b ps ask)) fund)
-  reports_told o {new} i f z e =
-      let front = reports_first (reports_by ask.kind d s ask.units m c) o z (order_told o i f z) in (
-        ap (λ (o : Reports). o.investor.now) e ∙ front.0 ∙ (λ j. with_reports (reports j) (i j)),
-        ap (λ (o : Reports). o.fund.now) e ∙ front.1 ∙ (λ j. with_reports (map opposite (reports j)) (f j)),
-      )
+  pub investor_told : {told : List ℕ} → told ≡ with_reports (reports_by ask.kind d s ask.units m c) investor → told ≡ with_reports (reports_of d b ps ask) investor
+  investor_told e = e ∙ ap (λ (rs : List Report). with_reports rs investor) reports
+
+  pub mirrorable : {told : List ℕ} → told ≡ with_reports (reports_by ask.kind d s ask.units m c) investor
+      → (report_width * counts.reports ≤ length told) × (report_width * counts.reports ≤ length fund)
+  unfolding with_reports
+  mirrorable e =
+      let long = ap length e ∙ with_length report_numbers report_width (λ r. refl) (reports_by ask.kind d s ask.units m c) investor order_told in
+      (omega (arith, order_fits.0, long), order_fits.1)
+
+  pub fund_told : {told other : List ℕ} → told ≡ with_reports (reports_of d b ps ask) investor
+      → other ≡ sets fund 0 (laid report_numbers (tabulate (mirrored told) counts.reports)) → other ≡ with_reports (map opposite (reports_of d b ps ask)) fund
+  fund_told {told} i f =
+      f
+      ∙ ap (λ (l : List ℕ). sets fund 0 (laid report_numbers (tabulate (mirrored l) counts.reports))) i
+      ∙ mirrored_all (reports_of d b ps ask) investor fund counts.reports (counted ∙ ap length reports) order_fits.1
 
 -- of what an order leaves: a part is that of what it makes, or that of what was there; and one that it leaves as it was stays in both
 module _ {S X : Type 0} (f : S → X) (r : Reply) (after before : S) {left : S} (e : left ≡ if_accepted r after before) where

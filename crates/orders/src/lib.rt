@@ -18,7 +18,6 @@ ghost use Rattle.orders.specs.Orders.{asked_answer, answered_lists, records_of, 
 
 use layout::DayView;
 use order_records::{Out, RecordSink};
-use order_reports::Reports;
 use order_scan::Parties;
 use order_tests::Accepted;
 use rules::{Ask, Counts, Lists, Refusal, Rooms};
@@ -96,17 +95,12 @@ pub fn order_into<S: RecordSink>(
     };
     let accepted = order_tested(day, book, prices, ask, rooms)?;
     let m = order_tests::baskets_in(day, ask.units);
-    let mut reports = Reports {
-        investor,
-        fund,
-        at: 0,
-    };
-    order_settlement::settle(ask, day, book, m, accepted.cash, records, &mut reports);
+    order_settlement::settle(ask, day, book, m, accepted.cash, records, investor);
+    order_reports::mirror(investor, fund, accepted.counts.reports);
     Ok(accepted.counts)
 }
 
 // An order whose records go to a flat run.
-#[tactic(auto)]
 pub fn order(
     day: &DayView,
     book: &mut [u64],

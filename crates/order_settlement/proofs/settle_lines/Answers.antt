@@ -5,7 +5,7 @@ use Rattle.layout.specs.Book.{width_of}
 use Rattle.book.proofs.Turns.{lines_none, moved_here, line_ready, lines_more}
 use Rattle.order_records.proofs.Laws.{put_none, put_then, fits_next, stock_none, stock_more, stock_all, stock_grows, quantity_told}
 use Rattle.order_reports.proofs.Laws.{left_less, told_none, told_more, told_all, told_grows}
-use Rattle.order_settlement.proofs.settle_stock.Goals as goal
+use Rattle.order_settlement.proofs.settle_lines.Goals as goal
 
 pub loop-i-init : goal.loop-i-init
 loop-i-init g c =

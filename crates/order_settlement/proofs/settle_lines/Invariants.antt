@@ -1,4 +1,4 @@
--- `order_settlement::settle_stock` meets its contract. The loop's invariant: the stock of the lines below `i` has moved, and their records
+-- `order_settlement::settle_lines` meets its contract. The loop's invariant: the stock of the lines below `i` has moved, and their records
 -- and reports stand.
 use mathlib.Core.Path.{◌≡◌}
 use Rattle.layout.specs.Book.{account}
@@ -7,7 +7,7 @@ use Rattle.order_records.specs.Put.{put_all}
 use Rattle.order_records.proofs.Laws.{stock_below}
 use Rattle.order_reports.specs.Put.{with_report}
 use Rattle.order_reports.proofs.Laws.{told_below}
-use Rattle.order_settlement.proofs.settle_stock.Given as goal
+use Rattle.order_settlement.proofs.settle_lines.Given as goal
 
 abbrev pub invariant-loop-i : goal.invariant-loop-i
 invariant-loop-i g l = record {
