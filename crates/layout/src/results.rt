@@ -90,13 +90,12 @@ pub fn report_at(list: &[u64], k: usize) -> Report
     }
 }
 
-// Stores the k-th report.
+// Stores a report from a place on.
 #[tactic(auto, using(crate::proofs::Stored::numbers_stored))]
-pub fn put_report(list: &mut [u64], k: usize, r: Report)
-    requires { report_width * k + report_width ≤ length list.old }
-    ensures { list.new ≡ sets list.old (report_width * k) (report_numbers r) }
+pub fn put_report(list: &mut [u64], at: usize, r: Report)
+    requires { at + report_width ≤ length list.old }
+    ensures { list.new ≡ sets list.old at (report_numbers r) }
 {
-    let at = REPORT_WIDTH * k;
     list[at..at + REPORT_WIDTH].copy_from_slice(&numbers_of_report(r));
 }
 

@@ -29,20 +29,19 @@ use Rattle.order_reports.specs.Put.{reports_left, with_report, line_report, stoc
 -- a report takes one place
 pub left_less : (o : Reports) (r : Report) → reports_left (with_report o r) ≡ reports_left o - 1
 unfolding reports_left
-left_less o r = omega (arith, length-sets o.run.now (report_width * o.at) (report_numbers r))
+left_less o r = omega (arith, length-sets o.run.now o.at (report_numbers r))
 
--- the run with the reports, and the place behind them
+-- the run with the reports, and the next free place behind them
 abbrev wrote : List Report → Reports → Reports
-wrote rs o = record o { run = record o.run { now = sets o.run.now (report_width * o.at) (laid report_numbers rs) }; at = o.at + length rs }
+wrote rs o = record o { run = record o.run { now = sets o.run.now o.at (laid report_numbers rs) }; at = o.at + report_width * length rs }
 
 put_wrote : (rs : List Report) (o : Reports) → put_all with_report o rs ≡ wrote rs o
 unfolding put_all laid
 put_wrote [] o = ap (λ (next : ℕ). record o { at = next }) (omega arith)
 put_wrote (r ∷ rs) o =
-    let place : report_width * (o.at + 1) ≡ report_width * o.at + report_width = omega arith in
-    let next : o.at + 1 + length rs ≡ o.at + length (r ∷ rs) = omega arith in
+    let next : o.at + report_width + report_width * length rs ≡ o.at + report_width * length (r ∷ rs) = omega arith in
     put_wrote rs (with_report o r)
-    ∙ rw (place, sets_append (report_numbers r) (laid report_numbers rs) o.run.now (report_width * o.at), next)
+    ∙ rw (sets_append (report_numbers r) (laid report_numbers rs) o.run.now o.at, next)
 
 -- a run has room for reports of which it takes the numbers
 pub fits_here : (o : Reports) {rs all : List Report} → rs ≡ all → o.at ≡ 0 → report_width * length all ≤ length o.run.now → length rs ≤ reports_left o

@@ -1,5 +1,5 @@
 -- Reports put one behind another in a run, and the parts of an order's reports.
-use Rattle.std.specs.Prelude.{ℕ, ◌+◌, ◌-◌, ◌*◌, cond, ltb, eqb, List, [], ◌∷◌, length, Option, None, Some}
+use Rattle.std.specs.Prelude.{ℕ, ◌+◌, ◌-◌, cond, ltb, eqb, List, [], ◌∷◌, length, Option, None, Some}
 use Rattle.std.proofs.lemmas.List.Edits.{sets}
 use Rattle.sequences.specs.Below.{join_below}
 use Rattle.layout.specs.Places.{report_width}
@@ -20,11 +20,11 @@ group_there kind amount = cond (eqb amount 0) None (Some (group_of kind amount))
 
 -- how many more reports the run takes
 unfoldable pub reports_left : Reports → ℕ
-reports_left o = room_of report_width (length o.run.now) - o.at
+reports_left o = room_of report_width (length o.run.now - o.at)
 
--- the run with a report there, and the place behind it
+-- the run with a report there, and the next free place behind it
 abbrev pub with_report : Reports → Report → Reports
-with_report o r = record o { run = record o.run { now = sets o.run.now (report_width * o.at) (report_numbers r) }; at = o.at + 1 }
+with_report o r = record o { run = record o.run { now = sets o.run.now o.at (report_numbers r) }; at = o.at + report_width }
 
 -- the fund's k-th report, from the investor's run
 abbrev pub mirrored : List ℕ → ℕ → Report

@@ -71,7 +71,7 @@ fn cash_report(side: Side, cash: CashByMarket) -> Option<Report>
     })
 }
 
-// The investor's run, to which an order's reports go one behind another, and the place of the next report.
+// The investor's run, to which an order's reports go one behind another, and its next free place.
 #[derive(Drop)]
 pub struct Reports<'a> {
     pub run: &'a mut [u64],
@@ -86,7 +86,7 @@ impl<'a> Reports<'a> {
         ensures { self.new ≡ with_report self.old r }
     {
         layout::put_report(self.run, self.at, r);
-        self.at += 1;
+        self.at += layout::REPORT_WIDTH;
     }
 
     // The report of the units.
@@ -144,6 +144,6 @@ pub fn mirror(investor: &[u64], fund: &mut [u64], count: usize)
 {
     for k in 0..count {
         let r = layout::report_at(investor, k);
-        layout::put_report(fund, k, opposite(r));
+        layout::put_report(fund, layout::REPORT_WIDTH * k, opposite(r));
     }
 }

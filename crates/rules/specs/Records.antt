@@ -53,10 +53,6 @@ shanghai_step = 2
 abbrev pub other_step : ℕ
 other_step = 5
 
--- the most records of an order beside stock: two of units, and two for each of the two kinds of cash
-abbrev pub beside_stock : ℕ
-beside_stock = 6
-
 -- in order: unit (g); each component with stock moved; other cash (g+5); Shanghai cash (g+2); unit (g+1).
 -- Stock is on one side and the rest on the other.
 unfoldable pub order_records : Day → ℕ → ℕ → ℕ → (ℕ → ℕ) → ℕ → ℕ → List Record
