@@ -7,6 +7,7 @@ ghost use Rattle.digits.specs.Digits.{cap, from, capped, is_whole, is_plain, pla
 use digits::{Figure, Form};
 
 // What stands before the point. Where CAPPED is false, the digits are too few to meet the cap.
+#[inline(always)]
 fn read_whole<const CAPPED: bool>(digits: Option<usize>, s: &[u8]) -> Option<u64>
     requires { CAPPED ≡ false → 10 ^ length s.now ≤ cap }
     ensures { result ≡ size_reading (is_whole digits s.now) (capped (from 0 s.now)) }
@@ -17,7 +18,8 @@ fn read_whole<const CAPPED: bool>(digits: Option<usize>, s: &[u8]) -> Option<u64
     digits_scan::read_digits::<CAPPED>(s, 0)
 }
 
-// A number with the decimals of the form, with no sign and no blanks.
+// A number with the decimals of the form, with no sign and no blanks. Inlined, as a column's form is known where it is read.
+#[inline(always)]
 #[tactic(auto, using(crate::proofs::Few::pointed))]
 pub fn read_plain<const CAPPED: bool>(form: Form, s: &[u8]) -> Option<u64>
     requires { CAPPED ≡ false → 10 ^ length s.now ≤ cap }
@@ -27,7 +29,7 @@ pub fn read_plain<const CAPPED: bool>(form: Form, s: &[u8]) -> Option<u64>
     if k == 0 {
         return read_whole::<CAPPED>(form.digits, s);
     }
-    // A test, and no `checked_sub` with `?`: by that a list of 300 components takes 264,100 instructions and 12 % more time, so 260,800.
+    // A test, and no `checked_sub` with `?`: with that, reading a list of 300 components by a loop for each column took 12 % more time.
     if s.len() <= k {
         return None;
     }
