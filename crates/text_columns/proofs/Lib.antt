@@ -1,3 +1,4 @@
 pub mod Numbers
 pub mod Columns
 pub mod Cells
+pub mod Known

@@ -17,7 +17,7 @@ use Rattle.text_columns.proofs.Cells.{cell_blank}
 use Rattle.text_columns.specs.Read.{right_form, number_size, cell_size}
 
 -- what stands behind the blanks has the column's form with no width
-number_bare : (c : Column) (s : List ℕ)
+pub number_bare : (c : Column) (s : List ℕ)
     → size_reading (is_plain (column_form c None) (drop (blanks s) s)) (plain_size (column_form c None) (drop (blanks s) s))
     ≡ number_size (right_form c.digits c.decimals) s
 unfolding number_size right_form is_number figure_of trimmed trimmed_by is_signed signed_figure has_minus is_plain plain_size
