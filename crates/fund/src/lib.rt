@@ -112,7 +112,7 @@ pub fn component_in_range(first_code: u64, c: Component) -> bool
 
 // Whether a component is in its ranges and above the code before it, where there is one.
 #[tactic(auto, using(std::proofs::lemmas::Bool::Decides::nat_tests), unfolding(crate::specs::Components::fits, crate::specs::Components::above_code, sequences::specs::Every::every))]
-fn component_fits(first_code: u64, previous: Option<u64>, c: Component) -> bool
+pub fn component_fits(first_code: u64, previous: Option<u64>, c: Component) -> bool
     ensures { result ≡ fits first_code previous c }
 {
     component_in_range(first_code, c) && previous.is_none_or(|code| code < c.code)
