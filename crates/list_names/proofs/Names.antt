@@ -19,7 +19,7 @@ use Rattle.text_rules.specs.Columns.{column_width, column_start, line_width, lin
 use Rattle.list_rules.specs.declared.TextPart.{TextPart}
 use Rattle.list_rules.specs.Shanghai.{shanghai_columns, name_column, name_width}
 use Rattle.list_rules.specs.Reading.{name_place}
-use Rattle.text_rows.specs.Turns.{words_fault}
+use Rattle.text_rows.specs.Words.{words_fault}
 use Rattle.list_rules.specs.Writing.{name_at, name_fault}
 
 pub pitch_some : (cs : List Column) {pitch : ℕ} → pitch ≡ line_pitch cs → 0 < pitch

@@ -1,53 +1,89 @@
 -- What the code has found at each stage of reading, and the facts that follow.
-use mathlib.Core.Path.{◌≡◌, sym, ap, ap₂, ◌∙◌}
-use mathlib.Core.Bool.{true, false, cond, and-eq-true_iff}
+use mathlib.Core.Path.{◌≡◌, refl, sym, ap, ap₂, ◌∙◌}
+use mathlib.Core.Bool.{Bool, true, false, cond, not, and-eq-true_iff}
 use mathlib.Core.List.{List}
-use Prim.Native.Nat.{ℕ, ◌*◌, ◌≤◌, ◌<◌}
-use native.Mathlib.Nat.{mul_comm, le_antisymm}
+use Prim.Native.Nat.{ℕ, zero, suc, ◌≤◌, ◌<◌}
 use native.Mathlib.Omega.{arith}
-use lib.Dec.{ltb}
-use lib.ListN.{length, get_or, take, drop}
-use borrow.Author.Tests.{lt-ltb, ltb-false}
-use Rattle.std.proofs.Common.{None, Ok}
+use lib.Dec.{ltb, eqb}
+use lib.ListN.{length, get_or, drop}
+use borrow.Author.Tests.{lt-ltb, eqb-true}
+use Rattle.std.proofs.Common.{Option, Some, Ok, Err}
 use Rattle.sequences.specs.Checks.{passes}
-use Rattle.sequences.proofs.Below.{table_at, first-le, first_same, first_stops}
+use Rattle.sequences.specs.Below.{below}
+use Rattle.sequences.specs.Every.{inside}
+use Rattle.sequences.proofs.Below.{table_at, first_same, first_stops}
 use Rattle.sequences.proofs.Stretch.{within}
-use Rattle.sequences.proofs.Every.{every_at}
-use Rattle.layout.specs.Places.{component_width, basket_width}
+use Rattle.sequences.proofs.Every.{every_at, inside_facts}
+use Rattle.layout.specs.Places.{most_components}
+use Rattle.layout.specs.declared.Component.{Component}
+use Rattle.layout.specs.Components.{blank, component_at, places_of}
+use Rattle.layout.proofs.Components.{places_at}
+use Rattle.fund.specs.Components.{fits, code_before, fault_at, component_fault}
 use Rattle.digits.specs.declared.Figure.{Figure}
 use Rattle.digits.specs.Digits.{plain}
 use Rattle.digits.proofs.Trip.{figure_capped}
 use Rattle.list_rules.specs.Fields.{fields_from}
 use Rattle.list_rules.proofs.Fields.{fields_same}
-use Rattle.text_rules.specs.Columns.{line_pitch, column_fault, line_numbers, numbers_read}
+use Rattle.text_rules.specs.Columns.{line_pitch}
 use Rattle.lines.specs.Lines.{ended}
 use Rattle.text_rules.specs.Head.{is_opening, letters_start}
 use Rattle.text_lines.proofs.Opening.{letters_count}
 use Rattle.text_rules.specs.Reading.{line_of, line_stands, letters_read, row_count, row_of}
-use Rattle.text_rules.specs.Reading.{field_checks, wrong_field, figure_read, wrong_row, run_read}
+use Rattle.text_rules.specs.Reading.{field_checks, wrong_field, figure_read, wrong_row, column_place}
 use Rattle.text_rules.specs.Well.{most_fields}
-use Rattle.text_trip.proofs.Below.{join-same}
 use Rattle.text_head.specs.declared.HeadFields.{HeadFields}
 use Rattle.text_head.specs.Head.{figures_found, fields_found}
-use Rattle.text_rows.specs.Rows.{row_in, fault_row}
-use Rattle.text_rows.proofs.Kept.{kept_all, numbers_long}
-use Rattle.list_rules.specs.Shanghai.{shanghai, shanghai_fields, shanghai_columns, shanghai_lines, field_count, count_field}
-use Rattle.list_rules.specs.Reading.{fields_read, components_run, name_read, name_from, letters_place}
-use Rattle.list_rows.specs.Rows.{rows_of, rows_found, run_kept}
-use Rattle.list_rows.proofs.Rows.{row_ours, fault_ours, numbers_ours}
+use Rattle.list_rules.specs.Shanghai.{shanghai, shanghai_fields, shanghai_columns, field_count, count_field}
+use Rattle.list_rules.specs.Reading.{fields_read, components_run, line_component, is_counted, read_fault, name_read, name_from, letters_place}
+use Rattle.list_rows.specs.Rows.{line_code_before, line_fault, lines_fault, rows_tested}
 use Rattle.list_rules.proofs.Lent.{fields_count}
-use Rattle.list_trip.proofs.Form.{line_numbers_lem}
+use Rattle.list_trip.proofs.ComponentsRead.{components_read}
 use Rattle.list_trip.proofs.NamePlaces.{name_found}
 use Rattle.list_rules.specs.declared.Rows.{Rows}
+use Rattle.list_rules.specs.declared.ListFields.{ListFields}
 use Rattle.list_shape.specs.Shape.{RowsStand}
-use Rattle.list_reading.specs.Stages.{Found, Spelled}
+use Rattle.list_reading.specs.Stages.{first_code, Spelled, Ranged}
 use Rattle.list_reading.proofs.Replies.{field_wrong, row_wrong, field_facts, fields_pass}
 
--- the code's search of a line is that of its definition
-fault_in_lem : (text : List ℕ) (j : ℕ) → j < row_count shanghai text → column_fault shanghai_lines (row_in shanghai_columns (rows_of text) j) ≡ column_fault shanghai (row_of shanghai text j)
-fault_in_lem text j l = ap (column_fault shanghai_lines) (row_ours text j l) ∙ fault_ours _
+-- what a test's answer says of it
+ok_cond : {T E : Type 0} (b : Bool) (e : E) (x : T) {y : T} → Ok y ≡ cond b (Err e) (Ok x) → (b ≡ false) × (y ≡ x)
+ok_cond true e x q = absurd (cc)
+ok_cond false e x q = (refl, cc)
+
+err_cond : {T E : Type 0} (b : Bool) (e : E) (x : T) {y : E} → Err y ≡ cond b (Err e) (Ok x) → (b ≡ true) × (y ≡ e)
+err_cond true e x q = (refl, cc)
+err_cond false e x q = absurd (cc)
+
+-- the component lines of a text whose fields are well written, and counted
+pub rows_right : (text : List ℕ) → passes (field_checks shanghai text) ≡ true → wrong_row shanghai text ≡ row_count shanghai text
+unfolding wrong_row
+rows_right text well = first_stops _ (row_count shanghai text) (field_facts text well).1
+
+pub counted_facts : (n count : ℕ) → is_counted n count ≡ true → (n ≡ count) × (count ≤ most_components)
+unfolding is_counted
+counted_facts n count counted =
+    let said = (and-eq-true_iff (inside 1 most_components n) (eqb n count)).0 counted in
+    let same = eqb-true n count said.1 in
+    (same, omega (arith, (inside_facts 1 most_components n said.0).1, same))
+
+pub rows_few : {text : List ℕ} {rows : Rows} {fields : ListFields} → Ranged text rows fields → rows.count ≤ most_components
+rows_few v = omega (arith, (counted_facts _ _ v.counted).1, v.stand.count_is)
+
+-- the test of the component lines, where no column is at fault and where one is
+module _ (g : ℕ) (text : List ℕ) where
+  pub tested_right : {fault : Option ℕ} → Ok fault ≡ rows_tested g text → (row_wrong text ≡ false) × (fault ≡ below (row_count shanghai text) (lines_fault g text))
+  unfolding rows_tested
+  tested_right e = ok_cond _ _ _ e
+
+  pub tested_wrong : {place : ℕ} → Err place ≡ rows_tested g text → (row_wrong text ≡ true) × (place ≡ column_place shanghai text (wrong_row shanghai text))
+  unfolding rows_tested
+  tested_wrong e = err_cond _ _ _ e
 
 -- the figures found of a text whose fields are well written
+pub fields_right : (text : List ℕ) (head : HeadFields) → Ok head ≡ fields_found shanghai_fields text → field_wrong text ≡ false
+unfolding fields_found
+fields_right text head e = grind arith
+
 module _ (text : List ℕ) (well : passes (field_checks shanghai text) ≡ true) where
   wrong_none : wrong_field shanghai_fields text ≡ field_count
   unfolding wrong_field shanghai
@@ -80,44 +116,41 @@ module _ (text : List ℕ) (r : Rows) (s : RowsStand text r) where
       rw s.start_is
       (name_found text s.lines_stand j (omega (arith, s.count_is)) (omega (arith, s.start_is, s.room, within (line_pitch shanghai_columns) j r.count h)))
 
-  module _ (head : HeadFields) (e : Ok head ≡ fields_found shanghai_fields text) where
-    fields_right : field_wrong text ≡ false
+  module _ (head : HeadFields) (e : Ok head ≡ fields_found shanghai_fields text) (right : row_wrong text ≡ false) where
+    pub spelled : Spelled text r head.figures
     unfolding fields_found
-    fields_right = grind arith
+    spelled = spelled_by text (fields_pass text (fields_right text head e) right) head.figures (grind arith) r s
 
-    module _ (f : None ≡ rows_found text) where
-      row_right : row_wrong text ≡ false
-      unfolding rows_found
-      row_right = grind arith
+  -- by the first code that the code has
+  pub first_found : (figures : List Figure) {g : ℕ} → g ≡ first_code figures → {fault : Option ℕ} → fault ≡ below (row_count shanghai text) (lines_fault g text)
+      → fault ≡ below r.count (lines_fault (first_code figures) text)
+  first_found figures same e = e ∙ rw (same, s.count_is) refl
 
-      pub spelled : Spelled text r head.figures
-      unfolding fields_found
-      spelled = spelled_by text (fields_pass text fields_right row_right) head.figures (grind arith) r s
+-- The first component at fault is that of the component lines, in a text with as many lines as a day has places.
 
-      -- the numbers that wait in the array
-      rows_right : fault_row shanghai_lines (rows_of text) (row_count shanghai text) ≡ row_count shanghai text
-      unfolding fault_row wrong_row shanghai
-      rows_right =
-          first_same _ _ (row_count shanghai text) (λ j l. ap (λ (n : ℕ). ltb n (length shanghai_columns)) (fault_in_lem text j l))
-          ∙ le_antisymm (first-le _ _) (ltb-false _ _ row_right)
+module _ (text : List ℕ) (few : row_count shanghai text ≤ most_components) where
+  abbrev places : List Component
+  places = places_of (component_at (components_run text)) (row_count shanghai text)
 
-      numbers_found : (run : List ℕ) → r.count * component_width ≤ length run → take (r.count * component_width) (run_kept text run) ≡ components_run text
-      unfolding run_kept components_run run_read shanghai
-      numbers_found run room =
-          let many : line_numbers shanghai_columns ≡ component_width = line_numbers_lem in
-          ap (λ (n : ℕ). take n (run_kept text run)) (ap₂ (λ (a b : ℕ). a * b) s.count_is (sym many))
-          ∙ kept_all shanghai_lines (rows_of text) (row_count shanghai text) run rows_right
-          (omega (arith, room, ap₂ (λ (a b : ℕ). a * b) s.count_is (sym many)))
-          ∙ join-same _ _ (row_count shanghai text) (λ j l. ap (numbers_read shanghai_lines) (row_ours text j l) ∙ numbers_ours _)
+  place_is : (j : ℕ) → j < row_count shanghai text → get_or places j blank ≡ line_component (row_of shanghai text j)
+  place_is j h = places_at (component_at (components_run text)) (row_count shanghai text) j h few ∙ components_read text j h
 
-      pub found : (run run' : List ℕ) → run' ≡ run_kept text run → length run ≡ basket_width → Found text r.count run'
-      unfolding run_kept
-      found run run' g l =
-          record {
-            long = ap length g ∙ numbers_long shanghai_lines (rows_of text) (row_count shanghai text) (length shanghai_columns) run ∙ l;
-            numbers_are = λ few.
-                ap₂ (λ (n : ℕ) (m : List ℕ). take n m) (mul_comm component_width r.count) g ∙ numbers_found run (omega (arith, l, few));
-          }
+  code_is : (j : ℕ) → j < row_count shanghai text → code_before places j ≡ line_code_before text j
+  unfolding code_before line_code_before
+  code_is zero h = refl
+  code_is (suc j) h = ap (λ (c : Component). Some c.code) (place_is j (omega arith))
+
+  same_fault : (g : ℕ) → component_fault g places (row_count shanghai text) ≡ lines_fault g text
+  unfolding component_fault fault_at lines_fault line_fault
+  same_fault g = first_same _ _ (row_count shanghai text) (λ j h. ap₂ (λ (p : Option ℕ) (c : Component). not (fits g p c)) (code_is j h) (place_is j h))
+
+pub fault_found : {text : List ℕ} {rows : Rows} {figures : List Figure} → Spelled text rows figures → (n : ℕ) → is_counted n rows.count ≡ true
+    → {fault : Option ℕ} → fault ≡ below rows.count (lines_fault (first_code figures) text) → fault ≡ below rows.count (read_fault text)
+unfolding read_fault fields_from
+fault_found {text} {rows} {figures} v n counted e =
+    let few : row_count shanghai text ≤ most_components = omega (arith, (counted_facts n rows.count counted).1, v.stand.count_is) in
+    let first : first_code figures ≡ (fields_read text).fund.first_code = ap (λ (l : ListFields). l.fund.first_code) v.fields_are in
+    e ∙ ap (below rows.count) (ap (λ (g : ℕ). lines_fault g text) first ∙ sym (same_fault text few (fields_read text).fund.first_code))
 
 -- the letters' place: there are some just where the first line is an opening one
 module _ (text : List ℕ) where

@@ -1,21 +1,19 @@
 -- What the stages of reading say to each other: what is known of the text after each of them.
-use Rattle.std.specs.Prelude.{ℕ, ◌*◌, ◌≤◌, ◌<◌, ◌≡◌, true, ◌&&◌, List, leb, length, take, get_or}
+use Rattle.std.specs.Prelude.{ℕ, ◌-◌, ◌≤◌, ◌<◌, ◌≡◌, true, ◌&&◌, List, leb, get_or}
 use Rattle.sequences.specs.Checks.{passes}
-use Rattle.layout.specs.Places.{most_components, component_width, basket_width}
 use Rattle.digits.specs.declared.Figure.{Figure}
 use Rattle.digits.specs.Digits.{cap, plain}
 use Rattle.text_rules.specs.Reading.{row_count, field_checks, figure_read}
 use Rattle.list_rules.specs.declared.ListFields.{ListFields}
 use Rattle.list_rules.specs.Shanghai.{shanghai, shanghai_fields, field_count, count_field, creation_code_field}
 use Rattle.list_rules.specs.Fields.{fields_from, fields_in_range}
-use Rattle.list_rules.specs.Reading.{fields_read, is_counted, components_run}
+use Rattle.list_rules.specs.Reading.{fields_read, is_counted}
 use Rattle.list_rules.specs.declared.Rows.{Rows}
 use Rattle.list_shape.specs.Shape.{RowsStand}
 
--- the numbers of the text's components stand at the front of an array, where they are not too many
-pub record Found (text : List ℕ) (count : ℕ) (numbers : List ℕ) : Type 0 where
-  pub long : length numbers ≡ basket_width
-  pub numbers_are : count ≤ most_components → take (component_width * count) numbers ≡ components_run text
+-- the fund's first code by the head's figures
+abbrev pub first_code : List Figure → ℕ
+first_code figures = (get_or figures creation_code_field (plain 0)).size - 1
 
 -- the text's fields are all well written, and these are the head's figures
 pub record Spelled (text : List ℕ) (rows : Rows) (figures : List Figure) : Type 0 where

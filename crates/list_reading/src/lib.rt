@@ -1,12 +1,13 @@
 // Reading the list text.
 #![tactic(auto)]
 
-ghost use Rattle.std.specs.Prelude.{◌≡◌, ◌*◌, length};
-ghost use Rattle.layout.specs.Places.{component_width};
-ghost use Rattle.list_rules.specs.Reading.{components_run, name_read, letters_place};
+ghost use Rattle.std.specs.Prelude.{◌≡◌};
+ghost use Rattle.sequences.specs.Below.{below};
+ghost use Rattle.list_rules.specs.Reading.{read_fault, name_read, letters_place};
 ghost use Rattle.list_shape.specs.Shape.{RowsStand};
+ghost use Rattle.list_rows.specs.Rows.{lines_fault};
 ghost use Rattle.list_reading.specs.Outcome.{ReadOutcome};
-ghost use Rattle.list_reading.specs.Stages.{Found, Spelled, Ranged};
+ghost use Rattle.list_reading.specs.Stages.{first_code, Spelled, Ranged};
 
 use digits::Figure;
 use list_rules::{ListField, ListFields, ListRead, Rows, TextPart};
@@ -17,28 +18,26 @@ use text_rules::MOST_FIELDS;
 pub use list_names::{name_from, name_place};
 pub use text_lines::letters;
 
-// Refusals 3 and 16, and the components stored. The text goes through to here for the contracts alone. Tried as a ghost value: that is
-// picked from the arguments of the call, and in `read_fields` no other argument says which text it is.
-#[tactic(auto, using(std::proofs::lemmas::Bool::Decides::nat_tests, crate::proofs::Replies::reply_3, crate::proofs::Replies::reply_16, crate::proofs::Replies::reply_0), unfolding(list_rules::specs::Reading::run_after, list_rules::specs::Reading::read_fault, list_rules::specs::Reading::is_counted, sequences::specs::Every::inside, sequences::specs::Checks::is_accepted))]
+// Refusals 3 and 16, and the components stored. The first component at fault comes with the test of the component lines.
+#[tactic(auto, using(std::proofs::lemmas::Bool::Decides::nat_tests, crate::proofs::Replies::reply_3, crate::proofs::Replies::reply_16), unfolding(list_rules::specs::Reading::run_after, sequences::specs::Checks::is_accepted))]
 fn read_components(
     text: &[u8],
     rows: Rows,
     fields: ListFields,
-    components: &[u64],
+    fault: Option<usize>,
     run: &mut [u64],
 ) -> Result<ListRead, Refusal>
     requires ranged { Ranged text.now rows fields }
-    requires components { (components.now ≡ components_run text.now) × (length components.now ≡ component_width * rows.count) }
+    requires fault { fault ≡ below rows.count (read_fault text.now) }
     ensures { ReadOutcome text.now run.old result run.new }
 {
-    if let Some(fault) = fund::run_fault(fields.fund.first_code, components, rows.count) {
+    if let Some(fault) = fault {
         return Err(Refusal::Component(fault));
     }
-    let n = components.len();
-    if run.len() < n {
+    if run.len() < layout::COMPONENT_WIDTH * rows.count {
         return Err(Refusal::ListTooShort);
     }
-    run[..n].copy_from_slice(components);
+    list_rows::store_rows(text, rows, run);
     Ok(ListRead {
         fields,
         first_row: rows.start,
@@ -46,16 +45,16 @@ fn read_components(
 }
 
 // Refusals 20 and 2, and what follows.
-#[tactic(auto, using(std::proofs::lemmas::Bool::Decides::nat_tests, crate::proofs::Replies::reply_20, crate::proofs::Replies::reply_2), unfolding(list_rules::specs::Reading::run_after, list_rules::specs::Reading::is_counted, sequences::specs::Every::inside, sequences::specs::Checks::is_accepted))]
+#[tactic(auto, using(std::proofs::lemmas::Bool::Decides::nat_tests, crate::proofs::Replies::reply_20, crate::proofs::Replies::reply_2), unfolding(list_rules::specs::Reading::run_after, sequences::specs::Checks::is_accepted))]
 fn read_values(
     text: &[u8],
     rows: Rows,
     figures: &[Figure; MOST_FIELDS],
-    numbers: &[u64],
+    fault: Option<usize>,
     run: &mut [u64],
 ) -> Result<ListRead, Refusal>
     requires spelled { Spelled text.now rows figures.now }
-    requires found { Found text.now rows.count numbers.now }
+    requires found { fault ≡ below rows.count (lines_fault (first_code figures.now) text.now) }
     ensures { ReadOutcome text.now run.old result run.new }
 {
     if !list_shape::is_counted(ListField::Count.of(figures).size, rows.count) {
@@ -65,23 +64,25 @@ fn read_values(
     if !list_fields::fields_in_range(fields) {
         return Err(Refusal::FundField);
     }
-    let components = &numbers[..layout::COMPONENT_WIDTH * rows.count];
-    read_components(text, rows, fields, components, run)
+    read_components(text, rows, fields, fault, run)
 }
 
-// Refusal 19, and what follows. A refusal changes nothing of the lent run, so the components' numbers stand in an array of this call until
-// all is tested: the library has no heap.
-#[tactic(auto, using(crate::proofs::Replies::reply_19_field, crate::proofs::Replies::reply_19_row, crate::proofs::Handed::spelled, crate::proofs::Handed::found), unfolding(list_rules::specs::Reading::run_after, sequences::specs::Checks::is_accepted, text_head::specs::Head::fields_found, list_rows::specs::Rows::rows_found))]
+// Refusal 19, and what follows. A refusal changes nothing of the lent run, so all is tested first, and each number stored once behind that.
+#[tactic(auto, using(crate::proofs::Replies::reply_19_field), unfolding(list_rules::specs::Reading::run_after, sequences::specs::Checks::is_accepted, text_head::specs::Head::fields_found))]
 fn read_fields(text: &[u8], rows: Rows, run: &mut [u64]) -> Result<ListRead, Refusal>
     requires { RowsStand text.now rows }
     ensures { ReadOutcome text.now run.old result run.new }
 {
     let found = text_head::head_fields(&list_rules::field_table(), text);
     let head = found.map_err(|wrong| Refusal::TextField(wrong.place))?;
-    let mut numbers = [0u64; layout::BASKET_WIDTH];
-    match list_rows::read_rows(text, rows, &mut numbers) {
-        Some(fault) => Err(Refusal::TextField(fault.place)),
-        None => read_values(text, rows, &head.figures, &numbers, run),
+    // As `fields_of` has it: where the code for creation is 0, refusal 2 is the answer, and what is found with this one is not looked at.
+    let first_code = ListField::CreationCode
+        .of(&head.figures)
+        .size
+        .saturating_sub(1);
+    match list_rows::test_rows(text, rows, first_code) {
+        Err(place) => Err(Refusal::TextField(place)),
+        Ok(fault) => read_values(text, rows, &head.figures, fault, run),
     }
 }
 

@@ -1,141 +1,161 @@
 -- The component lines of a text as the code reads them, and what is found in them.
-use Prim.Native.Nat.{ℕ, ◌+◌, ◌-◌, ◌*◌, ◌≤◌, ◌<◌}
-use mathlib.Core.Path.{◌≡◌, refl, ap, ◌∙◌}
-use mathlib.Core.Bool.{Bool, true, false, cond}
+use mathlib.Core.Path.{◌≡◌, refl, sym, ap, ◌∙◌}
+use mathlib.Core.Bool.{Bool, true, false, not}
 use mathlib.Core.List.{List}
-use native.Mathlib.Nat.{add-sub_cancel_left, mul-div_cancel}
+use Prim.Native.Nat.{ℕ, ◌<◌}
 use native.Mathlib.Omega.{arith}
-use lib.Dec.{ltb}
-use lib.ListN.{length, take, drop, length-drop}
-use lib.Seq.{length-take-le}
-use borrow.Author.Tests.{lt-ltb, ltb-true}
-use Rattle.std.specs.Prelude.{Option, Some, None}
+use lib.ListN.{length}
+use borrow.Author.Tests.{not-true, not-false}
+use Rattle.std.specs.Prelude.{Option, MatchResult}
+use Rattle.std.specs.Option.{ok_or}
 use Rattle.sequences.specs.Below.{first_below}
-use Rattle.sequences.proofs.Below.{first-le, first_same}
-use Rattle.sequences.proofs.Stretch.{within}
-use Rattle.text_rules.specs.declared.Column.{Column}
-use Rattle.text_rules.specs.Tables.{TextForm}
-use Rattle.text_rules.specs.Columns.{column_start, line_width, line_pitch, flag_of, content_of, wrong_cell, column_fault, cell_read, numbers_read}
-use Rattle.text_rules.specs.Reading.{body_start, row_start, row_count, row_of, wrong_row, column_place}
-use Rattle.text_rows.specs.declared.CellFault.{CellFault}
-use Rattle.text_rows.specs.Rows.{line_count, row_in, fault_row, fault_in, numbers_kept}
-use Rattle.text_rows.proofs.Kept.{row_in_lem}
+use Rattle.sequences.proofs.Below.{first_none, first_more, first_here, first_all}
+use Rattle.units.specs.declared.Rate.{Rate}
+use Rattle.units.specs.declared.Money.{Money}
+use Rattle.digits.specs.Digits.{size_reading}
+use Rattle.text_rules.specs.Tables.{TextForm, column_at}
+use Rattle.text_rules.specs.Columns.{is_text, holds_text, flag_of, content_of, wrong_cell, column_fault, cell_read}
+use Rattle.list_rules.specs.declared.ListColumn.{ListColumn}
+use Rattle.list_rules.specs.declared.ListColumn.TheVariants as columns
+use Rattle.list_rules.specs.Places.{column_place}
 use Rattle.list_rules.specs.Shanghai.{shanghai, shanghai_columns, shanghai_lines}
-use Rattle.list_rows.specs.Rows.{rows_of, rows_found, run_kept}
+use Rattle.list_rules.specs.Shanghai.{code_column, name_column, quantity_column, flag_column, premium_column, discount_column, amount_column}
+use Rattle.list_rules.specs.Reading.{line_component}
+use Rattle.list_rows.specs.Rows.{NumberRead}
+
+-- A column, by its name in the code.
+
+pub column_there : (column : ListColumn) → column_place column < length shanghai_columns
+unfolding shanghai_columns
+column_there columns.Code = omega arith
+column_there columns.Name = omega arith
+column_there columns.Quantity = omega arith
+column_there columns.Flag = omega arith
+column_there columns.Premium = omega arith
+column_there columns.Discount = omega arith
+column_there columns.Amount = omega arith
+
+-- which of them hold text
+pub code_holds : holds_text shanghai_columns code_column ≡ false
+unfolding holds_text is_text column_at shanghai_columns
+code_holds = refl
+
+pub name_holds : holds_text shanghai_columns name_column ≡ true
+unfolding holds_text is_text column_at shanghai_columns
+name_holds = refl
+
+pub quantity_holds : holds_text shanghai_columns quantity_column ≡ false
+unfolding holds_text is_text column_at shanghai_columns
+quantity_holds = refl
+
+pub flag_holds : holds_text shanghai_columns flag_column ≡ false
+unfolding holds_text is_text column_at shanghai_columns
+flag_holds = refl
+
+pub premium_holds : holds_text shanghai_columns premium_column ≡ false
+unfolding holds_text is_text column_at shanghai_columns
+premium_holds = refl
+
+pub discount_holds : holds_text shanghai_columns discount_column ≡ false
+unfolding holds_text is_text column_at shanghai_columns
+discount_holds = refl
+
+pub amount_holds : holds_text shanghai_columns amount_column ≡ false
+unfolding holds_text is_text column_at shanghai_columns
+amount_holds = refl
+
+pub ruleset columns_hold = (code_holds, name_holds, quantity_holds, flag_holds, premium_holds, discount_holds, amount_holds)
 
 -- a line says the same whatever the fields of the head are
-pub fault_ours : (l : List ℕ) → column_fault shanghai_lines l ≡ column_fault shanghai l
-unfolding shanghai column_fault wrong_cell content_of flag_of
-fault_ours l = refl
+wrong_ours : (l : List ℕ) (k : ℕ) → wrong_cell shanghai_lines l k ≡ wrong_cell shanghai l k
+unfolding shanghai wrong_cell content_of flag_of
+wrong_ours l k = refl
 
-pub numbers_ours : (l : List ℕ) → numbers_read shanghai_lines l ≡ numbers_read shanghai l
-unfolding shanghai numbers_read cell_read content_of flag_of
-numbers_ours l = refl
+read_ours : (l : List ℕ) (k : ℕ) → cell_read shanghai_lines l k ≡ cell_read shanghai l k
+unfolding shanghai cell_read content_of flag_of
+read_ours l k = refl
 
-module _ (text : List ℕ) where
-  -- the j-th of the lines
-  pub row_ours : (j : ℕ) → j < row_count shanghai text → row_in shanghai_columns (rows_of text) j ≡ row_of shanghai text j
-  unfolding rows_of row_of row_start shanghai
-  row_ours j h = row_in_lem _ _ _ _ _ h
+number_or : (b : Bool) (x : ℕ) (column : ListColumn) → MatchResult (ok_or (size_reading (not b) x) column) (λ v. (b ≡ false) × (v ≡ x)) (λ k. (b ≡ true) × (k ≡ column))
+number_or true x column = (refl, refl)
+number_or false x column = (refl, refl)
 
--- What the code goes by: a part of the text that it lends, and the form, the columns and the pitch that it has.
-pub record Lent (form : TextForm) (columns : List Column) (pitch start count : ℕ) (text : List ℕ) : Type 0 where
-  pub form_is : form ≡ shanghai_lines
-  pub columns_are : columns ≡ shanghai_columns
-  pub pitch_is : pitch ≡ line_pitch shanghai_columns
-  pub first : start ≡ body_start shanghai text
-  pub many : count ≡ row_count shanghai text
-  pub room : start + count * line_pitch shanghai_columns ≤ length text
+module _ {form : TextForm} (ours : form ≡ shanghai_lines) (column : ListColumn) {place : ℕ} (at : place ≡ column_place column) where
+  pub column_of : {b : Bool} → holds_text shanghai_columns (column_place column) ≡ b → (place < length form.columns) × (holds_text form.columns place ≡ b)
+  column_of e = rw (ours, at) (column_there column, e)
 
-pub lent : {form : TextForm} {columns : List Column} {pitch start count : ℕ} {text : List ℕ} → form ≡ shanghai_lines → columns ≡ form.columns → pitch ≡ line_pitch columns
-    → (start ≡ body_start shanghai text) × (count ≡ row_count shanghai text) → start + count * line_pitch shanghai_columns ≤ length text → Lent form columns pitch start count text
-lent f d p s room =
-    let ours = d ∙ ap (λ (t : TextForm). t.columns) f in
-    record { form_is = f; columns_are = ours; pitch_is = p ∙ ap line_pitch ours; first = s.0; many = s.1; room = room }
+  module _ (l : List ℕ) where
+    pub wrong_of : wrong_cell form l place ≡ wrong_cell shanghai l (column_place column)
+    wrong_of = rw (ours, at) (wrong_ours l (column_place column))
 
--- what a test's answer says of it
-cond_none : {A : Type 0} (b : Bool) (x : A) → None ≡ cond b (Some x) None → b ≡ false
-cond_none true x e = absurd (cc)
-cond_none false x e = refl
+    pub read_of : cell_read form l place ≡ cell_read shanghai l (column_place column)
+    read_of = rw (ours, at) (read_ours l (column_place column))
 
-cond_some : {A : Type 0} (b : Bool) (x y : A) → Some y ≡ cond b (Some x) None → (b ≡ true) × (y ≡ x)
-cond_some true x y e = (refl, cc)
-cond_some false x y e = absurd (cc)
+    pub number_of : {r : Option ℕ} → r ≡ size_reading (not (wrong_cell form l place)) (cell_read form l place) → NumberRead l column (ok_or r column)
+    number_of e = rw (e, wrong_of, read_of) (number_or _ _ column)
 
-module _ {form : TextForm} {columns : List Column} {pitch start count : ℕ} {text : List ℕ} (v : Lent form columns pitch start count text) where
-  abbrev part : List ℕ
-  part = take (start + count * pitch - start) (drop start text)
+-- the name, as the code tests it
+module _ {form : TextForm} (ours : form ≡ shanghai_lines) {place : ℕ} (at : place ≡ name_column) (l : List ℕ) {words : Bool} (e : words ≡ not (wrong_cell form l place)) where
+  pub words_right : words ≡ true → wrong_cell shanghai l name_column ≡ false
+  words_right h = sym (wrong_of ours columns.Name at l) ∙ not-true _ (sym e ∙ h)
 
-  part_is : part ≡ rows_of text
-  unfolding rows_of
-  part_is = rw (add-sub_cancel_left start (count * pitch), v.first, v.many, v.pitch_is)
+  pub words_wrong : words ≡ false → wrong_cell shanghai l name_column ≡ true
+  words_wrong h = sym (wrong_of ours columns.Name at l) ∙ not-false _ (sym e ∙ h)
 
-  end_room : start + count * pitch ≤ length text
-  end_room = omega (arith, v.room, ap (λ (n : ℕ). count * n) v.pitch_is)
+-- One line, column by column: the columns before this one are right.
 
-  lines_many : line_count form part ≡ count
-  unfolding line_count line_pitch
-  lines_many =
-      rw (add-sub_cancel_left start (count * pitch), length-take-le (count * pitch) (drop start text) (omega (arith, end_room, length-drop start text)), v.pitch_is, v.form_is)
-      (mul-div_cancel count (omega arith))
+module _ (l : List ℕ) where
+  abbrev wrong : ℕ → Bool
+  wrong = wrong_cell shanghai l
 
-  -- what the code found and kept in these lines
-  fault_ours_in : {fault : Option CellFault} → fault ≡ fault_in form part (line_count form part) → fault ≡ fault_in shanghai_lines (rows_of text) count
-  fault_ours_in h = h ∙ rw (lines_many, part_is, v.form_is)
+  pub fault_here : (column : ListColumn) → first_below wrong (column_place column) ≡ column_place column → wrong (column_place column) ≡ true
+      → column_place column ≡ column_fault shanghai l
+  unfolding column_fault shanghai
+  fault_here column before here = sym (first_here wrong (length shanghai_columns) (column_place column) (column_there column) before here)
 
-  pub kept_ours : (run : List ℕ) → run_kept text run ≡ numbers_kept form part (line_count form part) (length form.columns) run
-  unfolding run_kept
-  kept_ours run = rw (lines_many, part_is, v.form_is, v.many)
+  pub before_code : first_below wrong code_column ≡ code_column
+  before_code = first_none wrong
 
-  row_found : fault_row shanghai_lines (rows_of text) count ≡ wrong_row shanghai text
-  unfolding fault_row wrong_row shanghai
-  row_found =
-      ap (first_below (λ j. ltb (column_fault shanghai_lines (row_in shanghai_columns (rows_of text) j)) (length shanghai_columns))) v.many
-      ∙ first_same _ _ (row_count shanghai text)
-      (λ j h. ap (λ (n : ℕ). ltb n (length shanghai_columns)) (ap (column_fault shanghai_lines) (row_ours text j h) ∙ fault_ours _))
+  module _ (code : wrong code_column ≡ false) where
+    pub before_name : first_below wrong name_column ≡ name_column
+    before_name = first_more wrong code_column before_code code
 
-  -- no column is at fault
-  pub rows_none : None ≡ fault_in form part (line_count form part) → None ≡ rows_found text
-  unfolding fault_in rows_found
-  rows_none g = rw (← row_found, ← v.many, cond_none _ _ (fault_ours_in g))
+    module _ (name : wrong name_column ≡ false) where
+      pub before_quantity : first_below wrong quantity_column ≡ quantity_column
+      before_quantity = first_more wrong name_column before_name name
 
-  -- one is, and its place lies within the text
-  module _ {fault : CellFault} (g : Some fault ≡ fault_in form part (line_count form part)) where
-    parts : (ltb (fault_row shanghai_lines (rows_of text) count) count ≡ true)
-        × (fault
-        ≡ record {
-          row = fault_row shanghai_lines (rows_of text) count;
-          column = column_fault shanghai_lines (row_in shanghai_columns (rows_of text) (fault_row shanghai_lines (rows_of text) count));
-        })
-    unfolding fault_in
-    parts = cond_some _ _ _ (fault_ours_in g)
+      module _ (quantity : wrong quantity_column ≡ false) where
+        pub before_flag : first_below wrong flag_column ≡ flag_column
+        before_flag = first_more wrong quantity_column before_quantity quantity
 
-    row_is : fault.row ≡ fault_row shanghai_lines (rows_of text) count
-    row_is = ap (λ (x : CellFault). x.row) parts.1
+        module _ (flag : wrong flag_column ≡ false) where
+          pub before_premium : first_below wrong premium_column ≡ premium_column
+          before_premium = first_more wrong flag_column before_flag flag
 
-    row_low : fault.row < count
-    row_low = omega (arith, row_is, ltb-true _ _ parts.0)
+          module _ (premium : wrong premium_column ≡ false) where
+            pub before_discount : first_below wrong discount_column ≡ discount_column
+            before_discount = first_more wrong premium_column before_premium premium
 
-    pub row_room : start + fault.row * pitch + pitch ≤ length text
-    row_room = omega (arith, end_room, within pitch fault.row count row_low)
+            module _ (discount : wrong discount_column ≡ false) where
+              pub before_amount : first_below wrong amount_column ≡ amount_column
+              before_amount = first_more wrong discount_column before_discount discount
 
-    pub place_room : {at : ℕ} → at ≤ line_width columns → start + fault.row * pitch + at ≤ length text
-    unfolding line_pitch
-    place_room h = omega (arith, h, row_room, v.pitch_is, ap line_width v.columns_are)
+              pub fault_none : wrong amount_column ≡ false → column_fault shanghai l ≡ length shanghai_columns
+              unfolding column_fault shanghai shanghai_columns
+              fault_none amount = first_more wrong amount_column before_amount amount
 
-    column_found : fault.column ≡ column_fault shanghai (row_of shanghai text fault.row)
-    column_found =
-        ap (λ (x : CellFault). x.column) parts.1
-        ∙ rw (← row_is) (ap (column_fault shanghai_lines) (row_ours text fault.row (omega (arith, v.many, row_low))) ∙ fault_ours _)
+  -- where none is at fault, each is right
+  pub column_right : column_fault shanghai l ≡ length shanghai_columns → (column : ListColumn) → wrong (column_place column) ≡ false
+  unfolding column_fault shanghai
+  column_right none column = first_all wrong (length shanghai_columns) none (column_place column) (column_there column)
 
-    pub column_low : fault.column ≤ length columns
-    unfolding column_fault shanghai
-    column_low = omega (arith, column_found, first-le (wrong_cell shanghai (row_of shanghai text fault.row)) (length shanghai_columns), ap length v.columns_are)
-
-    pub row_place : {at : ℕ} → at ≡ column_start columns fault.column → Some (record { row = fault.row; place = start + fault.row * pitch + at }) ≡ rows_found text
-    unfolding rows_found column_place row_start shanghai
-    row_place q =
-        rw (← row_found, ← row_is, ← v.many, lt-ltb fault.row count row_low, q, v.columns_are, v.first, v.pitch_is, column_found)
-
--- what the search goes by
-pub ruleset rows_laws = (lent, kept_ours, rows_none, row_room, place_room, column_low, row_place)
+  -- its component, number by number
+  pub component_is : {code quantity flag : ℕ} {premium discount : Rate} {amount : Money} → code ≡ cell_read shanghai l code_column
+      → quantity ≡ cell_read shanghai l quantity_column → flag ≡ cell_read shanghai l flag_column → premium.0 ≡ cell_read shanghai l premium_column
+      → discount.0 ≡ cell_read shanghai l discount_column → amount.0 ≡ cell_read shanghai l amount_column
+      → record { code = code; quantity = quantity; flag = flag; premium = premium; discount = discount; amount = amount } ≡ line_component l
+  unfolding line_component
+  component_is {code} {quantity} {flag} {premium} {discount} {amount} c q f p d a =
+      let premium_is : premium ≡ record { 0 = cell_read shanghai l premium_column } = ap (λ (n : ℕ). record { 0 = n }) p in
+      let discount_is : discount ≡ record { 0 = cell_read shanghai l discount_column } = ap (λ (n : ℕ). record { 0 = n }) d in
+      let amount_is : amount ≡ record { 0 = cell_read shanghai l amount_column } = ap (λ (n : ℕ). record { 0 = n }) a in
+      cc

@@ -1,21 +1,45 @@
--- What is found and kept of the component lines of a text in the Shanghai form.
-use Rattle.std.specs.Prelude.{ℕ, ◌*◌, cond, List, ltb, length, take, drop, Option, Some, None}
-use Rattle.text_rules.specs.Columns.{line_pitch}
-use Rattle.text_rules.specs.Reading.{body_start, row_count, wrong_row, column_place}
-use Rattle.text_rows.specs.Rows.{numbers_kept}
-use Rattle.list_rules.specs.Shanghai.{shanghai, shanghai_columns, shanghai_lines}
-use Rattle.list_rows.specs.declared.RowFault.{RowFault}
+-- What is found of the component lines of a text in the Shanghai form.
+use Rattle.std.specs.Prelude.{ℕ, zero, suc, ◌*◌, ◌≡◌, Bool, true, false, cond, not, List, ltb, length, take, drop, Option, Some, None, Result, Ok, Err, MatchResult}
+use Rattle.sequences.specs.Below.{first_below, below}
+use Rattle.layout.specs.declared.Component.{Component}
+use Rattle.fund.specs.Components.{fits}
+use Rattle.text_rules.specs.Columns.{line_pitch, wrong_cell, column_fault, cell_read}
+use Rattle.text_rules.specs.Reading.{body_start, row_count, row_of, wrong_row, column_place}
+use Rattle.list_rules.specs.declared.ListColumn.{ListColumn}
+use Rattle.list_rules.specs.Shanghai.{shanghai, shanghai_columns}
+use Rattle.list_rules.specs.Places as places
+use Rattle.list_rules.specs.Reading.{line_component}
 
 -- the bytes of the component lines
 unfoldable pub rows_of : List ℕ → List ℕ
 rows_of text = take (row_count shanghai text * line_pitch shanghai_columns) (drop (body_start shanghai text) text)
 
--- the first line with a column at fault, and the place of that column
-unfoldable pub rows_found : List ℕ → Option RowFault
-rows_found text =
-    cond (ltb (wrong_row shanghai text) (row_count shanghai text))
-    (Some (record { row = wrong_row shanghai text; place = column_place shanghai text (wrong_row shanghai text) })) None
+-- what is read of a column with a number: the number where it is right, else which column it is
+abbrev pub NumberRead : List ℕ → ListColumn → Result ℕ ListColumn → Type 0
+NumberRead l column r =
+    MatchResult r (λ v. (wrong_cell shanghai l (places.column_place column) ≡ false) × (v ≡ cell_read shanghai l (places.column_place column)))
+    (λ k. (wrong_cell shanghai l (places.column_place column) ≡ true) × (k ≡ column))
 
--- a run in which the numbers of the lines are kept, as far as it has room and the first fault lets them be read
-unfoldable pub run_kept : List ℕ → List ℕ → List ℕ
-run_kept text run = numbers_kept shanghai_lines (rows_of text) (row_count shanghai text) (length shanghai_columns) run
+-- what is read of one line: its component where no column is at fault, else the first column that is
+abbrev pub LineRead : List ℕ → Result Component ListColumn → Type 0
+LineRead l r =
+    MatchResult r (λ c. (column_fault shanghai l ≡ length shanghai_columns) × (c ≡ line_component l)) (λ k. places.column_place k ≡ column_fault shanghai l)
+
+-- the code of the line before the j-th; none before the first
+unfoldable pub line_code_before : List ℕ → ℕ → Option ℕ
+line_code_before text zero = None
+line_code_before text (suc j) = Some (line_component (row_of shanghai text j)).code
+
+-- refusal 3 at the j-th line, in a fund with the first code g
+unfoldable pub line_fault : ℕ → List ℕ → ℕ → Bool
+line_fault g text j = not (fits g (line_code_before text j) (line_component (row_of shanghai text j)))
+
+-- the first line at fault by refusal 3, their count where there is none
+unfoldable pub lines_fault : ℕ → List ℕ → ℕ
+lines_fault g text = first_below (line_fault g text) (row_count shanghai text)
+
+-- the place of the first column at fault by refusal 19; where there is none, the first line at fault by refusal 3
+unfoldable pub rows_tested : ℕ → List ℕ → Result (Option ℕ) ℕ
+rows_tested g text =
+    cond (ltb (wrong_row shanghai text) (row_count shanghai text)) (Err (column_place shanghai text (wrong_row shanghai text)))
+    (Ok (below (row_count shanghai text) (lines_fault g text)))

@@ -1,38 +1,156 @@
-// The component lines of a list text in the Shanghai form: what they say.
+// The component lines of a list text in the Shanghai form: tested, and then stored.
 #![tactic(auto)]
 
-ghost use Rattle.std.specs.Prelude.{◌≡◌, ◌+◌, ◌*◌, ◌≤◌, length};
-ghost use Rattle.text_rules.specs.Columns.{line_pitch};
-ghost use Rattle.text_rules.specs.Reading.{body_start, row_count};
-ghost use Rattle.list_rules.specs.Shanghai.{shanghai, shanghai_columns};
-ghost use Rattle.list_rows.specs.Rows.{rows_found, run_kept};
+ghost use Rattle.std.specs.Prelude.{◌≡◌, ◌+◌, ◌*◌, ◌≤◌, ◌++◌, false, cond, length, drop, Some, None};
+ghost use Rattle.std.specs.Option.{option_or};
+ghost use Rattle.std.proofs.lemmas.List.Edits.{sets};
+ghost use Rattle.layout.specs.Places.{component_width};
+ghost use Rattle.layout.specs.Components.{component_numbers};
+ghost use Rattle.text_rules.specs.Columns.{line_width, line_pitch, holds_text, wrong_cell, column_fault, cell_read};
+ghost use Rattle.text_rules.specs.Reading.{body_start, row_count, wrong_row};
+ghost use Rattle.list_rules.specs.Shanghai.{shanghai, shanghai_columns, shanghai_lines, name_column};
+ghost use Rattle.list_rules.specs.Places.{column_place};
+ghost use Rattle.list_rules.specs.Reading.{line_component, components_run};
+ghost use Rattle.list_rows.specs.Rows.{rows_of, NumberRead, LineRead, rows_tested};
 
-use list_rules::Rows;
+use layout::{COMPONENT_WIDTH, Component};
+use list_rules::{ListColumn, Rows};
+use text_rules::LineForm;
+use units::{Money, Rate};
 
-// The first component line with a column at fault, and the place of that column. The place is what the refusal tells; no code reads the
-// line's number, but it is promised of reading the lines.
-#[derive(Clone, Copy, PartialEq, Eq, Debug)]
-pub struct RowFault {
-    pub row: usize,
-    pub place: usize,
+// The number of a column, or that the column is at fault. Inlined, as all that reads one line: there it is known which column it is.
+#[inline(always)]
+fn read_number(form: &LineForm, column: ListColumn, row: &[u8]) -> Result<u64, ListColumn>
+    requires form { form.now ≡ shanghai_lines }
+    requires number { holds_text shanghai_columns (column_place column) ≡ false }
+    requires row_in_bounds { line_width shanghai_columns ≤ length row.now }
+    ensures { NumberRead row.now column result }
+{
+    text_rows::read_number(form, column.place(), row).ok_or(column)
 }
 
-// Reads all component lines, as far as the first with a column at fault. Their numbers go to the run, as far as it has room.
-#[tactic(auto, using(crate::proofs::Rows::rows_laws))]
-pub fn read_rows(text: &[u8], rows: Rows, run: &mut [u64]) -> Option<RowFault>
+// The component of a line, or the first of its columns at fault.
+#[inline(always)]
+#[tactic(auto, using(crate::proofs::Rows::columns_hold))]
+fn read_component(form: &LineForm, row: &[u8]) -> Result<Component, ListColumn>
+    requires form { form.now ≡ shanghai_lines }
+    requires row_in_bounds { line_width shanghai_columns ≤ length row.now }
+    ensures { LineRead row.now result }
+{
+    let code = read_number(form, ListColumn::Code, row)?;
+    if !text_rows::has_words(form, ListColumn::Name.place(), row) {
+        return Err(ListColumn::Name);
+    }
+    let quantity = read_number(form, ListColumn::Quantity, row)?;
+    let flag = read_number(form, ListColumn::Flag, row)?;
+    let premium = read_number(form, ListColumn::Premium, row)?;
+    let discount = read_number(form, ListColumn::Discount, row)?;
+    let amount = read_number(form, ListColumn::Amount, row)?;
+    Ok(Component {
+        code,
+        quantity,
+        flag,
+        premium: Rate::new(premium),
+        discount: Rate::new(discount),
+        amount: Money::new(amount),
+    })
+}
+
+// The bytes of the component lines.
+#[tactic(auto, using(crate::proofs::Lines::lines_cut))]
+fn rows_of<'a>(form: &LineForm, text: &'a [u8], rows: Rows) -> &'a [u8]
+    requires form { form.now ≡ shanghai_lines }
     requires start_value { (rows.start ≡ body_start shanghai text.now) × (rows.count ≡ row_count shanghai text.now) }
-    requires shanghai_columns_in_bounds { rows.start + rows.count * line_pitch shanghai_columns ≤ length text.now }
-    ensures value { result ≡ rows_found text.now }
-    ensures run_after { run.new ≡ run_kept text.now run.old }
+    requires rows_in_bounds { rows.start + rows.count * line_pitch shanghai_columns ≤ length text.now }
+    ensures { result.now ≡ rows_of text.now }
+{
+    let start = rows.start;
+    &text[start..start + rows.count * form.columns().pitch()]
+}
+
+// The first of the lines at fault, with the j-th behind those before it.
+#[inline(always)]
+fn first_fault(before: Option<usize>, j: usize, is_fit: bool) -> Option<usize>
+    ensures { result ≡ option_or before (cond is_fit None (Some j)) }
+{
+    before.or((!is_fit).then_some(j))
+}
+
+// Refusals 19 and 3 of all component lines, in a fund with that first code: the place of the first column at fault, or else the first
+// component at fault. Of the lines it keeps the code before and that component alone.
+pub fn test_rows(text: &[u8], rows: Rows, first_code: u64) -> Result<Option<usize>, usize>
+    requires start_value { (rows.start ≡ body_start shanghai text.now) × (rows.count ≡ row_count shanghai text.now) }
+    requires rows_in_bounds { rows.start + rows.count * line_pitch shanghai_columns ≤ length text.now }
+    ensures { result ≡ rows_tested first_code text.now }
 {
     let form = list_rules::line_form();
     let columns = form.columns();
     let pitch = columns.pitch();
-    let start = rows.start;
-    let end = start + rows.count * pitch;
-    let fault = text_rows::read_columns(&form, &text[start..end], run)?;
-    Some(RowFault {
-        row: fault.row,
-        place: start + fault.row * pitch + columns.start(fault.column),
-    })
+    let mut previous = None;
+    let mut fault = None;
+    for (j, row) in rows_of(&form, text, rows).chunks_exact(pitch).enumerate() {
+        let c = match read_component(&form, row) {
+            Ok(c) => c,
+            Err(column) => return Err(rows.start + j * pitch + columns.start(column.place())),
+        };
+        fault = first_fault(fault, j, fund::component_fits(first_code, previous, c));
+        previous = Some(c.code);
+    }
+    Ok(fault)
+}
+
+// The number of a column that is known to be right.
+#[inline(always)]
+fn known_number(form: &LineForm, column: ListColumn, row: &[u8]) -> u64
+    requires form { form.now ≡ shanghai_lines }
+    requires number { holds_text shanghai_columns (column_place column) ≡ false }
+    requires row_in_bounds { line_width shanghai_columns ≤ length row.now }
+    requires right { wrong_cell shanghai row.now (column_place column) ≡ false }
+    ensures { result ≡ cell_read shanghai row.now (column_place column) }
+{
+    text_rows::known_number(form, column.place(), row)
+}
+
+// The numbers of a line with no column at fault.
+#[inline(always)]
+#[tactic(auto, using(crate::proofs::Rows::columns_hold))]
+fn known_numbers(form: &LineForm, row: &[u8]) -> [u64; COMPONENT_WIDTH]
+    requires form { form.now ≡ shanghai_lines }
+    requires row_in_bounds { line_width shanghai_columns ≤ length row.now }
+    requires right { column_fault shanghai row.now ≡ length shanghai_columns }
+    ensures { result ≡ component_numbers (line_component row.now) }
+{
+    [
+        known_number(form, ListColumn::Code, row),
+        known_number(form, ListColumn::Quantity, row),
+        known_number(form, ListColumn::Flag, row),
+        known_number(form, ListColumn::Premium, row),
+        known_number(form, ListColumn::Discount, row),
+        known_number(form, ListColumn::Amount, row),
+    ]
+}
+
+// Stores the numbers of the j-th component.
+#[tactic(auto, using(layout::proofs::Stored::numbers_stored))]
+fn put_numbers(run: &mut [u64], j: usize, numbers: [u64; COMPONENT_WIDTH])
+    requires { component_width * j + component_width ≤ length run.old }
+    ensures { run.new ≡ sets run.old (component_width * j) numbers }
+{
+    let at = COMPONENT_WIDTH * j;
+    run[at..at + COMPONENT_WIDTH].copy_from_slice(&numbers);
+}
+
+// Stores the components of lines with no column at fault at the front of the run, each number once and in its place.
+pub fn store_rows(text: &[u8], rows: Rows, run: &mut [u64])
+    requires start_value { (rows.start ≡ body_start shanghai text.now) × (rows.count ≡ row_count shanghai text.now) }
+    requires rows_in_bounds { rows.start + rows.count * line_pitch shanghai_columns ≤ length text.now }
+    requires right { wrong_row shanghai text.now ≡ row_count shanghai text.now }
+    requires room { component_width * rows.count ≤ length run.old }
+    ensures { run.new ≡ components_run text.now ++ drop (component_width * rows.count) run.old }
+{
+    let form = list_rules::line_form();
+    let pitch = form.columns().pitch();
+    for (j, row) in rows_of(&form, text, rows).chunks_exact(pitch).enumerate() {
+        put_numbers(run, j, known_numbers(&form, row));
+    }
 }

@@ -1,6 +1,4 @@
 pub mod First
 pub mod Pieces
-pub mod Lines
-pub mod Faults
-pub mod Turns
-pub mod Kept
+pub mod Words
+pub mod Columns

@@ -1,32 +1,14 @@
-// The component lines of a text, by their form: what they say, read column by column.
+// A component line, by its form: what its columns say.
 #![tactic(auto)]
 
-ghost use Rattle.std.specs.Prelude.{◌≡◌, true, false, ◌+◌, ◌-◌, ◌/◌, ◌≤◌, ◌<◌, length, get_or, set};
+ghost use Rattle.std.specs.Prelude.{◌≡◌, true, false, not, ◌+◌, ◌/◌, ◌≤◌, ◌<◌, length};
 ghost use Rattle.sequences.specs.Below.{below};
-ghost use Rattle.text_rules.specs.Columns.{holds_text, used_by};
-ghost use Rattle.text_rules.specs.Tables.{column_at};
-ghost use Rattle.text_rules.specs.Well.{is_always};
-ghost use Rattle.text_rows.specs.Rows.{line_count, fault_in, column_kept, numbers_kept};
-ghost use Rattle.text_rows.specs.Turns.{words_fault, cells_fault, column_stored};
+ghost use Rattle.digits.specs.Digits.{size_reading};
+ghost use Rattle.text_rules.specs.Columns.{line_width, holds_text, used_by, part_of, flag_of, wrong_cell, cell_read};
+ghost use Rattle.text_rules.specs.Well.{columns_well};
+ghost use Rattle.text_rows.specs.Words.{words_fault};
 
 use text_rules::{LineForm, Use};
-
-// The first line with a column at fault, and that column.
-#[derive(Clone, Copy, PartialEq, Eq, Debug)]
-pub struct CellFault {
-    pub row: usize,
-    pub column: usize,
-}
-
-// Stores a number where the run has room for it. By place: tried by `get_mut`, of which the slice's length is known behind it, and not
-// what it stores.
-fn keep_number(run: &mut [u64], q: usize, v: u64)
-    ensures { run.new ≡ set run.old q v }
-{
-    if q < run.len() {
-        run[q] = v;
-    }
-}
 
 // The first of the lines, each of so many bytes, whose bytes from a place on are no words.
 pub fn words_fault(rows: &[u8], pitch: usize, from: usize, width: usize) -> Option<usize>
@@ -37,90 +19,71 @@ pub fn words_fault(rows: &[u8], pitch: usize, from: usize, width: usize) -> Opti
         .position(|line| !lines::is_name(&line[from..from + width]))
 }
 
-// Whether a column of this use has a number in a line, by the flag there. One that is always used reads no flag.
-#[tactic(auto, using(crate::proofs::Turns::used_always))]
-fn is_used<const ALWAYS: bool>(
-    used: Use,
-    flags: &flags::Table,
-    row: &[u8],
-    flag_start: usize,
-) -> bool
-    requires always { ALWAYS ≡ true → is_always used ≡ true }
-    requires flag_in_bounds { flag_start < length row.now }
-    ensures { result ≡ used_by flags.now (get_or row.now flag_start 0 - 48) used }
+// The bytes of column k, and that the columns are well made. This and what follows is inlined, so that the place, the width and the form of
+// each column are known where it is read.
+#[inline(always)]
+#[tactic(auto, using(crate::proofs::Columns::column_room, crate::proofs::Columns::column_part))]
+fn part_of<'a>(form: &LineForm, k: usize, row: &'a [u8]) -> &'a [u8]
+    requires column { k < length form.now.columns }
+    requires row_in_bounds { line_width form.now.columns ≤ length row.now }
+    ensures value { result.now ≡ part_of form.now.columns k row.now }
+    ensures well { columns_well form.now.columns ≡ true }
 {
-    ALWAYS || used.has_number(flags, text_columns::flag_digit(row[flag_start]))
+    let start = form.columns().start(k);
+    &row[start..start + form.column(k).width]
 }
 
-// The first line whose column k, a number's, is at fault. The numbers before it are stored. A column that is always used has a loop of
-// its own, in which no flag is read: the columns of a line in the Shanghai form take 559 instructions, with one loop for both 574.
-#[tactic(auto, using(crate::proofs::Turns::number_laws))]
-fn read_numbers_column<const ALWAYS: bool>(
-    form: &LineForm,
-    k: usize,
-    rows: &[u8],
-    run: &mut [u64],
-) -> Option<usize>
+// Whether column k, which holds text, is right.
+#[inline(always)]
+#[tactic(auto, using(crate::proofs::Columns::words_right))]
+pub fn has_words(form: &LineForm, k: usize, row: &[u8]) -> bool
+    requires column { (k < length form.now.columns) × (holds_text form.now.columns k ≡ true) }
+    requires row_in_bounds { line_width form.now.columns ≤ length row.now }
+    ensures { result ≡ not (wrong_cell form.now row.now k) }
+{
+    lines::is_name(part_of(form, k, row))
+}
+
+// Whether a column of that use has a number, by the line's flag. The flag of a column that is always used is not looked at, and costs nothing.
+#[inline(always)]
+#[tactic(auto, using(crate::proofs::Columns::flag_room, crate::proofs::Columns::flag_is))]
+fn is_used(form: &LineForm, used: Use, row: &[u8]) -> bool
+    requires row_in_bounds { line_width form.now.columns ≤ length row.now }
+    ensures { result ≡ used_by form.now.flags (flag_of form.now row.now) used }
+{
+    let flag = text_columns::flag_digit(row[form.before_flag().bytes]);
+    used.has_number(form.flags(), flag)
+}
+
+// The number of column k, none where the column is at fault.
+#[inline(always)]
+#[tactic(auto, using(crate::proofs::Columns::cell_narrow, crate::proofs::Columns::reading_lem))]
+pub fn read_number(form: &LineForm, k: usize, row: &[u8]) -> Option<u64>
     requires column { (k < length form.now.columns) × (holds_text form.now.columns k ≡ false) }
-    requires always { ALWAYS ≡ true → is_always (column_at form.now.columns k).used ≡ true }
-    ensures value { result ≡ below (line_count form.now rows.now) (cells_fault form.now rows.now k (line_count form.now rows.now)) }
-    ensures run_after { run.new ≡ column_kept form.now rows.now k (cells_fault form.now rows.now k (line_count form.now rows.now)) run.old }
-{
-    let flags = form.flags();
-    let flag_start = form.before_flag().bytes;
-    let columns = form.columns();
-    let line = columns.whole();
-    let taken = columns.taken_before(k);
-    let column = form.column(k);
-    for (j, row) in rows.chunks_exact(line.pitch()).enumerate() {
-        let size = text_columns::read_cell(
-            column,
-            is_used::<ALWAYS>(column.used, flags, row, flag_start),
-            &row[taken.bytes..taken.bytes + column.width],
-        );
-        let Some(v) = size else {
-            return Some(j);
-        };
-        keep_number(run, j * line.numbers + taken.numbers, v);
-    }
-    None
-}
-
-// The first line whose column k is at fault. A number's column is stored.
-#[tactic(auto, using(crate::proofs::Turns::column_laws), unfolding(crate::specs::Rows::line_count, crate::specs::Turns::column_stored, text_rules::specs::Columns::column_width))]
-fn read_column(form: &LineForm, k: usize, rows: &[u8], run: &mut [u64]) -> Option<usize>
-    requires { k < length form.now.columns }
-    ensures value { result ≡ below (line_count form.now rows.now) (cells_fault form.now rows.now k (line_count form.now rows.now)) }
-    ensures run_after { run.new ≡ column_stored form.now rows.now k (cells_fault form.now rows.now k (line_count form.now rows.now)) run.old }
+    requires row_in_bounds { line_width form.now.columns ≤ length row.now }
+    ensures { result ≡ size_reading (not (wrong_cell form.now row.now k)) (cell_read form.now row.now k) }
 {
     let column = form.column(k);
-    match column.used {
-        Use::Text => {
-            let columns = form.columns();
-            words_fault(rows, columns.pitch(), columns.start(k), column.width)
-        }
-        Use::Always => read_numbers_column::<true>(form, k, rows, run),
-        Use::ByFlag(_) => read_numbers_column::<false>(form, k, rows, run),
-    }
+    text_columns::read_cell(
+        column,
+        is_used(form, column.used, row),
+        part_of(form, k, row),
+    )
 }
 
-// Reads component lines, column by column, as far as the first fault. Their numbers go to the run, those of a line behind those of the
-// line before; what has no room there is dropped.
-#[tactic(auto, using(crate::proofs::Turns::pitch_some))]
-pub fn read_columns(form: &LineForm, rows: &[u8], run: &mut [u64]) -> Option<CellFault>
-    ensures value { result ≡ fault_in form.now rows.now (line_count form.now rows.now) }
-    ensures run_after { run.new ≡ numbers_kept form.now rows.now (line_count form.now rows.now) (length form.now.columns) run.old }
+// The number of column k, which is known to be right.
+#[inline(always)]
+#[tactic(auto, using(crate::proofs::Columns::cell_narrow, crate::proofs::Columns::cell_right, crate::proofs::Columns::known_lem))]
+pub fn known_number(form: &LineForm, k: usize, row: &[u8]) -> u64
+    requires column { (k < length form.now.columns) × (holds_text form.now.columns k ≡ false) }
+    requires row_in_bounds { line_width form.now.columns ≤ length row.now }
+    requires right { wrong_cell form.now row.now k ≡ false }
+    ensures { result ≡ cell_read form.now row.now k }
 {
-    let columns = form.columns();
-    let pitch = columns.pitch();
-    let mut row = rows.len() / pitch;
-    let mut fault = None;
-    // By number: a column is read by its number and the form, so that `enumerate` would give a row of the table that nothing uses.
-    for k in 0..columns.table().len() {
-        if let Some(j) = read_column(form, k, &rows[..row * pitch], run) {
-            row = j;
-            fault = Some(CellFault { row, column: k });
-        }
-    }
-    fault
+    let column = form.column(k);
+    text_columns::known_cell(
+        column,
+        is_used(form, column.used, row),
+        part_of(form, k, row),
+    )
 }

@@ -2,7 +2,7 @@
 use Rattle.std.proofs.Common.{◌∙◌, rules, tests}
 use Rattle.std.proofs.lemmas.Iterator.Search.{position_from_yields_List}
 use Rattle.text_rows.proofs.Pieces.{pieces_given}
-use Rattle.text_rows.proofs.Turns.{words_wrong_in, words_first}
+use Rattle.text_rows.proofs.Words.{words_wrong_in, words_first}
 use Rattle.text_rows.proofs.words_fault.Goals as goal
 
 pub returns : goal.returns
