@@ -1,7 +1,9 @@
 //! A fund of the most components, for the benchmark and for tests that count or
-//! watch what an order does: lines of all flags, an account that is short of
-//! some, and holdings that outlast many orders.
+//! watch what a call does: lines of all flags, an account that is short of
+//! some, holdings that outlast many orders, and its list as text.
 
+use crate::engine::{Engine, Model};
+use crate::model::list::{Head, Writing};
 use crate::model::{Component, Counts, Fund, Opening, Order, FLAG_TABLE};
 
 /// Components of the fund.
@@ -83,4 +85,37 @@ pub fn opening<'a>(accounts: usize, components: &'a [u64], holdings: &'a [u64]) 
         components,
         holdings,
     }
+}
+
+/// Names for all components.
+pub fn names() -> Vec<u8> {
+    b"ABCD    ".repeat(COUNT)
+}
+
+/// A list of these components, to be written.
+pub fn writing<'a>(components: &'a [u64], names: &'a [u8]) -> Writing<'a> {
+    let head = Head {
+        fund: fund(),
+        publish: 1,
+        trading_day: 20_250_630,
+        pre_trading_day: 20_250_627,
+        cash_component: -33_122,
+        nav_per_basket: 425_700_000,
+        nav: 42_570,
+    };
+    Writing {
+        letters: b"300",
+        head,
+        count: COUNT as u64,
+        components,
+        names,
+    }
+}
+
+/// The list as text, by the model.
+pub fn list_text() -> Vec<u8> {
+    let mut text = vec![0; 20_000];
+    let reply = Model.write(&writing(&component_run(), &names()), &mut text);
+    text.truncate(reply.value as usize);
+    text
 }

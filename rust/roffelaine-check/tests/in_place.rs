@@ -1,10 +1,12 @@
-//! Orders write in place, and their tests write nothing (change request 3).
+//! Orders write in place, their tests write nothing, and reading a list holds
+//! none of its numbers (change request 3).
 //!
 //! The book lies in pages of its own. While an order is made, every page on which
 //! it has nothing to write is read-only: a write there, as of a book that is
 //! copied and put back, would end the process. In the driver an order takes as
 //! many instructions on a large book as on a small one, and no stack on which a
-//! number for each component would fit.
+//! number for each component would fit. Nor is there such a stack where a list is
+//! read, and a refused list leaves the pages that it is lent as they are.
 //!
 //! Linux on x86-64 only, as the archive is: read-only pages, child processes and
 //! single steps are asked of this system by its own numbers.
@@ -21,8 +23,10 @@ use memory::{Memory, Pages};
 use roffelaine::lent;
 use roffelaine_check::archive::lists_of;
 use roffelaine_check::engine::{Engine, Lent, Model};
-use roffelaine_check::flat::{answers_length, day_numbers, rows_of, DAY_NUMBERS};
-use roffelaine_check::full_size::{component_run, holdings, opening, order, COUNT, MOST, PRICE};
+use roffelaine_check::flat::{answers_length, day_numbers, rows_of, DAY_NUMBERS, FIELD_NUMBERS};
+use roffelaine_check::full_size::{
+    component_run, holdings, list_text, opening, order, COUNT, MOST, PRICE,
+};
 use roffelaine_check::model::{
     book_length, lengths_for, stretch_width, Call, Day, Order, ANSWER_NUMBERS,
 };
@@ -30,7 +34,7 @@ use std::ffi::c_int;
 use std::io::Write;
 use std::ops::Range;
 use steps::Count;
-use system::{child, State, PAGE, SIGSEGV};
+use system::{child, Run, State, PAGE, SIGSEGV};
 
 const ACCOUNTS: usize = 64;
 /// What a child says with its status.
@@ -330,5 +334,68 @@ fn an_order_by_itself_costs_more_on_a_larger_book() {
         let [few, many] = counts.map(|count| count.stack);
         assert_eq!(few, many);
         assert!(few < bytes(DAY_NUMBERS), "{few} bytes of stack");
+    }
+}
+
+/// The faults of a list that are found last: its last component has the code of
+/// the one before, by which it is out of order (3); and the run is a number short
+/// (16).
+fn faulty_readings() -> [(u64, Vec<u8>, usize); 2] {
+    let numbers = component_run().len();
+    let mut text = list_text();
+    let place = |line: usize| {
+        let code = format!("{}|", 600_000 + line).into_bytes();
+        text.windows(code.len()).position(|part| part == code)
+    };
+    let [before, last] = [COUNT - 2, COUNT - 1].map(|line| place(line).expect("its line"));
+    text.copy_within(before..before + 6, last);
+    [(3, text, numbers), (16, list_text(), numbers - 1)]
+}
+
+/// Reads a list into the numbers of a run of its own pages, in a child.
+fn reading(text: &[u8], run: &mut Run) -> u64 {
+    let (mut fields, mut first_row) = ([0; FIELD_NUMBERS], 0);
+    lent::read(text, run.numbers_mut(), &mut fields, &mut first_row).number
+}
+
+/// All pages of the run are read-only while a list is refused, and a list that is
+/// accepted ends a child there: it is stored in no other place.
+#[test]
+fn a_refused_list_writes_nothing() {
+    let length = component_run().len();
+    let accepted = [(0, list_text(), length)];
+    for (number, text, length) in faulty_readings().into_iter().chain(accepted) {
+        let mut run = Run::of(&vec![7; length]);
+        let state = child(|| {
+            if !run.protect(&run.pages_without(&[])) {
+                return NOT_PROTECTED;
+            }
+            reading(&text, &mut run) as c_int
+        });
+        let expected = match number {
+            0 => State::Died(SIGSEGV),
+            number => State::Exited(number as c_int),
+        };
+        assert_eq!(state, expected, "refusal {number}");
+        assert_eq!(run.numbers(), vec![7; length], "refusal {number}");
+    }
+}
+
+/// A list is tested in its text, and each number of its components is stored once:
+/// there is no stack on which a number for each would fit.
+#[test]
+fn reading_a_list_holds_no_number_for_each_component() {
+    let text = list_text();
+    let components = component_run();
+    let mut run = Run::of(&vec![7; components.len()]);
+    let count = steps::count(|| reading(&text, &mut run) as c_int);
+    match count {
+        Some(count) => {
+            println!("reading: {count:?}");
+            assert_eq!(run.numbers(), components);
+            assert!(count.stack < bytes(COUNT), "{} bytes of stack", count.stack);
+        }
+        None => writeln!(std::io::stderr(), "SKIPPED, no process may be traced here")
+            .expect("standard error"),
     }
 }

@@ -8,9 +8,8 @@ use roffelaine_check::archive::{self, lists_of, Archive};
 use roffelaine_check::engine::{Engine, LentList, Model, Runs};
 use roffelaine_check::flat::{answers_length, fund_numbers, row_of, DAY_NUMBERS, FIELD_NUMBERS};
 use roffelaine_check::full_size::{
-    component_run, fund, holdings, opening, order, COUNT, MOST, PRICE,
+    component_run, holdings, list_text, names, opening, order, writing, COUNT, MOST, PRICE,
 };
-use roffelaine_check::model::list::{Head, Writing};
 use roffelaine_check::model::{
     self, book_length, lengths_for, Call, Day, Lengths, Opening, Order, Reply, Trade, Work,
     ANSWER_NUMBERS, COMPONENT_NUMBERS,
@@ -374,35 +373,4 @@ fn time_plain_read() -> f64 {
         let numbers = black_box(&book).iter();
         black_box(numbers.fold(0u64, |sum, &number| sum.wrapping_add(number)));
     })
-}
-
-fn names() -> Vec<u8> {
-    b"ABCD    ".repeat(COUNT)
-}
-
-fn writing<'a>(components: &'a [u64], names: &'a [u8]) -> Writing<'a> {
-    let head = Head {
-        fund: fund(),
-        publish: 1,
-        trading_day: 20_250_630,
-        pre_trading_day: 20_250_627,
-        cash_component: -33_122,
-        nav_per_basket: 425_700_000,
-        nav: 42_570,
-    };
-    Writing {
-        letters: b"300",
-        head,
-        count: COUNT as u64,
-        components,
-        names,
-    }
-}
-
-/// The list of the bench as text, by the model.
-fn list_text() -> Vec<u8> {
-    let mut text = vec![0; 20_000];
-    let reply = Model.write(&writing(&component_run(), &names()), &mut text);
-    text.truncate(reply.value as usize);
-    text
 }
