@@ -13,7 +13,8 @@ use Rattle.sequences.proofs.Chunks.{ChunksFrom, chunk_room, chunk_is, chunk_some
 use Rattle.layout.specs.Components.{component_numbers}
 use Rattle.text_rules.specs.declared.Column.{Column}
 use Rattle.text_rules.specs.Tables.{TextForm, column_at}
-use Rattle.text_rules.specs.Columns.{Content, column_start, column_width, line_width, line_pitch, holds_text, is_text, is_cell, cell_of, part_of, flag_of, content_of, content_by, wrong_cell, column_fault, cell_read, numbers_read}
+use Rattle.text_rules.specs.Columns.{Content, column_start, column_width, line_width, line_pitch, holds_text, is_text, is_cell, cell_of, part_of}
+use Rattle.text_rules.specs.Columns.{flag_of, content_of, content_by, wrong_cell, column_fault, cell_read, numbers_read}
 use Rattle.sequences.specs.Below.{join_below}
 use Rattle.text_rules.specs.Reading.{body_start, row_start, row_count, row_of}
 use Rattle.text_rules.proofs.Tables.{end_line}

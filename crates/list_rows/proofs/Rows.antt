@@ -2,13 +2,12 @@
 use mathlib.Core.Path.{◌≡◌, refl, sym, ap, ◌∙◌}
 use mathlib.Core.Bool.{Bool, true, false, not}
 use mathlib.Core.List.{List}
-use Prim.Native.Nat.{ℕ, ◌<◌}
+use Prim.Native.Nat.{ℕ, ◌+◌, ◌<◌}
 use native.Mathlib.Omega.{arith}
 use lib.ListN.{length}
 use borrow.Author.Tests.{not-true, not-false}
-use Rattle.std.specs.Prelude.{Option, MatchResult}
+use Rattle.std.specs.Prelude.{Option}
 use Rattle.std.specs.Option.{ok_or}
-use Rattle.sequences.specs.Below.{first_below}
 use Rattle.sequences.proofs.Below.{first_none, first_more, first_here, first_all}
 use Rattle.units.specs.declared.Rate.{Rate}
 use Rattle.units.specs.declared.Money.{Money}
@@ -21,7 +20,7 @@ use Rattle.list_rules.specs.Places.{column_place}
 use Rattle.list_rules.specs.Shanghai.{shanghai, shanghai_columns, shanghai_lines}
 use Rattle.list_rules.specs.Shanghai.{code_column, name_column, quantity_column, flag_column, premium_column, discount_column, amount_column}
 use Rattle.list_rules.specs.Reading.{line_component}
-use Rattle.list_rows.specs.Rows.{NumberRead}
+use Rattle.list_rows.specs.Rows.{RightBefore, NumberRead}
 
 -- A column, by its name in the code.
 
@@ -64,7 +63,7 @@ pub amount_holds : holds_text shanghai_columns amount_column ≡ false
 unfolding holds_text is_text column_at shanghai_columns
 amount_holds = refl
 
-pub ruleset columns_hold = (code_holds, name_holds, quantity_holds, flag_holds, premium_holds, discount_holds, amount_holds)
+pub ruleset columns_hold = (code_holds, quantity_holds, flag_holds, premium_holds, discount_holds, amount_holds)
 
 -- a line says the same whatever the fields of the head are
 wrong_ours : (l : List ℕ) (k : ℕ) → wrong_cell shanghai_lines l k ≡ wrong_cell shanghai l k
@@ -75,9 +74,21 @@ read_ours : (l : List ℕ) (k : ℕ) → cell_read shanghai_lines l k ≡ cell_r
 unfolding shanghai cell_read content_of flag_of
 read_ours l k = refl
 
-number_or : (b : Bool) (x : ℕ) (column : ListColumn) → MatchResult (ok_or (size_reading (not b) x) column) (λ v. (b ≡ false) × (v ≡ x)) (λ k. (b ≡ true) × (k ≡ column))
-number_or true x column = (refl, refl)
-number_or false x column = (refl, refl)
+-- a column behind right ones is right too, or the first at fault
+pub right_first : (l : List ℕ) → RightBefore l code_column
+right_first l = first_none _
+
+module _ (l : List ℕ) (column : ListColumn) (before : RightBefore l (column_place column)) where
+  pub right_next : wrong_cell shanghai l (column_place column) ≡ false → RightBefore l (column_place column + 1)
+  right_next e = first_more (wrong_cell shanghai l) (column_place column) before e
+
+  pub fault_here : wrong_cell shanghai l (column_place column) ≡ true → column_place column ≡ column_fault shanghai l
+  unfolding column_fault shanghai
+  fault_here e = sym (first_here (wrong_cell shanghai l) (length shanghai_columns) (column_place column) (column_there column) before e)
+
+  number_or : (b : Bool) → wrong_cell shanghai l (column_place column) ≡ b → NumberRead l column (ok_or (size_reading (not b) (cell_read shanghai l (column_place column))) column)
+  number_or true e = fault_here e
+  number_or false e = (right_next e, refl)
 
 module _ {form : TextForm} (ours : form ≡ shanghai_lines) (column : ListColumn) {place : ℕ} (at : place ≡ column_place column) where
   pub column_of : {b : Bool} → holds_text shanghai_columns (column_place column) ≡ b → (place < length form.columns) × (holds_text form.columns place ≡ b)
@@ -90,63 +101,30 @@ module _ {form : TextForm} (ours : form ≡ shanghai_lines) (column : ListColumn
     pub read_of : cell_read form l place ≡ cell_read shanghai l (column_place column)
     read_of = rw (ours, at) (read_ours l (column_place column))
 
-    pub number_of : {r : Option ℕ} → r ≡ size_reading (not (wrong_cell form l place)) (cell_read form l place) → NumberRead l column (ok_or r column)
-    number_of e = rw (e, wrong_of, read_of) (number_or _ _ column)
+    pub number_of : RightBefore l (column_place column) → {r : Option ℕ} → r ≡ size_reading (not (wrong_cell form l place)) (cell_read form l place)
+        → NumberRead l column (ok_or r column)
+    number_of before e = rw (e, wrong_of, read_of) (number_or l column before _ refl)
 
 -- the name, as the code tests it
-module _ {form : TextForm} (ours : form ≡ shanghai_lines) {place : ℕ} (at : place ≡ name_column) (l : List ℕ) {words : Bool} (e : words ≡ not (wrong_cell form l place)) where
-  pub words_right : words ≡ true → wrong_cell shanghai l name_column ≡ false
-  words_right h = sym (wrong_of ours columns.Name at l) ∙ not-true _ (sym e ∙ h)
+module _ {form : TextForm} (ours : form ≡ shanghai_lines) {place : ℕ} (at : place ≡ name_column) (l : List ℕ) (before : RightBefore l name_column)
+    {words : Bool} (e : words ≡ not (wrong_cell form l place)) where
+  pub name_right : words ≡ true → RightBefore l (name_column + 1)
+  name_right h = right_next l columns.Name before (sym (wrong_of ours columns.Name at l) ∙ not-true _ (sym e ∙ h))
 
-  pub words_wrong : words ≡ false → wrong_cell shanghai l name_column ≡ true
-  words_wrong h = sym (wrong_of ours columns.Name at l) ∙ not-false _ (sym e ∙ h)
+  pub name_fault : words ≡ false → name_column ≡ column_fault shanghai l
+  name_fault h = fault_here l columns.Name before (sym (wrong_of ours columns.Name at l) ∙ not-false _ (sym e ∙ h))
 
--- One line, column by column: the columns before this one are right.
+-- One line.
 
 module _ (l : List ℕ) where
-  abbrev wrong : ℕ → Bool
-  wrong = wrong_cell shanghai l
-
-  pub fault_here : (column : ListColumn) → first_below wrong (column_place column) ≡ column_place column → wrong (column_place column) ≡ true
-      → column_place column ≡ column_fault shanghai l
-  unfolding column_fault shanghai
-  fault_here column before here = sym (first_here wrong (length shanghai_columns) (column_place column) (column_there column) before here)
-
-  pub before_code : first_below wrong code_column ≡ code_column
-  before_code = first_none wrong
-
-  module _ (code : wrong code_column ≡ false) where
-    pub before_name : first_below wrong name_column ≡ name_column
-    before_name = first_more wrong code_column before_code code
-
-    module _ (name : wrong name_column ≡ false) where
-      pub before_quantity : first_below wrong quantity_column ≡ quantity_column
-      before_quantity = first_more wrong name_column before_name name
-
-      module _ (quantity : wrong quantity_column ≡ false) where
-        pub before_flag : first_below wrong flag_column ≡ flag_column
-        before_flag = first_more wrong quantity_column before_quantity quantity
-
-        module _ (flag : wrong flag_column ≡ false) where
-          pub before_premium : first_below wrong premium_column ≡ premium_column
-          before_premium = first_more wrong flag_column before_flag flag
-
-          module _ (premium : wrong premium_column ≡ false) where
-            pub before_discount : first_below wrong discount_column ≡ discount_column
-            before_discount = first_more wrong premium_column before_premium premium
-
-            module _ (discount : wrong discount_column ≡ false) where
-              pub before_amount : first_below wrong amount_column ≡ amount_column
-              before_amount = first_more wrong discount_column before_discount discount
-
-              pub fault_none : wrong amount_column ≡ false → column_fault shanghai l ≡ length shanghai_columns
-              unfolding column_fault shanghai shanghai_columns
-              fault_none amount = first_more wrong amount_column before_amount amount
+  pub fault_none : RightBefore l (amount_column + 1) → column_fault shanghai l ≡ length shanghai_columns
+  unfolding column_fault shanghai shanghai_columns
+  fault_none right = right
 
   -- where none is at fault, each is right
-  pub column_right : column_fault shanghai l ≡ length shanghai_columns → (column : ListColumn) → wrong (column_place column) ≡ false
+  pub column_right : column_fault shanghai l ≡ length shanghai_columns → (column : ListColumn) → wrong_cell shanghai l (column_place column) ≡ false
   unfolding column_fault shanghai
-  column_right none column = first_all wrong (length shanghai_columns) none (column_place column) (column_there column)
+  column_right none column = first_all (wrong_cell shanghai l) (length shanghai_columns) none (column_place column) (column_there column)
 
   -- its component, number by number
   pub component_is : {code quantity flag : ℕ} {premium discount : Rate} {amount : Money} → code ≡ cell_read shanghai l code_column

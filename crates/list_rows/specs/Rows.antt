@@ -1,5 +1,5 @@
 -- What is found of the component lines of a text in the Shanghai form.
-use Rattle.std.specs.Prelude.{ℕ, zero, suc, ◌*◌, ◌≡◌, Bool, true, false, cond, not, List, ltb, length, take, drop, Option, Some, None, Result, Ok, Err, MatchResult}
+use Rattle.std.specs.Prelude.{ℕ, zero, suc, ◌+◌, ◌*◌, ◌≡◌, Bool, cond, not, List, ltb, length, take, drop, Option, Some, None, Result, Ok, Err, MatchResult}
 use Rattle.sequences.specs.Below.{first_below, below}
 use Rattle.layout.specs.declared.Component.{Component}
 use Rattle.fund.specs.Components.{fits}
@@ -14,11 +14,15 @@ use Rattle.list_rules.specs.Reading.{line_component}
 unfoldable pub rows_of : List ℕ → List ℕ
 rows_of text = take (row_count shanghai text * line_pitch shanghai_columns) (drop (body_start shanghai text) text)
 
--- what is read of a column with a number: the number where it is right, else which column it is
+-- the columns of a line before column k are right
+abbrev pub RightBefore : List ℕ → ℕ → Type 0
+RightBefore l k = first_below (wrong_cell shanghai l) k ≡ k
+
+-- what is read of a column with a number behind these: that it is right too, and its number, or that it is the first at fault
 abbrev pub NumberRead : List ℕ → ListColumn → Result ℕ ListColumn → Type 0
 NumberRead l column r =
-    MatchResult r (λ v. (wrong_cell shanghai l (places.column_place column) ≡ false) × (v ≡ cell_read shanghai l (places.column_place column)))
-    (λ k. (wrong_cell shanghai l (places.column_place column) ≡ true) × (k ≡ column))
+    MatchResult r (λ v. RightBefore l (places.column_place column + 1) × (v ≡ cell_read shanghai l (places.column_place column)))
+    (λ k. places.column_place k ≡ column_fault shanghai l)
 
 -- what is read of one line: its component where no column is at fault, else the first column that is
 abbrev pub LineRead : List ℕ → Result Component ListColumn → Type 0

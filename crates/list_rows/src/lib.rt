@@ -1,7 +1,7 @@
 // The component lines of a list text in the Shanghai form: tested, and then stored.
 #![tactic(auto)]
 
-ghost use Rattle.std.specs.Prelude.{◌≡◌, ◌+◌, ◌*◌, ◌≤◌, ◌++◌, false, cond, length, drop, Some, None};
+ghost use Rattle.std.specs.Prelude.{◌≡◌, ◌+◌, ◌*◌, ◌≤◌, ◌++◌, false, cond, length, drop, Some, None, MatchResult};
 ghost use Rattle.std.specs.Option.{option_or};
 ghost use Rattle.std.proofs.lemmas.List.Edits.{sets};
 ghost use Rattle.layout.specs.Places.{component_width};
@@ -11,36 +11,51 @@ ghost use Rattle.text_rules.specs.Reading.{body_start, row_count, wrong_row};
 ghost use Rattle.list_rules.specs.Shanghai.{shanghai, shanghai_columns, shanghai_lines, name_column};
 ghost use Rattle.list_rules.specs.Places.{column_place};
 ghost use Rattle.list_rules.specs.Reading.{line_component, components_run};
-ghost use Rattle.list_rows.specs.Rows.{rows_of, NumberRead, LineRead, rows_tested};
+ghost use Rattle.list_rows.specs.Rows.{rows_of, RightBefore, NumberRead, LineRead, rows_tested};
 
 use layout::{COMPONENT_WIDTH, Component};
 use list_rules::{ListColumn, Rows};
 use text_rules::LineForm;
 use units::{Money, Rate};
 
-// The number of a column, or that the column is at fault. Inlined, as all that reads one line: there it is known which column it is.
+// The number of a column behind columns that are right, or that this one is at fault. Inlined, as all that reads one line: there it is known
+// which column it is.
 #[inline(always)]
 fn read_number(form: &LineForm, column: ListColumn, row: &[u8]) -> Result<u64, ListColumn>
     requires form { form.now ≡ shanghai_lines }
     requires number { holds_text shanghai_columns (column_place column) ≡ false }
     requires row_in_bounds { line_width shanghai_columns ≤ length row.now }
+    requires before { RightBefore row.now (column_place column) }
     ensures { NumberRead row.now column result }
 {
     text_rows::read_number(form, column.place(), row).ok_or(column)
 }
 
+// That the name behind a right column is right, or that it is at fault.
+#[inline(always)]
+fn read_name(form: &LineForm, row: &[u8]) -> Result<(), ListColumn>
+    requires form { form.now ≡ shanghai_lines }
+    requires row_in_bounds { line_width shanghai_columns ≤ length row.now }
+    requires before { RightBefore row.now name_column }
+    ensures { MatchResult result (λ _. RightBefore row.now (name_column + 1)) (λ k. column_place k ≡ column_fault shanghai row.now) }
+{
+    if text_rows::has_words(form, ListColumn::Name.place(), row) {
+        Ok(())
+    } else {
+        Err(ListColumn::Name)
+    }
+}
+
 // The component of a line, or the first of its columns at fault.
 #[inline(always)]
-#[tactic(auto, using(crate::proofs::Rows::columns_hold))]
+#[tactic(auto, using(crate::proofs::Rows::columns_hold, crate::proofs::Rows::right_first))]
 fn read_component(form: &LineForm, row: &[u8]) -> Result<Component, ListColumn>
     requires form { form.now ≡ shanghai_lines }
     requires row_in_bounds { line_width shanghai_columns ≤ length row.now }
     ensures { LineRead row.now result }
 {
     let code = read_number(form, ListColumn::Code, row)?;
-    if !text_rows::has_words(form, ListColumn::Name.place(), row) {
-        return Err(ListColumn::Name);
-    }
+    read_name(form, row)?;
     let quantity = read_number(form, ListColumn::Quantity, row)?;
     let flag = read_number(form, ListColumn::Flag, row)?;
     let premium = read_number(form, ListColumn::Premium, row)?;

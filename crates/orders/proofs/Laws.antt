@@ -265,7 +265,8 @@ module _ (d : Day) (b ps : List ℕ) (ask : Ask) (whole : is_sound d b ps ≡ tr
         rw (records, i, f, flat_answer) (go (is_accepted (asked_answer d b ps ask (rooms_in lent))))
       where
         go : (x : Bool)
-            → lent_of (cond x (with_records (records_of d b ps ask) o.run.now) o.run.now) (cond x (with_reports (reports_of d b ps ask) investor) investor) (cond x (with_reports (map opposite (reports_of d b ps ask)) fund) fund)
+            → lent_of (cond x (with_records (records_of d b ps ask) o.run.now) o.run.now) (cond x (with_reports (reports_of d b ps ask) investor) investor)
+            (cond x (with_reports (map opposite (reports_of d b ps ask)) fund) fund)
             ≡ cond x (with_asked d b ps ask lent) lent
         go true = refl
         go false = refl

@@ -6,4 +6,4 @@ pub read_number-requires-clause-column : goal.read_number-requires-clause-column
 read_number-requires-clause-column c = column_of c.requires.form c.args.column c.place.ensures c.requires.number
 
 pub returns : goal.returns
-returns c = rw c.ok_or.ensures.value (number_of c.requires.form c.args.column c.place.ensures c.args.row.now c.read_number.ensures)
+returns c = rw c.ok_or.ensures.value (number_of c.requires.form c.args.column c.place.ensures c.args.row.now c.requires.before c.read_number.ensures)

@@ -21,26 +21,31 @@ pub mirror-requires : goal.mirror-requires
 mirror-requires g c =
     let a = c.args in
     let made = ap accepted_reply (sym c.in_ok-accepted.was) ∙ (rw c.room.ensures at c.order_tested.ensures.answer_value) in
-    mirrorable _ _ _ _ (g.S.RecordSink.room a.records.now) a.investor.now a.fund.now c.requires.prices_value _ made _ c.baskets_in-m.ensures _ c.in_ok-accepted.ensures.cash c.settle.ensures.investor
+    mirrorable _ _ _ _ (g.S.RecordSink.room a.records.now) a.investor.now a.fund.now c.requires.prices_value _ made _ c.baskets_in-m.ensures _ c.in_ok-accepted.ensures.cash
+    c.settle.ensures.investor
 
 pub returns-clause-records : goal.returns-clause-records
 returns-clause-records g c =
     let a = c.args in
     let made = ap accepted_reply (sym c.in_ok-accepted.was) ∙ (rw c.room.ensures at c.order_tested.ensures.answer_value) in
-    records_left _ _ _ _ (g.S.RecordSink.room a.records.now) a.investor.now a.fund.now c.requires.prices_value _ made _ c.baskets_in-m.ensures _ c.in_ok-accepted.ensures.cash _ _ c.settle.ensures.records
+    records_left _ _ _ _ (g.S.RecordSink.room a.records.now) a.investor.now a.fund.now c.requires.prices_value _ made _ c.baskets_in-m.ensures _ c.in_ok-accepted.ensures.cash
+    _ _ c.settle.ensures.records
     ∙ leaves_after _ _ _ _ refl made
 
 pub returns-clause-investor : goal.returns-clause-investor
 returns-clause-investor g c =
     let a = c.args in
     let made = ap accepted_reply (sym c.in_ok-accepted.was) ∙ (rw c.room.ensures at c.order_tested.ensures.answer_value) in
-    investor_told _ _ _ _ (g.S.RecordSink.room a.records.now) a.investor.now a.fund.now c.requires.prices_value _ made _ c.baskets_in-m.ensures _ c.in_ok-accepted.ensures.cash c.settle.ensures.investor
+    investor_told _ _ _ _ (g.S.RecordSink.room a.records.now) a.investor.now a.fund.now c.requires.prices_value _ made _ c.baskets_in-m.ensures _ c.in_ok-accepted.ensures.cash
+    c.settle.ensures.investor
     ∙ leaves_after _ a.investor.now _ _ refl made
 
 pub returns-clause-fund : goal.returns-clause-fund
 returns-clause-fund g c =
     let a = c.args in
     let made = ap accepted_reply (sym c.in_ok-accepted.was) ∙ (rw c.room.ensures at c.order_tested.ensures.answer_value) in
-    let told = investor_told _ _ _ _ (g.S.RecordSink.room a.records.now) a.investor.now a.fund.now c.requires.prices_value _ made _ c.baskets_in-m.ensures _ c.in_ok-accepted.ensures.cash c.settle.ensures.investor in
-    fund_told _ _ _ _ (g.S.RecordSink.room a.records.now) a.investor.now a.fund.now c.requires.prices_value _ made _ c.baskets_in-m.ensures _ c.in_ok-accepted.ensures.cash told c.mirror.ensures
+    let told = investor_told _ _ _ _ (g.S.RecordSink.room a.records.now) a.investor.now a.fund.now c.requires.prices_value _ made _ c.baskets_in-m.ensures _ c.in_ok-accepted.ensures.cash
+    c.settle.ensures.investor in
+    fund_told _ _ _ _ (g.S.RecordSink.room a.records.now) a.investor.now a.fund.now c.requires.prices_value _ made _ c.baskets_in-m.ensures _ c.in_ok-accepted.ensures.cash
+    told c.mirror.ensures
     ∙ leaves_after _ a.fund.now _ _ refl made
