@@ -136,8 +136,8 @@ fn opposite(r: Report) -> Report
     }
 }
 
-// Writes the fund's reports, so many: the investor's, each with its side turned. A pass of its own: told with the investor's as the stock
-// moves, they cost a creation of 300 components 9 % more of its time.
+// Writes the fund's reports, so many: the investor's, each with its side turned. A pass of its own: where they are told with the investor's
+// as the stock moves, a creation takes 5 % more time.
 pub fn mirror(investor: &[u64], fund: &mut [u64], count: usize)
     requires { (report_width * count ≤ length investor.now) × (report_width * count ≤ length fund.old) }
     ensures { fund.new ≡ sets fund.old 0 (laid report_numbers (tabulate (mirrored investor.now) count)) }

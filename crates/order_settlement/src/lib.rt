@@ -57,7 +57,7 @@ fn settle_lines<S: RecordSink>(
     }
 }
 
-// The stock of an order of either kind. With one loop for both a creation of 300 components takes 8 % more instructions.
+// The stock of an order of either kind. With one loop for both a creation takes 3 % more instructions and a redemption 25 %.
 fn settle_stock<S: RecordSink>(
     ask: Ask,
     day: &DayView,
