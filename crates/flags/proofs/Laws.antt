@@ -1,84 +1,125 @@
--- What callers need of the flag table, shown once by one test of its five rows.
+-- What callers need of a flag table: that ours obeys its rules, and what the rules say of the columns of any that does.
 use mathlib.Core.Path.{◌≡◌, refl, sym, ap, ◌∙◌}
-use mathlib.Core.Bool.{Bool, true, false, not, ◌||◌, and-false, false≢true}
+use mathlib.Core.Bool.{Bool, true, false, not, ◌||◌, ◌&&◌, cond, false≢true}
 use mathlib.Core.List.{List, [], ◌∷◌}
-use Prim.Native.Nat.{ℕ, zero, suc, ◌≤◌, ◌<◌}
-use native.Mathlib.Nat.{le_trans}
-use native.Mathlib.Decide.{dec_lt}
+use Prim.Native.Nat.{ℕ, ◌<◌}
 use native.Mathlib.Omega.{arith}
-use lib.Dec.{lit≤}
-use lib.ListN.{length, get_or, get_or-eq_default}
-use borrow.Author.Tests.{lt-ltb, le-ltb}
-use Rattle.sequences.specs.Below.{all_below}
+use lib.ListN.{get_or}
+use borrow.Author.Tests.{lt-ltb, ltb-true, not-false, not-true}
+use Rattle.sequences.specs.Below.{all_below, first_below}
 use Rattle.sequences.specs.Every.{every}
-use Rattle.sequences.proofs.Below.{all_at}
-use Rattle.sequences.proofs.Every.{every_at}
-use Rattle.flags.specs.Table.{flag_table, entry, entry_in, flag_count, flag_columns, stock_moves, shortage_in_cash, amount_used, shanghai, priced}
+use Rattle.sequences.proofs.Below.{first_all}
+use Rattle.sequences.proofs.Every.{every_at, false_of}
+use Rattle.flags.specs.Table.{FlagTable, flag_count, flag_columns, row_of, says, entry, is_binary, use_fits, shortage_fits, row_fits, table_fault, flag_table}
+use Rattle.flags.specs.Table.{stock_moves, shortage_in_cash, rate_used, amount_used, shanghai, priced, in_use}
 
--- past the table every entry is false
-pub past_flags : (flag column : ℕ) → 5 ≤ flag → entry flag column ≡ false
-unfolding entry flag_table
-past_flags flag column h = ap (λ (row : List Bool). get_or row column false) (get_or-eq_default flag_table [] h)
+-- our table loads
+pub ours_loads : table_fault flag_table ≡ flag_count
+unfolding table_fault first_below row_fits is_binary use_fits shortage_fits says all_below every flag_table
+ours_loads = refl
 
-row_width_lem : (flag : ℕ) → length (get_or flag_table flag []) ≤ 6
-unfolding flag_table
-row_width_lem zero = lit≤ tt
-row_width_lem (suc zero) = lit≤ tt
-row_width_lem (suc (suc zero)) = lit≤ tt
-row_width_lem (suc (suc (suc zero))) = lit≤ tt
-row_width_lem (suc (suc (suc (suc zero)))) = lit≤ tt
-row_width_lem (suc (suc (suc (suc (suc flag))))) = lit≤ tt
+-- a and b, taken apart
+parts : (a b : Bool) → (a && b) ≡ true → (a ≡ true) × (b ≡ true)
+parts true b e = (refl, e)
+parts false b e = absurd (false≢true e)
 
-pub past_columns : (flag column : ℕ) → 6 ≤ column → entry flag column ≡ false
+-- what an entry that is true says: the flag is one of the table's and in use, and its column says yes
+pub record Said (t : FlagTable) (flag column : ℕ) : Type 0 where
+  pub flag_low : flag < flag_count
+  pub column_low : column < flag_columns
+  pub used : says (row_of t flag) in_use ≡ true
+  pub said : says (row_of t flag) column ≡ true
+
+pub entry_says : (t : FlagTable) (flag column : ℕ) → entry t flag column ≡ true → Said t flag column
 unfolding entry
-past_columns flag column h = get_or-eq_default (get_or flag_table flag []) false (le_trans (row_width_lem flag) h)
+entry_says t flag column e =
+    let halves = parts _ _ e in
+    let ends = parts _ _ halves.0 in
+    let row = parts _ _ halves.1 in
+    record { flag_low = ltb-true _ _ ends.0; column_low = ltb-true _ _ ends.1; used = row.0; said = row.1 }
 
--- a is false or b is true
-abbrev implies : Bool → Bool → Bool
-implies a b = not a || b
+-- a true entry of the column in use says the same of the flag
+pub used_entry : (t : FlagTable) (flag column : ℕ) → entry t flag column ≡ true → entry t flag in_use ≡ true
+unfolding entry
+used_entry t flag column e =
+    let s = entry_says t flag column e in
+    rw (lt-ltb flag flag_count s.flag_low, s.used) refl
 
--- the rules that each row obeys
-abbrev rules : ℕ → List Bool
-rules flag =
-    implies (entry flag stock_moves) (entry flag shanghai)
-    ∷ implies (entry flag stock_moves) (entry flag priced)
-    ∷ implies (entry flag stock_moves) (not (entry flag amount_used))
-    ∷ implies (entry flag shortage_in_cash) (entry flag stock_moves)
-    ∷ []
+-- an entry of a flag that is in use is what its row says
+pub entry_row : (t : FlagTable) (flag column : ℕ) → entry t flag in_use ≡ true → column < flag_columns → entry t flag column ≡ says (row_of t flag) column
+unfolding entry
+entry_row t flag column e h =
+    let s = entry_says t flag in_use e in
+    rw (lt-ltb flag flag_count s.flag_low, lt-ltb column flag_columns h, s.used) refl
 
-table_rules : all_below (λ flag. every (rules flag)) 5 ≡ true
-unfolding all_below every entry flag_table
-table_rules = refl
+-- a or b, where a is not
+other : (a b : Bool) → a ≡ true → (not a || b) ≡ true → b ≡ true
+other true b p e = e
+other false b p e = absurd (false≢true p)
 
-rule : (flag : ℕ) → flag < 5 → (k : ℕ) → get_or (rules flag) k true ≡ true
-rule flag h = every_at (rules flag) (all_at (λ f. every (rules f)) 5 table_rules flag h)
+-- the tests that a row passes
+abbrev row_tests : List ℕ → List Bool
+row_tests row = is_binary row ∷ (not (says row in_use) || every (use_fits row ∷ shortage_fits row ∷ [])) ∷ []
 
-follows : (a b : Bool) → implies a b ≡ true → a ≡ true → b ≡ true
-follows true b i e = i
-follows false b i e = absurd (false≢true e)
+abbrev stock_tests : List ℕ → List Bool
+stock_tests row = says row shanghai ∷ says row priced ∷ not (says row amount_used) ∷ []
 
--- an entry that is true stands in the table
-inside : (flag column : ℕ) → entry flag column ≡ true → flag < 5
-inside flag column e = case (dec_lt flag 5)
-  where
-    case : Dec (flag < 5) → flag < 5
-    case (yes l) = l
-    case (no l) = absurd (false≢true (sym (past_flags flag column (omega arith)) ∙ e))
+abbrev shortage_tests : List ℕ → List Bool
+shortage_tests row = says row stock_moves ∷ says row rate_used ∷ []
 
--- cash stands for a shortage only where stock moves
-pub shortage_rule : (flag : ℕ) → entry flag stock_moves ≡ false → entry flag shortage_in_cash ≡ false
-shortage_rule flag e = case (entry flag shortage_in_cash) refl
-  where
-    case : (b : Bool) → entry flag shortage_in_cash ≡ b → b ≡ false
-    case true f = absurd (false≢true (sym e ∙ follows _ _ (rule flag (inside flag shortage_in_cash f) 3) f))
-    case false f = refl
+-- What the rules say of the columns of a flag, in any table that loads.
+module _ (t : FlagTable) (loads : table_fault t ≡ flag_count) (flag : ℕ) where
+  row_fine : flag < flag_count → every (row_tests (row_of t flag)) ≡ true
+  unfolding table_fault row_fits
+  row_fine h = not-false _ (first_all (λ f. not (row_fits (row_of t f))) flag_count loads flag h)
 
--- our table, lent
-in_cases : (flag column : ℕ) → Dec (flag < flag_count) → Dec (column < flag_columns) → entry_in flag_table flag column ≡ entry flag column
-unfolding entry_in entry
-in_cases flag column (yes h) (yes g) = rw (lt-ltb flag flag_count h, lt-ltb column flag_columns g)
-in_cases flag column (no h) g = rw (le-ltb flag flag_count (omega arith)) (sym (past_flags flag column (omega arith)))
-in_cases flag column (yes h) (no g) = rw (le-ltb column flag_columns (omega arith), and-false) (sym (past_columns flag column (omega arith)))
+  -- the two rules of a flag in use
+  rules : entry t flag in_use ≡ true → (use_fits (row_of t flag) ≡ true) × (shortage_fits (row_of t flag) ≡ true)
+  rules e =
+      let s = entry_says t flag in_use e in
+      let both = every_at _ (other _ _ s.used (every_at _ (row_fine s.flag_low) 1)) in
+      (both 0, both 1)
 
-pub entry_ours : (flag column : ℕ) → entry_in flag_table flag column ≡ entry flag column
-entry_ours flag column = in_cases flag column (dec_lt flag flag_count) (dec_lt column flag_columns)
+  -- it moves stock: so it is Shanghai, is priced and uses no amount
+  module _ (moves : entry t flag stock_moves ≡ true) where
+    used : entry t flag in_use ≡ true
+    used = used_entry t flag stock_moves moves
+
+    stock_fine : every (stock_tests (row_of t flag)) ≡ true
+    unfolding use_fits
+    stock_fine = rw (entry_says t flag stock_moves moves).said at ((rules used).0)
+
+    pub stock_is_shanghai : entry t flag shanghai ≡ true
+    stock_is_shanghai = entry_row t flag shanghai used (omega arith) ∙ every_at _ stock_fine 0
+
+    pub stock_is_priced : entry t flag priced ≡ true
+    stock_is_priced = entry_row t flag priced used (omega arith) ∙ every_at _ stock_fine 1
+
+    pub stock_uses_no_amount : entry t flag amount_used ≡ false
+    stock_uses_no_amount = entry_row t flag amount_used used (omega arith) ∙ not-true _ (every_at _ stock_fine 2)
+
+  -- it is in use and moves none: so it uses an amount
+  pub pays_amount : entry t flag in_use ≡ true → entry t flag stock_moves ≡ false → entry t flag amount_used ≡ true
+  unfolding use_fits
+  pays_amount e stays =
+      let row = sym (entry_row t flag stock_moves e (omega arith)) ∙ stays in
+      entry_row t flag amount_used e (omega arith) ∙ rw row at ((rules e).0)
+
+  -- cash stands for a shortage: so stock moves and the rate is used
+  module _ (cash : entry t flag shortage_in_cash ≡ true) where
+    short_used : entry t flag in_use ≡ true
+    short_used = used_entry t flag shortage_in_cash cash
+
+    shortage_fine : every (shortage_tests (row_of t flag)) ≡ true
+    unfolding shortage_fits
+    shortage_fine = other _ _ (entry_says t flag shortage_in_cash cash).said ((rules short_used).1)
+
+    pub shortage_moves_stock : entry t flag stock_moves ≡ true
+    shortage_moves_stock = entry_row t flag stock_moves short_used (omega arith) ∙ every_at _ shortage_fine 0
+
+    pub shortage_uses_rate : entry t flag rate_used ≡ true
+    shortage_uses_rate = entry_row t flag rate_used short_used (omega arith) ∙ every_at _ shortage_fine 1
+
+  -- so where no stock moves, no cash stands for a shortage
+  pub shortage_rule : entry t flag stock_moves ≡ false → entry t flag shortage_in_cash ≡ false
+  shortage_rule stays = false_of _ (λ cash. false≢true (sym stays ∙ shortage_moves_stock cash))

@@ -8,8 +8,9 @@ use native.Mathlib.Decide.{dec_lt}
 use native.Mathlib.Omega.{arith}
 use lib.Dec.{ltb, eqb}
 use lib.IntN.{ℤ, nat_abs, pos, negsuc}
-use lib.ListN.{length, get_or, take, drop, replicate, get_or-append, get_or-eq_default}
-use lib.Seq.{get_or-drop, get_or-append-add, drop_at}
+use lib.ListN.{length, get_or, take, drop, replicate, get_or-append, get_or-eq_default, length-append}
+use Rattle.std.proofs.Common.{append_assoc}
+use lib.Seq.{get_or-drop, get_or-append-add, drop_at, take_at}
 use borrow.Author.Tests.{eq-eqb, ne_eqb, lt-ltb, le-ltb}
 use Rattle.std.proofs.lemmas.List.{take_rest}
 use Rattle.sequences.specs.Below.{tabulate}
@@ -19,10 +20,11 @@ use Rattle.digits.specs.Signed.{figure_signed}
 use Rattle.digits.proofs.Read.{capped_small}
 use Rattle.digits.proofs.Signed.{signed_figure_lem}
 use Rattle.layout.specs.declared.Fund.{Fund}
-use Rattle.layout.specs.Places.{most_components, component_width, basket_width, limit_count, cash_place, limits_from, fund_from, basket_from, day_width}
+use Rattle.flags.specs.Table.{table_width, table_of}
+use Rattle.layout.specs.Places.{most_components, component_width, basket_width, limit_count, cash_place, limits_from, fund_from, table_from, basket_from, day_width}
 use Rattle.layout.specs.Components.{blank, component_at, places_of}
 use Rattle.layout.specs.Fund.{signed_at, signed_numbers, fund_at, fund_numbers}
-use Rattle.layout.specs.Day.{Day, day_of, day_head_at, basket_at, blank_day, day_at, day_numbers}
+use Rattle.layout.specs.Day.{Day, day_of, day_head_at, table_numbers_at, basket_at, blank_day, day_at, day_numbers}
 use Rattle.layout.proofs.Stored.{fund-length, day-length}
 
 -- The parts of a run.
@@ -34,7 +36,7 @@ module _ (run : List ℕ) where
   day_none other = rw (ne_eqb (length run) day_width other)
 
   module _ (full : length run ≡ day_width) where
-    pub day_parts : day_of (day_head_at run) (basket_at run) ≡ day_at run
+    pub day_parts : day_of (day_head_at run) (table_numbers_at run) (basket_at run) ≡ day_at run
     unfolding day_at
     day_parts = rw (eq-eqb (length run) day_width full)
 
@@ -50,6 +52,10 @@ module _ (run : List ℕ) where
     pub fund_in : fund_at run fund_from ≡ (day_at run).fund
     unfolding day_head_at
     fund_in = ap (λ (d : Day). d.fund) day_parts
+
+    pub table_in : table_of (take (basket_from - table_from) (drop table_from run)) ≡ (day_at run).table
+    unfolding table_numbers_at
+    table_in = ap (λ (d : Day). d.table) day_parts
 
     pub components_in : places_of (component_at (take (length run - basket_from) (drop basket_from run))) most_components ≡ (day_at run).components
     unfolding basket_at
@@ -139,16 +145,26 @@ past_component xs i h =
 
 -- The day.
 
-module _ (accounts count : ℕ) (f : Fund) (components : List ℕ) (most : count ≤ most_components) (size : length components ≡ component_width * count) where
+module _ (accounts count : ℕ) (f : Fund) (numbers components : List ℕ) (most : count ≤ most_components) (table : length numbers ≡ table_width)
+    (size : length components ≡ component_width * count) where
   abbrev run : List ℕ
-  run = day_numbers accounts count f components
+  run = day_numbers accounts count f numbers components
 
   abbrev padded : List ℕ
   padded = components ++ replicate (basket_width - length components) 0
 
+  abbrev head : List ℕ
+  head = accounts ∷ count ∷ fund_numbers f
+
+  numbers_are : table_numbers_at run ≡ numbers
+  unfolding table_numbers_at day_numbers
+  numbers_are =
+      ap (take table_width) (drop_at head (numbers ++ padded) table_from (omega (arith, fund-length f)))
+      ∙ take_at numbers padded table_width table
+
   basket_is : basket_at run ≡ padded
   unfolding basket_at day_numbers
-  basket_is = drop_at (accounts ∷ count ∷ fund_numbers f) padded basket_from (omega (arith, fund-length f))
+  basket_is = ap (drop basket_from) (sym (append_assoc head numbers padded)) ∙ drop_at (head ++ numbers) padded basket_from (rw length-append (omega (arith, fund-length f, table)))
 
   place_is : (i : ℕ) → Dec (i < count) → cond (ltb i most_components) (component_at padded i) blank ≡ cond (ltb i count) (component_at components i) blank
   place_is i (yes l) = rw (lt-ltb i most_components (omega arith), lt-ltb i count l) (padded_component components (basket_width - length components) i)
@@ -166,8 +182,8 @@ module _ (accounts count : ℕ) (f : Fund) (components : List ℕ) (most : count
 
   -- the day that an opening stores is read back
   pub day_back : length f.limits ≡ limit_count → nat_abs f.estimated_cash ≤ cap
-      → day_at run ≡ record { accounts = accounts; count = count; fund = f; components = places_of (component_at components) count }
+      → day_at run ≡ record { accounts = accounts; count = count; fund = f; table = table_of numbers; components = places_of (component_at components) count }
   unfolding day_head_at day_numbers
   day_back limits small =
-      sym (day_parts run (day-length accounts count f components (omega arith)))
-      ∙ rw (basket_is, places_are, fund_back run fund_from f padded refl limits small)
+      sym (day_parts run (day-length accounts count f numbers components (omega arith) table))
+      ∙ rw (numbers_are, basket_is, places_are, fund_back run fund_from f (numbers ++ padded) refl limits small)

@@ -17,7 +17,8 @@ use Rattle.sequences.specs.Below.{tabulate}
 use Rattle.sequences.proofs.Below.{table_length, table_ext}
 use Rattle.sequences.proofs.Runs.{sets_append, sets_front}
 use Rattle.layout.specs.declared.Fund.{Fund}
-use Rattle.layout.specs.Places.{basket_width, limit_count, cash_place, limits_from, fund_width, fund_from, basket_from, day_width, answer_width}
+use Rattle.flags.specs.Table.{table_width}
+use Rattle.layout.specs.Places.{basket_width, limit_count, cash_place, limits_from, fund_width, fund_from, table_from, basket_from, day_width, answer_width}
 use Rattle.layout.specs.Answers.{put_reply, reply_in}
 use Rattle.layout.specs.Fund.{signed_numbers, fund_numbers}
 use Rattle.layout.specs.Day.{day_numbers}
@@ -26,6 +27,11 @@ use Rattle.layout.specs.Day.{day_numbers}
 pub numbers_stored : (run : List ℕ) (at n : ℕ) (part numbers : List ℕ) → n ≡ length numbers → at + length numbers ≤ length run
     → part ≡ numbers → put_mid at n run part ≡ sets run at numbers
 numbers_stored run at n part numbers size h e = rw (e, size, drop-drop) (sym (sets-eq numbers run at h ∙ rw append_assoc))
+
+-- The numbers of a day's flag table.
+pub table_stored : (run numbers : List ℕ) (n : ℕ) (part : List ℕ) → length run ≡ day_width → length numbers ≡ table_width → n ≡ table_width
+    → part ≡ numbers → put_mid table_from n run part ≡ sets run table_from numbers
+table_stored run numbers n part full table size e = numbers_stored run table_from n part numbers (size ∙ sym table) (omega (arith, full, table)) e
 
 -- The limits.
 pub limits_stored : (run limits : List ℕ) (at n : ℕ) (part : List ℕ) → length limits ≡ limit_count → n ≡ limit_count → at + limit_count ≤ length run
@@ -78,29 +84,44 @@ module _ (f : Fund) where
 
 -- A day, whose components are stored through the rest of the run.
 
-module _ (accounts count : ℕ) (f : Fund) (components : List ℕ) (small : length components ≤ basket_width) where
+module _ (accounts count : ℕ) (f : Fund) (numbers components : List ℕ) (small : length components ≤ basket_width) (table : length numbers ≡ table_width) where
   abbrev head : List ℕ
-  head = accounts ∷ count ∷ fund_numbers f
+  head = accounts ∷ count ∷ (fund_numbers f ++ numbers)
+
+  abbrev padded : List ℕ
+  padded = components ++ replicate (basket_width - length components) 0
 
   head-length : length head ≡ basket_from
-  head-length = omega (arith, fund-length f)
+  head-length = rw length-append (omega (arith, fund-length f, table))
 
-  pub day-length : length (day_numbers accounts count f components) ≡ day_width
+  whole : day_numbers accounts count f numbers components ≡ head ++ padded
   unfolding day_numbers
-  day-length = rw (length-append, length-append, length-replicate) (omega (arith, fund-length f))
+  whole = ap (λ (l : List ℕ). accounts ∷ count ∷ l) (sym (append_assoc (fund_numbers f) numbers padded))
+
+  padded-length : length padded ≡ basket_width
+  padded-length = rw (length-append, length-replicate) (omega (arith, small))
+
+  pub day-length : length (day_numbers accounts count f numbers components) ≡ day_width
+  day-length = ap length whole ∙ length-append head padded ∙ omega (arith, head-length, padded-length)
+
+  -- the fund and the table, one behind the other
+  head_stored : (run : List ℕ) → sets (sets (set (set run 0 accounts) 1 count) fund_from (fund_numbers f)) table_from numbers ≡ sets run 0 head
+  head_stored run =
+      ap (λ (k : ℕ). sets (sets (set (set run 0 accounts) 1 count) fund_from (fund_numbers f)) k numbers) (omega (arith, fund-length f))
+      ∙ sets_append (fund_numbers f) numbers (set (set run 0 accounts) 1 count) fund_from
 
   pub day_stored : (run r cs : List ℕ) → length run ≡ day_width
-      → r ≡ sets (set (set run 0 accounts) 1 count) fund_from (fund_numbers f)
+      → r ≡ sets (sets (set (set run 0 accounts) 1 count) fund_from (fund_numbers f)) table_from numbers
       → cs ≡ components ++ replicate (length (take (length r - basket_from) (drop basket_from r)) - length components) 0
-      → take basket_from r ++ (cs ++ drop (length r - basket_from) (drop basket_from r)) ≡ day_numbers accounts count f components
-  unfolding day_numbers
+      → take basket_from r ++ (cs ++ drop (length r - basket_from) (drop basket_from r)) ≡ day_numbers accounts count f numbers components
   day_stored run r cs full e q =
-      let front : r ≡ head ++ drop (length head) run = e ∙ sets_front head run (omega (arith, head-length)) in
+      let front : r ≡ head ++ drop (length head) run = e ∙ head_stored run ∙ sets_front head run (omega (arith, head-length)) in
       let long : length r ≡ day_width = ap length e ∙ simp (length-sets, length-set) full in
       let rest : length (take (length r - basket_from) (drop basket_from r)) ≡ basket_width = simp (length-take, length-drop) (omega arith) in
       let past : drop (length r - basket_from) (drop basket_from r) ≡ [] = drop_of_length-le (drop basket_from r) (le_of_eq (length-drop basket_from r)) in
       rw (past, append-nil cs, q, rest)
-      (ap (λ (t : List ℕ). t ++ (components ++ replicate (basket_width - length components) 0)) (ap (take basket_from) front ∙ take_at head (drop (length head) run) basket_from head-length))
+      (ap (λ (t : List ℕ). t ++ padded) (ap (take basket_from) front ∙ take_at head (drop (length head) run) basket_from head-length))
+      ∙ sym whole
 
 -- An answer.
 

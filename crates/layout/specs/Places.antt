@@ -1,5 +1,6 @@
 -- Widths and places in the lent runs of numbers.
 use Rattle.std.specs.Prelude.{ℕ, ◌+◌, ◌*◌}
+use Rattle.flags.specs.Table.{table_width}
 
 -- components: how many a day has room for, the numbers of one, and those of all, a day's basket
 abbrev pub most_components : ℕ
@@ -24,12 +25,15 @@ limits_from = 6
 abbrev pub fund_width : ℕ
 fund_width = limits_from + limit_count
 
--- a day: A, N, the fund, and the basket
+-- a day: A, N, the fund, its flag table, and the basket
 abbrev pub fund_from : ℕ
 fund_from = 2
 
+abbrev pub table_from : ℕ
+table_from = fund_from + fund_width
+
 abbrev pub basket_from : ℕ
-basket_from = fund_from + fund_width
+basket_from = table_from + table_width
 
 abbrev pub day_width : ℕ
 day_width = basket_from + basket_width

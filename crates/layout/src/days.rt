@@ -1,12 +1,14 @@
 // A day in a run, and a day where it lies.
 ghost use Rattle.std.specs.Prelude.{◌≡◌, ◌-◌, ◌≤◌, ◌<◌, ◌++◌, length, get_or, replicate};
-ghost use Rattle.layout.specs.Places.{most_components, basket_width, day_width};
+ghost use Rattle.flags.specs.Table.{table_width};
+ghost use Rattle.std.proofs.lemmas.List.Edits.{sets};
+ghost use Rattle.layout.specs.Places.{most_components, basket_width, table_from, day_width};
 ghost use Rattle.layout.specs.Components.{blank, component_at, places_of};
 ghost use Rattle.layout.specs.Day.{Day, day_at, day_numbers};
 
 use crate::basket::component_at;
 use crate::funds::{fund_of, put_fund};
-use crate::{ACCOUNTS_AT, BASKET_FROM, COUNT_AT, Component, DayHead, FUND_FROM, Fund};
+use crate::{ACCOUNTS_AT, BASKET_FROM, COUNT_AT, Component, DayHead, FUND_FROM, Fund, TABLE_FROM};
 use std::marker::Model;
 
 // A day where it lies, in a run of a day's length. Contracts see it as the day.
@@ -57,6 +59,14 @@ impl<'a> DayView<'a> {
         fund_of(self.run, FUND_FROM)
     }
 
+    // Its flag table.
+    #[tactic(auto, using(crate::proofs::Day::table_in))]
+    pub fn table(&self) -> &'a flags::Table
+        ensures { result.now ≡ self.now.table }
+    {
+        flags::table_at(&self.run[TABLE_FROM..BASKET_FROM])
+    }
+
     // Component i.
     #[tactic(auto, using(crate::proofs::Components::places_at))]
     pub fn component(&self, i: usize) -> Component
@@ -94,15 +104,27 @@ fn put_basket(basket: &mut [u64], components: &[u64])
     rest.fill(0);
 }
 
-// Stores a day, of its head and its components.
-#[tactic(auto, using(crate::proofs::Stored::day_stored))]
-pub fn put_day(day: &mut [u64], head: DayHead, components: &[u64])
+// Stores the numbers of a flag table in a day.
+#[tactic(auto, using(crate::proofs::Stored::table_stored))]
+fn put_table(day: &mut [u64], table: &[u64])
     requires day_len { length day.old ≡ day_width }
+    requires table_len { length table.now ≡ table_width }
+    ensures { day.new ≡ sets day.old table_from table.now }
+{
+    day[TABLE_FROM..BASKET_FROM].copy_from_slice(table);
+}
+
+// Stores a day, of its head, the numbers of its flag table and its components.
+#[tactic(auto, using(crate::proofs::Stored::day_stored))]
+pub fn put_day(day: &mut [u64], head: DayHead, table: &[u64], components: &[u64])
+    requires day_len { length day.old ≡ day_width }
+    requires table_len { length table.now ≡ table_width }
     requires components_len_bound { length components.now ≤ basket_width }
-    ensures { day.new ≡ day_numbers head.accounts head.count head.fund components.now }
+    ensures { day.new ≡ day_numbers head.accounts head.count head.fund table.now components.now }
 {
     day[ACCOUNTS_AT] = head.accounts as u64;
     day[COUNT_AT] = head.count as u64;
     put_fund(day, FUND_FROM, head.fund);
+    put_table(day, table);
     put_basket(&mut day[BASKET_FROM..], components);
 }

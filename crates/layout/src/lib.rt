@@ -41,7 +41,7 @@ pub struct Fund {
     pub limits: [u64; LIMITS],
 }
 
-// A day without its components.
+// A day without its flag table and its components.
 #[derive(Clone, Copy)]
 pub struct DayHead {
     pub accounts: usize,
@@ -99,14 +99,16 @@ const LIMITS_FROM: usize = 6;
 
 pub const FUND_WIDTH: usize = LIMITS_FROM + LIMITS;
 
-// Where a day has its accounts, its count of components, its fund and its basket, and how many numbers it takes.
+// Where a day has its accounts, its count of components, its fund, its flag table and its basket, and how many numbers it takes.
 const ACCOUNTS_AT: usize = 0;
 
 const COUNT_AT: usize = 1;
 
 const FUND_FROM: usize = 2;
 
-pub const BASKET_FROM: usize = FUND_FROM + FUND_WIDTH;
+const TABLE_FROM: usize = FUND_FROM + FUND_WIDTH;
+
+pub const BASKET_FROM: usize = TABLE_FROM + flags::TABLE_WIDTH;
 
 pub const DAY_WIDTH: usize = BASKET_FROM + BASKET_WIDTH;
 
