@@ -1,5 +1,6 @@
 -- A flag table: for each of the flags 0 to 9 six columns, and whether the flag is in use.
 use Rattle.std.specs.Prelude.{ℕ, ◌*◌, Bool, cond, not, ◌&&◌, ◌||◌, List, [], ◌∷◌, leb, ltb, eqb, get_or}
+use Rattle.std.specs.List.{flat_map}
 use Rattle.std.specs.Simd.{first_chunks}
 use Rattle.sequences.specs.Below.{all_below, first_below}
 use Rattle.sequences.specs.Every.{every}
@@ -53,7 +54,10 @@ column_number Shanghai = shanghai
 column_number Priced = priced
 column_number InUse = in_use
 
--- the table that a run of its numbers says, row after row
+-- a table's numbers, row after row, and the table that a run of so many says
+abbrev pub table_numbers : FlagTable → List ℕ
+table_numbers t = flat_map (λ row. row) t
+
 unfoldable pub table_of : List ℕ → FlagTable
 table_of numbers = first_chunks flag_columns flag_count numbers
 

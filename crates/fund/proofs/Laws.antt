@@ -17,7 +17,7 @@ use borrow.Author.Tests.{le-ltb, leb-true, ltb-true, eqb-true, not-false}
 use Rattle.sequences.specs.Every.{every}
 use Rattle.sequences.proofs.Below.{all_at, first_all}
 use Rattle.sequences.proofs.Every.{every_at, false_of, inside_facts}
-use Rattle.flags.specs.Table.{entry, rate_used, amount_used}
+use Rattle.flags.specs.Table.{FlagTable, entry, rate_used, amount_used, in_use}
 use Rattle.digits.specs.Digits.{cap}
 use Rattle.layout.specs.Places.{limit_count}
 use Rattle.layout.specs.declared.Fund.{Fund}
@@ -104,20 +104,20 @@ within_facts most used x e =
     let at = every_at _ e in
     (leb-true _ _ (at 0), at 1)
 
-pub record ComponentRanges (g : ℕ) (c : Component) : Type 0 where
+pub record ComponentRanges (t : FlagTable) (g : ℕ) (c : Component) : Type 0 where
   pub code : c.code ≤ 999_999
   pub outside : outside_group g c.code ≡ true
   pub quantity : c.quantity ≤ 99_999_999
-  pub flag : c.flag < 5
+  pub flag : entry t c.flag in_use ≡ true
   pub premium : c.premium.0 ≤ most_rate
   pub discount : c.discount.0 ≤ most_rate
   pub amount : c.amount.0 ≤ most_amount
-  pub premium_use : zero_unless (entry c.flag rate_used) c.premium.0 ≡ true
-  pub discount_use : zero_unless (entry c.flag rate_used) c.discount.0 ≡ true
-  pub amount_use : zero_unless (entry c.flag amount_used) c.amount.0 ≡ true
+  pub premium_use : zero_unless (entry t c.flag rate_used) c.premium.0 ≡ true
+  pub discount_use : zero_unless (entry t c.flag rate_used) c.discount.0 ≡ true
+  pub amount_use : zero_unless (entry t c.flag amount_used) c.amount.0 ≡ true
 
-module _ (g : ℕ) (c : Component) where
-  pub component_sound : component_in_range g c ≡ true → ComponentRanges g c
+module _ (t : FlagTable) (g : ℕ) (c : Component) where
+  pub component_sound : component_in_range t g c ≡ true → ComponentRanges t g c
   unfolding component_in_range
   component_sound e =
       let at = every_at _ e in
@@ -128,7 +128,7 @@ module _ (g : ℕ) (c : Component) where
         code = leb-true _ _ (at 0);
         outside = at 1;
         quantity = leb-true _ _ (at 2);
-        flag = ltb-true _ _ (at 3);
+        flag = at 3;
         premium = premium.0;
         discount = discount.0;
         amount = amount.0;
@@ -148,26 +148,26 @@ unfolding code_before
 before_more cs i = rw (add-one, code_before)
 
 -- the two tests of the i-th component
-abbrev place : ℕ → List Component → ℕ → List Bool
-place g cs i = component_in_range g (get_or cs i blank) ∷ above_code (code_before cs i) (get_or cs i blank).code ∷ []
+abbrev place : FlagTable → ℕ → List Component → ℕ → List Bool
+place t g cs i = component_in_range t g (get_or cs i blank) ∷ above_code (code_before cs i) (get_or cs i blank).code ∷ []
 
 -- behind the last place the components are at fault: the code there is above none
-pub fault_past : (g : ℕ) (cs : List Component) (i : ℕ) → 0 < i → length cs ≤ i → fault_at g cs i ≡ true
+pub fault_past : (t : FlagTable) (g : ℕ) (cs : List Component) (i : ℕ) → 0 < i → length cs ≤ i → fault_at t g cs i ≡ true
 unfolding fault_at fits above_code code_before
-fault_past g cs zero later past = absurd (omega arith)
-fault_past g cs (suc i) later past =
+fault_past t g cs zero later past = absurd (omega arith)
+fault_past t g cs (suc i) later past =
     let end : get_or cs (suc i) blank ≡ blank = get_or-eq_default cs blank past in
     let low : ltb (get_or cs i blank).code (get_or cs (suc i) blank).code ≡ false = simp (end, le-ltb (get_or cs i blank).code 0 (omega arith)) in
-    ap not (false_of (every (place g cs (suc i))) (λ e. false≢true (sym low ∙ every_at (place g cs (suc i)) e 1)))
+    ap not (false_of (every (place t g cs (suc i))) (λ e. false≢true (sym low ∙ every_at (place t g cs (suc i)) e 1)))
 
-module _ (g : ℕ) (cs : List Component) (n : ℕ) (none : component_fault g cs n ≡ n) where
-  fine : (k : ℕ) → k < n → every (place g cs k) ≡ true
+module _ (t : FlagTable) (g : ℕ) (cs : List Component) (n : ℕ) (none : component_fault t g cs n ≡ n) where
+  fine : (k : ℕ) → k < n → every (place t g cs k) ≡ true
   unfolding component_fault fault_at fits
-  fine k l = not-false _ (first_all (fault_at g cs) n none k l)
+  fine k l = not-false _ (first_all (fault_at t g cs) n none k l)
 
   -- where no component is at fault, each is in its ranges
-  pub components_fine : (k : ℕ) → k < n → ComponentRanges g (get_or cs k blank)
-  components_fine k l = component_sound g (get_or cs k blank) (every_at _ (fine k l) 0)
+  pub components_fine : (k : ℕ) → k < n → ComponentRanges t g (get_or cs k blank)
+  components_fine k l = component_sound t g (get_or cs k blank) (every_at _ (fine k l) 0)
 
   -- no more components than there is room for
   pub count_fits : 0 < length cs → n ≤ length cs
@@ -175,7 +175,7 @@ module _ (g : ℕ) (cs : List Component) (n : ℕ) (none : component_fault g cs 
   count_fits some = case (dec_lt (length cs) n)
     where
       case : Dec (length cs < n) → n ≤ length cs
-      case (yes l) = absurd (false≢true (sym (first_all (fault_at g cs) n none (length cs) l) ∙ fault_past g cs (length cs) some (omega arith)))
+      case (yes l) = absurd (false≢true (sym (first_all (fault_at t g cs) n none (length cs) l) ∙ fault_past t g cs (length cs) some (omega arith)))
       case (no l) = omega arith
 
   next_above : (j : ℕ) → suc j < n → (get_or cs j blank).code < (get_or cs (suc j) blank).code

@@ -1,4 +1,4 @@
-// The fund and its components, and the tests of refusals 2 and 3. The casts by `as` lose nothing: usize and u64 both have 64 bits.
+// The fund and its components, and the tests of refusals 2 and 3.
 #![tactic(auto)]
 
 ghost use Rattle.std.specs.Prelude.{◌≡◌, ◌*◌, ◌≤◌, length};
@@ -8,6 +8,7 @@ ghost use Rattle.layout.specs.Places.{most_components, component_width};
 ghost use Rattle.layout.specs.Components.{component_at, places_of};
 ghost use Rattle.fund.specs.Components.{outside_group, zero_unless, used_within, component_in_range, fits, component_fault};
 
+use flags::{Column, Table};
 use layout::{Component, Fund};
 use units::Rate;
 
@@ -94,17 +95,17 @@ pub fn outside_group(first_code: u64, code: u64) -> bool
     !matches!(code.checked_sub(first_code), Some(0..=5))
 }
 
-// A component's own ranges and flag use.
+// A component's own ranges and flag use, by a flag table.
 #[tactic(auto, using(std::proofs::lemmas::Bool::Decides::nat_tests), unfolding(crate::specs::Components::component_in_range, sequences::specs::Every::every))]
-pub fn component_in_range(first_code: u64, c: Component) -> bool
-    ensures { result ≡ component_in_range first_code c }
+pub fn component_in_range(table: &Table, first_code: u64, c: Component) -> bool
+    ensures { result ≡ component_in_range table.now first_code c }
 {
-    let rate_used = flags::entry_of(c.flag, flags::Column::RateUsed);
-    let amount_used = flags::entry_of(c.flag, flags::Column::AmountUsed);
+    let rate_used = flags::entry_of(table, c.flag, Column::RateUsed);
+    let amount_used = flags::entry_of(table, c.flag, Column::AmountUsed);
     c.code <= 999_999
         && outside_group(first_code, c.code)
         && c.quantity <= 99_999_999
-        && c.flag < flags::FLAGS as u64
+        && flags::entry_of(table, c.flag, Column::InUse)
         && used_within(Rate::ONE.0, rate_used, c.premium.0)
         && used_within(Rate::ONE.0, rate_used, c.discount.0)
         && used_within(MOST_AMOUNT, amount_used, c.amount.0)
@@ -112,22 +113,27 @@ pub fn component_in_range(first_code: u64, c: Component) -> bool
 
 // Whether a component is in its ranges and above the code before it, where there is one.
 #[tactic(auto, using(std::proofs::lemmas::Bool::Decides::nat_tests), unfolding(crate::specs::Components::fits, crate::specs::Components::above_code, sequences::specs::Every::every))]
-pub fn component_fits(first_code: u64, previous: Option<u64>, c: Component) -> bool
-    ensures { result ≡ fits first_code previous c }
+pub fn component_fits(
+    table: &Table,
+    first_code: u64,
+    previous: Option<u64>,
+    c: Component,
+) -> bool
+    ensures { result ≡ fits table.now first_code previous c }
 {
-    component_in_range(first_code, c) && previous.is_none_or(|code| code < c.code)
+    component_in_range(table, first_code, c) && previous.is_none_or(|code| code < c.code)
 }
 
 // Refusal 3's test: the first component at fault of a run's first `count`. By place: `find` reads the code before each component again,
 // 35,475 instructions against 18,422. The count stands beside the run: a day's basket has room for all, and its count says how many.
-pub fn run_fault(first_code: u64, run: &[u64], count: usize) -> Option<usize>
+pub fn run_fault(table: &Table, first_code: u64, run: &[u64], count: usize) -> Option<usize>
     requires { (count ≤ most_components) × (component_width * count ≤ length run.now) }
-    ensures { result ≡ below count (component_fault first_code (places_of (component_at run.now) count) count) }
+    ensures { result ≡ below count (component_fault table.now first_code (places_of (component_at run.now) count) count) }
 {
     let mut previous = None;
     for i in 0..count {
         let c = layout::component_at(run, i);
-        if !component_fits(first_code, previous, c) {
+        if !component_fits(table, first_code, previous, c) {
             return Some(i);
         }
         previous = Some(c.code);

@@ -17,6 +17,7 @@ use Rattle.sequences.proofs.Stretch.{stretch-join, stretch_at}
 use Rattle.lots.specs.declared.Lots.{Lots}
 use Rattle.lots.specs.Lots.{lots_total}
 use Rattle.lots.proofs.Laws.{lots, lots-eq}
+use Rattle.flags.specs.Table.{table_of}
 use Rattle.layout.specs.Places.{limit_count, line_width}
 use Rattle.layout.specs.Components.{blank, component_at}
 use Rattle.layout.proofs.Components.{places_at}
@@ -25,7 +26,7 @@ use Rattle.layout.proofs.Day.{day_back}
 use Rattle.fund.proofs.Laws.{fund_sound, cash_size}
 use Rattle.layout.specs.Book.{width_of, cash, created, redeemed, head_at, lots_at, head_total, line_total, line_from}
 use Rattle.rules.specs.Lines.{component_of, price_of}
-use Rattle.rules.specs.Opening.{Opening, holdings_of, cash_opened, held_opened, opened_total, opened_cash, size_checks, fund_checks, total_checks, day_checks}
+use Rattle.rules.specs.Opening.{Opening, holdings_of, cash_opened, held_opened, opened_total, opened_cash, size_checks, table_checks, fund_checks, total_checks, day_checks}
 use Rattle.rules.specs.Opening.{components_opened, lent_sizes_fit, opening_sizes_fit, opened_totals, opening_reply, opened_day, opened_run, opened_stretch, opened_book, opened_prices}
 use Rattle.rules.proofs.SoundDay.{DaySizes, sizes_facts, Opens, opens_facts, Kept}
 
@@ -71,7 +72,7 @@ module _ (n : ℕ) (h : List ℕ) where
       (past_head l 2 ∙ at_line l 2 hl (omega arith))
 
 module _ (o : Opening) (accepted : is_accepted (opening_reply o) ≡ true) where
-  pub opened_day_lem : opened_day o ≡ record { accounts = o.accounts; count = o.count; fund = o.fund; components = components_opened o }
+  pub opened_day_lem : opened_day o ≡ record { accounts = o.accounts; count = o.count; fund = o.fund; table = table_of o.table; components = components_opened o }
   unfolding opened_day
   opened_day_lem = refl
 
@@ -83,9 +84,9 @@ module _ (o : Opening) (accepted : is_accepted (opening_reply o) ≡ true) where
   unfolding opened_prices
   opened_prices_lem = rw accepted
 
-  pub opened_opens : Opens (opening_sizes_fit o) o.fund (components_opened o) o.count (opened_totals o)
-  unfolding opening_reply day_checks size_checks fund_checks total_checks
-  opened_opens = opens_facts _ _ _ _ _ (all_passed _ _ tt accepted)
+  pub opened_opens : Opens (opening_sizes_fit o) (table_of o.table) o.fund (components_opened o) o.count (opened_totals o)
+  unfolding opening_reply day_checks size_checks table_checks fund_checks total_checks
+  opened_opens = opens_facts _ _ _ _ _ _ (all_passed _ _ tt accepted)
 
   pub opened_sizes : DaySizes o.accounts o.count (length o.book) (length o.prices)
   unfolding lent_sizes_fit
@@ -149,6 +150,7 @@ module _ (o : Opening) (accepted : is_accepted (opening_reply o) ≡ true) where
                     accounts_high = opened_sizes.accounts_high;
                     count_low = opened_sizes.count_low;
                     count_high = opened_sizes.count_high;
+                    loads = p.loads;
                     fund_fields = p.fund_fields;
                     components = p.components;
                   };
@@ -176,7 +178,7 @@ module _ (o : Opening) (accepted : is_accepted (opening_reply o) ≡ true) where
             omega (arith, p.units, rw opened_day_lem at (opened_line o.count (omega arith)), rw opened_day_lem at (opened_counter created (opened_created o.count)));
       })
     where
-      p : Opens (opening_sizes_fit o) o.fund (components_opened o) o.count (opened_totals o)
+      p : Opens (opening_sizes_fit o) (table_of o.table) o.fund (components_opened o) o.count (opened_totals o)
       p = opened_opens
 
   -- the run that an accepted opening leaves says the opened day
@@ -185,5 +187,5 @@ module _ (o : Opening) (accepted : is_accepted (opening_reply o) ≡ true) where
   opened_run_lem limits =
       let p = opened_opens in
       rw accepted
-      (day_back o.accounts o.count o.fund o.components opened_sizes.count_high (eqb-true _ _ (every_at _ p.sizes 1)) limits
+      (day_back o.accounts o.count o.fund o.table o.components opened_sizes.count_high (eqb-true _ _ (every_at _ p.sizes 1)) (eqb-true _ _ (every_at _ p.sizes 2)) limits
       (cash_size o.fund.estimated_cash (fund_sound o.fund p.fund_fields).cash))

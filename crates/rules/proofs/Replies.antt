@@ -8,7 +8,7 @@ use Rattle.sequences.specs.Checks.{Check, Reply, reply, is_accepted, answering}
 use Rattle.layout.specs.Day.{Day}
 use Rattle.rules.specs.declared.Refusal.{Refusal}
 use Rattle.rules.specs.declared.Refusal.TheVariants.{Sizes, FundField, Component, Total, UnsoundDay, NoSuchLine, QuantityOrPrice, Account, ShortOfStock, ShortOfCash}
-use Rattle.rules.specs.declared.Refusal.TheVariants.{NotWholeBaskets, Switch, Limit, NoReferenceValue, CashRatio, ListTooShort, FundShort, TextLine, TextField, RecordCount}
+use Rattle.rules.specs.declared.Refusal.TheVariants.{NotWholeBaskets, Switch, Limit, NoReferenceValue, CashRatio, ListTooShort, FundShort, TextLine, TextField, RecordCount, FlagTable}
 use Rattle.rules.specs.Replies.{refusal_reply, if_accepted}
 use Rattle.rules.specs.Sound.{is_sound, on_sound_day}
 
@@ -34,6 +34,7 @@ refused (FundShort place) = refl
 refused (TextLine place) = refl
 refused (TextField place) = refl
 refused RecordCount = refl
+refused (FlagTable place) = refl
 
 accepted : (a : Reply) → a.number ≡ 0 → is_accepted a ≡ true
 unfolding is_accepted

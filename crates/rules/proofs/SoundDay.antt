@@ -1,7 +1,7 @@
 -- What refusal 5 says of a day, fact by fact.
 use mathlib.Core.Path.{◌≡◌, refl, sym, ap, subst⁻¹, ◌∙◌}
 use mathlib.Core.Bool.{Bool, true, false, not, ◌||◌}
-use mathlib.Core.List.{List, [], ◌∷◌}
+use mathlib.Core.List.{List, [], ◌∷◌, ◌++◌}
 use Prim.Native.Nat.{ℕ, ◌+◌, ◌-◌, ◌*◌, ◌≤◌, ◌<◌}
 use native.Mathlib.Decide.{dec_lt, ℕ_discrete}
 use native.Mathlib.Omega.{arith}
@@ -15,6 +15,7 @@ use Rattle.sequences.specs.Below.{all_below}
 use Rattle.sequences.proofs.Below.{all_at, all_true, first_all, first_end, first_stops}
 use Rattle.sequences.proofs.Every.{every_at, every_more, every_none}
 use Rattle.sequences.proofs.Checks.{Passed, passed_all, passes_all, passed_each, passed_both}
+use Rattle.flags.specs.Table.{FlagTable, flag_count, row_of, row_fits, table_fault}
 use Rattle.layout.specs.Places.{most_components, lines_from}
 use Rattle.layout.specs.declared.Fund.{Fund}
 use Rattle.layout.specs.declared.Component.{Component}
@@ -23,7 +24,7 @@ use Rattle.fund.specs.Components.{fault_at, component_fault}
 use Rattle.layout.specs.Day.{Day}
 use Rattle.layout.specs.Book.{width_of, cash, created, redeemed, head_at, lots_at, width, account, head_total, line_total}
 use Rattle.rules.specs.Lines.{price_of}
-use Rattle.rules.specs.Opening.{most_of_line, most_cash, day_sizes_fit, size_checks, fund_checks, DayTotals, over_at, total_fault, total_checks, day_checks}
+use Rattle.rules.specs.Opening.{most_of_line, most_cash, day_sizes_fit, size_checks, table_checks, fund_checks, DayTotals, over_at, total_fault, total_checks, day_checks}
 use Rattle.rules.specs.Sound.{most_units, most_price, day_totals, opens, fund_still, is_sound, is_kept}
 
 -- Refusal 1: a day's sizes.
@@ -45,18 +46,29 @@ module _ (accounts n book prices : ℕ) where
   unfolding day_sizes_fit every inside
   sizes_facts e = grind (arith, nat_tests)
 
+-- Refusal 21: the flag table.
+
+module _ (t : FlagTable) where
+  pub table_facts : Passed (table_checks t) → table_fault t ≡ flag_count
+  unfolding table_checks table_fault
+  table_facts p = first_stops (λ f. not (row_fits (row_of t f))) flag_count p.0
+
+  pub table_passed : table_fault t ≡ flag_count → Passed (table_checks t)
+  unfolding table_checks
+  table_passed e = (le-ltb _ flag_count (omega (arith, e)), tt)
+
 -- Refusals 2 and 3: the fund's fields and its components.
 
-module _ (fund : Fund) (cs : List Component) (n : ℕ) where
-  component_end : ltb (component_fault fund.first_code cs n) n ≡ false → component_fault fund.first_code cs n ≡ n
+module _ (t : FlagTable) (fund : Fund) (cs : List Component) (n : ℕ) where
+  component_end : ltb (component_fault t fund.first_code cs n) n ≡ false → component_fault t fund.first_code cs n ≡ n
   unfolding component_fault
-  component_end e = first_stops (fault_at fund.first_code cs) n e
+  component_end e = first_stops (fault_at t fund.first_code cs) n e
 
-  pub fund_facts : Passed (fund_checks fund cs n) → (fund_in_range fund ≡ true) × (component_fault fund.first_code cs n ≡ n)
+  pub fund_facts : Passed (fund_checks t fund cs n) → (fund_in_range fund ≡ true) × (component_fault t fund.first_code cs n ≡ n)
   unfolding fund_checks
   fund_facts p = (not-false _ p.0, component_end p.1.0)
 
-  pub fund_passed : fund_in_range fund ≡ true → component_fault fund.first_code cs n ≡ n → Passed (fund_checks fund cs n)
+  pub fund_passed : fund_in_range fund ≡ true → component_fault t fund.first_code cs n ≡ n → Passed (fund_checks t fund cs n)
   unfolding fund_checks
   fund_passed e f = (ap not e, (le-ltb _ n (omega (arith, f)), tt))
 
@@ -108,24 +120,27 @@ module _ (n : ℕ) (t : DayTotals) where
       at k h = place k h (dec_lt k n) (ℕ_discrete k n)
 
 -- the tests of opening, each as a fact
-pub record Opens (fit : Bool) (fund : Fund) (cs : List Component) (n : ℕ) (t : DayTotals) : Type 0 where
+pub record Opens (fit : Bool) (table : FlagTable) (fund : Fund) (cs : List Component) (n : ℕ) (t : DayTotals) : Type 0 where
   pub sizes : fit ≡ true
+  pub loads : table_fault table ≡ flag_count
   pub fund_fields : fund_in_range fund ≡ true
-  pub components : component_fault fund.first_code cs n ≡ n
+  pub components : component_fault table fund.first_code cs n ≡ n
   pub lines : (l : ℕ) → l < n → t.line l ≤ most_of_line
   pub units : t.line n ≤ t.units_most
   pub fund_units_lem : t.fund_units ≡ 0
   pub money : t.cash_total ≤ most_cash
 
-module _ (fit : Bool) (fund : Fund) (cs : List Component) (n : ℕ) (t : DayTotals) where
-  pub opens_facts : Passed (day_checks fit fund cs n t) → Opens fit fund cs n t
+module _ (fit : Bool) (table : FlagTable) (fund : Fund) (cs : List Component) (n : ℕ) (t : DayTotals) where
+  pub opens_facts : Passed (day_checks fit table fund cs n t) → Opens fit table fund cs n t
   unfolding day_checks size_checks
   opens_facts p =
-      let stages = passed_each (fund_checks fund cs n) (total_checks n t) p.1 in
-      let f = fund_facts fund cs n stages.0 in
+      let behind = passed_each (table_checks table) (fund_checks table fund cs n ++ total_checks n t) p.1 in
+      let stages = passed_each (fund_checks table fund cs n) (total_checks n t) behind.1 in
+      let f = fund_facts table fund cs n stages.0 in
       let q = totals_facts n t stages.1 in
       record {
         sizes = not-false fit p.0;
+        loads = table_facts table behind.0;
         fund_fields = f.0;
         components = f.1;
         lines = q.0;
@@ -134,12 +149,13 @@ module _ (fit : Bool) (fund : Fund) (cs : List Component) (n : ℕ) (t : DayTota
         money = q.3;
       }
 
-  pub opens_passed : Opens fit fund cs n t → Passed (day_checks fit fund cs n t)
+  pub opens_passed : Opens fit table fund cs n t → Passed (day_checks fit table fund cs n t)
   unfolding day_checks size_checks
   opens_passed o = (
     ap not o.sizes,
-    passed_both (fund_checks fund cs n) (total_checks n t) (fund_passed fund cs n o.fund_fields o.components)
-        (totals_passed n t o.lines o.units o.fund_units_lem o.money),
+    passed_both (table_checks table) (fund_checks table fund cs n ++ total_checks n t) (table_passed table o.loads)
+        (passed_both (fund_checks table fund cs n) (total_checks n t) (fund_passed table fund cs n o.fund_fields o.components)
+        (totals_passed n t o.lines o.units o.fund_units_lem o.money)),
   )
 
 -- A day that is sound, fact by fact, in the parts that a call changes: the day's own, its book and its prices.
@@ -149,8 +165,9 @@ pub record OwnSound (d : Day) : Type 0 where
   pub accounts_high : d.accounts ≤ 64
   pub count_low : 1 ≤ d.count
   pub count_high : d.count ≤ most_components
+  pub loads : table_fault d.table ≡ flag_count
   pub fund_fields : fund_in_range d.fund ≡ true
-  pub components : component_fault d.fund.first_code d.components d.count ≡ d.count
+  pub components : component_fault d.table d.fund.first_code d.components d.count ≡ d.count
 
 pub record BookSound (d : Day) (b : List ℕ) : Type 0 where
   pub book_size : length b ≡ d.accounts * width d
@@ -187,13 +204,13 @@ sound_sizes s =
     }
 
 module _ (d : Day) (b ps : List ℕ) where
-  opens_at : opens d b ps ≡ true → Opens (day_sizes_fit d.accounts d.count (length b) (length ps)) d.fund d.components d.count (day_totals d b)
+  opens_at : opens d b ps ≡ true → Opens (day_sizes_fit d.accounts d.count (length b) (length ps)) d.table d.fund d.components d.count (day_totals d b)
   unfolding opens
-  opens_at e = opens_facts _ _ _ _ _ (passed_all _ e)
+  opens_at e = opens_facts _ _ _ _ _ _ (passed_all _ e)
 
-  at_opens : Opens (day_sizes_fit d.accounts d.count (length b) (length ps)) d.fund d.components d.count (day_totals d b) → opens d b ps ≡ true
+  at_opens : Opens (day_sizes_fit d.accounts d.count (length b) (length ps)) d.table d.fund d.components d.count (day_totals d b) → opens d b ps ≡ true
   unfolding opens
-  at_opens o = passes_all _ (opens_passed _ _ _ _ _ o)
+  at_opens o = passes_all _ (opens_passed _ _ _ _ _ _ o)
 
   abbrev still_tests : List Bool
   still_tests =
@@ -226,6 +243,7 @@ module _ (d : Day) (b ps : List ℕ) where
               accounts_high = sizes.accounts_high;
               count_low = sizes.count_low;
               count_high = sizes.count_high;
+              loads = o.loads;
               fund_fields = o.fund_fields;
               components = o.components;
             };
@@ -257,6 +275,7 @@ module _ (d : Day) (b ps : List ℕ) where
       (at_opens
       (record {
         sizes = sizes_true _ _ _ _ (sound_sizes f);
+        loads = f.own.loads;
         fund_fields = f.own.fund_fields;
         components = f.own.components;
         lines = f.book.lines;

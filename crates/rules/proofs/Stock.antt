@@ -41,11 +41,11 @@ module _ (v : Record → ℕ) (code : ℕ) where
   unfolding cash_records
   tally_cash other side c n = tally_parts other side (cash_parts c) n
 
-module _ (d : Day) (v : Record → ℕ) (sound : component_fault d.fund.first_code d.components d.count ≡ d.count) (l : ℕ) (inside : l < d.count) where
+module _ (d : Day) (v : Record → ℕ) (sound : component_fault d.table d.fund.first_code d.components d.count ≡ d.count) (l : ℕ) (inside : l < d.count) where
   -- a component's code is none of the fund's group
   group : (k : ℕ) → k ≤ 5 → d.fund.first_code + k ≡ code_of d l → ⊥
   unfolding code_of
-  group k h e = outside_codes d.fund.first_code _ (components_fine _ _ _ sound l inside).outside k h (sym e)
+  group k h e = outside_codes d.fund.first_code _ (components_fine _ _ _ _ sound l inside).outside k h (sym e)
 
   stock_here : (side : ℕ) (moved : ℕ → ℕ) → tally v (code_of d l) (stock_record d side moved l) ≡ cond (ltb 0 (moved l)) (v (record_of (code_of d l) side (moved l) 0)) 0
   unfolding stock_record sum_of
@@ -59,7 +59,7 @@ module _ (d : Day) (v : Record → ℕ) (sound : component_fault d.fund.first_co
   unfolding stock_record sum_of code_of
   stock_elsewhere side moved i h n =
       cond_both (ltb 0 (moved i)) (record_of (code_of d i) side (moved i) 0 ∷ []) [] (λ rs. tally v (code_of d l) rs ≡ 0)
-      (λ _. tally_one v (code_of d l) (record_of (code_of d i) side (moved i) 0) (codes_differ _ _ _ sound i l h inside n))
+      (λ _. tally_one v (code_of d l) (record_of (code_of d i) side (moved i) 0) (codes_differ _ _ _ _ sound i l h inside n))
       (λ _. refl)
 
   -- of all the records of an order only the component's own counts
@@ -90,7 +90,7 @@ module _ (d : Day) (v : Record → ℕ) (sound : component_fault d.fund.first_co
       )
 
 -- so its quantity is what moved, and there is at most one
-module _ (d : Day) (sound : component_fault d.fund.first_code d.components d.count ≡ d.count) (l : ℕ) (inside : l < d.count) (side rest units : ℕ)
+module _ (d : Day) (sound : component_fault d.table d.fund.first_code d.components d.count ≡ d.count) (l : ℕ) (inside : l < d.count) (side rest units : ℕ)
     (moved : ℕ → ℕ) (other shanghai : ℕ) where
   pub stock_moved : tally (λ r. r.quantity) (code_of d l) (order_records d side rest units moved other shanghai) ≡ moved l
   stock_moved =

@@ -6,14 +6,14 @@ use Rattle.sequences.specs.Every.{every, inside}
 use Rattle.sequences.specs.Checks.{Reply, answering, passes, is_accepted}
 use Rattle.sequences.specs.Stretch.{stretch_of, over}
 use Rattle.units.specs.Units.{rounded, premium, discount, ratio_bound}
-use Rattle.flags.specs.Table.{flag_table, entry}
+use Rattle.flags.specs.Table.{table_numbers, table_of, says, entry, is_binary, use_fits, shortage_fits, row_fits, table_fault, flag_table}
 use Rattle.fund.specs.Fund.{cash_in_range, limit_in_range, limits_in_range, fund_in_range, limit_of}
 use Rattle.fund.specs.Components.{outside_group, zero_unless, used_within, component_in_range, above_code, fits, code_before, fault_at, component_fault}
 use Rattle.layout.specs.Places.{record_width, report_width, day_width}
 use Rattle.layout.specs.Components.{component_at, places_of}
 use Rattle.layout.specs.Book.{head_at, lots_at, account, head_total, line_total}
 use Rattle.rules.specs.Lines.{code_of, quantity, column, creation_rate, redemption_rate, creation_amount, redemption_amount, price_of}
-use Rattle.rules.specs.Opening.{Opening, cash_opened, held_opened, opened_total, opened_cash, day_sizes_fit, size_checks, fund_checks, over_at}
+use Rattle.rules.specs.Opening.{Opening, cash_opened, held_opened, opened_total, opened_cash, day_sizes_fit, size_checks, table_checks, fund_checks, over_at}
 use Rattle.rules.specs.Opening.{total_fault, total_checks, day_checks, components_opened, lent_sizes_fit, opening_reply, opened_day, opened_stretch, opened_book}
 use Rattle.rules.specs.Sound.{opens, fund_still, is_sound}
 use Rattle.rules.specs.Trade.{is_investor}
@@ -71,6 +71,7 @@ compared_at premiumOf000001 discountOf000001 of600000 of600036 =
             estimated_cash = negsuc 33_121;
             limits = replicate 8 0;
           };
+      table = table_numbers flag_table;
       components =
           1 ∷ 8_000 ∷ 3 ∷ premiumOf000001 ∷ discountOf000001 ∷ 96_000_000
           ∷ 2 ∷ 1_000 ∷ 4 ∷ 0 ∷ 0 ∷ 8_000_000
@@ -249,10 +250,10 @@ rows =
 
 pub cases : all right rows ≡ true
 unfolding sum_below any_below all_below first_below join_below tabulate every inside answering passes is_accepted stretch_of over
-    rounded premium discount ratio_bound flag_table entry cash_in_range limit_in_range limits_in_range fund_in_range limit_of
+    rounded premium discount ratio_bound table_of says entry is_binary use_fits shortage_fits row_fits table_fault flag_table cash_in_range limit_in_range limits_in_range fund_in_range limit_of
     outside_group zero_unless used_within component_in_range above_code fits code_before fault_at component_fault component_at head_at lots_at head_total line_total
     code_of quantity column creation_rate redemption_rate creation_amount redemption_amount price_of
-    cash_opened held_opened opened_total opened_cash day_sizes_fit size_checks fund_checks over_at total_fault total_checks day_checks
+    cash_opened held_opened opened_total opened_cash day_sizes_fit size_checks table_checks fund_checks over_at total_fault total_checks day_checks
     components_opened places_of lent_sizes_fit opening_reply opened_day opened_stretch opened_book
     opens fund_still is_sound is_investor worth_at lacks_price cash_added cash_taken worth_before reference_value has_value value_checks value_reply
     cash_parts cash_records stock_record order_records laid with_laid flatten with_records with_reports

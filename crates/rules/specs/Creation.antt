@@ -30,7 +30,7 @@ available s i = handable (lots_at s i)
 unfoldable pub handed_in : Day → List ℕ → ℕ → ℕ → ℕ
 handed_in d s m i = cond (moves_stock d i) (min (need d m i) (available s i)) 0
 
--- flag 0 short
+-- short of stock for which no cash may stand
 unfoldable pub is_short : Day → List ℕ → ℕ → ℕ → Bool
 is_short d s m i = every (moves_stock d i ∷ not (cash_for_shortage d i) ∷ ltb (available s i) (need d m i) ∷ [])
 
@@ -38,14 +38,14 @@ is_short d s m i = every (moves_stock d i ∷ not (cash_for_shortage d i) ∷ lt
 unfoldable pub first_short : Day → List ℕ → ℕ → ℕ
 first_short d s m = first_below (is_short d s m) d.count
 
--- flag 1: missing, and v = missing times price
+-- where cash may stand for it: missing, and v = missing times price
 unfoldable pub missing : Day → List ℕ → ℕ → ℕ → ℕ
 missing d s m i = cond (cash_for_shortage d i) (need d m i - available s i) 0
 
 unfoldable pub missing_worth : Day → List ℕ → List ℕ → ℕ → ℕ → ℕ
 missing_worth d s ps m i = missing d s m i * price_of ps i
 
--- anything is missing under flag 1
+-- anything is missing for which cash may stand
 unfoldable pub is_missing : Day → List ℕ → ℕ → Bool
 is_missing d s m = any_below (λ i. ltb 0 (missing d s m i)) d.count
 

@@ -15,9 +15,9 @@ code_of d i = (component_of d i).code
 unfoldable pub quantity : Day → ℕ → ℕ
 quantity d i = (component_of d i).quantity
 
--- the flag's columns
+-- the flag's columns, in the day's table
 unfoldable pub column : Day → ℕ → ℕ → Bool
-column d k i = Table.entry (component_of d i).flag k
+column d k i = Table.entry d.table (component_of d i).flag k
 
 abbrev pub moves_stock : Day → ℕ → Bool
 moves_stock d i = column d Table.stock_moves i

@@ -83,7 +83,7 @@ permission_checks d b kind a units =
 unfoldable pub need : Day → ℕ → ℕ → ℕ
 need d m i = m * quantity d i
 
--- the cash of all components, by market: flags 1 and 2 are Shanghai, flags 3 and 4 other
+-- the cash of all components, by market
 unfoldable pub shanghai_cash : Day → (ℕ → ℕ) → ℕ
 shanghai_cash d cash_of = sum_below (λ i. cond (is_shanghai d i) (cash_of i) 0) d.count
 

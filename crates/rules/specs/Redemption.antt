@@ -20,7 +20,7 @@ use Rattle.rules.specs.Records.{side_b, side_s, order_records}
 use Rattle.rules.specs.Reports.{order_reports}
 use Rattle.rules.specs.Lent.{Lent, rooms_in, counts_of, too_short, with_order}
 
--- flags 0 and 1 deliver stock in full
+-- a component that moves stock is delivered in full
 unfoldable pub delivered : Day → ℕ → ℕ → ℕ
 delivered d m i = cond (moves_stock d i) (need d m i) 0
 

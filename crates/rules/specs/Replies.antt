@@ -4,7 +4,7 @@ use Rattle.units.specs.declared.ReferenceValue.{ReferenceValue}
 use Rattle.sequences.specs.Checks.{Reply, reply, is_accepted}
 use Rattle.rules.specs.declared.Refusal.{Refusal}
 use Rattle.rules.specs.declared.Refusal.TheVariants.{Sizes, FundField, Component, Total, UnsoundDay, NoSuchLine, QuantityOrPrice, Account, ShortOfStock, ShortOfCash}
-use Rattle.rules.specs.declared.Refusal.TheVariants.{NotWholeBaskets, Switch, Limit, NoReferenceValue, CashRatio, ListTooShort, FundShort, TextLine, TextField, RecordCount}
+use Rattle.rules.specs.declared.Refusal.TheVariants.{NotWholeBaskets, Switch, Limit, NoReferenceValue, CashRatio, ListTooShort, FundShort, TextLine, TextField, RecordCount, FlagTable}
 use Rattle.rules.specs.declared.Counts.{Counts}
 
 -- a refusal's number and place
@@ -29,6 +29,7 @@ refusal_reply (FundShort place) = reply 17 place 0
 refusal_reply (TextLine place) = reply 18 place 0
 refusal_reply (TextField place) = reply 19 place 0
 refusal_reply RecordCount = reply 20 0 0
+refusal_reply (FlagTable place) = reply 21 place 0
 
 -- the answer of opening, price and trade
 abbrev pub answer_reply : Result ⊤ Refusal → Reply

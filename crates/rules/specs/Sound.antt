@@ -29,7 +29,7 @@ day_totals d b =
 -- the day passes the tests of opening (units: 2 times 10^18)
 unfoldable pub opens : Day → List ℕ → List ℕ → Bool
 opens d b ps =
-    passes (day_checks (day_sizes_fit d.accounts d.count (length b) (length ps)) d.fund d.components d.count (day_totals d b))
+    passes (day_checks (day_sizes_fit d.accounts d.count (length b) (length ps)) d.table d.fund d.components d.count (day_totals d b))
 
 -- the fund's counters are 0, and it has nothing in bought or got
 unfoldable pub fund_still : Day → List ℕ → Bool

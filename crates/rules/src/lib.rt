@@ -38,6 +38,7 @@ pub enum Refusal {
     TextLine(usize),
     TextField(usize),
     RecordCount,
+    FlagTable(usize),
 }
 
 // How many records an order makes, and how many reports for each of its two parties.

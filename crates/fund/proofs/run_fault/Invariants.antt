@@ -8,4 +8,4 @@ use Rattle.fund.proofs.run_fault.Given as goal
 
 abbrev pub invariant-loop-i : goal.invariant-loop-i
 invariant-loop-i l =
-    (first_below (fault_at l.first_code (places_of (component_at l.run) l.count)) l.i ≡ l.i) × (l.previous ≡ code_before (places_of (component_at l.run) l.count) l.i)
+    (first_below (fault_at l.table l.first_code (places_of (component_at l.run) l.count)) l.i ≡ l.i) × (l.previous ≡ code_before (places_of (component_at l.run) l.count) l.i)
