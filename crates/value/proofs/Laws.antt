@@ -12,7 +12,7 @@ use Rattle.sequences.specs.Every.{every}
 use Rattle.sequences.specs.Checks.{reply, answering, answered}
 use Rattle.sequences.proofs.Below.{sum_le, sum_more, any_more, any_here, cond_le}
 use Rattle.units.proofs.Laws.{under}
-use Rattle.flags.specs.Table.{entry, priced}
+use Rattle.flags.specs.Table.{FlagTable, entry, priced}
 use Rattle.layout.specs.declared.Component.{Component}
 use Rattle.fund.proofs.Laws.{fund_sound, components_fine}
 use Rattle.layout.specs.Day.{Day}
@@ -32,38 +32,38 @@ priceable d b ps s =
       size_high = fund.size_high;
       cash = fund.cash;
       countable = λ k h.
-          let c = components_fine d.fund.first_code d.components d.count s.own.components k h in
+          let c = components_fine d.table d.fund.first_code d.components d.count s.own.components k h in
           record { quantity = c.quantity; amount = c.amount; cost = s.prices.prices_most k h };
     }
 
 -- The sum.
 
-worth_small : (c : Component) (price : ℕ) → Countable c price → worth c price ≤ 1_000_000_000_000_000
+worth_small : (t : FlagTable) (c : Component) (price : ℕ) → Countable c price → worth t c price ≤ 1_000_000_000_000_000
 unfolding worth
-worth_small c price r =
+worth_small t c price r =
     let high = under 99_999_999 9_999_999 r.quantity r.cost in
-    cond_le (entry c.flag priced) (le_trans high (lit≤ tt)) (omega (arith, r.amount))
+    cond_le (entry t c.flag priced) (le_trans high (lit≤ tt)) (omega (arith, r.amount))
 
 module _ (d : Day) (ps : List ℕ) where
   -- one component more
-  pub sum_next : (i : ℕ) → sum_below (worth_at d ps) i + worth (component_of d i) (price_of ps i) ≡ sum_below (worth_at d ps) (i + 1)
+  pub sum_next : (i : ℕ) → sum_below (worth_at d ps) i + worth d.table (component_of d i) (price_of ps i) ≡ sum_below (worth_at d ps) (i + 1)
   unfolding worth_at worth column quantity creation_amount
   sum_next i = sym (sum_more (worth_at d ps) i)
 
-  pub priced_next : (i : ℕ) → any_below (lacks_price d ps) i ≡ false → lacks (component_of d i) (price_of ps i) ≡ false → any_below (lacks_price d ps) (i + 1) ≡ false
+  pub priced_next : (i : ℕ) → any_below (lacks_price d ps) i ≡ false → lacks d.table (component_of d i) (price_of ps i) ≡ false → any_below (lacks_price d ps) (i + 1) ≡ false
   unfolding lacks_price lacks column quantity
   priced_next i none here = any_more (lacks_price d ps) i ∙ simp (none, here)
 
   pub sum_small : Priceable d ps → (i : ℕ) → i ≤ d.count → sum_below (worth_at d ps) i ≤ 300_000_000_000_000_000
   unfolding worth_at worth column quantity creation_amount
   sum_small p i h =
-      let each = sum_le (worth_at d ps) i 1_000_000_000_000_000 (λ k l. worth_small (component_of d k) (price_of ps k) (p.countable k (omega arith))) in
+      let each = sum_le (worth_at d ps) i 1_000_000_000_000_000 (λ k l. worth_small d.table (component_of d k) (price_of ps k) (p.countable k (omega arith))) in
       omega (arith, p.count)
 
   -- The answer.
 
   -- where a price is missing there is no value
-  pub unpriced : (i v : ℕ) → i < d.count → lacks (component_of d i) (price_of ps i) ≡ true → reply 14 0 0 ≡ answered (value_checks d ps) v
+  pub unpriced : (i v : ℕ) → i < d.count → lacks d.table (component_of d i) (price_of ps i) ≡ true → reply 14 0 0 ≡ answered (value_checks d ps) v
   unfolding value_checks has_value answering every lacks_price lacks column quantity
   unpriced i v h e = simp (any_here (lacks_price d ps) d.count i h e)
 

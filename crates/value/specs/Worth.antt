@@ -3,7 +3,7 @@ use Rattle.std.specs.Prelude.{◌≡◌, Bool, true, cond, List, [], ◌∷◌, 
 use Rattle.sequences.specs.Every.{every}
 use Rattle.sequences.specs.Checks.{Reply, reply}
 use Rattle.units.specs.Units.{rounded}
-use Rattle.flags.specs.Table.{entry, priced}
+use Rattle.flags.specs.Table.{FlagTable, entry, priced}
 use Rattle.layout.specs.Places.{most_components}
 use Rattle.layout.specs.declared.Component.{Component}
 use Rattle.fund.specs.Fund.{cash_in_range}
@@ -11,13 +11,13 @@ use Rattle.layout.specs.Day.{Day}
 use Rattle.rules.specs.Lines.{component_of, price_of}
 use Rattle.rules.specs.Sound.{most_price}
 
--- what a component adds to the sum
-unfoldable pub worth : Component → ℕ → ℕ
-worth c price = cond (entry c.flag priced) (c.quantity * price) c.amount.0
+-- what a component adds to the sum, by a flag table
+unfoldable pub worth : FlagTable → Component → ℕ → ℕ
+worth t c price = cond (entry t c.flag priced) (c.quantity * price) c.amount.0
 
 -- a priced component with a quantity above 0 has no price
-unfoldable pub lacks : Component → ℕ → Bool
-lacks c price = every (entry c.flag priced ∷ ltb 0 c.quantity ∷ eqb price 0 ∷ [])
+unfoldable pub lacks : FlagTable → Component → ℕ → Bool
+lacks t c price = every (entry t c.flag priced ∷ ltb 0 c.quantity ∷ eqb price 0 ∷ [])
 
 -- the answer from the sum before what the estimated cash takes from it
 unfoldable pub value_from : ℕ → ℕ → ℕ → Reply

@@ -9,6 +9,7 @@ ghost use Rattle.rules.specs.Value.{cash_added, cash_taken, value_checks, refere
 ghost use Rattle.rules.specs.Replies.{value_answer_reply};
 ghost use Rattle.value.specs.Worth.{worth, lacks, value_from, Countable, Priceable};
 
+use flags::{Column, Table};
 use layout::{Component, DayView};
 use rules::Refusal;
 use units::{Money, ReferenceValue};
@@ -21,11 +22,11 @@ const MOST_VALUE: ReferenceValue = ReferenceValue(9_999_999);
 
 // What a component adds to the sum.
 #[tactic(auto, unfolding(crate::specs::Worth::worth))]
-fn worth_of(c: Component, price: u64) -> Money
+fn worth_of(table: &Table, c: Component, price: u64) -> Money
     requires { Countable c price }
-    ensures { result.0 ≡ worth c price }
+    ensures { result.0 ≡ worth table.now c price }
 {
-    if flags::entry_of(c.flag, flags::Column::Priced) {
+    if flags::entry_of(table, c.flag, Column::Priced) {
         return Money(c.quantity * price);
     }
     c.amount
@@ -33,10 +34,10 @@ fn worth_of(c: Component, price: u64) -> Money
 
 // Whether a component that is counted by its price has none.
 #[tactic(auto, unfolding(crate::specs::Worth::lacks, sequences::specs::Every::every))]
-fn lacks_price(c: Component, price: u64) -> bool
-    ensures { result ≡ lacks c price }
+fn lacks_price(table: &Table, c: Component, price: u64) -> bool
+    ensures { result ≡ lacks table.now c price }
 {
-    flags::entry_of(c.flag, flags::Column::Priced) && c.quantity != 0 && price == 0
+    flags::entry_of(table, c.flag, Column::Priced) && c.quantity != 0 && price == 0
 }
 
 // The sum of the components with the estimated cash, which is signed. None where it falls below zero.
@@ -78,13 +79,14 @@ pub fn reference_value(day: &DayView, prices: &[u64]) -> Result<ReferenceValue, 
     requires { Priceable day.now prices.now }
     ensures { value_answer_reply result ≡ answered (value_checks day.now prices.now) (reference_value day.now prices.now) }
 {
+    let table = day.table();
     let mut sum = Money(0);
     for (i, price) in prices.iter().enumerate() {
         let component = day.component(i);
-        if lacks_price(component, *price) {
+        if lacks_price(table, component, *price) {
             return Err(Refusal::NoReferenceValue);
         }
-        sum = sum + worth_of(component, *price);
+        sum = sum + worth_of(table, component, *price);
     }
     let fund = day.fund();
     value_with(sum, fund.estimated_cash, fund.basket_size)
