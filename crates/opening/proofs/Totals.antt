@@ -73,29 +73,6 @@ below_on : (f : ℕ → Bool) (n : ℕ) → option_or (below n (first_below f n)
 unfolding first_below
 below_on f n = rw (add-one, first_below) (go_on n (first_below f n) _ (f n) refl)
 
--- what a search of a list finds
-pub position_below : (test : ℕ → Bool) (xs : List ℕ) → below (length xs) (position_or_len test xs) ≡ below (length xs) (first_below (λ k. test (get_or xs k 0)) (length xs))
-position_below test xs =
-    ap (below (length xs)) (sym (⊎_elim
-    (λ e. first_end f (length xs) (rw e at before) ∙ sym e)
-    (λ l. first_here f (length xs) m l (first_end f m before) (stops l))
-    (eq-or-lt_of_le (prefix_len-le-length p xs))))
-  where
-    f : ℕ → Bool
-    f k = test (get_or xs k 0)
-
-    p : ℕ → Bool
-    p x = not (test x)
-
-    m : ℕ
-    m = position_or_len test xs
-
-    before : (k : ℕ) → k < m → f k ≡ false
-    before k h = not-true _ (prefix_len_passes p xs k 0 h)
-
-    stops : m < length xs → f m ≡ true
-    stops l = not-false _ (prefix_len_stops p xs 0 l)
-
 -- the lines, then the unit and cash
 module _ (n : ℕ) (t : List ℕ) (units : ℕ) where
   abbrev pub is_over : ℕ → Bool

@@ -10,13 +10,23 @@ use Rattle.rules.specs.Replies.{answer_reply}
 use Rattle.rules.specs.Opening.{Opening, cash_opened, held_opened, most_of_line, DayTotals, opening_reply, opened_day, opened_run, opened_book, opened_prices}
 
 -- opening's arguments as one
-abbrev pub given : ℕ → ℕ → Fund → List ℕ → List ℕ → List ℕ → List ℕ → List ℕ → Opening
-given accounts count fund components holdings book prices day =
-    record { accounts = accounts; count = count; fund = fund; components = components; holdings = holdings; book = book; prices = prices; day = day }
+abbrev pub given : ℕ → ℕ → Fund → List ℕ → List ℕ → List ℕ → List ℕ → List ℕ → List ℕ → Opening
+given accounts count fund table components holdings book prices day =
+    record {
+      accounts = accounts;
+      count = count;
+      fund = fund;
+      table = table;
+      components = components;
+      holdings = holdings;
+      book = book;
+      prices = prices;
+      day = day;
+    }
 
 -- the same of the code's
 abbrev pub given_in : Given → List ℕ → List ℕ → List ℕ → Opening
-given_in g = given g.head.accounts g.head.count g.head.fund g.components.now g.holdings.now
+given_in g = given g.head.accounts g.head.count g.head.fund g.table.now g.components.now g.holdings.now
 
 -- opening's answer, and what it leaves of the book, the prices and the day
 pub record Outcome (o : Opening) (answer : Result ⊤ Refusal) (book prices day : List ℕ) : Type 0 where

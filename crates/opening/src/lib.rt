@@ -1,4 +1,4 @@
-// Opening: its tests, refusals 1 to 4, and the book, prices and day that an accepted opening leaves.
+// Opening: its tests, refusals 1, 21 and 2 to 4, and the book, prices and day that an accepted opening leaves.
 #![tactic(auto)]
 
 ghost use Rattle.std.specs.Prelude.{◌≡◌, ◌+◌, ◌-◌, ◌*◌, ◌≤◌, length, nat_lt, slice_index};
@@ -16,10 +16,13 @@ use lots::Lots;
 use rules::Refusal;
 use totals::Rows;
 
-// What an opening is given: the head (A, N and the fund), the components, and for each account its cash and its holding of each line.
+// What an opening is given: the head (A, N and the fund), the numbers of the flag table, the components, and for each account its cash and
+// its holding of each line.
 #[derive(Drop)]
 pub struct Given<'a> {
     pub head: DayHead,
+    // A run, as the day holds it and as it crosses from C.
+    pub table: &'a [u64],
     pub components: &'a [u64],
     pub holdings: &'a [u64],
 }
@@ -69,28 +72,33 @@ fn total_fault(holdings: &[u64], accounts: usize, count: usize) -> Option<usize>
 // Refusal 1's test. The ranges come first, so that no product is too large.
 #[tactic(auto, using(std::proofs::lemmas::Bool::Decides::nat_tests), unfolding(rules::specs::Opening::lent_sizes_fit, rules::specs::Opening::day_sizes_fit, sequences::specs::Every::every, sequences::specs::Every::inside))]
 fn sizes_fit(given: &Given, book: usize, prices: usize, day: usize) -> bool
-    ensures { result ≡ lent_sizes_fit given.now.head.accounts given.now.head.count (length given.now.components.now) (length given.now.holdings.now) book prices day }
+    ensures { result ≡ lent_sizes_fit given.now.head.accounts given.now.head.count (length given.now.table.now) (length given.now.components.now) (length given.now.holdings.now) book prices day }
 {
     let head = given.head;
     sound::sizes_fit(head.accounts, head.count, book, prices)
+        && given.table.len() == flags::TABLE_WIDTH
         && given.components.len() == layout::COMPONENT_WIDTH * head.count
         && given.holdings.len() == head.accounts * (head.count + 2)
         && day == layout::DAY_WIDTH
 }
 
 // The answer, which changes nothing.
-#[tactic(auto, using(crate::proofs::Sizes::lent_facts, crate::proofs::Answer::answer_sizes, crate::proofs::Answer::answer_fund, crate::proofs::Answer::answer_component, crate::proofs::Answer::answer_total, crate::proofs::Answer::answer_done), unfolding(rules::specs::Opening::components_opened))]
+#[tactic(auto, using(crate::proofs::Sizes::lent_facts, crate::proofs::Answer::answer_sizes, crate::proofs::Answer::answer_table, crate::proofs::Answer::answer_fund, crate::proofs::Answer::answer_component, crate::proofs::Answer::answer_total, crate::proofs::Answer::answer_done), unfolding(rules::specs::Opening::components_opened))]
 fn opening_answer(given: &Given, book: &[u64], prices: &[u64], day: &[u64]) -> Result<(), Refusal>
     ensures { answer_reply result ≡ opening_reply (given_in given.now book.now prices.now day.now) }
 {
     if !sizes_fit(given, book.len(), prices.len(), day.len()) {
         return Err(Refusal::Sizes);
     }
+    let table = flags::table_at(given.table);
+    if let Some(flag) = flags::table_fault(table) {
+        return Err(Refusal::FlagTable(flag));
+    }
     let head = given.head;
     if !fund::fund_in_range(head.fund) {
         return Err(Refusal::FundField);
     }
-    if let Some(place) = fund::run_fault(head.fund.first_code, given.components, head.count) {
+    if let Some(place) = fund::run_fault(table, head.fund.first_code, given.components, head.count) {
         return Err(Refusal::Component(place));
     }
     if let Some(place) = total_fault(given.holdings, head.accounts, head.count) {
@@ -153,6 +161,6 @@ pub fn open(
     opening_answer(&given, book, prices, day)?;
     open_book(book, given.holdings, given.head.accounts, given.head.count);
     prices.fill(0);
-    layout::put_day(day, given.head, given.components);
+    layout::put_day(day, given.head, given.table, given.components);
     Ok(())
 }

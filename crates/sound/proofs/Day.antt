@@ -1,6 +1,6 @@
 -- A sound day by the tests that the code makes: the totals over accounts are those of the book's places, and the fund's stretch is the book's first.
 use mathlib.Core.Path.{◌≡◌, refl, sym, ap, ◌∙◌}
-use mathlib.Core.Bool.{true, false, true≢false}
+use mathlib.Core.Bool.{Bool, true, false, not, true≢false}
 use mathlib.Core.List.{List, [], ◌∷◌}
 use Prim.Native.Nat.{ℕ, zero, suc, ◌+◌, ◌-◌, ◌≤◌, ◌<◌}
 use native.Mathlib.Nat.{zero-mul, zero-add, le_antisymm, le_of_eq}
@@ -11,7 +11,7 @@ use lib.ListN.{length, get_or}
 use borrow.Author.Tests.{le-leb, leb-true}
 use Rattle.std.specs.Prelude.{Option, Some, None, is_none}
 use Rattle.sequences.specs.Every.{every}
-use Rattle.sequences.specs.Below.{sum_below, all_below, below}
+use Rattle.sequences.specs.Below.{sum_below, all_below, below, first_below}
 use Rattle.sequences.specs.Stretch.{over}
 use Rattle.sequences.proofs.Below.{first_same, first-le, sum_same, all_at, all_true, below-none, below_none_fact}
 use Rattle.sequences.proofs.Every.{every_none, every_more, every_at, false_of, same_test}
@@ -21,6 +21,7 @@ use Rattle.layout.specs.Places.{most_components}
 use Rattle.layout.specs.declared.Component.{Component}
 use Rattle.layout.specs.Components.{blank, places_of, component_at}
 use Rattle.layout.specs.declared.Fund.{Fund}
+use Rattle.flags.specs.Table.{FlagTable, flag_count, row_of, row_fits, table_fault}
 use Rattle.fund.specs.Components.{code_before, fault_at, component_fault}
 use Rattle.layout.proofs.Components.{places_at}
 use Rattle.layout.specs.Day.{Day}
@@ -33,14 +34,15 @@ use Rattle.sound.specs.Parts.{most_of, line_of, price_fits, room_left, stretch_s
 use Rattle.sound.proofs.Limits.{Fits, Still, still_true, still_facts, fits_true, fits_facts, most_line_lem, most_unit, line-true, line_facts, line_still_lem, still_line}
 
 -- the search for a fault in a day's places looks at the first n only
-pub fault_places : (g : ℕ) (f : ℕ → Component) (n : ℕ) → n ≤ most_components → component_fault g (places_of f n) n ≡ component_fault g (places_of f most_components) n
+pub fault_places : (t : FlagTable) (g : ℕ) (f : ℕ → Component) (n : ℕ) → n ≤ most_components
+    → component_fault t g (places_of f n) n ≡ component_fault t g (places_of f most_components) n
 unfolding component_fault fault_at code_before
-fault_places g f n most = first_same _ _ n agree
+fault_places t g f n most = first_same _ _ n agree
   where
     same : (k : ℕ) → k < n → get_or (places_of f n) k blank ≡ get_or (places_of f most_components) k blank
     same k h = places_at f n k h most ∙ sym (places_at f most_components k (omega arith) (omega arith))
 
-    agree : (k : ℕ) → k < n → fault_at g (places_of f n) k ≡ fault_at g (places_of f most_components) k
+    agree : (k : ℕ) → k < n → fault_at t g (places_of f n) k ≡ fault_at t g (places_of f most_components) k
     agree zero h = rw (same zero h)
     agree (suc k) h = rw (same (suc k) h, same k (omega arith))
 
@@ -49,9 +51,17 @@ none_is : (r : Option ℕ) → is_none r ≡ true → None ≡ r
 none_is (Some k) e = absurd (true≢false (sym e))
 none_is None e = refl
 
-no_fault : (g : ℕ) (cs : List Component) (n : ℕ) → None ≡ below n (component_fault g cs n) → component_fault g cs n ≡ n
+no_place : (f : ℕ → Bool) (n : ℕ) → is_none (below n (first_below f n)) ≡ true → first_below f n ≡ n
+no_place f n e = le_antisymm (first-le f n) (below_none_fact n _ (none_is _ e))
+
+-- the same of the searches of a table and of components
+no_flag : (t : FlagTable) → is_none (below flag_count (table_fault t)) ≡ true → table_fault t ≡ flag_count
+unfolding table_fault
+no_flag t e = no_place (λ flag. not (row_fits (row_of t flag))) flag_count e
+
+no_fault : (t : FlagTable) (g : ℕ) (cs : List Component) (n : ℕ) → is_none (below n (component_fault t g cs n)) ≡ true → component_fault t g cs n ≡ n
 unfolding component_fault
-no_fault g cs n e = le_antisymm (first-le (fault_at g cs) n) (below_none_fact n _ e)
+no_fault t g cs n e = no_place (fault_at t g cs) n e
 
 -- a sum of three
 sum_three : (f g h : ℕ → ℕ) (n : ℕ) → sum_below (λ k. f k + g k + h k) n ≡ sum_below f n + sum_below g n + sum_below h n
@@ -111,14 +121,15 @@ module _ {d : Day} {b ps : List ℕ} (s : SoundDay d b ps) where
 
 -- the other way round
 pub day_sound : {d : Day} {b ps : List ℕ} → DaySizes d.accounts d.count (length b) (length ps)
+    → table_fault d.table ≡ flag_count
     → fund_in_range d.fund ≡ true
-    → component_fault d.fund.first_code d.components d.count ≡ d.count
+    → component_fault d.table d.fund.first_code d.components d.count ≡ d.count
     → all_below (price_fits ps) d.count ≡ true
     → Still d.count b
     → Fits d.count (totals d b)
     → SoundDay d b ps
 unfolding head_at lots_at price_fits
-day_sound {d} {b} {ps} sizes fund components prices still fits =
+day_sound {d} {b} {ps} sizes loads fund components prices still fits =
     record {
       own =
           record {
@@ -126,6 +137,7 @@ day_sound {d} {b} {ps} sizes fund components prices still fits =
             accounts_high = sizes.accounts_high;
             count_low = sizes.count_low;
             count_high = sizes.count_high;
+            loads = loads;
             fund_fields = fund;
             components = components;
           };
@@ -160,25 +172,29 @@ module _ (d : Day) (b ps : List ℕ) where
   room_same = rw (line_total_lem d b d.count (omega arith), head_total_lem d b created (omega arith))
 
 -- the tests decide, in the order in which the code makes them
-module _ (d : Day) (b ps basket : List ℕ) {f : Fund} {accounts n : ℕ}
-    (a : accounts ≡ d.accounts) (e : n ≡ d.count) (g : f ≡ d.fund) (c : places_of (component_at basket) most_components ≡ d.components) where
+module _ (d : Day) (b ps basket : List ℕ) {t : FlagTable} {f : Fund} {accounts n : ℕ}
+    (r : t ≡ d.table) (a : accounts ≡ d.accounts) (e : n ≡ d.count) (g : f ≡ d.fund) (c : places_of (component_at basket) most_components ≡ d.components) where
   abbrev fault : ℕ
-  fault = component_fault f.first_code (places_of (component_at basket) n) n
+  fault = component_fault t f.first_code (places_of (component_at basket) n) n
 
   -- the search in the basket is the search in the day's components
-  fault_same : n ≤ most_components → fault ≡ component_fault d.fund.first_code d.components d.count
-  fault_same most = fault_places f.first_code (component_at basket) n most ∙ rw (c, e, g)
+  fault_same : n ≤ most_components → fault ≡ component_fault d.table d.fund.first_code d.components d.count
+  fault_same most = fault_places t f.first_code (component_at basket) n most ∙ rw (r, c, e, g)
 
-  none_true : n ≤ most_components → component_fault d.fund.first_code d.components d.count ≡ d.count → is_none (below n fault) ≡ true
+  none_true : n ≤ most_components → component_fault d.table d.fund.first_code d.components d.count ≡ d.count → is_none (below n fault) ≡ true
   none_true most q = ap is_none (below-none n fault (le_of_eq (e ∙ sym (fault_same most ∙ q))))
 
-  none_fact : n ≤ most_components → is_none (below n fault) ≡ true → component_fault d.fund.first_code d.components d.count ≡ d.count
-  none_fact most q = sym (fault_same most) ∙ no_fault f.first_code (places_of (component_at basket) n) n (none_is _ q) ∙ e
+  none_fact : n ≤ most_components → is_none (below n fault) ≡ true → component_fault d.table d.fund.first_code d.components d.count ≡ d.count
+  none_fact most q = sym (fault_same most) ∙ no_fault t f.first_code (places_of (component_at basket) n) n q ∙ e
+
+  loads_true : table_fault d.table ≡ flag_count → is_none (below flag_count (table_fault t)) ≡ true
+  loads_true q = ap is_none (below-none flag_count (table_fault t) (rw r (le_of_eq (sym q))))
 
   pub sound_tests :
       is_sound d b ps ≡
       every
       (day_sizes_fit accounts n (length b) (length ps)
+      ∷ is_none (below flag_count (table_fault t))
       ∷ fund_in_range f
       ∷ is_none (below n fault)
       ∷ all_below (price_fits ps) (length ps)
@@ -187,23 +203,24 @@ module _ (d : Day) (b ps basket : List ℕ) {f : Fund} {accounts n : ℕ}
       ∷ [])
   sound_tests =
       same_test _ _
-      (λ t.
-      let s = sound_facts d b ps t in
+      (λ q.
+      let s = sound_facts d b ps q in
       let own = sound_sizes s in
       let fit : DaySizes accounts n (length b) (length ps) = rw (a, e) own in
       every_more _ _ (sizes_true _ _ _ _ fit)
+      (every_more _ _ (loads_true s.own.loads)
       (every_more _ _ (rw g s.own.fund_fields)
       (every_more _ _ (none_true fit.count_high s.own.components)
       (every_more _ _ (rw own.prices_size (day_prices s))
       (every_more _ _ (rw e (still_true _ _ (day_still s)))
-      (every_more _ _ (rw (a, e) (fits_true _ _ (day_fits s))) every_none))))))
-      (λ t.
-      let at = every_at _ t in
+      (every_more _ _ (rw (a, e) (fits_true _ _ (day_fits s))) every_none)))))))
+      (λ q.
+      let at = every_at _ q in
       let fit = sizes_facts _ _ _ _ (at 0) in
       let own : DaySizes d.accounts d.count (length b) (length ps) = rw (a, e) at fit in
       sound-true d b ps
-      (day_sound own (rw g at (at 1)) (none_fact fit.count_high (at 2)) (rw own.prices_size at (at 3)) (still_facts d.count b (rw e at (at 4)))
-      (fits_facts d.count (totals d b) (rw (a, e) at (at 5)))))
+      (day_sound own (rw r at (no_flag t (at 1))) (rw g at (at 2)) (none_fact fit.count_high (at 3)) (rw own.prices_size at (at 4)) (still_facts d.count b (rw e at (at 5)))
+      (fits_facts d.count (totals d b) (rw (a, e) at (at 6)))))
 
 -- a sound day is kept where there is room, and no other is
 pub kept_room : {d : Day} {b ps : List ℕ} → SoundDay d b ps → room_left d.count (totals d b) ≡ is_kept d b ps

@@ -127,11 +127,13 @@ pub fn is_sound(day: &DayView, book: &[u64], prices: &[u64]) -> bool
 {
     let accounts = day.accounts();
     let n = day.count();
+    let table = day.table();
     let fund = day.fund();
     let basket = day.basket();
     sizes_fit(accounts, n, book.len(), prices.len())
+        && flags::table_fault(table).is_none()
         && fund::fund_in_range(fund)
-        && fund::run_fault(fund.first_code, basket, n).is_none()
+        && fund::run_fault(table, fund.first_code, basket, n).is_none()
         && prices_fit(prices)
         && fund_still(book, n)
         && book_fits(&rows_of(book, accounts, n), n)

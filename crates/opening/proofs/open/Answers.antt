@@ -28,7 +28,7 @@ open_book-requires c =
 pub put_day-requires : goal.put_day-requires
 put_day-requires c =
     let s = done_sizes (opening (goal.at.put_day-requires c).Start) c.in_ok-opening_answer.ensures in
-    record { day_len = s.day_size; components_len_bound = omega (arith, s.components_size, s.own.count_high) }
+    record { day_len = s.day_size; table_len = s.table_size; components_len_bound = omega (arith, s.components_size, s.own.count_high) }
 
 pub returns : goal.returns
 returns c =

@@ -10,7 +10,7 @@ unfolding every
 returns-then-fund_still c =
     let a = c.args in
     let basket = c.basket-basket in
-    let tests = sound_tests a.day.now a.book.now a.prices.now basket.result.now c.accounts-accounts.ensures c.count-n.ensures c.fund-fund.ensures basket.ensures.components in
+    let tests = sound_tests a.day.now a.book.now a.prices.now basket.result.now c.table-table.ensures c.accounts-accounts.ensures c.count-n.ensures c.fund-fund.ensures basket.ensures.components in
     rw tests (grind (arith, common_steps))
 
 pub returns-else-fund_still : goal.returns-else-fund_still
@@ -18,5 +18,5 @@ unfolding every
 returns-else-fund_still c =
     let a = c.args in
     let basket = c.basket-basket in
-    let tests = sound_tests a.day.now a.book.now a.prices.now basket.result.now c.accounts-accounts.ensures c.count-n.ensures c.fund-fund.ensures basket.ensures.components in
+    let tests = sound_tests a.day.now a.book.now a.prices.now basket.result.now c.table-table.ensures c.accounts-accounts.ensures c.count-n.ensures c.fund-fund.ensures basket.ensures.components in
     rw tests (grind (arith, common_steps))
