@@ -125,10 +125,11 @@ pub record Stays (d d' : Day) : Type 0 where
   pub accounts : d'.accounts ≡ d.accounts
   pub count : d'.count ≡ d.count
   pub fund : d'.fund ≡ d.fund
+  pub table : d'.table ≡ d.table
   pub components : d'.components ≡ d.components
 
 pub stays_same : {d : Day} → Stays d d
-stays_same = record { accounts = refl; count = refl; fund = refl; components = refl }
+stays_same = record { accounts = refl; count = refl; fund = refl; table = refl; components = refl }
 
 pub stays_then : {d d' d'' : Day} → Stays d d' → Stays d' d'' → Stays d d''
 stays_then k j =
@@ -136,6 +137,7 @@ stays_then k j =
       accounts = j.accounts ∙ k.accounts;
       count = j.count ∙ k.count;
       fund = j.fund ∙ k.fund;
+      table = j.table ∙ k.table;
       components = j.components ∙ k.components;
     }
 

@@ -28,7 +28,7 @@ use Rattle.balance.proofs.Relation.{KeptState}
 use Rattle.balance.proofs.Steps.{step_keeps}
 
 -- the lists with an order written, whatever stood in them before
-module _ (d : Day) (sound : component_fault d.fund.first_code d.components d.count ≡ d.count) (stock rest units : ℕ) (moved : ℕ → ℕ) (other shanghai : ℕ)
+module _ (d : Day) (sound : component_fault d.table d.fund.first_code d.components d.count ≡ d.count) (stock rest units : ℕ) (moved : ℕ → ℕ) (other shanghai : ℕ)
     (after : State) (lent : Lent) where
   abbrev reports : List Report
   reports = order_reports d stock rest units moved other shanghai

@@ -31,7 +31,7 @@ use Rattle.balance.proofs.ReportedCash.{cash_sum}
 abbrev one : Bool → ℕ
 one b = cond b 1 0
 
-module _ (d : Day) (sound : component_fault d.fund.first_code d.components d.count ≡ d.count) (stock rest units : ℕ) (moved : ℕ → ℕ) (other shanghai : ℕ) where
+module _ (d : Day) (sound : component_fault d.table d.fund.first_code d.components d.count ≡ d.count) (stock rest units : ℕ) (moved : ℕ → ℕ) (other shanghai : ℕ) where
   abbrev g : ℕ
   g = d.fund.first_code
 
@@ -98,7 +98,7 @@ module _ (d : Day) (sound : component_fault d.fund.first_code d.components d.cou
 
   line_outside : (i : ℕ) → i < d.count → Each Outside (stock_record d stock moved i)
   unfolding stock_record Each code_of Outside
-  line_outside i h = cond_both (ltb 0 (moved i)) _ [] (Each Outside) (λ _. ((components_fine _ _ _ sound i h).outside, tt)) (λ _. tt)
+  line_outside i h = cond_both (ltb 0 (moved i)) _ [] (Each Outside) (λ _. ((components_fine _ _ _ _ sound i h).outside, tt)) (λ _. tt)
 
   below_outside : (n : ℕ) → n ≤ d.count → Each Outside (join_below (stock_record d stock moved) n)
   unfolding join_below Each

@@ -12,6 +12,7 @@ use Rattle.lots.specs.declared.Lots.{Lots}
 use Rattle.lots.proofs.Laws.{lots}
 use Rattle.layout.specs.declared.Fund.{Fund}
 use Rattle.layout.specs.declared.Component.{Component}
+use Rattle.flags.specs.Table.{table_of}
 use Rattle.fund.specs.Fund.{limit_of, cumulative_limit, cumulative_limit_each, net_limit, net_limit_each}
 use Rattle.layout.specs.Components.{blank}
 use Rattle.layout.specs.Day.{Day}
@@ -63,6 +64,9 @@ module _ (o : Opening) (accepted : is_accepted (opening_reply o) ≡ true) where
 
   fund_is : (opened_day o).fund ≡ o.fund
   fund_is = ap (λ (d : Day). d.fund) (opened_day_lem o accepted)
+
+  table_is : (opened_day o).table ≡ table_of o.table
+  table_is = ap (λ (d : Day). d.table) (opened_day_lem o accepted)
 
   account_is : (a : ℕ) → a < (opened_day o).accounts → account (opened_day o) (opened_book o) a ≡ opened_stretch o.count (holdings_of o a)
   account_is a h = ap (λ (n : ℕ). stretch_of (width_of n) (opened_book o) a) count_is ∙ opened_account o accepted a (rw accounts_is at h)
@@ -156,6 +160,7 @@ module _ (o : Opening) (accepted : is_accepted (opening_reply o) ≡ true) where
           accounts = accounts_kept;
           count = count_kept;
           fund = fund_kept;
+          table = keeps.stays.table ∙ table_is;
           components = λ i l. ap (λ (cs : List Component). get_or cs i blank) keeps.stays.components ∙ opened_component o accepted i l;
           stock = λ l i. keeps.stock l (omega (arith, count_is)) ∙ opened_line o accepted l (omega arith);
           money = keeps.money ∙ opened_money o accepted;

@@ -1,5 +1,6 @@
 -- Demand 3: one statement on a whole list of calls from an accepted opening.
 use Rattle.std.specs.Prelude.{ℕ, ◌+◌, ◌-◌, ◌≤◌, ◌<◌, ◌≡◌, List}
+use Rattle.flags.specs.Table.{table_of}
 use Rattle.fund.specs.Fund.{limit_of, cumulative_limit, cumulative_limit_each, net_limit, net_limit_each}
 use Rattle.layout.specs.Components.{component_at}
 use Rattle.layout.specs.Book.{cash, head_total, line_total}
@@ -25,10 +26,11 @@ pub record Balanced (o : Opening) (es : List Event) (t : State) : Type 0 where
   pub defined : Happened (opened o) es t
   -- the reports of every accepted order tell both parties its records' cash and stock
   pub reported : AllReported o.fund.first_code es
-  -- A, the fund's fields and the components are those of the opening
+  -- A, the fund's fields, the flag table and the components are those of the opening
   pub accounts : t.day.accounts ≡ o.accounts
   pub count : t.day.count ≡ o.count
   pub fund : t.day.fund ≡ o.fund
+  pub table : t.day.table ≡ table_of o.table
   pub components : (i : ℕ) → i < o.count → component_of t.day i ≡ component_at o.components i
   -- stock and cash keep their totals, and units follow creations and redemptions
   pub stock : (l : ℕ) → l < o.count → line_total t.day t.book l ≡ opened_total o l
