@@ -6,25 +6,26 @@ use Rattle.sequences.specs.Below.{sum_below}
 use Rattle.layout.specs.declared.Component.{Component}
 use Rattle.layout.specs.declared.Fund.{Fund}
 use Rattle.layout.specs.Day.{Day}
-use Rattle.flags.specs.Table.{shanghai}
+use Rattle.flags.specs.Table.{FlagTable, shanghai}
 use Rattle.rules.specs.Lines.{code_of, quantity, column}
 use Rattle.rules.specs.Records.{stock_record, order_records}
 use Rattle.rules.specs.Reports.{stock_report, order_reports}
 use Rattle.rules.specs.Orders.{need, shanghai_cash, other_cash}
 
--- two days with one head
+-- two days with one head and one flag table
 pub record DayPair : Type 0 where
   pub accounts : ℕ
   pub count : ℕ
   pub fund : Fund
+  pub table : FlagTable
   pub components : List Component
   pub others : List Component
 
 abbrev pub one : DayPair → Day
-one t = record { accounts = t.accounts; count = t.count; fund = t.fund; components = t.components }
+one t = record { accounts = t.accounts; count = t.count; fund = t.fund; table = t.table; components = t.components }
 
 abbrev pub other : DayPair → Day
-other t = record { accounts = t.accounts; count = t.count; fund = t.fund; components = t.others }
+other t = record { accounts = t.accounts; count = t.count; fund = t.fund; table = t.table; components = t.others }
 
 -- codes, quantities and flags are the same
 pub record Shared (t : DayPair) : Type 0 where

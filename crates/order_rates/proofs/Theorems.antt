@@ -15,9 +15,9 @@ use Rattle.order_rates.proofs.Shared.{DayPair, other, Shared}
 use Rattle.order_rates.proofs.Creation as creation
 use Rattle.order_rates.proofs.Redemption as redemption
 
--- the day d, and the day e with the head of d
+-- the day d, and the day e with the head and the table of d
 abbrev pair_of : Day → Day → DayPair
-pair_of d e = record { accounts = d.accounts; count = d.count; fund = d.fund; components = d.components; others = e.components }
+pair_of d e = record { accounts = d.accounts; count = d.count; fund = d.fund; table = d.table; components = d.components; others = e.components }
 
 -- a change of components that keeps code, quantity and flag
 abbrev Keeping : (Component → Component → Component) → Type 0
@@ -25,7 +25,7 @@ Keeping changed = (x c : Component) → ((changed x c).code ≡ c.code) × ((cha
 
 module _ (changed : Component → Component → Component) (d e : Day) (s : SameBut changed d e) where
   head_same : other (pair_of d e) ≡ e
-  head_same = λ i. record { accounts = s.accounts i; count = s.count i; fund = s.fund i; components = e.components }
+  head_same = λ i. record { accounts = s.accounts i; count = s.count i; fund = s.fund i; table = s.table i; components = e.components }
 
   sound_other : (b ps : List ℕ) → is_sound e b ps ≡ true → is_sound (other (pair_of d e)) b ps ≡ true
   sound_other b ps h = ap (λ (x : Day). is_sound x b ps) head_same ∙ h
@@ -36,7 +36,7 @@ module _ (changed : Component → Component → Component) (d e : Day) (s : Same
       record {
         codes = λ i. sym (keeps _ _).0 ∙ ap (λ (c : Component). c.code) (s.components i);
         quantities = λ i. sym (keeps _ _).1 ∙ ap (λ (c : Component). c.quantity) (s.components i);
-        columns = λ k i. ap (λ (flag : ℕ). entry flag k) (sym (keeps _ _).2 ∙ ap (λ (c : Component). c.flag) (s.components i));
+        columns = λ k i. ap (λ (flag : ℕ). entry d.table flag k) (sym (keeps _ _).2 ∙ ap (λ (c : Component). c.flag) (s.components i));
       }
 
   -- what holds of d and of that day holds of d and e

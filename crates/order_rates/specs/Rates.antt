@@ -20,6 +20,7 @@ pub record SameBut (changed : Component → Component → Component) (d e : Day)
   pub accounts : d.accounts ≡ e.accounts
   pub count : d.count ≡ e.count
   pub fund : d.fund ≡ e.fund
+  pub table : d.table ≡ e.table
   pub components : (i : ℕ) → changed (component_of e i) (component_of d i) ≡ component_of e i
 
 abbrev pub state : Day → List ℕ → List ℕ → State
