@@ -1,10 +1,9 @@
 -- What callers need of a flag table: that ours obeys its rules, and what the rules say of the columns of any that does.
-use mathlib.Core.Path.{◌≡◌, refl, sym, ap, ◌∙◌}
-use mathlib.Core.Bool.{Bool, true, false, not, ◌||◌, ◌&&◌, cond, false≢true}
+use mathlib.Core.Path.{◌≡◌, refl, sym, ◌∙◌}
+use mathlib.Core.Bool.{Bool, true, false, not, ◌||◌, ◌&&◌, false≢true}
 use mathlib.Core.List.{List, [], ◌∷◌}
 use Prim.Native.Nat.{ℕ, ◌<◌}
 use native.Mathlib.Omega.{arith}
-use lib.ListN.{get_or}
 use borrow.Author.Tests.{lt-ltb, ltb-true, not-false, not-true}
 use Rattle.sequences.specs.Below.{all_below, first_below}
 use Rattle.sequences.specs.Every.{every}
