@@ -6,6 +6,7 @@
 #![tactic(auto)]
 
 ghost use Rattle.std.specs.Prelude.{◌≡◌};
+ghost use Rattle.flags.specs.Table.{table_numbers, flag_table};
 ghost use Rattle.layout.specs.Day.{day_at};
 ghost use Rattle.rules.specs.Lent.{rooms_in};
 ghost use Rattle.rules.specs.Lists.{lent_in, left_in};
@@ -17,12 +18,14 @@ ghost use Rattle.rules.specs.Creation.{creation_reply, created_book, created_lis
 ghost use Rattle.rules.specs.Redemption.{redemption_reply, redeemed_book, redeemed_lists};
 ghost use Rattle.opening.specs.Given.{given, Outcome};
 
+use flags::Table;
 use layout::{DayHead, Fund};
 use opening::Given;
 use rules::{Counts, Kind, Lists, Refusal, Rooms, Trade};
 use units::ReferenceValue;
 
-// Opens a day: the book, the prices and the day are filled.
+// Opens a day under our flag table: the book, the prices and the day are filled.
+#[tactic(auto, unfolding(flags::specs::Table::flag_table))]
 pub fn open(
     accounts: usize,
     count: usize,
@@ -33,7 +36,34 @@ pub fn open(
     prices: &mut [u64],
     day: &mut [u64],
 ) -> Result<(), Refusal>
-    ensures { Outcome (given accounts count fund components.now holdings.now book.old prices.old day.old) result book.new prices.new day.new }
+    ensures { Outcome (given accounts count fund (table_numbers flag_table) components.now holdings.now book.old prices.old day.old) result book.new prices.new day.new }
+{
+    open_with_table(
+        accounts,
+        count,
+        fund,
+        &flags::TABLE,
+        components,
+        holdings,
+        book,
+        prices,
+        day,
+    )
+}
+
+// Opens a day under a flag table of the fund's manager.
+pub fn open_with_table(
+    accounts: usize,
+    count: usize,
+    fund: Fund,
+    table: &Table,
+    components: &[u64],
+    holdings: &[u64],
+    book: &mut [u64],
+    prices: &mut [u64],
+    day: &mut [u64],
+) -> Result<(), Refusal>
+    ensures { Outcome (given accounts count fund (table_numbers table.now) components.now holdings.now book.old prices.old day.old) result book.new prices.new day.new }
 {
     let head = DayHead {
         accounts,
@@ -42,6 +72,7 @@ pub fn open(
     };
     let given = Given {
         head,
+        table: table.as_flattened(),
         components,
         holdings,
     };

@@ -1,6 +1,7 @@
 -- Number fields of the list text: how a number is written, and how one that is written is read.
 use Rattle.std.specs.Prelude.{ℕ, zero, suc, ◌+◌, ◌-◌, ◌*◌, ◌/◌, ◌%◌, ◌^◌, Bool, true, false, cond, not, ◌&&◌, List, [], ◌∷◌, ◌++◌, leb, ltb, eqb, length, get_or, take, drop, replicate, Option, Some, None, option_map, option_and_then}
 use Rattle.sequences.specs.Every.{every, inside}
+use Rattle.digits.specs.Bytes.{zero_byte}
 use Rattle.digits.specs.declared.Form.{Form}
 use Rattle.digits.specs.declared.Figure.{Figure}
 
@@ -13,7 +14,7 @@ plain n = record { negative = false; size = n }
 -- the last k digits of n
 unfoldable pub fixed : ℕ → ℕ → List ℕ
 fixed zero n = []
-fixed (suc k) n = (48 + n / 10 ^ k % 10) ∷ fixed k n
+fixed (suc k) n = (zero_byte + n / 10 ^ k % 10) ∷ fixed k n
 
 -- how many digits n has after its first, where they are at most so many
 unfoldable pub tens_within : ℕ → ℕ → ℕ
@@ -55,7 +56,7 @@ number_text f z = replicate (blanks_left f.width (length (signed_text f z))) 32 
 
 -- the byte is one of the digits 0 to 9
 unfoldable pub is_digit : ℕ → Bool
-is_digit b = inside 48 57 b
+is_digit b = inside zero_byte (zero_byte + 9) b
 
 unfoldable pub all_digits : List ℕ → Bool
 all_digits [] = true
@@ -64,13 +65,13 @@ all_digits (b ∷ r) = is_digit b && all_digits r
 -- the number that digits spell after the number a
 unfoldable pub from : ℕ → List ℕ → ℕ
 from a [] = a
-from a (b ∷ r) = from (a * 10 + (b - 48)) r
+from a (b ∷ r) = from (a * 10 + (b - zero_byte)) r
 
 -- no digit at all, or a zero before another digit
 unfoldable pub spare : List ℕ → Bool
 spare [] = true
 spare (b ∷ []) = false
-spare (b ∷ c ∷ r) = eqb b 48
+spare (b ∷ c ∷ r) = eqb b zero_byte
 
 -- above every range: a number that is more is read as this, and is past its range
 abbrev pub cap : ℕ

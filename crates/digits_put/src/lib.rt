@@ -2,6 +2,7 @@
 #![tactic(auto)]
 
 ghost use Rattle.std.specs.Prelude.{◌≡◌, ◌+◌, ◌/◌, ◌%◌, ◌^◌, ◌≤◌, suc, length};
+ghost use Rattle.digits.specs.Bytes.{zero_byte};
 ghost use Rattle.digits.specs.Digits.{fixed, tens, decimal};
 ghost use Rattle.digits.specs.Written.{Written};
 
@@ -18,7 +19,7 @@ pub fn put_bytes(dst: &mut [u8], at: usize, src: &[u8]) -> usize
 // The number before the last digit, and that digit as a byte. By 64 bits at any size: with a division of 32 bits beside it for small
 // numbers, a list of 300 components takes 198,900 instructions to write, so 178,500.
 fn split_last(m: u64) -> (u64, u8)
-    ensures { (result.0 ≡ m / 10) × (result.1 ≡ 48 + m % 10) }
+    ensures { (result.0 ≡ m / 10) × (result.1 ≡ zero_byte + m % 10) }
 {
     (m / 10, b'0' + (m % 10) as u8)
 }

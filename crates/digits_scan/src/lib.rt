@@ -2,6 +2,7 @@
 #![tactic(auto)]
 
 ghost use Rattle.std.specs.Prelude.{◌≡◌, ◌+◌, ◌-◌, ◌*◌, ◌^◌, ◌<◌, ◌≤◌, true, false, length, drop, cond, Some, None};
+ghost use Rattle.digits.specs.Bytes.{zero_byte};
 ghost use Rattle.digits.specs.Digits.{cap, capped, is_digit, is_shaped, blanks, all_blank, read_on};
 
 use digits::CAP;
@@ -9,7 +10,7 @@ use digits::CAP;
 // The value of a digit, in 64 bits, as it is used: in 8 each digit takes an instruction more (a list 6 % more of its time).
 #[tactic(auto, using(crate::proofs::Blank::digit_tests))]
 fn digit_of(b: u8) -> Option<u64>
-    ensures { result ≡ cond (is_digit b) (Some (b - 48)) None }
+    ensures { result ≡ cond (is_digit b) (Some (b - zero_byte)) None }
 {
     let digit = u64::from(b).wrapping_sub(u64::from(b'0'));
     (digit <= 9).then_some(digit)

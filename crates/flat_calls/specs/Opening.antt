@@ -1,4 +1,4 @@
--- Opening with the fund as a run of numbers: refusal 1 where it has not its width, else as opening.
+-- Opening with the fund and the flag table as runs of numbers: refusal 1 where the fund has not its width, else as opening.
 use Rattle.std.specs.Prelude.{ℕ, ◌≡◌, true, cond, List, eqb, length}
 use Rattle.sequences.specs.Checks.{Reply, reply, is_accepted}
 use Rattle.layout.specs.Places.{fund_width}
@@ -8,10 +8,12 @@ use Rattle.rules.specs.Replies.{if_accepted}
 use Rattle.rules.specs.Opening.{Opening, opening_reply, opened_day, opened_run, opened_book, opened_prices}
 use Rattle.opening.specs.Given.{given}
 use Rattle.answers.specs.Numbers.{Told}
+use Rattle.flat_calls.specs.Table.{numbers_given}
 
--- opening's arguments, with the fund that its numbers say
-abbrev pub flat_given : ℕ → ℕ → List ℕ → List ℕ → List ℕ → List ℕ → List ℕ → List ℕ → Opening
-flat_given accounts count fund components holdings book prices day = given accounts count (fund_at fund 0) components holdings book prices day
+-- opening's arguments, with the fund that its numbers say; a table of another length than a table's is refused by opening itself
+abbrev pub flat_given : ℕ → ℕ → List ℕ → List ℕ → List ℕ → List ℕ → List ℕ → List ℕ → List ℕ → Opening
+flat_given accounts count fund table components holdings book prices day =
+    given accounts count (fund_at fund 0) (numbers_given table) components holdings book prices day
 
 unfoldable pub flat_reply : List ℕ → Opening → Reply
 flat_reply fund o = cond (eqb (length fund) fund_width) (opening_reply o) (reply 1 0 0)
