@@ -70,6 +70,7 @@ impl From<Refusal> for Numbers {
             Refusal::TextLine(place) => refused_at(18, place),
             Refusal::TextField(place) => refused_at(19, place),
             Refusal::RecordCount => refused_at(20, 0),
+            Refusal::FlagTable(place) => refused_at(21, place),
         }
     }
 }

@@ -7,7 +7,7 @@ use lib.Dec.{eqb}
 use Rattle.sequences.specs.Checks.{Reply}
 use Rattle.rules.specs.declared.Refusal.{Refusal}
 use Rattle.rules.specs.declared.Refusal.TheVariants.{Sizes, FundField, Component, Total, UnsoundDay, NoSuchLine, QuantityOrPrice, Account, ShortOfStock, ShortOfCash}
-use Rattle.rules.specs.declared.Refusal.TheVariants.{NotWholeBaskets, Switch, Limit, NoReferenceValue, CashRatio, ListTooShort, FundShort, TextLine, TextField, RecordCount}
+use Rattle.rules.specs.declared.Refusal.TheVariants.{NotWholeBaskets, Switch, Limit, NoReferenceValue, CashRatio, ListTooShort, FundShort, TextLine, TextField, RecordCount, FlagTable}
 use Rattle.rules.specs.declared.Counts.{Counts}
 use Rattle.std.specs.Prelude.{Result, Ok, Err}
 use Rattle.rules.specs.Replies.{order_answer_reply}
@@ -34,7 +34,8 @@ refusal_of number place =
     (cond (eqb number 17) (FundShort place)
     (cond (eqb number 18) (TextLine place)
     (cond (eqb number 19) (TextField place)
-    RecordCount))))))))))))))))))
+    (cond (eqb number 20) RecordCount
+    (FlagTable place))))))))))))))))))))
 
 abbrev answer_of : Reply → Result Counts Refusal
 answer_of r = cond (eqb r.number 0) (Ok (record { records = r.value; reports = r.reports })) (Err (refusal_of r.number r.place))
