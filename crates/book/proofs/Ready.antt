@@ -28,7 +28,7 @@ module _ {d : Day} {b ps : List ℕ} {kind : Kind} {a units : ℕ} (c : ℕ) (s 
       record {
         count_high = s.own.count_high;
         wide = omega (arith, stretch-length (width d) b a (account_within s a o.account_in));
-        needs = λ i l. omega (arith, under 20 99_999_999 o.baskets_high (components_fine d.fund.first_code d.components d.count s.own.components i l).quantity);
+        needs = λ i l. omega (arith, under 20 99_999_999 o.baskets_high (components_fine d.table d.fund.first_code d.components d.count s.own.components i l).quantity);
         held = λ i l. omega (arith, account_line_most s a o.account_in i (omega arith));
       }
 

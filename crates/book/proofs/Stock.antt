@@ -14,17 +14,17 @@ use Rattle.rules.specs.Kinds.{stock_lots, fund_lots, unit_lots, account_cash, fu
 use Rattle.rules.specs.Orders.{opposite_kind}
 use Rattle.book.specs.Moved.{moved_of}
 
-module _ (c : Component) (m : ℕ) (x : Lots) where
+module _ (t : Table.FlagTable) (c : Component) (m : ℕ) (x : Lots) where
   -- at most what the baskets need
-  pub moved-le : (kind : Kind) → moved_of kind c m x ≤ m * c.quantity
+  pub moved-le : (kind : Kind) → moved_of kind t c m x ≤ m * c.quantity
   unfolding moved_of
-  moved-le Creation = cond_le (Table.entry c.flag Table.stock_moves) (omega arith) (omega arith)
-  moved-le Redemption = cond_le (Table.entry c.flag Table.stock_moves) (omega arith) (omega arith)
+  moved-le Creation = cond_le (Table.entry t c.flag Table.stock_moves) (omega arith) (omega arith)
+  moved-le Redemption = cond_le (Table.entry t c.flag Table.stock_moves) (omega arith) (omega arith)
 
   -- and on a creation at most what is there
-  pub moved_there : moved_of Creation c m x ≤ handable x
+  pub moved_there : moved_of Creation t c m x ≤ handable x
   unfolding moved_of
-  moved_there = cond_le (Table.entry c.flag Table.stock_moves) (omega arith) (omega arith)
+  moved_there = cond_le (Table.entry t c.flag Table.stock_moves) (omega arith) (omega arith)
 
 -- Lots of which nothing moves.
 

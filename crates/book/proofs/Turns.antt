@@ -90,11 +90,11 @@ module _ (kind : Kind) (d : Day) (b : List ℕ) (a m : ℕ) (low : 0 < a) (fits 
 
     module _ (w : ℕ) (ew : w ≡ width d) where
       -- what moves on the line is what the order moves there
-      pub moved_here : moved_of kind (component_of d i) m (lots_at (stretch_of w t a) i) ≡ moved_by kind d (account d b a) m i
+      pub moved_here : moved_of kind d.table (component_of d i) m (lots_at (stretch_of w t a) i) ≡ moved_by kind d (account d b a) m i
       moved_here = rw (ew, own_here) (sym (moved_of_lem kind d (account d b a) m i))
 
       pub line_ready : StockReady d (account d b a) m → FundReady kind d (account d b a) (account d b 0) m → i < d.count
-          → LineReady kind (component_of d i) t w a m i
+          → LineReady kind d.table (component_of d i) t w a m i
       line_ready p q l =
           record {
             account_low = low;
@@ -106,7 +106,7 @@ module _ (kind : Kind) (d : Day) (b : List ℕ) (a m : ℕ) (low : 0 < a) (fits 
             delivers = λ k. rw moved_here (rw (ew, fund_here) (q.delivers k i l));
           }
 
-      pub lines_more : (q : ℕ) (u : List ℕ) → q ≡ moved_of kind (component_of d i) m (lots_at (stretch_of w t a) i) → u ≡ line_moves kind w a i q t
+      pub lines_more : (q : ℕ) (u : List ℕ) → q ≡ moved_of kind d.table (component_of d i) m (lots_at (stretch_of w t a) i) → u ≡ line_moves kind w a i q t
           → u ≡ stock_moves kind d a m (i + 1) b
       unfolding stock_moves line_moves
       lines_more q u eq eu =

@@ -1,4 +1,5 @@
--- The stock of one component that an order moves, read off the component and the account's lots of it; and the book part by part.
+-- The stock of one component that an order moves, read off the flag table, the component and the account's lots of it; and the book part
+-- by part.
 use Rattle.std.specs.Prelude.{ℕ, ◌+◌, ◌*◌, min, cond, List}
 use Rattle.sequences.specs.Stretch.{stretch_of, put_stretch}
 use Rattle.lots.specs.declared.Lots.{Lots}
@@ -11,11 +12,11 @@ use Rattle.rules.specs.declared.Kind.{Kind}
 use Rattle.rules.specs.Orders.{number_of}
 use Rattle.rules.specs.Kinds.{by_kind, moved_by, stock_lots, fund_lots, unit_lots, account_cash, fund_cash}
 
-unfoldable pub moved_of : Kind → Component → ℕ → Lots → ℕ
-moved_of kind c m x =
+unfoldable pub moved_of : Kind → Table.FlagTable → Component → ℕ → Lots → ℕ
+moved_of kind t c m x =
     by_kind kind
-    (cond (Table.entry c.flag Table.stock_moves) (min (m * c.quantity) (handable x)) 0)
-    (cond (Table.entry c.flag Table.stock_moves) (m * c.quantity) 0)
+    (cond (Table.entry t c.flag Table.stock_moves) (min (m * c.quantity) (handable x)) 0)
+    (cond (Table.entry t c.flag Table.stock_moves) (m * c.quantity) 0)
 
 -- what that makes of the account's lots on line i, and of the fund's, for an account with the stretch s before the order
 abbrev pub stock_by : Kind → Day → List ℕ → ℕ → ℕ → Lots → Lots

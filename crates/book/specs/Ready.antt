@@ -3,6 +3,7 @@ use Rattle.std.specs.Prelude.{ℕ, ◌+◌, ◌*◌, ◌^◌, ◌≤◌, ◌<◌
 use Rattle.sequences.specs.Stretch.{stretch_of}
 use Rattle.lots.specs.declared.Lots.{Lots}
 use Rattle.lots.specs.Lots.{sellable, handable, lots_total}
+use Rattle.flags.specs.Table.{FlagTable}
 use Rattle.layout.specs.Places.{most_components}
 use Rattle.layout.specs.declared.Component.{Component}
 use Rattle.layout.specs.Day.{Day}
@@ -31,15 +32,15 @@ pub record Tradable (n : ℕ) (b : List ℕ) (line q price seller buyer : ℕ) :
 abbrev pub TradeReady : ℕ → List ℕ → Trade → Type 0
 TradeReady n b t = Tradable n b t.line t.quantity t.price.0 t.seller t.buyer
 
--- one line of an order of m baskets by account a, with the component c; w is the width of a stretch
-pub record LineReady (kind : Kind) (c : Component) (b : List ℕ) (w a m line : ℕ) : Type 0 where
+-- one line of an order of m baskets by account a, with the component c, on a day with the flag table t; w is the width of a stretch
+pub record LineReady (kind : Kind) (t : FlagTable) (c : Component) (b : List ℕ) (w a m line : ℕ) : Type 0 where
   pub account_low : 0 < a
   pub account_in : a * w + w ≤ length b
   pub line_in_lem : behind_line line ≤ w
   pub need : m * c.quantity < 2 ^ 62
   pub held : lots_total (lots_at (stretch_of w b a) line) < 2 ^ 62
   pub room : (lots_at (stretch_of w b 0) line).old < 2 ^ 62
-  pub delivers : kind ≡ Redemption → moved_of kind c m (lots_at (stretch_of w b a) line) ≤ (lots_at (stretch_of w b 0) line).old
+  pub delivers : kind ≡ Redemption → moved_of kind t c m (lots_at (stretch_of w b a) line) ≤ (lots_at (stretch_of w b 0) line).old
 
 -- the components' lots of an account, with the stretch s, in an order of m baskets
 pub record StockReady (d : Day) (s : List ℕ) (m : ℕ) : Type 0 where
