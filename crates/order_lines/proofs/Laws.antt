@@ -14,7 +14,7 @@ use Rattle.sequences.proofs.Below.{cond_le}
 use Rattle.units.specs.declared.Money.{Money}
 use Rattle.units.specs.Units.{rounded, premium, discount}
 use Rattle.units.proofs.Laws.{under, premium-le, discount-le}
-use Rattle.flags.specs.Table.{entry, stock_moves, shortage_in_cash, shanghai}
+use Rattle.flags.specs.Table.{FlagTable, flag_count, table_fault, entry, stock_moves, shortage_in_cash, shanghai}
 use Rattle.flags.proofs.Laws.{shortage_rule}
 use Rattle.layout.specs.declared.Component.{Component}
 use Rattle.fund.proofs.Laws.{ComponentRanges}
@@ -43,10 +43,10 @@ missing-le : (b : Bool) (need have : ℕ) → cond b (need - have) 0 ≤ need
 missing-le b need have = cond_le b (sub-le need have) zero-le
 
 -- a component that passes the tests of refusal 3
-pub ranged : (g : ℕ) (c : Component) → ComponentRanges g c → Ranged c
-ranged g c r = record { quantity = r.quantity; premium = r.premium; discount = r.discount; amount = r.amount }
+pub ranged : (t : FlagTable) (g : ℕ) (c : Component) → ComponentRanges t g c → Ranged c
+ranged t g c r = record { quantity = r.quantity; premium = r.premium; discount = r.discount; amount = r.amount }
 
-module _ (c : Component) (m : ℕ) (r : Ranged c) (few : m ≤ most_baskets) where
+module _ (t : FlagTable) (c : Component) (m : ℕ) (r : Ranged c) (few : m ≤ most_baskets) where
   pub need-le : m * c.quantity ≤ 1_999_999_980
   need-le = under 20 99_999_999 few r.quantity
 
@@ -57,48 +57,48 @@ module _ (c : Component) (m : ℕ) (r : Ranged c) (few : m ≤ most_baskets) whe
   pub worth-le : (x price : ℕ) → x ≤ m * c.quantity → price ≤ most_price → x * price ≤ 20_000_000_000_000_000
   worth-le x price h p = le_trans (under 1_999_999_980 9_999_999 (le_trans h need-le) p) (lit≤ tt)
 
-  creation_worth-le : (have price : ℕ) → price ≤ most_price → worth_of c have price m ≤ 20_000_000_000_000_000
+  creation_worth-le : (have price : ℕ) → price ≤ most_price → worth_of t c have price m ≤ 20_000_000_000_000_000
   unfolding worth_of missing_of
-  creation_worth-le have price p = worth-le (missing_of c have m) price (missing-le _ (m * c.quantity) have) p
+  creation_worth-le have price p = worth-le (missing_of t c have m) price (missing-le _ (m * c.quantity) have) p
 
   -- its cash
   pub creation_cash-le : (have price : ℕ) → price ≤ most_price
-      → premium (cond (entry c.flag stock_moves) (worth_of c have price m) (m * c.amount.0)) c.premium.0 ≤ 40_000_000_000_000_000
+      → premium (cond (entry t c.flag stock_moves) (worth_of t c have price m) (m * c.amount.0)) c.premium.0 ≤ 40_000_000_000_000_000
   creation_cash-le have price p =
-      let base : cond (entry c.flag stock_moves) (worth_of c have price m) (m * c.amount.0) ≤ 20_000_000_000_000_000 =
-      cond_le (entry c.flag stock_moves) (creation_worth-le have price p) (le_trans amount-le (lit≤ tt)) in
-      omega (arith, premium-le (cond (entry c.flag stock_moves) (worth_of c have price m) (m * c.amount.0)) c.premium.0 r.premium)
+      let base : cond (entry t c.flag stock_moves) (worth_of t c have price m) (m * c.amount.0) ≤ 20_000_000_000_000_000 =
+      cond_le (entry t c.flag stock_moves) (creation_worth-le have price p) (le_trans amount-le (lit≤ tt)) in
+      omega (arith, premium-le (cond (entry t c.flag stock_moves) (worth_of t c have price m) (m * c.amount.0)) c.premium.0 r.premium)
 
-  pub redemption_cash-le : cond (entry c.flag stock_moves) 0 (discount (m * c.amount.0) c.discount.0) ≤ 40_000_000_000_000_000
-  redemption_cash-le = cond_le (entry c.flag stock_moves) zero-le (omega (arith, amount-le, discount-le (m * c.amount.0) c.discount.0))
+  pub redemption_cash-le : cond (entry t c.flag stock_moves) 0 (discount (m * c.amount.0) c.discount.0) ≤ 40_000_000_000_000_000
+  redemption_cash-le = cond_le (entry t c.flag stock_moves) zero-le (omega (arith, amount-le, discount-le (m * c.amount.0) c.discount.0))
 
-  creation_small : (have price : ℕ) → price ≤ most_price → Small (creation_line c have price m)
+  creation_small : (have price : ℕ) → price ≤ most_price → Small (creation_line t c have price m)
   unfolding creation_line
   creation_small have price p =
       record {
-        worth = worth_in-le (ltb 0 (missing_of c have m)) _ _ (creation_worth-le have price p);
-        other = cond_le (entry c.flag shanghai) zero-le (creation_cash-le have price p);
-        shanghai = cond_le (entry c.flag shanghai) (creation_cash-le have price p) zero-le;
+        worth = worth_in-le (ltb 0 (missing_of t c have m)) _ _ (creation_worth-le have price p);
+        other = cond_le (entry t c.flag shanghai) zero-le (creation_cash-le have price p);
+        shanghai = cond_le (entry t c.flag shanghai) (creation_cash-le have price p) zero-le;
       }
 
-  redemption_small : (have : ℕ) → Small (redemption_line c have m)
+  redemption_small : (have : ℕ) → Small (redemption_line t c have m)
   unfolding redemption_line
   redemption_small have =
       record {
         worth = zero-le;
-        other = cond_le (entry c.flag shanghai) zero-le redemption_cash-le;
-        shanghai = cond_le (entry c.flag shanghai) redemption_cash-le zero-le;
+        other = cond_le (entry t c.flag shanghai) zero-le redemption_cash-le;
+        shanghai = cond_le (entry t c.flag shanghai) redemption_cash-le zero-le;
       }
 
-  pub order_small : (kind : Kind) (have price : ℕ) → price ≤ most_price → Small (order_line kind c have price m)
+  pub order_small : (kind : Kind) (have price : ℕ) → price ≤ most_price → Small (order_line kind t c have price m)
   unfolding order_line
   order_small kind have price p = either_kind Small _ _ (creation_small have price p) (redemption_small have) kind
 
 -- Lines.
 
 -- no cash goes to no market
-pub none_in : (c : Component) → no_cash ≡ in_market c 0
-none_in c = go (entry c.flag shanghai)
+pub none_in : (t : FlagTable) (c : Component) → no_cash ≡ in_market t c 0
+none_in t c = go (entry t c.flag shanghai)
   where
     go : (b : Bool) → no_cash ≡ record { shanghai = money (cond b 0 0); other = money (cond b 0 0) }
     go true = refl
@@ -119,47 +119,47 @@ cond_same true x = refl
 cond_same false x = refl
 
 -- a component of which stock moves
-module _ (c : Component) (have m : ℕ) (moves : entry c.flag stock_moves ≡ true) where
+module _ (t : FlagTable) (c : Component) (have m : ℕ) (moves : entry t c.flag stock_moves ≡ true) where
   -- cash stands for what is missing
-  pub missing_line : (price : ℕ) (worth cash : Money) → have < m * c.quantity → entry c.flag shortage_in_cash ≡ true
+  pub missing_line : (price : ℕ) (worth cash : Money) → have < m * c.quantity → entry t c.flag shortage_in_cash ≡ true
       → worth.0 ≡ (m * c.quantity - have) * price → cash.0 ≡ premium worth.0 c.premium.0
-      → record { short = false; missing = m * c.quantity - have; worth = Some worth; cash = in_market c cash.0; moved = min (m * c.quantity) have } ≡ creation_line c have price m
+      → record { short = false; missing = m * c.quantity - have; worth = Some worth; cash = in_market t c cash.0; moved = min (m * c.quantity) have } ≡ creation_line t c have price m
   unfolding creation_line worth_of missing_of every
   missing_line price worth cash lacks in-cash is_worth is_cash =
       rw (moves, in-cash, is_cash, ← is_worth, lt-ltb 0 (m * c.quantity - have) (omega (arith, lacks)))
 
   -- it is short, or is there in full
-  pub short_line : (price : ℕ) → have < m * c.quantity → entry c.flag shortage_in_cash ≡ false
-      → record { short = ltb have (m * c.quantity); missing = 0; worth = None; cash = no_cash; moved = min (m * c.quantity) have } ≡ creation_line c have price m
+  pub short_line : (price : ℕ) → have < m * c.quantity → entry t c.flag shortage_in_cash ≡ false
+      → record { short = ltb have (m * c.quantity); missing = 0; worth = None; cash = no_cash; moved = min (m * c.quantity) have } ≡ creation_line t c have price m
   unfolding creation_line worth_of missing_of every
-  short_line price lacks none = rw (moves, none, lt-ltb have (m * c.quantity) lacks, zero-mul price, premium-zero c.premium.0, ← none_in c)
+  short_line price lacks none = rw (moves, none, lt-ltb have (m * c.quantity) lacks, zero-mul price, premium-zero c.premium.0, ← none_in t c)
 
   pub full_line : (price : ℕ) → m * c.quantity ≤ have
-      → record { short = ltb have (m * c.quantity); missing = 0; worth = None; cash = no_cash; moved = min (m * c.quantity) have } ≡ creation_line c have price m
+      → record { short = ltb have (m * c.quantity); missing = 0; worth = None; cash = no_cash; moved = min (m * c.quantity) have } ≡ creation_line t c have price m
   unfolding creation_line worth_of missing_of
   full_line price enough =
       let none : m * c.quantity - have ≡ 0 = omega arith in
-      rw (moves, le-ltb have (m * c.quantity) enough, none, cond_same (entry c.flag shortage_in_cash) 0, zero-mul price, premium-zero c.premium.0, ← none_in c)
-      (rw (covered_short (entry c.flag shortage_in_cash)))
+      rw (moves, le-ltb have (m * c.quantity) enough, none, cond_same (entry t c.flag shortage_in_cash) 0, zero-mul price, premium-zero c.premium.0, ← none_in t c)
+      (rw (covered_short (entry t c.flag shortage_in_cash)))
 
-  pub delivered_line : record { short = ltb have (m * c.quantity); missing = 0; worth = None; cash = no_cash; moved = m * c.quantity } ≡ redemption_line c have m
+  pub delivered_line : record { short = ltb have (m * c.quantity); missing = 0; worth = None; cash = no_cash; moved = m * c.quantity } ≡ redemption_line t c have m
   unfolding redemption_line
-  delivered_line = rw (moves, ← none_in c)
+  delivered_line = rw (moves, ← none_in t c)
 
 -- a component of which no stock moves, in an order
-module _ (c : Component) (have price m : ℕ) (stays : entry c.flag stock_moves ≡ false) where
+module _ (t : FlagTable) (loads : table_fault t ≡ flag_count) (c : Component) (have price m : ℕ) (stays : entry t c.flag stock_moves ≡ false) where
   abbrev paid : ℕ → Effect
-  paid cash = record { short = false; missing = 0; worth = None; cash = in_market c cash; moved = 0 }
+  paid cash = record { short = false; missing = 0; worth = None; cash = in_market t c cash; moved = 0 }
 
-  amount_creation : creation_line c have price m ≡ paid (premium (m * c.amount.0) c.premium.0)
+  amount_creation : creation_line t c have price m ≡ paid (premium (m * c.amount.0) c.premium.0)
   unfolding creation_line worth_of missing_of every
-  amount_creation = rw (stays, shortage_rule c.flag stays)
+  amount_creation = rw (stays, shortage_rule t loads c.flag stays)
 
-  amount_redemption : redemption_line c have m ≡ paid (discount (m * c.amount.0) c.discount.0)
+  amount_redemption : redemption_line t c have m ≡ paid (discount (m * c.amount.0) c.discount.0)
   unfolding redemption_line
   amount_redemption = rw (stays, le-ltb have 0 zero-le)
 
-  pub amount_is : (kind : Kind) → amount_line kind c m ≡ order_line kind c have price m
+  pub amount_is : (kind : Kind) → amount_line kind t c m ≡ order_line kind t c have price m
   unfolding order_line amount_line amount_due
   amount_is Creation = sym amount_creation
   amount_is Redemption = sym amount_redemption
