@@ -14,6 +14,7 @@ use Rattle.std.specs.Option.{option_or}
 use lib.ListN.{get_or}
 use Rattle.sequences.specs.Below.{sum_below, any_below, first_below, below}
 use Rattle.sequences.proofs.Below.{sum_none, sum_more, sum_le, sum_zero, any_none, any_more, any_here, first_none, cond_le}
+use Rattle.flags.specs.Table.{FlagTable}
 use Rattle.layout.specs.Places.{most_components}
 use Rattle.layout.specs.declared.Component.{Component}
 use Rattle.layout.specs.Components.{blank}
@@ -143,8 +144,8 @@ module _ (f : ℕ → Effect) where
   scan_room n i t x h all l e g = rw (e, g) (room n i h all l)
 
 -- the lines of a day's components
-unfoldable pub order_lines : Kind → List Component → List ℕ → List ℕ → List ℕ → ℕ → ℕ → Effect
-order_lines kind cs s f ps m i = order_line kind (get_or cs i blank) (held_of kind s f i) (price_of ps i) m
+unfoldable pub order_lines : Kind → FlagTable → List Component → List ℕ → List ℕ → List ℕ → ℕ → ℕ → Effect
+order_lines kind t cs s f ps m i = order_line kind t (get_or cs i blank) (held_of kind s f i) (price_of ps i) m
 
 none_missing : (n : ℕ) → any_below (λ _. false) n ≡ false
 unfolding any_below
@@ -166,7 +167,7 @@ worth_is missing price = go (ltb 0 missing) refl
         rw (none, zero-mul price)
 
 -- all of them make the scan
-pub scan_is : (d : Day) (s f ps : List ℕ) (m : ℕ) (kind : Kind) → scan_below (order_lines kind d.components s f ps m) d.count ≡ order_scan kind d s f ps m
+pub scan_is : (d : Day) (s f ps : List ℕ) (m : ℕ) (kind : Kind) → scan_below (order_lines kind d.table d.components s f ps m) d.count ≡ order_scan kind d s f ps m
 unfolding scan_below order_lines order_line held_of order_scan cash_by moved_by need column quantity other_cash shanghai_cash
     creation_line missing_of worth_of first_short is_short is_missing missing missing_worth creation_cash handed_in creation_rate creation_amount
     redemption_line first_lacking fund_lacks redemption_cash delivered redemption_rate redemption_amount

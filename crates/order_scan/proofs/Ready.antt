@@ -29,7 +29,7 @@ use Rattle.order_lines.proofs.Laws.{ranged, creation_cash-le, redemption_cash-le
 
 module _ (d : Day) (b ps : List ℕ) (s : SoundDay d b ps) (m : ℕ) (few : m ≤ most_baskets) where
   all_ranged : (k : ℕ) → k < d.count → Ranged (component_of d k)
-  all_ranged k h = ranged _ _ (components_fine d.fund.first_code d.components d.count s.own.components k h)
+  all_ranged k h = ranged _ _ _ (components_fine d.table d.fund.first_code d.components d.count s.own.components k h)
 
   wide : (a : ℕ) → a < d.accounts → length (account d b a) ≡ width d
   wide a h = stretch-length (width d) b a (omega (arith, within (width d) a d.accounts h, s.book.book_size))
@@ -45,6 +45,7 @@ module _ (d : Day) (b ps : List ℕ) (s : SoundDay d b ps) (m : ℕ) (few : m �
       record {
         count = s.own.count_high;
         baskets = few;
+        loads = s.own.loads;
         stretch = wide a h;
         fund_stretch = wide 0 (omega (arith, s.own.accounts_low));
         prices_size = s.prices.prices_size;
@@ -70,11 +71,11 @@ cash-le d f h all = omega (arith, both_markets (column d 4) f d.count, sum_le f 
 module _ (kind : Kind) (d : Day) (s f ps : List ℕ) (m : ℕ) (r : Scannable d s f ps m) where
   created-le : (k : ℕ) → k < d.count → creation_cash d s ps m k ≤ 40_000_000_000_000_000
   unfolding creation_cash missing_worth missing need column quantity creation_rate creation_amount worth_of missing_of
-  created-le k l = creation_cash-le (component_of d k) m (r.ranges k l) r.baskets (available s k) (price_of ps k) (r.prices k l)
+  created-le k l = creation_cash-le d.table (component_of d k) m (r.ranges k l) r.baskets (available s k) (price_of ps k) (r.prices k l)
 
   redeemed-le : (k : ℕ) → k < d.count → redemption_cash d m k ≤ 40_000_000_000_000_000
   unfolding redemption_cash need column quantity redemption_rate redemption_amount
-  redeemed-le k l = redemption_cash-le (component_of d k) m (r.ranges k l) r.baskets
+  redeemed-le k l = redemption_cash-le d.table (component_of d k) m (r.ranges k l) r.baskets
 
   -- the cash fits
   pub cash_fits : all_cash (cash_by kind d s ps m) ≤ 12_000_000_000_000_000_000

@@ -1,5 +1,6 @@
 -- The ranges under which no number of a scan wraps.
 use Rattle.std.specs.Prelude.{◌≡◌, List, ℕ, ◌+◌, ◌≤◌, ◌<◌, length}
+use Rattle.flags.specs.Table.{flag_count, table_fault}
 use Rattle.layout.specs.Places.{most_components}
 use Rattle.layout.specs.Day.{Day}
 use Rattle.layout.specs.Book.{width}
@@ -23,6 +24,7 @@ pub record Room (t : Scan) (i : ℕ) (x : Effect) : Type 0 where
 pub record Scannable (d : Day) (s f ps : List ℕ) (m : ℕ) : Type 0 where
   pub count : d.count ≤ most_components
   pub baskets : m ≤ most_baskets
+  pub loads : table_fault d.table ≡ flag_count
   pub stretch : length s ≡ width d
   pub fund_stretch : length f ≡ width d
   pub prices_size : length ps ≡ d.count

@@ -151,10 +151,12 @@ pub fn order_scan(kind: Kind, day: &DayView, parties: &Parties, prices: &[u64], 
     requires { Scannable day.now parties.now.account.now parties.now.fund.now prices.now m }
     ensures { result ≡ order_scan kind day.now parties.now.account.now parties.now.fund.now prices.now m }
 {
+    let table = day.table();
     let mut t = Scan::default();
     for (i, price) in prices.iter().enumerate() {
         let part = Part {
             component: day.component(i),
+            table,
             baskets: m,
         };
         t = t.with_line(i, part.order_line(kind, parties.held_at(kind, i), *price));

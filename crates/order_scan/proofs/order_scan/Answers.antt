@@ -3,6 +3,7 @@ use mathlib.Core.List.{List}
 use lib.ListN.{get_or}
 use Prim.Native.Nat.{ℕ, ◌<◌}
 use native.Mathlib.Omega.{arith}
+use Rattle.flags.specs.Table.{FlagTable}
 use Rattle.layout.specs.Components.{blank}
 use Rattle.layout.specs.declared.Component.{Component}
 use Rattle.layout.specs.Day.{Day}
@@ -20,27 +21,27 @@ unfolding price_of
 order_line-requires c = c.requires.prices c.loop-i.i (omega (arith, c.requires.prices_size))
 
 -- the line of what the turn reads is that of the component at the loop's index
-found : (kind : Kind) (i have m : ℕ) (c : Component) (cs : List Component) (s f ps : List ℕ) (x : Effect) → c ≡ get_or cs i blank → have ≡ held_of kind s f i
-    → x ≡ order_line kind c have (price_of ps i) m → x ≡ order_lines kind cs s f ps m i
+found : (kind : Kind) (i have m : ℕ) (table t : FlagTable) (c : Component) (cs : List Component) (s f ps : List ℕ) (x : Effect) → table ≡ t → c ≡ get_or cs i blank → have ≡ held_of kind s f i
+    → x ≡ order_line kind table c have (price_of ps i) m → x ≡ order_lines kind t cs s f ps m i
 unfolding order_lines
-found kind i have m c cs s f ps x e h l = rw (l, h, e)
+found kind i have m table t c cs s f ps x lent e h l = rw (l, h, e, lent)
 
-small : (kind : Kind) (d : Day) (s f ps : List ℕ) (m : ℕ) → Scannable d s f ps m → (k : ℕ) → k < d.count → Small (order_lines kind d.components s f ps m k)
+small : (kind : Kind) (d : Day) (s f ps : List ℕ) (m : ℕ) → Scannable d s f ps m → (k : ℕ) → k < d.count → Small (order_lines kind d.table d.components s f ps m k)
 unfolding order_lines
-small kind d s f ps m r k l = order_small _ _ (r.ranges k l) r.baskets _ _ _ (r.prices k l)
+small kind d s f ps m r k l = order_small _ _ _ (r.ranges k l) r.baskets _ _ _ (r.prices k l)
 
 pub with_line-t-requires : goal.with_line-t-requires
 unfolding price_of
 with_line-t-requires c =
     let r = c.requires in
-    let here = found _ _ _ _ _ _ _ _ _ _ c.component.ensures c.held_at.ensures c.order_line.ensures in
+    let here = found _ _ _ _ _ _ _ _ _ _ _ _ c.table-table.ensures c.component.ensures c.held_at.ensures c.order_line.ensures in
     scan_room _ c.args.day.now.count _ _ _ r.count (small _ _ _ _ _ _ r) (omega (arith, r.prices_size)) c.loop-i.invariant here
 
 pub loop-i-preserved : goal.loop-i-preserved
 unfolding price_of
 loop-i-preserved c =
     c.with_line-t.ensures
-    ∙ scan_more _ _ _ _ c.loop-i.invariant (found _ _ _ _ _ _ _ _ _ _ c.component.ensures c.held_at.ensures c.order_line.ensures)
+    ∙ scan_more _ _ _ _ c.loop-i.invariant (found _ _ _ _ _ _ _ _ _ _ _ _ c.table-table.ensures c.component.ensures c.held_at.ensures c.order_line.ensures)
 
 pub returns : goal.returns
 returns c =
