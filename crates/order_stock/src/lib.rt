@@ -11,6 +11,7 @@ ghost use Rattle.rules.specs.Kinds.{fund_lots};
 ghost use Rattle.book.specs.Moved.{moved_of, line_moves};
 ghost use Rattle.book.specs.Ready.{LineReady};
 
+use flags::{Column, Table};
 use layout::Component;
 use lots::Lots;
 use rules::Kind;
@@ -29,25 +30,27 @@ fn fund_lots(kind: Kind, x: Lots, q: u64) -> Lots
     }
 }
 
-// An order as its stock moves: of its kind, by an account of a book with stretches so wide, and of so many baskets.
-#[derive(Clone, Copy)]
-pub struct StockOrder {
+// An order as its stock moves: of its kind, on a day with the flag table, by an account of a book with stretches so wide, and of so many
+// baskets.
+#[derive(Drop)]
+pub struct StockOrder<'a> {
     pub kind: Kind,
+    pub table: &'a Table,
     pub width: usize,
     pub account: usize,
     pub baskets: u64,
 }
 
-impl StockOrder {
+impl StockOrder<'_> {
     // The stock of component `c` that it moves, for an account with the lots `x` of it: read off the lots again, as the tests had no room to
     // keep it. No `order_lines::Part`: it asks the ranges of all of a component's numbers, and a move the need's alone.
     #[tactic(auto, unfolding(book::specs::Moved::moved_of))]
-    fn stock_moved(self, c: Component, x: Lots) -> Option<NonZeroU64>
-        requires quantity_bound { self.baskets * c.quantity < 2 ^ 62 }
+    fn stock_moved(&self, c: Component, x: Lots) -> Option<NonZeroU64>
+        requires quantity_bound { self.now.baskets * c.quantity < 2 ^ 62 }
         requires x_bound { handable x < 2 ^ 62 }
-        ensures { MatchOption result (moved_of self.kind c self.baskets x ≡ 0) (λ q. non_zero_u64_get q ≡ moved_of self.kind c self.baskets x) }
+        ensures { MatchOption result (moved_of self.now.kind self.now.table.now c self.now.baskets x ≡ 0) (λ q. non_zero_u64_get q ≡ moved_of self.now.kind self.now.table.now c self.now.baskets x) }
     {
-        if !flags::entry_of(c.flag, flags::Column::StockMoves) {
+        if !flags::entry_of(self.table, c.flag, Column::StockMoves) {
             return None;
         }
         let needed = self.baskets * c.quantity;
@@ -59,10 +62,10 @@ impl StockOrder {
     }
 
     // Moves the stock of one component and gives how much, read off the account's lots. Where nothing moves, nothing is stored.
-    pub fn move_line(self, book: &mut [u64], c: Component, line: usize) -> Option<NonZeroU64>
-        requires { LineReady self.kind c book.old self.width self.account self.baskets line }
-        ensures value { MatchOption result (moved_of self.kind c self.baskets (lots_at (stretch_of self.width book.old self.account) line) ≡ 0) (λ q. non_zero_u64_get q ≡ moved_of self.kind c self.baskets (lots_at (stretch_of self.width book.old self.account) line)) }
-        ensures book { book.new ≡ line_moves self.kind self.width self.account line (moved_of self.kind c self.baskets (lots_at (stretch_of self.width book.old self.account) line)) book.old }
+    pub fn move_line(&self, book: &mut [u64], c: Component, line: usize) -> Option<NonZeroU64>
+        requires { LineReady self.now.kind self.now.table.now c book.old self.now.width self.now.account self.now.baskets line }
+        ensures value { MatchOption result (moved_of self.now.kind self.now.table.now c self.now.baskets (lots_at (stretch_of self.now.width book.old self.now.account) line) ≡ 0) (λ q. non_zero_u64_get q ≡ moved_of self.now.kind self.now.table.now c self.now.baskets (lots_at (stretch_of self.now.width book.old self.now.account) line)) }
+        ensures book { book.new ≡ line_moves self.now.kind self.now.width self.now.account line (moved_of self.now.kind self.now.table.now c self.now.baskets (lots_at (stretch_of self.now.width book.old self.now.account) line)) book.old }
     {
         let x = book::lots_of(book, self.width, self.account, line);
         let moved = self.stock_moved(c, x)?;
