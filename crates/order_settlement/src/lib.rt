@@ -44,6 +44,7 @@ fn settle_lines<S: RecordSink>(
     let width = layout::width_of(count);
     let order = StockOrder {
         kind: ask.kind,
+        table: day.table(),
         width,
         account: ask.account,
         baskets: m,

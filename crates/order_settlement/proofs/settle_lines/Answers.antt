@@ -20,7 +20,7 @@ pub move_line-moved-requires : goal.move_line-moved-requires
 move_line-moved-requires g c =
     let a = c.args in
     let p = c.requires in
-    rw c.component-c.ensures
+    rw (c.component-c.ensures, c.table.ensures)
     (line_ready a.ask.kind a.day.now _ _ _ p.account_nonzero.0 p.account_nonzero.1 _ _ c.loop-i.invariant.moved _
     (c.width_of-width.ensures ∙ ap width_of c.count-count.ensures) p.stock_ready p.fund_ready (omega (arith, c.count-count.ensures)))
 
@@ -30,7 +30,7 @@ put_line-requires g c =
     let p = c.requires in
     let less = g.met.S.RecordSink.room_less in
     let moved = moved_here a.ask.kind a.day.now _ _ _ p.account_nonzero.0 p.account_nonzero.1 _ _ c.loop-i.invariant.moved _ (c.width_of-width.ensures ∙ ap width_of c.count-count.ensures) in
-    rw (quantity_told _ _ _ c.move_line-moved.ensures.value, c.component-c.ensures, c.stock_side-side.ensures, moved)
+    rw (quantity_told _ _ _ c.move_line-moved.ensures.value, c.component-c.ensures, c.stock_side-side.ensures, c.table.ensures, moved)
     (fits_next _ _ less _ _ _ c.loop-i.invariant.recorded (le_trans (stock_grows a.ask.kind a.day.now _ _ (omega (arith, c.count-count.ensures))) p.records_fit))
 
 pub tell_line-requires : goal.tell_line-requires
@@ -38,7 +38,7 @@ tell_line-requires g c =
     let a = c.args in
     let p = c.requires in
     let moved = moved_here a.ask.kind a.day.now _ _ _ p.account_nonzero.0 p.account_nonzero.1 _ _ c.loop-i.invariant.moved _ (c.width_of-width.ensures ∙ ap width_of c.count-count.ensures) in
-    rw (quantity_told _ _ _ c.move_line-moved.ensures.value, c.component-c.ensures, c.stock_side-side.ensures, moved)
+    rw (quantity_told _ _ _ c.move_line-moved.ensures.value, c.component-c.ensures, c.stock_side-side.ensures, c.table.ensures, moved)
     (fits_next _ _ left_less _ _ _ c.loop-i.invariant.told (le_trans (told_grows a.ask.kind a.day.now _ _ (omega (arith, c.count-count.ensures))) p.reports_fit))
 
 pub loop-i-preserved : goal.loop-i-preserved
@@ -49,9 +49,9 @@ loop-i-preserved g c =
     let wide = c.width_of-width.ensures ∙ ap width_of c.count-count.ensures in
     let here = moved_here a.ask.kind a.day.now _ _ _ p.account_nonzero.0 p.account_nonzero.1 _ _ l.invariant.moved _ wide in
     let quantity = quantity_told _ _ _ c.move_line-moved.ensures.value in
-    let book = rw c.component-c.ensures at c.move_line-moved.ensures.book in
-    let record_put = rw (quantity, c.component-c.ensures, c.stock_side-side.ensures, here) at c.put_line.ensures in
-    let report_put = rw (quantity, c.component-c.ensures, c.stock_side-side.ensures, here) at c.tell_line.ensures in
+    let book = rw (c.component-c.ensures, c.table.ensures) at c.move_line-moved.ensures.book in
+    let record_put = rw (quantity, c.component-c.ensures, c.stock_side-side.ensures, c.table.ensures, here) at c.put_line.ensures in
+    let report_put = rw (quantity, c.component-c.ensures, c.stock_side-side.ensures, c.table.ensures, here) at c.tell_line.ensures in
     record {
       moved = lines_more a.ask.kind a.day.now _ _ _ p.account_nonzero.0 p.account_nonzero.1 _ _ l.invariant.moved _ wide _ _ refl book;
       recorded = rw (stock_more a.ask.kind a.day.now _ _ _) (put_then _ _ _ _ l.invariant.recorded record_put);
