@@ -131,13 +131,13 @@ pub limits_are : (d : Day) (b : List ℕ) (ask : Ask) (all own : Units) → all 
 unfolding within_limits within_both all_units own_units
 limits_are d b ask all own ea eo wide under ew eu = rw (ew, eu, ea, eo) (sorted _ _ _ _ _)
 
--- the tests look at no component
+-- the tests look at no component, and not at the flag table
 pub form_of_day : (d : Day) (h : DayHead) (b : List ℕ) (ask : Ask) → h ≡ record { accounts = d.accounts; count = d.count; fund = d.fund }
-    → order_form (day_of h []) b ask ≡ order_form d b ask
+    → order_form (day_of h [] []) b ask ≡ order_form d b ask
 unfolding order_form form_checks permission_checks switch_allows whole_baskets baskets within_limits fund_count count_of head_total
 form_of_day d h b ask e = rw e
 
-pub countable_head : (d : Day) (h : DayHead) (b : List ℕ) → h ≡ record { accounts = d.accounts; count = d.count; fund = d.fund } → Countable d b → Countable (day_of h []) b
+pub countable_head : (d : Day) (h : DayHead) (b : List ℕ) → h ≡ record { accounts = d.accounts; count = d.count; fund = d.fund } → Countable d b → Countable (day_of h [] []) b
 unfolding head_total
 countable_head d h b e r =
     rw e

@@ -11,6 +11,6 @@ use Rattle.order_form.proofs.units_of_all.Given as goal
 abbrev pub invariant-loop-a : goal.invariant-loop-a
 invariant-loop-a l =
     record {
-      made : l.all.made ≡ heads_below (day_of l.head []) l.book (counter (number_of l.kind)) l.a;
-      reverse : l.all.reverse ≡ heads_below (day_of l.head []) l.book (counter (number_of (opposite_kind l.kind))) l.a;
+      made : l.all.made ≡ heads_below (day_of l.head [] []) l.book (counter (number_of l.kind)) l.a;
+      reverse : l.all.reverse ≡ heads_below (day_of l.head [] []) l.book (counter (number_of (opposite_kind l.kind))) l.a;
     }
