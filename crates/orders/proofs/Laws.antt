@@ -92,7 +92,7 @@ module _ (d : Day) (b ps : List ℕ) (ask : Ask) (f : Formed d b ps ask) where
 
 -- what a sound day gives an order's form, which looks at the day's head alone, and its count of baskets
 module _ (d : Day) (b ps : List ℕ) (whole : is_sound d b ps ≡ true) where
-  pub form_ready : Countable (day_of (record { accounts = d.accounts; count = d.count; fund = d.fund }) []) b
+  pub form_ready : Countable (day_of (record { accounts = d.accounts; count = d.count; fund = d.fund }) [] []) b
   form_ready = countable_head d _ b refl (sound_countable d b ps (sound_facts d b ps whole))
 
   pub basket_low : 0 < d.fund.basket_size
@@ -119,7 +119,7 @@ module _ (d : Day) (b ps : List ℕ) (rooms : Rooms) where
   asked_staged ask = rw (stages ask) (staged (form ask) (means ask) _ tt)
 
 -- the form of an order looks at the day's head alone
-pub form_is : (d : Day) (b : List ℕ) (ask : Ask) → order_form d b ask ≡ order_form (day_of (record { accounts = d.accounts; count = d.count; fund = d.fund }) []) b ask
+pub form_is : (d : Day) (b : List ℕ) (ask : Ask) → order_form d b ask ≡ order_form (day_of (record { accounts = d.accounts; count = d.count; fund = d.fund }) [] []) b ask
 form_is d b ask = sym (form_of_day d _ b ask refl)
 
 -- what an accepted order has
