@@ -24,12 +24,13 @@ use driver_rows::Work;
 use rules::{Lists, Trade};
 use units::Money;
 
-// Opens a day: the book, the prices and the day are filled.
+// Opens a day, under our flag table where none is lent: the book, the prices and the day are filled.
 #[unsafe(no_mangle)]
 pub extern "C" fn roffelaine_open(
     accounts: usize,
     count: usize,
     fund: &[u64],
+    table: &[u64],
     components: &[u64],
     holdings: &[u64],
     book: &mut [u64],
@@ -38,10 +39,10 @@ pub extern "C" fn roffelaine_open(
     place: &mut u64,
     value: &mut u64,
 ) -> u64
-    ensures { FlatOutcome fund.now (flat_given accounts count fund.now components.now holdings.now book.old prices.old day.old) result place.new value.new book.new prices.new day.new }
+    ensures { FlatOutcome fund.now (flat_given accounts count fund.now table.now components.now holdings.now book.old prices.old day.old) result place.new value.new book.new prices.new day.new }
 {
     let answer = flat_calls::open(
-        accounts, count, fund, components, holdings, book, prices, day,
+        accounts, count, fund, table, components, holdings, book, prices, day,
     );
     answers::tell(Numbers::from(answer), place, value)
 }
@@ -271,15 +272,16 @@ pub extern "C" fn roffelaine_run_public(
 #[unsafe(no_mangle)]
 pub extern "C" fn roffelaine_read(
     text: &[u8],
+    table: &[u64],
     run: &mut [u64],
     fields: &mut [u64],
     first_row: &mut u64,
     place: &mut u64,
     value: &mut u64,
 ) -> u64
-    ensures { TextRead text.now (taking run.old fields.old first_row.old) result place.new value.new (taking run.new fields.new first_row.new) }
+    ensures { TextRead table.now text.now (taking run.old fields.old first_row.old) result place.new value.new (taking run.new fields.new first_row.new) }
 {
-    let answer = flat_calls::read(text, run, fields, first_row);
+    let answer = flat_calls::read(text, table, run, fields, first_row);
     answers::tell(Numbers::from(answer), place, value)
 }
 
@@ -305,6 +307,7 @@ pub extern "C" fn roffelaine_letters(text: &[u8], part: &mut [u64]) -> u64
 #[unsafe(no_mangle)]
 pub extern "C" fn roffelaine_write(
     fields: &[u64],
+    table: &[u64],
     run: &[u64],
     names: &[u8],
     letters: &[u8],
@@ -312,8 +315,8 @@ pub extern "C" fn roffelaine_write(
     place: &mut u64,
     value: &mut u64,
 ) -> u64
-    ensures { TextWritten fields.now (listing (fields_at fields.now) run.now names.now letters.now) output.old result place.new value.new output.new }
+    ensures { TextWritten table.now fields.now (listing (fields_at fields.now) run.now names.now letters.now) output.old result place.new value.new output.new }
 {
-    let answer = flat_calls::write(fields, run, names, letters, output);
+    let answer = flat_calls::write(fields, table, run, names, letters, output);
     answers::tell(Numbers::from(answer), place, value)
 }
