@@ -2,7 +2,7 @@
 -- reading and writing.
 use Rattle.std.specs.Prelude.{ℕ, ◌+◌, ◌-◌, Bool, true, false, cond, not, ◌&&◌, List, [], ◌∷◌, ◌++◌, eqb, length, get_or, take, drop, replicate, Option, Some}
 use Rattle.sequences.specs.Below.{sum_below, all_below, first_below, join_below}
-use Rattle.flags.specs.Table.{entry_in}
+use Rattle.flags.specs.Table.{FlagTable, entry}
 use Rattle.digits.specs.declared.Form.{Form}
 use Rattle.digits.specs.Digits.{plain, is_number, figure_of, number_text, all_blank}
 use Rattle.lines.specs.Lines.{name_byte, all_bytes}
@@ -63,15 +63,15 @@ pub data Content : Type 0 where
   number_cell : Content
   blank_cell : Content
 
-unfoldable pub content_by : List (List Bool) → ℕ → Use → Content
+unfoldable pub content_by : FlagTable → ℕ → Use → Content
 content_by flags flag Always = number_cell
-content_by flags flag (ByFlag column) = cond (entry_in flags flag column) number_cell blank_cell
+content_by flags flag (ByFlag column) = cond (entry flags flag column) number_cell blank_cell
 content_by flags flag Text = words_cell
 
 -- a column with that use has something to say in a line with that flag
-unfoldable pub used_by : List (List Bool) → ℕ → Use → Bool
+unfoldable pub used_by : FlagTable → ℕ → Use → Bool
 used_by flags flag Always = true
-used_by flags flag (ByFlag column) = entry_in flags flag column
+used_by flags flag (ByFlag column) = entry flags flag column
 used_by flags flag Text = true
 
 -- the form of a column's number in a width, or as long as it is, and in the column's own

@@ -1,6 +1,7 @@
 -- The tables that a form of the text goes by: the columns of a component line and the fields of the head, whose names the code is
 -- lent by reference.
-use Rattle.std.specs.Prelude.{ℕ, Bool, false, List, [], get_or, map, None}
+use Rattle.std.specs.Prelude.{ℕ, false, List, [], get_or, map, None}
+use Rattle.flags.specs.Table.{FlagTable}
 use Rattle.digits.specs.declared.Form.{Form}
 use Rattle.text_rules.specs.declared.Use.TheVariants.{Always}
 use Rattle.text_rules.specs.declared.Column.{Column}
@@ -19,10 +20,10 @@ pub record TextForm : Type 0 where
   pub fields : List Field
   pub columns : List Column
   pub flag_at : ℕ
-  pub flags : List (List Bool)
+  pub flags : FlagTable
 
 -- a form as far as its component lines go
-abbrev pub line_form : List Column → ℕ → List (List Bool) → TextForm
+abbrev pub line_form : List Column → ℕ → FlagTable → TextForm
 line_form columns flag_at flags = record { fields = []; columns = columns; flag_at = flag_at; flags = flags }
 
 -- ---- a field that the code is lent has its name by reference

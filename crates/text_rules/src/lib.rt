@@ -14,7 +14,7 @@ use std::marker::Model;
 #[derive(Clone, Copy)]
 pub enum Use {
     Always,
-    // A place and no `flags::Column`: the definitions take any place (`entry_in`), and the enum would ask more.
+    // A place and no `flags::Column`: the definitions take any place (`entry`), and the enum would ask more.
     ByFlag(usize),
     Text,
 }
