@@ -4,6 +4,7 @@ use mathlib.Core.Path.{◌≡◌, refl, ◌∙◌}
 use mathlib.Core.Bool.{Bool, true, false, cond, true≢false}
 use mathlib.Core.List.{List}
 use Rattle.std.specs.Prelude.{Option}
+use Rattle.flags.specs.Table.{FlagTable}
 use Rattle.digits.specs.Digits.{all_blank, is_plain, plain_size, has_minus, is_signed, signed_figure, trimmed_by, trimmed, is_number, figure_of, size_reading}
 use Rattle.text_rules.specs.declared.Use.{Use}
 use Rattle.text_rules.specs.declared.Use.TheVariants.{Always, ByFlag, Text}
@@ -20,7 +21,7 @@ cell_blank digits decimals s u e = e ∙ rw u
 
 -- A column that holds no text has its number where it is used, and else blanks.
 
-pub content_used : (flags : List (List Bool)) (flag : ℕ) (u : Use) → is_text u ≡ false
+pub content_used : (flags : FlagTable) (flag : ℕ) (u : Use) → is_text u ≡ false
     → content_by flags flag u ≡ cond (used_by flags flag u) number_cell blank_cell
 unfolding content_by used_by is_text
 content_used flags flag Always h = refl
@@ -39,11 +40,11 @@ cell_size_lem c s true e = rw e (number_form_lem c s)
 cell_size_lem c s false e = rw e
 
 -- what the definitions read of a column in a line with that flag
-unfoldable pub cell_reading : List (List Bool) → ℕ → Column → List ℕ → Option ℕ
+unfoldable pub cell_reading : FlagTable → ℕ → Column → List ℕ → Option ℕ
 cell_reading flags flag c s = size_reading (is_cell (content_by flags flag c.used) c s) (cell_of (content_by flags flag c.used) c s)
 
 -- the same by the column's parts
-pub column_cell : (flags : List (List Bool)) (flag : ℕ) (c : Column) (s : List ℕ) → is_text c.used ≡ false
+pub column_cell : (flags : FlagTable) (flag : ℕ) (c : Column) (s : List ℕ) → is_text c.used ≡ false
     → cell_size (used_by flags flag c.used) c.digits c.decimals s ≡ cell_reading flags flag c s
 unfolding cell_reading
 column_cell flags flag c s h = cell_size_lem c s (used_by flags flag c.used) (content_used flags flag c.used h)

@@ -9,7 +9,7 @@ use lib.ListN.{length, take, drop, replicate, length-append, length-drop, length
 use lib.Seq.{length-take-le, take_at, drop_at, drop-drop}
 use Rattle.sequences.specs.Below.{sum_below, join_below}
 use Rattle.sequences.proofs.Below.{sum_grows}
-use Rattle.flags.specs.Table.{entry_in}
+use Rattle.flags.specs.Table.{FlagTable, entry}
 use Rattle.digits.specs.Digits.{plain}
 use Rattle.digits.specs.Fits.{Fits}
 use Rattle.digits.specs.Written.{put}
@@ -27,7 +27,7 @@ use Rattle.text_cells_writing.proofs.Cells.{number-length}
 use Rattle.text_rows_writing.specs.Lines.{line_so_far}
 
 -- ---- a number column's text, and what fits it, by whether it is used
-module _ (flags : List (List Bool)) (flag : ℕ) (c : Column) (n : ℕ) (s : List ℕ) where
+module _ (flags : FlagTable) (flag : ℕ) (c : Column) (n : ℕ) (s : List ℕ) where
   switch_text : (b : Bool) → used_text b c n ≡ cell_text (cond b number_cell blank_cell) c n s ++ 124 ∷ []
   unfolding used_text cell_text
   switch_text true = refl
@@ -65,7 +65,7 @@ module _ (flags : List (List Bool)) (flag : ℕ) (c : Column) (n : ℕ) (s : Lis
       → length (cell_text (content_by flags flag u) c n s) ≡ c.width
   unfolding is_text content_by
   cell-length Always f h = switch_length true f
-  cell-length (ByFlag column) f h = switch_length (entry_in flags flag column) f
+  cell-length (ByFlag column) f h = switch_length (entry flags flag column) f
   cell-length Text f h = rw (words_text Text refl) (h refl)
 
 -- ---- blanks

@@ -12,6 +12,7 @@ use Rattle.sequences.specs.Below.{sum_below}
 use Rattle.sequences.specs.Stretch.{stretch_of}
 use Rattle.sequences.proofs.Below.{sum_grows}
 use Rattle.sequences.proofs.Stretch.{within, stretch-length, stretch_at, join_ext}
+use Rattle.flags.specs.Table.{FlagTable}
 use Rattle.digits.specs.Digits.{plain}
 use Rattle.digits.specs.Fits.{Fits}
 use Rattle.text_rules.specs.declared.Column.{Column}
@@ -36,7 +37,7 @@ number_inside cs k h e =
     omega arith
 
 -- ---- a number column in a line i, from the line's piece x of the run
-module _ (flags : List (List Bool)) (c : Column) (run : List ℕ) (stride flagPlace place : ℕ) where
+module _ (flags : FlagTable) (c : Column) (run : List ℕ) (stride flagPlace place : ℕ) where
   module _ (i : ℕ) {x : List ℕ} (piece : x ≡ take stride (drop (i * stride) run)) (flag : flagPlace < stride) (there : place < stride)
       {used : Bool} (told : used ≡ used_by flags (get_or x flagPlace 0) c.used) where
     piece_at : (k : ℕ) → k < stride → get_or x k 0 ≡ get_or run (i * stride + k) 0

@@ -5,6 +5,7 @@ use mathlib.Core.List.{List}
 use Prim.Native.Nat.{ℕ, ◌+◌, ◌*◌, ◌≤◌, ◌<◌}
 use native.Mathlib.Omega.{arith}
 use lib.ListN.{length, get_or}
+use Rattle.flags.specs.Table.{FlagTable}
 use Rattle.text_rules.specs.declared.Column.{Column}
 use Rattle.text_rules.specs.declared.Taken.{Taken}
 use Rattle.text_rules.specs.Tables.{TextForm, no_column, column_at}
@@ -64,7 +65,7 @@ module _ {t : TextForm} {line : Taken} (whole : TableReady t.columns t.flag_at l
     words_turn f = words_next _ _ _ _ ready k here.inside v text (rw (here.place, whole.whole, here.column) at f)
 
   -- numbers
-  module _ (number : holds_text t.columns k ≡ false) {flags : List (List Bool)} (table : flags ≡ t.flags) {flagPlace : ℕ}
+  module _ (number : holds_text t.columns k ≡ false) {flags : FlagTable} (table : flags ≡ t.flags) {flagPlace : ℕ}
       (flag : flagPlace ≡ numbers_before t.columns t.flag_at) where
     pub numbers_ask : ((taken.bytes + c.width < taken_pitch line) × (line.bytes ≤ most_line))
         × (((length run ≡ count * line.numbers) × (flagPlace < line.numbers) × (taken.numbers < line.numbers))

@@ -1,7 +1,8 @@
 -- What the component lines hold while they are written column by column.
-use Rattle.std.specs.Prelude.{ℕ, zero, suc, ◌+◌, ◌-◌, ◌*◌, ◌<◌, ◌≡◌, Bool, true, List, [], ◌∷◌, ◌++◌, length, get_or, take, drop, replicate}
+use Rattle.std.specs.Prelude.{ℕ, zero, suc, ◌+◌, ◌-◌, ◌*◌, ◌<◌, ◌≡◌, true, List, [], ◌∷◌, ◌++◌, length, get_or, take, drop, replicate}
 use Rattle.sequences.specs.Below.{join_below}
 use Rattle.sequences.specs.Stretch.{stretch_of, on_stretch}
+use Rattle.flags.specs.Table.{FlagTable}
 use Rattle.digits.specs.Digits.{plain}
 use Rattle.digits.specs.Fits.{Fits}
 use Rattle.digits.specs.Written.{put}
@@ -15,7 +16,7 @@ use Rattle.text_trip.specs.Trips.{RowFits}
 use Rattle.text_cells_writing.specs.Cells.{used_text}
 
 -- a number column's text in the i-th line, from a run that has so many numbers a line, the number and the flag at their places among them
-unfoldable pub number_at : List (List Bool) → Column → List ℕ → ℕ → ℕ → ℕ → ℕ → List ℕ
+unfoldable pub number_at : FlagTable → Column → List ℕ → ℕ → ℕ → ℕ → ℕ → List ℕ
 number_at flags c run stride flagPlace place i =
     used_text (used_by flags (get_or run (i * stride + flagPlace) 0) c.used) c (get_or run (i * stride + place) 0)
 
@@ -33,7 +34,7 @@ abbrev pub BlankAt : ℕ → ℕ → ℕ → ℕ → List ℕ → Type 0
 BlankAt w at width n b = (i : ℕ) → i < n → take width (drop at (stretch_of w b i)) ≡ replicate width 32
 
 -- in each line below n the number fits the column, where the column is used
-abbrev pub NumbersFit : List (List Bool) → Column → List ℕ → ℕ → ℕ → ℕ → ℕ → Type 0
+abbrev pub NumbersFit : FlagTable → Column → List ℕ → ℕ → ℕ → ℕ → ℕ → Type 0
 NumbersFit flags c run stride flagPlace place n =
     (i : ℕ) → i < n → used_by flags (get_or run (i * stride + flagPlace) 0) c.used ≡ true
     → Fits (number_form c) (plain (get_or run (i * stride + place) 0))

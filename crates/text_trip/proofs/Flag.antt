@@ -2,7 +2,7 @@
 use Rattle.std.proofs.lemmas.Grind.{common_steps}
 use mathlib.Core.Path.{◌≡◌, refl, ap}
 use mathlib.Core.Bool.{Bool, true, false, cond, false≢true, and-eq-true_iff}
-use mathlib.Core.List.{List, [], ◌∷◌}
+use mathlib.Core.List.{[], ◌∷◌}
 use Prim.Native.Nat.{ℕ, ◌+◌, ◌-◌, ◌*◌, ◌≤◌, ◌<◌}
 use native.Mathlib.Nat.{div-one, mod-eq_of_lt}
 use native.Mathlib.Omega.{arith}
@@ -12,6 +12,7 @@ use lib.ListN.{get_or, drop}
 use borrow.Author.Tests.{le-leb}
 use Rattle.sequences.specs.Every.{inside}
 use Rattle.sequences.proofs.Every.{every_at, inside_facts}
+use Rattle.flags.specs.Table.{FlagTable}
 use Rattle.digits.specs.declared.Form.{Form}
 use Rattle.digits.specs.Digits.{plain, fixed, whole_text, plain_text, signed_text, blanks_left, number_text, cap, capped, from, blanks, is_digit, all_digits, is_shaped, is_whole, is_plain, plain_size}
 use Rattle.digits.specs.Digits.{has_minus, is_signed, signed_figure, trimmed_by, trimmed, is_number, figure_of}
@@ -29,7 +30,7 @@ Holds words_cell b = b ≡ true
 Holds number_cell b = b ≡ false
 Holds blank_cell b = b ≡ false
 
-pub content_holds : (flags : List (List Bool)) (flag : ℕ) (u : Use) → Holds (content_by flags flag u) (is_text u)
+pub content_holds : (flags : FlagTable) (flag : ℕ) (u : Use) → Holds (content_by flags flag u) (is_text u)
 unfolding content_by is_text
 content_holds flags flag Always = refl
 content_holds flags flag (ByFlag column) = grind (arith, common_steps)
