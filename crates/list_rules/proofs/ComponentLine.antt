@@ -3,6 +3,7 @@ use mathlib.Core.Path.{◌≡◌, refl}
 use mathlib.Core.List.{List}
 use Prim.Native.Nat.{ℕ}
 use Rattle.sequences.specs.Below.{sum_below, join_below}
+use Rattle.flags.specs.Table.{FlagTable}
 use Rattle.layout.specs.declared.Component.{Component}
 use Rattle.layout.specs.Components.{component_at, component_numbers}
 use Rattle.text_rules.specs.Tables.{column_at}
@@ -12,19 +13,19 @@ use Rattle.list_rules.specs.Shanghai.{code_column, quantity_column, flag_column,
 use Rattle.list_rules.specs.Reading.{line_component}
 
 -- reading
-pub line_component_lem : (l : List ℕ) → component_at (numbers_read shanghai l) 0 ≡ line_component l
+pub line_component_lem : (t : FlagTable) (l : List ℕ) → component_at (numbers_read (shanghai t) l) 0 ≡ line_component t l
 unfolding shanghai shanghai_columns numbers_read holds_text is_text column_at join_below component_at line_component
-line_component_lem l = refl
+line_component_lem t l = refl
 
 -- writing
 pub record ColumnsSay (c : Component) : Type 0 where
-  pub code : cell_at shanghai.columns (component_numbers c) code_column ≡ c.code
-  pub quantity : cell_at shanghai.columns (component_numbers c) quantity_column ≡ c.quantity
-  pub flag : cell_at shanghai.columns (component_numbers c) flag_column ≡ c.flag
-  pub premium : cell_at shanghai.columns (component_numbers c) premium_column ≡ c.premium.0
-  pub discount : cell_at shanghai.columns (component_numbers c) discount_column ≡ c.discount.0
-  pub amount : cell_at shanghai.columns (component_numbers c) amount_column ≡ c.amount.0
+  pub code : cell_at shanghai_columns (component_numbers c) code_column ≡ c.code
+  pub quantity : cell_at shanghai_columns (component_numbers c) quantity_column ≡ c.quantity
+  pub flag : cell_at shanghai_columns (component_numbers c) flag_column ≡ c.flag
+  pub premium : cell_at shanghai_columns (component_numbers c) premium_column ≡ c.premium.0
+  pub discount : cell_at shanghai_columns (component_numbers c) discount_column ≡ c.discount.0
+  pub amount : cell_at shanghai_columns (component_numbers c) amount_column ≡ c.amount.0
 
 pub columns_say : (c : Component) → ColumnsSay c
-unfolding shanghai shanghai_columns cell_at numbers_before holds_text is_text column_at sum_below component_numbers
+unfolding shanghai_columns cell_at numbers_before holds_text is_text column_at sum_below component_numbers
 columns_say c = record { code = refl; quantity = refl; flag = refl; premium = refl; discount = refl; amount = refl }

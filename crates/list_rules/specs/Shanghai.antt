@@ -1,6 +1,6 @@
 -- The Shanghai form of the text: its table of columns, its table of fields, and which is which.
 use Rattle.std.specs.Prelude.{ℕ, Bool, true, false, List, [], ◌∷◌, Option, Some, None}
-use Rattle.flags.specs.Table.{flag_table, rate_used, amount_used}
+use Rattle.flags.specs.Table.{FlagTable, rate_used, amount_used}
 use Rattle.digits.specs.declared.Form.{Form}
 use Rattle.lines.specs.Words.{bytes}
 use Rattle.text_rules.specs.Dates.{date_digits}
@@ -148,9 +148,13 @@ unit_value_field = 11
 abbrev pub limits_field : ℕ
 limits_field = 12
 
--- ---- the form, and the same as far as its component lines go
-unfoldable pub shanghai : TextForm
-shanghai = record { fields = shanghai_fields; columns = shanghai_columns; flag_at = flag_column; flags = flag_table }
+-- ---- the form under a flag table, and the same as far as its component lines go
+unfoldable pub shanghai : FlagTable → TextForm
+shanghai t = record { fields = shanghai_fields; columns = shanghai_columns; flag_at = flag_column; flags = t }
 
-abbrev pub shanghai_lines : TextForm
-shanghai_lines = line_form shanghai_columns flag_column flag_table
+abbrev pub shanghai_lines : FlagTable → TextForm
+shanghai_lines t = line_form shanghai_columns flag_column t
+
+-- the form for what is the same under every table: which lines stand, and where
+abbrev pub shanghai_shape : TextForm
+shanghai_shape = shanghai []

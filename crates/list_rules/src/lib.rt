@@ -4,13 +4,13 @@
 ghost use Rattle.std.specs.Prelude.{◌≡◌, get_or};
 ghost use Rattle.digits.specs.Digits.{plain};
 ghost use Rattle.list_rules.specs.Fields.{blank_fields};
-ghost use Rattle.list_rules.specs.Shanghai.{shanghai_fields, shanghai_lines};
+ghost use Rattle.list_rules.specs.Shanghai.{shanghai_fields, shanghai_columns, shanghai_lines};
 ghost use Rattle.list_rules.specs.Places.{column_place, field_place};
 
 use digits::{Figure, Form};
 use layout::Fund;
 use rules::Refusal;
-use text_rules::{Column, Field, Fields, LineForm, MOST_FIELDS, Use, ValueKind};
+use text_rules::{Column, Columns, Field, Fields, LineForm, MOST_FIELDS, Use, ValueKind};
 use units::Rate;
 
 // The fields of a list but its components, its names and the letters of its first line.
@@ -340,12 +340,20 @@ const FIELDS: &[Field<'static>] = &[
     },
 ];
 
-// The form as far as its component lines go.
-#[tactic(auto, using(crate::proofs::Lent::shanghai_columns_well), unfolding(crate::specs::Shanghai::shanghai_columns, flags::specs::Table::flag_table))]
-pub fn line_form() -> LineForm<'static>
-    ensures { result ≡ shanghai_lines }
+// The columns of a component line, which stand in the same places under every flag table.
+#[tactic(auto, using(crate::proofs::Lent::shanghai_columns_well), unfolding(crate::specs::Shanghai::shanghai_columns))]
+pub fn columns() -> Columns<'static>
+    ensures { result ≡ shanghai_columns }
 {
-    LineForm::new(COLUMNS, ListColumn::Flag.place(), &flags::TABLE)
+    Columns::new(COLUMNS)
+}
+
+// The form as far as its component lines go, under a flag table.
+#[tactic(auto, using(crate::proofs::Lent::shanghai_columns_well), unfolding(crate::specs::Shanghai::shanghai_columns))]
+pub fn line_form(table: &flags::Table) -> LineForm<'_>
+    ensures { result ≡ shanghai_lines table.now }
+{
+    LineForm::new(COLUMNS, ListColumn::Flag.place(), table)
 }
 
 // The fields of the head.
