@@ -14,7 +14,7 @@ use Rattle.list_rules.specs.Reading.{line_component}
 
 -- reading
 pub line_component_lem : (t : FlagTable) (l : List ℕ) → component_at (numbers_read (shanghai t) l) 0 ≡ line_component t l
-unfolding shanghai shanghai_columns numbers_read holds_text is_text column_at join_below component_at line_component
+unfolding shanghai_columns numbers_read holds_text is_text column_at join_below component_at line_component
 line_component_lem t l = refl
 
 -- writing

@@ -14,7 +14,7 @@ use Rattle.text_rules.proofs.Well.{form_facts}
 use Rattle.list_rules.specs.Shanghai.{shanghai, shanghai_shape, shanghai_columns, shanghai_fields, field_count, flag_column}
 
 pub shanghai_well : (t : FlagTable) → form_well (shanghai t) ≡ true
-unfolding form_well every fields_well field_well columns_well column_well digits_fill flag_well is_always shanghai shanghai_columns shanghai_fields
+unfolding form_well every fields_well field_well columns_well column_well digits_fill flag_well is_always shanghai_columns shanghai_fields
     column_at field_at all_below all_bytes other_byte line_width column_start column_width sum_below
 shanghai_well t = refl
 
@@ -23,13 +23,10 @@ unfolding shanghai_fields
 fields_count = refl
 
 pub shanghai_columns_well : columns_well shanghai_columns ≡ true
-unfolding shanghai
 shanghai_columns_well = (form_facts shanghai_shape (shanghai_well [])).columns
 
 pub shanghai_flag_well : flag_well shanghai_columns flag_column ≡ true
-unfolding shanghai
 shanghai_flag_well = (form_facts shanghai_shape (shanghai_well [])).flag
 
 pub shanghai_fields_well : fields_well shanghai_fields ≡ true
-unfolding shanghai
 shanghai_fields_well = (form_facts shanghai_shape (shanghai_well [])).fields

@@ -1,4 +1,5 @@
 pub mod Fields
 pub mod Ranges
 pub mod Lent
+pub mod Shape
 pub mod ComponentLine

@@ -149,7 +149,7 @@ abbrev pub limits_field : ℕ
 limits_field = 12
 
 -- ---- the form under a flag table, and the same as far as its component lines go
-unfoldable pub shanghai : FlagTable → TextForm
+abbrev pub shanghai : FlagTable → TextForm
 shanghai t = record { fields = shanghai_fields; columns = shanghai_columns; flag_at = flag_column; flags = t }
 
 abbrev pub shanghai_lines : FlagTable → TextForm
