@@ -10,10 +10,10 @@ use Rattle.sequences.proofs.Stretch.{stretch_at}
 use Rattle.layout.specs.Places.{component_width}
 use Rattle.layout.specs.Components.{component_at}
 use Rattle.text_rules.specs.Columns.{line_numbers, numbers_read}
-use Rattle.text_rules.specs.Reading.{row_count, row_of, run_read}
+use Rattle.text_rules.specs.Reading.{body_start, row_start, row_count, row_of, run_read}
 use Rattle.text_trip.proofs.Below.{stretch_below}
 use Rattle.text_trip.proofs.ReadColumns.{read_numbers}
-use Rattle.list_rules.specs.Shanghai.{shanghai}
+use Rattle.list_rules.specs.Shanghai.{shanghai, shanghai_shape, shanghai_columns}
 use Rattle.list_rules.specs.Reading.{components_run}
 use Rattle.list_rules.proofs.ComponentLine.{line_component_lem}
 use Rattle.list_trip.specs.Trips.{ComponentsRead}
@@ -31,10 +31,11 @@ module _ (run : List ℕ) (j : ℕ) where
       rw (code, there 1 (omega arith), there 2 (omega arith), there 3 (omega arith), there 4 (omega arith), there 5 (omega arith))
 
 pub components_read : ComponentsRead
-unfolding components_run run_read
-components_read text j h =
-    let numbers : stretch_of (line_numbers shanghai.columns) (run_read shanghai text) j ≡ numbers_read shanghai (row_of shanghai text j) =
-    stretch_below _ (λ i. numbers_read shanghai (row_of shanghai text i)) (row_count shanghai text) (λ i _. read_numbers shanghai (row_of shanghai text i)) j h in
-    of_stretch (run_read shanghai text) j
-    ∙ ap (λ (s : List ℕ). component_at s 0) (ap (λ (w : ℕ). stretch_of w (run_read shanghai text) j) (sym line_numbers_lem) ∙ numbers)
-    ∙ line_component_lem (row_of shanghai text j)
+unfolding components_run run_read row_count row_of row_start body_start
+components_read t text j h =
+    let line : ℕ → List ℕ = row_of shanghai_shape text in
+    let numbers : stretch_of (line_numbers shanghai_columns) (components_run t text) j ≡ numbers_read (shanghai t) (line j) =
+    stretch_below _ (λ i. numbers_read (shanghai t) (line i)) (row_count shanghai_shape text) (λ i _. read_numbers (shanghai t) (line i)) j h in
+    of_stretch (components_run t text) j
+    ∙ ap (λ (s : List ℕ). component_at s 0) (ap (λ (w : ℕ). stretch_of w (components_run t text) j) (sym line_numbers_lem) ∙ numbers)
+    ∙ line_component_lem t (line j)

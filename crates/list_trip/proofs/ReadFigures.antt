@@ -1,5 +1,5 @@
 -- The figures of a text that is read: the fields say them again, and a head is written from no others.
-use mathlib.Core.Path.{◌≡◌, refl, ap, subst}
+use mathlib.Core.Path.{◌≡◌, refl, ap, subst, ◌∙◌}
 use mathlib.Core.Bool.{Bool, true, false, cond, ◌||◌, and-eq-true_iff}
 use mathlib.Core.List.{List, ◌++◌}
 use mathlib.Core.Logic.{◌⊎◌, ⊎_map}
@@ -10,7 +10,9 @@ use lib.ListN.{length}
 use borrow.Author.Tests.{leb-true, eqb-true}
 use Rattle.std.proofs.lemmas.Bool.{or_cases}
 use Rattle.sequences.specs.Below.{all_below}
+use Rattle.sequences.specs.Checks.{passes}
 use Rattle.sequences.proofs.Below.{all_at}
+use Rattle.flags.specs.Table.{FlagTable}
 use Rattle.digits.specs.declared.Figure.{Figure}
 use Rattle.digits.specs.Digits.{cap, is_number}
 use Rattle.digits.proofs.Trip.{figure_sign}
@@ -25,6 +27,7 @@ use Rattle.list_rules.specs.Shanghai.{shanghai, shanghai_fields, field_count, es
 use Rattle.list_rules.specs.Fields.{figure_at}
 use Rattle.list_rules.specs.Reading.{fields_read}
 use Rattle.list_rules.proofs.Fields.{figures_fields}
+use Rattle.list_rules.proofs.Shape.{checks_same}
 use Rattle.list_rules.proofs.Lent.{fields_count}
 use Rattle.list_trip.proofs.ReadTests.{Reads, count_read}
 use Rattle.list_trip.proofs.WrittenFields.{figure_small}
@@ -52,12 +55,12 @@ signed_fields k h e =
     let all = all_at (λ i. cond (field_at shanghai_fields i).form.signed (eqb i estimated_cash_field || eqb i cash_component_field) true) field_count refl k h in
     ⊎_map (eqb-true k estimated_cash_field) (eqb-true k cash_component_field) (or_cases _ _ (rw e at all))
 
-module _ (text : List ℕ) (r : Reads text) where
+module _ (t : FlagTable) (text : List ℕ) (r : Reads t text) where
   field_number : (k : ℕ) → k < field_count → is_number (field_at shanghai_fields k).form (word_of shanghai_fields text k) ≡ true
-  unfolding is_field shanghai
+  unfolding is_field
   field_number k h =
       ((and-eq-true_iff (is_number (field_at shanghai_fields k).form (word_of shanghai_fields text k)) _).0
-      ((forms shanghai text r.shape r.fields).fields k (omega (arith, fields_count)))).0
+      ((forms (shanghai t) text (ap passes (checks_same t text) ∙ r.shape) r.fields).fields k (omega (arith, fields_count)))).0
 
   -- the fields say the figures that were read
   pub figures_again : (k : ℕ) → k < field_count → figure_at (fields_read text) k ≡ figure_read shanghai_fields text k
@@ -70,8 +73,7 @@ module _ (text : List ℕ) (r : Reads text) where
 
   -- which are below the cap
   pub figures_small : (k : ℕ) → k < field_count → (figure_read shanghai_fields text k).size < cap
-  unfolding shanghai
   figures_small k h =
-      let p = count_read text r in
+      let p = count_read t text r in
       subst (λ (z : Figure). z.size < cap) (figures_again k h)
       (figure_small (fields_read text) r.ranges (omega (arith, p.1, p.2)) k (omega (arith, fields_count)))

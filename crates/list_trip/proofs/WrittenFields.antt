@@ -23,7 +23,7 @@ use Rattle.text_rules.specs.Dates.{date_digits, is_date}
 use Rattle.text_rules.specs.Head.{is_kind}
 use Rattle.text_rules.proofs.Dates.{date_sound}
 use Rattle.list_rules.specs.declared.ListFields.{ListFields}
-use Rattle.list_rules.specs.Shanghai.{shanghai, shanghai_fields, field_count, limits_field}
+use Rattle.list_rules.specs.Shanghai.{shanghai_fields, field_count, limits_field}
 use Rattle.list_rules.specs.Fields.{figure_at, fields_in_range}
 use Rattle.list_rules.proofs.Ranges.{fields_sound}
 use Rattle.list_trip.proofs.Tables.{none, both, behind, paired_at}
@@ -103,8 +103,8 @@ module _ (l : ListFields) (fit : fields_in_range l ≡ true) (few : l.count ≤ 
       (omega (arith, (fund_limits l.fund (fund_sound l.fund (fields_sound l fit).fund) (k - limits_field) (omega arith)).0))
 
   -- every field of the table
-  figures_say : (k : ℕ) → k < length shanghai.fields → Says (field_at shanghai.fields k) (figure_at l k)
-  unfolding shanghai shanghai_fields field_at figure_at is_kind
+  figures_say : (k : ℕ) → k < length shanghai_fields → Says (field_at shanghai_fields k) (figure_at l k)
+  unfolding shanghai_fields field_at figure_at is_kind
   figures_say k h =
       let s = fields_sound l fit in
       let r = fund_sound l.fund s.fund in
@@ -133,11 +133,11 @@ module _ (l : ListFields) (fit : fields_in_range l ≡ true) (few : l.count ≤ 
       no_field k h
 
   -- each figure fits the form of its field, is of its kind, and is below the cap
-  pub figure_fits : (k : ℕ) → k < length shanghai.fields → Fits (field_at shanghai.fields k).form (figure_at l k)
+  pub figure_fits : (k : ℕ) → k < length shanghai_fields → Fits (field_at shanghai_fields k).form (figure_at l k)
   figure_fits k h = (figures_say k h).fits
 
-  pub figure_kind : (k : ℕ) → k < length shanghai.fields → is_kind (field_at shanghai.fields k).kind (figure_at l k).size ≡ true
+  pub figure_kind : (k : ℕ) → k < length shanghai_fields → is_kind (field_at shanghai_fields k).kind (figure_at l k).size ≡ true
   figure_kind k h = (figures_say k h).kind
 
-  pub figure_small : (k : ℕ) → k < length shanghai.fields → (figure_at l k).size < cap
+  pub figure_small : (k : ℕ) → k < length shanghai_fields → (figure_at l k).size < cap
   figure_small k h = (figures_say k h).small

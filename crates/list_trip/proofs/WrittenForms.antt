@@ -1,5 +1,5 @@
 -- A component in its ranges: its numbers, with a name, fit the columns of a line.
-use mathlib.Core.Path.{◌≡◌, refl, sym, ◌∙◌, subst}
+use mathlib.Core.Path.{◌≡◌, refl, ◌∙◌, subst}
 use mathlib.Core.Bool.{Bool, true, false, cond, false≢true}
 use mathlib.Core.List.{List}
 use Prim.Native.Nat.{ℕ, zero, suc, ◌+◌, ◌-◌, ◌*◌, ◌/◌, ◌^◌, ◌≤◌, ◌<◌}
@@ -12,8 +12,8 @@ use Rattle.sequences.specs.Below.{sum_below, tabulate}
 use Rattle.sequences.specs.Stretch.{stretch_of}
 use Rattle.sequences.proofs.Below.{table_ext}
 use Rattle.sequences.proofs.Stretch.{within, stretch-length, stretch_at}
-use Rattle.flags.specs.Table.{entry, entry_in, flag_table, rate_used, amount_used}
-use Rattle.flags.proofs.Laws.{entry_ours}
+use Rattle.flags.specs.Table.{FlagTable, entry, flag_count, rate_used, amount_used, in_use}
+use Rattle.flags.proofs.Laws.{entry_says}
 use Rattle.layout.specs.Places.{component_width}
 use Rattle.layout.specs.declared.Component.{Component}
 use Rattle.layout.specs.Components.{component_at, component_numbers}
@@ -87,32 +87,36 @@ use_fits : (b : Bool) (c : Column) (n : ℕ) (s : List ℕ) → Fits (number_for
 use_fits true c n s f z = f
 use_fits false c n s f z = z refl
 
-flag_fits : (flag column : ℕ) (c : Column) (n : ℕ) (s : List ℕ) → Fits (number_form c) (plain n) → zero_unless (entry flag column) n ≡ true
-    → CellFits (cond (entry_in flag_table flag column) number_cell blank_cell) c n s
-flag_fits flag column c n s f z = use_fits (entry_in flag_table flag column) c n s f (λ e. unused_zero _ n z (sym (entry_ours flag column) ∙ e))
+flag_fits : (t : FlagTable) (flag column : ℕ) (c : Column) (n : ℕ) (s : List ℕ) → Fits (number_form c) (plain n) → zero_unless (entry t flag column) n ≡ true
+    → CellFits (cond (entry t flag column) number_cell blank_cell) c n s
+flag_fits t flag column c n s f z = use_fits (entry t flag column) c n s f (unused_zero _ n z)
 
-module _ (g : ℕ) (c : Component) (r : ComponentRanges g c) where
+module _ (t : FlagTable) (g : ℕ) (c : Component) (r : ComponentRanges t g c) where
   -- either rate
   rate_low : (rate : ℕ) → rate ≤ most_rate → rate / 100_000 < 10
   rate_low rate h = (div-lt_iff_lt-mul {k = 100_000} {x = rate} {y = 10} (omega arith)).1 (omega (arith, h))
 
-  rate_fits : (rate : ℕ) (words : List ℕ) → rate ≤ most_rate → zero_unless (entry c.flag rate_used) rate ≡ true
-      → CellFits (cond (entry_in flag_table c.flag rate_used) number_cell blank_cell) (column_at shanghai.columns premium_column) rate words
-  unfolding shanghai shanghai_columns column_at number_form
-  rate_fits rate words h used = flag_fits c.flag rate_used _ rate words (point_fits _ _ rate (λ e. omega arith) (omega arith) (rate_low rate h) (omega arith) (omega arith)) used
+  rate_fits : (rate : ℕ) (words : List ℕ) → rate ≤ most_rate → zero_unless (entry t c.flag rate_used) rate ≡ true
+      → CellFits (cond (entry t c.flag rate_used) number_cell blank_cell) (column_at shanghai_columns premium_column) rate words
+  unfolding shanghai_columns column_at number_form
+  rate_fits rate words h used = flag_fits t c.flag rate_used _ rate words (point_fits _ _ rate (λ e. omega arith) (omega arith) (rate_low rate h) (omega arith) (omega arith)) used
 
   amount_low : c.amount.0 / 1_000 < 100_000_000
   amount_low = (div-lt_iff_lt-mul {k = 1_000} {x = c.amount.0} {y = 100_000_000} (omega arith)).1 (omega (arith, r.amount))
 
+  -- a flag in use is one of the table's, so it is one digit
+  flag_low : c.flag < flag_count
+  flag_low = (entry_says t c.flag in_use r.flag).flag_low
+
   -- code, name, quantity, flag, premium, discount and amount
-  pub component_fits : (words : List ℕ) → all_bytes name_byte (part_at shanghai.columns words name_column) ≡ true → RowFits shanghai (component_numbers c) words
-  unfolding shanghai shanghai_columns component_numbers content_at content_by cell_at numbers_before holds_text is_text column_at sum_below number_form
+  pub component_fits : (words : List ℕ) → all_bytes name_byte (part_at shanghai_columns words name_column) ≡ true → RowFits (shanghai t) (component_numbers c) words
+  unfolding shanghai_columns component_numbers content_at content_by cell_at numbers_before holds_text is_text column_at sum_below number_form
   component_fits words name zero h = fixed_fits _ c.code (omega (arith, r.code)) (omega (arith, r.code))
   component_fits words name (suc zero) h = name
   component_fits words name (suc (suc zero)) h = whole_fits _ c.quantity (omega (arith, r.quantity)) (omega (arith, r.quantity)) (omega arith) (omega arith)
-  component_fits words name (suc (suc (suc zero))) h = fixed_fits _ c.flag (omega (arith, r.flag)) (omega (arith, r.flag))
+  component_fits words name (suc (suc (suc zero))) h = fixed_fits _ c.flag (omega (arith, flag_low)) (omega (arith, flag_low))
   component_fits words name (suc (suc (suc (suc zero)))) h = rate_fits c.premium.0 _ r.premium r.premium_use
   component_fits words name (suc (suc (suc (suc (suc zero))))) h = rate_fits c.discount.0 _ r.discount r.discount_use
   component_fits words name (suc (suc (suc (suc (suc (suc zero)))))) h =
-      flag_fits c.flag amount_used _ c.amount.0 _ (point_fits _ _ c.amount.0 (λ e. omega arith) (omega (arith, r.amount)) amount_low (omega arith) (omega arith)) r.amount_use
+      flag_fits t c.flag amount_used _ c.amount.0 _ (point_fits _ _ c.amount.0 (λ e. omega arith) (omega (arith, r.amount)) amount_low (omega arith) (omega arith)) r.amount_use
   component_fits words name (suc (suc (suc (suc (suc (suc (suc k))))))) h = absurd (omega arith)

@@ -7,6 +7,7 @@ use native.Mathlib.Omega.{arith}
 use lib.ListN.{length, length-append}
 use Rattle.sequences.specs.Checks.{passes}
 use Rattle.sequences.specs.Stretch.{stretch_of}
+use Rattle.flags.specs.Table.{FlagTable}
 use Rattle.layout.specs.Components.{component_at, component_numbers}
 use Rattle.lines.specs.Lines.{line_text, name_byte, all_bytes}
 use Rattle.text_rules.specs.Head.{head_lines, end_word}
@@ -26,49 +27,49 @@ use Rattle.list_trip.proofs.WrittenForms.{run_stretch, component_fits}
 use Rattle.list_trip.proofs.WrittenFields.{figure_fits, figure_kind}
 
 -- the words of a line are its name
-pub words_at_lem : (names : List ℕ) (j : ℕ) → words_at shanghai names j ≡ name_at names j
+pub words_at_lem : (t : FlagTable) (names : List ℕ) (j : ℕ) → words_at (shanghai t) names j ≡ name_at names j
 unfolding words_at name_at
-words_at_lem names j = ap (λ (w : ℕ). stretch_of w names j) line_words_lem
+words_at_lem t names j = ap (λ (w : ℕ). stretch_of w names j) line_words_lem
 
-module _ (l : Listing) (p : Passing l) where
+module _ (t : FlagTable) (l : Listing) (p : Passing t l) where
   -- the numbers of a line are those of its component
-  numbers_at_lem : (j : ℕ) → j < l.fields.count → numbers_at shanghai l.run j ≡ component_numbers (component_at l.run j)
+  numbers_at_lem : (j : ℕ) → j < l.fields.count → numbers_at (shanghai t) l.run j ≡ component_numbers (component_at l.run j)
   unfolding numbers_at
   numbers_at_lem j h =
       ap (λ (w : ℕ). stretch_of w l.run j) line_numbers_lem
       ∙ run_stretch l.run l.fields.count j p.run_length h
 
-  words-length : (j : ℕ) → j < l.fields.count → length (words_at shanghai l.names j) ≡ name_width
-  words-length j h = ap length (words_at_lem l.names j) ∙ name-length l p j h
+  words-length : (j : ℕ) → j < l.fields.count → length (words_at (shanghai t) l.names j) ≡ name_width
+  words-length j h = ap length (words_at_lem t l.names j) ∙ name-length t l p j h
 
-  words_fine : (j : ℕ) → j < l.fields.count → all_bytes name_byte (part_at shanghai.columns (words_at shanghai l.names j) name_column) ≡ true
+  words_fine : (j : ℕ) → j < l.fields.count → all_bytes name_byte (part_at shanghai_columns (words_at (shanghai t) l.names j) name_column) ≡ true
   words_fine j h =
-      ap (all_bytes name_byte) (part_name (words_at shanghai l.names j) (words-length j h) ∙ words_at_lem l.names j)
-      ∙ name_fine l p j h
+      ap (all_bytes name_byte) (part_name (words_at (shanghai t) l.names j) (words-length j h) ∙ words_at_lem t l.names j)
+      ∙ name_fine t l p j h
 
   -- both fit the columns
-  row_fits : (j : ℕ) → j < l.fields.count → RowFits shanghai (numbers_at shanghai l.run j) (words_at shanghai l.names j)
+  row_fits : (j : ℕ) → j < l.fields.count → RowFits (shanghai t) (numbers_at (shanghai t) l.run j) (words_at (shanghai t) l.names j)
   row_fits j h =
-      subst⁻¹ (λ (s : List ℕ). RowFits shanghai s (words_at shanghai l.names j)) (numbers_at_lem j h)
-      (component_fits _ (component_at l.run j) (component_fine l p j h) (words_at shanghai l.names j) (words_fine j h))
+      subst⁻¹ (λ (s : List ℕ). RowFits (shanghai t) s (words_at (shanghai t) l.names j)) (numbers_at_lem j h)
+      (component_fits t _ (component_at l.run j) (component_fine t l p j h) (words_at (shanghai t) l.names j) (words_fine j h))
 
   row_wide : (j : ℕ) → j < l.fields.count
-      → length (row_text shanghai (numbers_at shanghai l.run j) (words_at shanghai l.names j)) ≡ line_width shanghai.columns
+      → length (row_text (shanghai t) (numbers_at (shanghai t) l.run j) (words_at (shanghai t) l.names j)) ≡ line_width shanghai_columns
   row_wide j h =
-      row-length shanghai (form_facts shanghai shanghai_well) (numbers_at shanghai l.run j) (words_at shanghai l.names j) (row_fits j h)
+      row-length (shanghai t) (form_facts (shanghai t) (shanghai_well t)) (numbers_at (shanghai t) l.run j) (words_at (shanghai t) l.names j) (row_fits j h)
       (words-length j h ∙ sym line_words_lem)
 
-  lines_long : length (rows_text shanghai l.run l.names l.fields.count) ≡ l.fields.count * line_pitch shanghai.columns
-  lines_long = rows-length shanghai l.run l.names l.fields.count row_wide
+  lines_long : length (rows_text (shanghai t) l.run l.names l.fields.count) ≡ l.fields.count * line_pitch shanghai_columns
+  lines_long = rows-length (shanghai t) l.run l.names l.fields.count row_wide
 
-module _ (l : Listing) (e : passes (list_checks l) ≡ true) where
-  pub rows_fit_lem : (j : ℕ) → j < l.fields.count → RowFits shanghai (numbers_at shanghai l.run j) (words_at shanghai l.names j)
-  rows_fit_lem = row_fits l (passing l e)
+module _ (t : FlagTable) (l : Listing) (e : passes (list_checks t l) ≡ true) where
+  pub rows_fit_lem : (j : ℕ) → j < l.fields.count → RowFits (shanghai t) (numbers_at (shanghai t) l.run j) (words_at (shanghai t) l.names j)
+  rows_fit_lem = row_fits t l (passing t l e)
 
-  pub sheet_fits : SheetFits shanghai (sheet_of l)
+  pub sheet_fits : SheetFits (shanghai t) (sheet_of l)
   unfolding sheet_of
   sheet_fits =
-      let p = passing l e in
+      let p = passing t l e in
       record {
         letters = p.letters;
         figures = figure_fits l.fields p.ranges p.few;
@@ -79,8 +80,8 @@ module _ (l : Listing) (e : passes (list_checks l) ≡ true) where
       }
 
   -- the head, the component lines and the last line
-  pub text-length : length (text_of l)
+  pub text-length : length (text_of t l)
       ≡ length (head_text shanghai_fields l.letters (figure_at l.fields) (head_lines shanghai_fields))
       + (l.fields.count * line_pitch shanghai_columns + length (line_text end_word))
-  unfolding text_of sheet_of sheet_text shanghai
-  text-length = rw (length-append, length-append, lines_long l (passing l e))
+  unfolding text_of sheet_of sheet_text
+  text-length = rw (length-append, length-append, lines_long t l (passing t l e))
