@@ -9,6 +9,7 @@ use borrow.Author.Tests.{not-true, not-false}
 use Rattle.std.specs.Prelude.{Option}
 use Rattle.std.specs.Option.{ok_or}
 use Rattle.sequences.proofs.Below.{first_none, first_more, first_here, first_all}
+use Rattle.flags.specs.Table.{FlagTable}
 use Rattle.units.specs.declared.Rate.{Rate}
 use Rattle.units.specs.declared.Money.{Money}
 use Rattle.digits.specs.Digits.{size_reading}
@@ -66,74 +67,74 @@ amount_holds = refl
 pub ruleset columns_hold = (code_holds, quantity_holds, flag_holds, premium_holds, discount_holds, amount_holds)
 
 -- a line says the same whatever the fields of the head are
-wrong_ours : (l : List ℕ) (k : ℕ) → wrong_cell shanghai_lines l k ≡ wrong_cell shanghai l k
-unfolding shanghai wrong_cell content_of flag_of
-wrong_ours l k = refl
+wrong_ours : (t : FlagTable) (l : List ℕ) (k : ℕ) → wrong_cell (shanghai_lines t) l k ≡ wrong_cell (shanghai t) l k
+unfolding wrong_cell content_of flag_of
+wrong_ours t l k = refl
 
-read_ours : (l : List ℕ) (k : ℕ) → cell_read shanghai_lines l k ≡ cell_read shanghai l k
-unfolding shanghai cell_read content_of flag_of
-read_ours l k = refl
+read_ours : (t : FlagTable) (l : List ℕ) (k : ℕ) → cell_read (shanghai_lines t) l k ≡ cell_read (shanghai t) l k
+unfolding cell_read content_of flag_of
+read_ours t l k = refl
 
 -- a column behind right ones is right too, or the first at fault
-pub right_first : (l : List ℕ) → RightBefore l code_column
-right_first l = first_none _
+pub right_first : (t : FlagTable) (l : List ℕ) → RightBefore t l code_column
+right_first t l = first_none _
 
-module _ (l : List ℕ) (column : ListColumn) (before : RightBefore l (column_place column)) where
-  pub right_next : wrong_cell shanghai l (column_place column) ≡ false → RightBefore l (column_place column + 1)
-  right_next e = first_more (wrong_cell shanghai l) (column_place column) before e
+module _ (t : FlagTable) (l : List ℕ) (column : ListColumn) (before : RightBefore t l (column_place column)) where
+  pub right_next : wrong_cell (shanghai t) l (column_place column) ≡ false → RightBefore t l (column_place column + 1)
+  right_next e = first_more (wrong_cell (shanghai t) l) (column_place column) before e
 
-  pub fault_here : wrong_cell shanghai l (column_place column) ≡ true → column_place column ≡ column_fault shanghai l
-  unfolding column_fault shanghai
-  fault_here e = sym (first_here (wrong_cell shanghai l) (length shanghai_columns) (column_place column) (column_there column) before e)
+  pub fault_here : wrong_cell (shanghai t) l (column_place column) ≡ true → column_place column ≡ column_fault (shanghai t) l
+  unfolding column_fault
+  fault_here e = sym (first_here (wrong_cell (shanghai t) l) (length shanghai_columns) (column_place column) (column_there column) before e)
 
-  number_or : (b : Bool) → wrong_cell shanghai l (column_place column) ≡ b → NumberRead l column (ok_or (size_reading (not b) (cell_read shanghai l (column_place column))) column)
+  number_or : (b : Bool) → wrong_cell (shanghai t) l (column_place column) ≡ b → NumberRead t l column (ok_or (size_reading (not b) (cell_read (shanghai t) l (column_place column))) column)
   number_or true e = fault_here e
   number_or false e = (right_next e, refl)
 
-module _ {form : TextForm} (ours : form ≡ shanghai_lines) (column : ListColumn) {place : ℕ} (at : place ≡ column_place column) where
+module _ {t : FlagTable} {form : TextForm} (ours : form ≡ shanghai_lines t) (column : ListColumn) {place : ℕ} (at : place ≡ column_place column) where
   pub column_of : {b : Bool} → holds_text shanghai_columns (column_place column) ≡ b → (place < length form.columns) × (holds_text form.columns place ≡ b)
   column_of e = rw (ours, at) (column_there column, e)
 
   module _ (l : List ℕ) where
-    pub wrong_of : wrong_cell form l place ≡ wrong_cell shanghai l (column_place column)
-    wrong_of = rw (ours, at) (wrong_ours l (column_place column))
+    pub wrong_of : wrong_cell form l place ≡ wrong_cell (shanghai t) l (column_place column)
+    wrong_of = rw (ours, at) (wrong_ours t l (column_place column))
 
-    pub read_of : cell_read form l place ≡ cell_read shanghai l (column_place column)
-    read_of = rw (ours, at) (read_ours l (column_place column))
+    pub read_of : cell_read form l place ≡ cell_read (shanghai t) l (column_place column)
+    read_of = rw (ours, at) (read_ours t l (column_place column))
 
-    pub number_of : RightBefore l (column_place column) → {r : Option ℕ} → r ≡ size_reading (not (wrong_cell form l place)) (cell_read form l place)
-        → NumberRead l column (ok_or r column)
-    number_of before e = rw (e, wrong_of, read_of) (number_or l column before _ refl)
+    pub number_of : RightBefore t l (column_place column) → {r : Option ℕ} → r ≡ size_reading (not (wrong_cell form l place)) (cell_read form l place)
+        → NumberRead t l column (ok_or r column)
+    number_of before e = rw (e, wrong_of, read_of) (number_or t l column before _ refl)
 
 -- the name, as the code tests it
-module _ {form : TextForm} (ours : form ≡ shanghai_lines) {place : ℕ} (at : place ≡ name_column) (l : List ℕ) (before : RightBefore l name_column)
+module _ {t : FlagTable} {form : TextForm} (ours : form ≡ shanghai_lines t) {place : ℕ} (at : place ≡ name_column) (l : List ℕ) (before : RightBefore t l name_column)
     {words : Bool} (e : words ≡ not (wrong_cell form l place)) where
-  pub name_right : words ≡ true → RightBefore l (name_column + 1)
-  name_right h = right_next l columns.Name before (sym (wrong_of ours columns.Name at l) ∙ not-true _ (sym e ∙ h))
+  pub name_right : words ≡ true → RightBefore t l (name_column + 1)
+  name_right h = right_next t l columns.Name before (sym (wrong_of ours columns.Name at l) ∙ not-true _ (sym e ∙ h))
 
-  pub name_fault : words ≡ false → name_column ≡ column_fault shanghai l
-  name_fault h = fault_here l columns.Name before (sym (wrong_of ours columns.Name at l) ∙ not-false _ (sym e ∙ h))
+  pub name_fault : words ≡ false → name_column ≡ column_fault (shanghai t) l
+  name_fault h = fault_here t l columns.Name before (sym (wrong_of ours columns.Name at l) ∙ not-false _ (sym e ∙ h))
 
 -- One line.
 
-module _ (l : List ℕ) where
-  pub fault_none : RightBefore l (amount_column + 1) → column_fault shanghai l ≡ length shanghai_columns
-  unfolding column_fault shanghai shanghai_columns
+module _ (t : FlagTable) (l : List ℕ) where
+  pub fault_none : RightBefore t l (amount_column + 1) → column_fault (shanghai t) l ≡ length shanghai_columns
+  unfolding column_fault shanghai_columns
   fault_none right = right
 
   -- where none is at fault, each is right
-  pub column_right : column_fault shanghai l ≡ length shanghai_columns → (column : ListColumn) → wrong_cell shanghai l (column_place column) ≡ false
-  unfolding column_fault shanghai
-  column_right none column = first_all (wrong_cell shanghai l) (length shanghai_columns) none (column_place column) (column_there column)
+  pub column_right : column_fault (shanghai t) l ≡ length shanghai_columns → (column : ListColumn) → wrong_cell (shanghai t) l (column_place column) ≡ false
+  unfolding column_fault
+  column_right none column = first_all (wrong_cell (shanghai t) l) (length shanghai_columns) none (column_place column) (column_there column)
 
   -- its component, number by number
-  pub component_is : {code quantity flag : ℕ} {premium discount : Rate} {amount : Money} → code ≡ cell_read shanghai l code_column
-      → quantity ≡ cell_read shanghai l quantity_column → flag ≡ cell_read shanghai l flag_column → premium.0 ≡ cell_read shanghai l premium_column
-      → discount.0 ≡ cell_read shanghai l discount_column → amount.0 ≡ cell_read shanghai l amount_column
-      → record { code = code; quantity = quantity; flag = flag; premium = premium; discount = discount; amount = amount } ≡ line_component l
+  pub component_is : {code quantity flag : ℕ} {premium discount : Rate} {amount : Money} → code ≡ cell_read (shanghai t) l code_column
+      → quantity ≡ cell_read (shanghai t) l quantity_column → flag ≡ cell_read (shanghai t) l flag_column → premium.0 ≡ cell_read (shanghai t) l premium_column
+      → discount.0 ≡ cell_read (shanghai t) l discount_column → amount.0 ≡ cell_read (shanghai t) l amount_column
+      → record { code = code; quantity = quantity; flag = flag; premium = premium; discount = discount; amount = amount } ≡ line_component t l
   unfolding line_component
   component_is {code} {quantity} {flag} {premium} {discount} {amount} c q f p d a =
-      let premium_is : premium ≡ record { 0 = cell_read shanghai l premium_column } = ap (λ (n : ℕ). record { 0 = n }) p in
-      let discount_is : discount ≡ record { 0 = cell_read shanghai l discount_column } = ap (λ (n : ℕ). record { 0 = n }) d in
-      let amount_is : amount ≡ record { 0 = cell_read shanghai l amount_column } = ap (λ (n : ℕ). record { 0 = n }) a in
+      let premium_is : premium ≡ record { 0 = cell_read (shanghai t) l premium_column } = ap (λ (n : ℕ). record { 0 = n }) p in
+      let discount_is : discount ≡ record { 0 = cell_read (shanghai t) l discount_column } = ap (λ (n : ℕ). record { 0 = n }) d in
+      let amount_is : amount ≡ record { 0 = cell_read (shanghai t) l amount_column } = ap (λ (n : ℕ). record { 0 = n }) a in
       cc

@@ -6,22 +6,22 @@ use Rattle.list_rows.proofs.Rows.{column_right}
 use Rattle.list_rows.proofs.known_numbers.Goals as goal
 
 pub known_number-requires-clause-right : goal.known_number-requires-clause-right
-known_number-requires-clause-right c = column_right _ c.requires.right columns.Code
+known_number-requires-clause-right c = column_right _ _ c.requires.right columns.Code
 
 pub known_number-requires-2-clause-right : goal.known_number-requires-2-clause-right
-known_number-requires-2-clause-right c = column_right _ c.requires.right columns.Quantity
+known_number-requires-2-clause-right c = column_right _ _ c.requires.right columns.Quantity
 
 pub known_number-requires-3-clause-right : goal.known_number-requires-3-clause-right
-known_number-requires-3-clause-right c = column_right _ c.requires.right columns.Flag
+known_number-requires-3-clause-right c = column_right _ _ c.requires.right columns.Flag
 
 pub known_number-requires-4-clause-right : goal.known_number-requires-4-clause-right
-known_number-requires-4-clause-right c = column_right _ c.requires.right columns.Premium
+known_number-requires-4-clause-right c = column_right _ _ c.requires.right columns.Premium
 
 pub known_number-requires-5-clause-right : goal.known_number-requires-5-clause-right
-known_number-requires-5-clause-right c = column_right _ c.requires.right columns.Discount
+known_number-requires-5-clause-right c = column_right _ _ c.requires.right columns.Discount
 
 pub known_number-requires-6-clause-right : goal.known_number-requires-6-clause-right
-known_number-requires-6-clause-right c = column_right _ c.requires.right columns.Amount
+known_number-requires-6-clause-right c = column_right _ _ c.requires.right columns.Amount
 
 pub returns : goal.returns
 unfolding component_numbers line_component

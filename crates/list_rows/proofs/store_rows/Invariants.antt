@@ -10,5 +10,5 @@ use Rattle.list_rows.proofs.store_rows.Given as goal
 abbrev pub invariant-loop-j : goal.invariant-loop-j
 invariant-loop-j l = record {
   given : ChunksFrom (rows_of l.text) (line_pitch shanghai_columns) l.j-iterator.iter.size l.j-iterator.iter.rest.now l.j-iterator.count;
-  kept : l.run ≡ stored l.text l.initial.run l.j-iterator.count;
+  kept : l.run ≡ stored l.table l.text l.initial.run l.j-iterator.count;
 }

@@ -10,5 +10,5 @@ use Rattle.list_rows.proofs.test_rows.Given as goal
 abbrev pub invariant-loop-j : goal.invariant-loop-j
 invariant-loop-j l = record {
   given : ChunksFrom (rows_of l.text) (line_pitch shanghai_columns) l.j-iterator.iter.size l.j-iterator.iter.rest.now l.j-iterator.count;
-  tested : Tested l.first_code l.text l.previous l.fault l.j-iterator.count;
+  tested : Tested l.table l.first_code l.text l.previous l.fault l.j-iterator.count;
 }
