@@ -16,8 +16,7 @@ pub fn name_place(text: &[u8], first: usize, j: usize) -> TextPart
     ensures value { result ≡ name_place text.now first j }
     ensures length_in_bounds { result.place + result.length ≤ length text.now }
 {
-    let form = list_rules::line_form();
-    let columns = form.columns();
+    let columns = list_rules::columns();
     let pitch = columns.pitch();
     if text.len().saturating_sub(first) / pitch <= j {
         return TextPart::default();

@@ -10,7 +10,7 @@ use Rattle.sequences.proofs.Checks.{passes_all}
 use Rattle.lines.specs.Lines.{same, next_at}
 use Rattle.text_rules.specs.Head.{head_lines, end_word}
 use Rattle.text_rules.specs.Reading.{start_of, line_stands, wrong_line, end_start, shape_checks}
-use Rattle.list_rules.specs.Shanghai.{shanghai, shanghai_fields}
+use Rattle.list_rules.specs.Shanghai.{shanghai_shape, shanghai_fields}
 
 module _ (text : List ℕ) where
   -- the tests
@@ -18,24 +18,24 @@ module _ (text : List ℕ) where
   line_wrong = ltb (wrong_line shanghai_fields text) (head_lines shanghai_fields)
 
   abbrev pub end_missing : Bool
-  end_missing = not (line_stands (λ l. same l end_word) text (end_start shanghai text))
+  end_missing = not (line_stands (λ l. same l end_word) text (end_start shanghai_shape text))
 
   abbrev pub more_behind : Bool
-  more_behind = ltb (next_at text (end_start shanghai text)) (length text)
+  more_behind = ltb (next_at text (end_start shanghai_shape text)) (length text)
 
-  pub shape_passes : line_wrong ≡ false → end_missing ≡ false → more_behind ≡ false → passes (shape_checks shanghai text) ≡ true
-  unfolding shape_checks shanghai
-  shape_passes a b c = passes_all (shape_checks shanghai text) (a, (b, (c, tt)))
+  pub shape_passes : line_wrong ≡ false → end_missing ≡ false → more_behind ≡ false → passes (shape_checks shanghai_shape text) ≡ true
+  unfolding shape_checks
+  shape_passes a b c = passes_all (shape_checks shanghai_shape text) (a, (b, (c, tt)))
 
-  pub line_stops : line_wrong ≡ true → (passes (shape_checks shanghai text) ≡ false) × (answered (shape_checks shanghai text) 0 ≡ reply 18 (start_of text (wrong_line shanghai_fields text)) 0)
-  unfolding shape_checks passes answering shanghai
+  pub line_stops : line_wrong ≡ true → (passes (shape_checks shanghai_shape text) ≡ false) × (answered (shape_checks shanghai_shape text) 0 ≡ reply 18 (start_of text (wrong_line shanghai_fields text)) 0)
+  unfolding shape_checks passes answering
   line_stops e = (rw e, rw e)
 
-  pub end_stops : line_wrong ≡ false → end_missing ≡ true → (passes (shape_checks shanghai text) ≡ false) × (answered (shape_checks shanghai text) 0 ≡ reply 18 (end_start shanghai text) 0)
-  unfolding shape_checks passes answering shanghai
+  pub end_stops : line_wrong ≡ false → end_missing ≡ true → (passes (shape_checks shanghai_shape text) ≡ false) × (answered (shape_checks shanghai_shape text) 0 ≡ reply 18 (end_start shanghai_shape text) 0)
+  unfolding shape_checks passes answering
   end_stops a e = (rw (a, e), rw (a, e))
 
   pub more_stops : line_wrong ≡ false → end_missing ≡ false → more_behind ≡ true
-      → (passes (shape_checks shanghai text) ≡ false) × (answered (shape_checks shanghai text) 0 ≡ reply 18 (next_at text (end_start shanghai text)) 0)
-  unfolding shape_checks passes answering shanghai
+      → (passes (shape_checks shanghai_shape text) ≡ false) × (answered (shape_checks shanghai_shape text) 0 ≡ reply 18 (next_at text (end_start shanghai_shape text)) 0)
+  unfolding shape_checks passes answering
   more_stops a b e = (rw (a, b, e), rw (a, b, e))

@@ -13,13 +13,12 @@ use Rattle.sequences.proofs.Below.{first-le}
 use Rattle.lines.specs.Lines.{line_len, first_line, ended, next_at, same}
 use Rattle.lines.proofs.Laws.{same_is, first-length}
 use Rattle.text_rules.specs.declared.Column.{Column}
-use Rattle.text_rules.specs.Tables.{TextForm}
 use Rattle.text_rules.specs.Columns.{line_pitch}
 use Rattle.text_rules.specs.Head.{end_word, head_lines, end_size}
 use Rattle.text_rules.specs.Reading.{start_of, line_of, line_stands, wrong_line, body_start, rows_from, row_start, row_count, end_start}
 use Rattle.text_head.specs.declared.WrongLine.{WrongLine}
 use Rattle.text_head.specs.Head.{shape_found}
-use Rattle.list_rules.specs.Shanghai.{shanghai, shanghai_fields, shanghai_columns, shanghai_lines}
+use Rattle.list_rules.specs.Shanghai.{shanghai_shape, shanghai_fields, shanghai_columns}
 use Rattle.list_shape.specs.Shape.{LineWrong, RowsStand}
 use Rattle.list_shape.proofs.Checks.{line_wrong, end_missing, shape_passes, line_stops, end_stops, more_stops}
 
@@ -42,8 +41,8 @@ module _ (text : List ℕ) where
       case false w g = absurd (cc)
 
   -- every line of the head stands
-  pub head_on : (p : ℕ) → shape_found shanghai_fields text ≡ Ok p → (wrong_line shanghai_fields text ≡ head_lines shanghai_fields) × (p ≡ body_start shanghai text)
-  unfolding shape_found wrong_line body_start shanghai
+  pub head_on : (p : ℕ) → shape_found shanghai_fields text ≡ Ok p → (wrong_line shanghai_fields text ≡ head_lines shanghai_fields) × (p ≡ body_start shanghai_shape text)
+  unfolding shape_found wrong_line body_start
   head_on p f = case (line_wrong text) refl f
     where
       case : (b : Bool) → line_wrong text ≡ b → cond b (Err (stops text)) (Ok (start_of text (head_lines shanghai_fields))) ≡ Ok p
@@ -72,17 +71,15 @@ end_next text at h =
 pub record Body (text : List ℕ) (columns : List Column) (start count pitch : ℕ) : Type 0 where
   pub head : wrong_line shanghai_fields text ≡ head_lines shanghai_fields
   pub columns_are : columns ≡ shanghai_columns
-  pub start_is : start ≡ body_start shanghai text
-  pub count_is : count ≡ row_count shanghai text
-  pub end_is : start + count * pitch ≡ end_start shanghai text
+  pub start_is : start ≡ body_start shanghai_shape text
+  pub count_is : count ≡ row_count shanghai_shape text
+  pub end_is : start + count * pitch ≡ end_start shanghai_shape text
 
-pub body : {text : List ℕ} {form : TextForm} {columns : List Column} {start count pitch : ℕ} → wrong_line shanghai_fields text ≡ head_lines shanghai_fields
-    → form ≡ shanghai_lines → columns ≡ form.columns → start ≡ body_start shanghai text → count ≡ rows_from columns text start → pitch ≡ line_pitch columns
+pub body : {text : List ℕ} {columns : List Column} {start count pitch : ℕ} → wrong_line shanghai_fields text ≡ head_lines shanghai_fields
+    → columns ≡ shanghai_columns → start ≡ body_start shanghai_shape text → count ≡ rows_from columns text start → pitch ≡ line_pitch columns
     → Body text columns start count pitch
-unfolding end_start row_start row_count shanghai
-body h f d s c p =
-    let ours = d ∙ ap (λ (t : TextForm). t.columns) f in
-    record { head = h; columns_are = ours; start_is = s; count_is = rw (c, ours, s); end_is = rw (p, c, ours, s) }
+unfolding end_start row_start row_count
+body h ours s c p = record { head = h; columns_are = ours; start_is = s; count_is = rw (c, ours, s); end_is = rw (p, c, ours, s) }
 
 module _ {text : List ℕ} {columns : List Column} {start count pitch : ℕ} (v : Body text columns start count pitch) where
   -- another line than ENDENDEND
@@ -95,7 +92,7 @@ module _ {text : List ℕ} {columns : List Column} {start count pitch : ℕ} (v 
     ends : end_missing text ≡ false
     ends = rw v.end_is at (ap not h)
 
-    next_is : next_at text (end_start shanghai text) ≡ start + count * pitch + end_size
+    next_is : next_at text (end_start shanghai_shape text) ≡ start + count * pitch + end_size
     next_is = rw (← v.end_is) (end_next text (start + count * pitch) h)
 
     -- bytes behind it

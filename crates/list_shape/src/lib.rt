@@ -6,7 +6,7 @@ ghost use Rattle.std.specs.Prelude.{◌≡◌, ◌≤◌, length};
 ghost use Rattle.lines.specs.Lines.{same};
 ghost use Rattle.text_rules.specs.Head.{head_lines, end_word};
 ghost use Rattle.text_rules.specs.Reading.{line_stands, wrong_line, body_start};
-ghost use Rattle.list_rules.specs.Shanghai.{shanghai, shanghai_fields};
+ghost use Rattle.list_rules.specs.Shanghai.{shanghai_shape, shanghai_fields};
 ghost use Rattle.list_rules.specs.Reading.{is_counted};
 ghost use Rattle.list_shape.specs.Shape.{Shaped};
 
@@ -25,12 +25,11 @@ fn end_stands(text: &[u8], at: usize) -> bool
 // `text_head::head_fields`: it is a fact of the text, and a struct of the text and this fact would be made for these two calls alone.
 fn body_shape(text: &[u8], start: usize) -> Result<Rows, usize>
     requires head_stands { wrong_line shanghai_fields text.now ≡ head_lines shanghai_fields }
-    requires start_value { (start ≡ body_start shanghai text.now) × (start ≤ length text.now) }
+    requires start_value { (start ≡ body_start shanghai_shape text.now) × (start ≤ length text.now) }
     ensures { Shaped text.now result }
 {
-    let form = list_rules::line_form();
-    let columns = form.columns();
-    let count = text_lines::row_count(columns, text, start);
+    let columns = list_rules::columns();
+    let count = text_lines::row_count(&columns, text, start);
     let end = start + count * columns.pitch();
     if !end_stands(text, end) {
         return Err(end);
