@@ -8,7 +8,7 @@ pub overflow_mul-rows : goal.overflow_mul-rows
 overflow_mul-rows c = omega (arith, rows_few c.requires.ranged)
 
 pub store_rows-requires-clause-right : goal.store_rows-requires-clause-right
-store_rows-requires-clause-right c = rows_right _ c.requires.ranged.fields_well_lem
+store_rows-requires-clause-right c = rows_right _ _ c.requires.ranged.fields_well_lem
 
 pub returns : goal.returns
-returns c = stored_outcome _ _ c.requires.ranged (sym c.in_default.is ∙ c.requires.fault) c.if-run-rows.false c.store_rows.ensures
+returns c = stored_outcome _ _ _ c.requires.ranged (sym c.in_default.is ∙ c.requires.fault) c.if-run-rows.false c.store_rows.ensures
