@@ -2,6 +2,7 @@
 #![tactic(auto)]
 
 ghost use Rattle.std.specs.Prelude.{◌≡◌, ◌-◌, ◌≤◌, true, length, Some, is_some};
+ghost use Rattle.digits.specs.Bytes.{zero_byte};
 ghost use Rattle.digits.specs.Digits.{cap, all_blank, size_reading};
 ghost use Rattle.text_rules.specs.Columns.{line_width, is_row};
 ghost use Rattle.text_rules.specs.Well.{most_width};
@@ -33,7 +34,7 @@ pub fn is_row(columns: &Columns, width: usize, line: &[u8]) -> bool
 
 // The byte less "0": the flag's digit; 0 for a byte below "0", and for one above "9" a number that no flag has.
 pub fn flag_digit(b: u8) -> u64
-    ensures { result ≡ b - 48 }
+    ensures { result ≡ b - zero_byte }
 {
     u64::from(b.saturating_sub(b'0'))
 }

@@ -3,6 +3,7 @@
 use Rattle.std.specs.Prelude.{ℕ, ◌+◌, ◌-◌, Bool, true, false, cond, not, ◌&&◌, List, [], ◌∷◌, ◌++◌, eqb, length, get_or, take, drop, replicate, Option, Some}
 use Rattle.sequences.specs.Below.{sum_below, all_below, first_below, join_below}
 use Rattle.flags.specs.Table.{FlagTable, entry}
+use Rattle.digits.specs.Bytes.{zero_byte}
 use Rattle.digits.specs.declared.Form.{Form}
 use Rattle.digits.specs.Digits.{plain, is_number, figure_of, number_text, all_blank}
 use Rattle.lines.specs.Lines.{name_byte, all_bytes}
@@ -112,7 +113,7 @@ part_of cs k l = take (column_width cs k) (drop (column_start cs k) l)
 
 -- the flag's digit
 unfoldable pub flag_of : TextForm → List ℕ → ℕ
-flag_of t l = get_or l (column_start t.columns t.flag_at) 0 - 48
+flag_of t l = get_or l (column_start t.columns t.flag_at) 0 - zero_byte
 
 unfoldable pub content_of : TextForm → List ℕ → ℕ → Content
 content_of t l k = content_by t.flags (flag_of t l) (column_at t.columns k).used
