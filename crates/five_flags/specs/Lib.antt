@@ -1,0 +1,5 @@
+pub mod Rows
+pub mod Columns
+pub mod Sound
+pub mod Orders
+pub mod AsBefore
