@@ -1,6 +1,5 @@
 -- Value and orders are what the columns make of them: by the day's table, and so under our table by document 01's five rows.
-use mathlib.Core.Path.{◌≡◌, refl, sym, ap, fun_ext, ◌∙◌}
-use mathlib.Core.Bool.{Bool}
+use mathlib.Core.Path.{◌≡◌, refl, ap, fun_ext, ◌∙◌}
 use Prim.Native.Nat.{ℕ, ◌<◌}
 use native.Mathlib.Omega.{arith}
 use Rattle.flags.specs.Table.{FlagTable, flag_table, entry, stock_moves, shortage_in_cash, shanghai, priced}
@@ -12,7 +11,7 @@ use Rattle.rules.specs.Creation as creation_rules
 use Rattle.rules.specs.Redemption as redemption_rules
 use Rattle.rules.specs.Kinds.{stock_lots, fund_lots, unit_lots, account_cash, fund_cash}
 use Rattle.five_flags.specs.Rows.{six_columns, five_entry}
-use Rattle.five_flags.specs.Columns.{Columns, table_columns, five_columns}
+use Rattle.five_flags.specs.Columns.{table_columns, five_columns}
 use Rattle.five_flags.specs.AsBefore.{ValueFollows, CreationFollows, RedemptionFollows, ValueAsBefore, CreationAsBefore, RedemptionAsBefore}
 use Rattle.five_flags.specs.Orders.{worth_before, reference_value, has_value, value}
 use Rattle.five_flags.specs.Orders.{other_cash, shanghai_cash, all_cash, records, reports, moves, order}

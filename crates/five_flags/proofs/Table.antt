@@ -1,15 +1,15 @@
 -- Our table has document 01's columns: all its entries are computed once, and a flag past its rows says no to both.
 use mathlib.Core.Path.{◌≡◌, refl, sym, ◌∙◌}
 use mathlib.Core.Bool.{Bool, true, false, not, cond, false≢true}
-use mathlib.Core.List.{List, [], ◌∷◌}
-use Prim.Native.Nat.{ℕ, ◌<◌, ◌≤◌}
+use mathlib.Core.List.{[]}
+use Prim.Native.Nat.{ℕ, ◌≤◌}
 use native.Mathlib.Omega.{arith}
 use lib.Dec.{ltb}
-use lib.ListN.{get_or, get_or-eq_default}
+use lib.ListN.{get_or-eq_default}
 use borrow.Author.Tests.{le-ltb, ltb-true, ltb-false}
 use Rattle.sequences.specs.Below.{all_below}
 use Rattle.sequences.proofs.Below.{all_at}
-use Rattle.flags.specs.Table.{flag_count, flag_columns, says, entry, flag_table, in_use}
+use Rattle.flags.specs.Table.{flag_count, says, entry, flag_table, in_use}
 use Rattle.five_flags.specs.Rows.{five_rows, five_entry, five_flags, six_columns}
 use Rattle.five_flags.specs.AsBefore.{OurColumns, OurFlags}
 

@@ -1,10 +1,12 @@
--- "Our five rows are the table when none is given": under our table refusals, orders and the reference value are document 01's.
+-- "Our five rows are the table when none is given": under our table opening, refusal 5, the reference value and orders are as they
+-- were before a day held a table, with document 01's five rows.
 use Rattle.std.specs.Prelude.{ℕ, ◌≡◌, ◌<◌, List, ltb}
-use Rattle.flags.specs.Table.{flag_table, entry, in_use}
+use Rattle.flags.specs.Table.{flag_table, table_numbers, entry, in_use}
 use Rattle.fund.specs.Components.{component_fault}
 use Rattle.layout.specs.declared.Component.{Component}
 use Rattle.layout.specs.Day.{Day}
 use Rattle.rules.specs.Lent.{Lent, rooms_in}
+use Rattle.rules.specs.Opening.{Opening, opening_reply, opened_day}
 use Rattle.rules.specs.Sound.{is_sound}
 use Rattle.rules.specs.Value.{value_reply}
 use Rattle.rules.specs.Creation.{creation_reply, created_book, created_lists}
@@ -51,6 +53,12 @@ OurColumns = (flag column : ℕ) → column < six_columns → entry flag_table f
 
 abbrev pub OurFlags : Type 0
 OurFlags = (flag : ℕ) → entry flag_table flag in_use ≡ ltb flag five_flags
+
+-- ---- our table at opening: the day holds it, and the answer is as before, so never 21
+abbrev pub OpeningAsBefore : Type 0
+OpeningAsBefore =
+    (o : Opening) → o.table ≡ table_numbers flag_table
+    → ((opened_day o).table ≡ flag_table) × (opening_reply o ≡ before.opening_reply o)
 
 -- ---- under our table: refusals 3 and 5, the reference value, creation and redemption
 abbrev pub ComponentsAsBefore : Type 0

@@ -1,5 +1,5 @@
 -- The reference value and both orders by columns, whatever says them. With the columns of the day's table these are the definitions
--- of crate rules, and with document 01's they are what document 01 asks.
+-- of crate rules, and with those of document 01's five rows they are what they were before a day held a table.
 use Rattle.std.specs.Prelude.{ℕ, ◌+◌, ◌-◌, ◌*◌, min, Bool, cond, not, ◌&&◌, List, [], ◌∷◌, ◌++◌, leb, ltb, eqb}
 use Rattle.sequences.specs.Below.{sum_below, any_below, first_below}
 use Rattle.sequences.specs.Every.{every}
