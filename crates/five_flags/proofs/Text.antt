@@ -16,7 +16,7 @@ use Rattle.text_rules.specs.Tables.{column_at, no_column}
 use Rattle.text_rules.specs.Columns as columns
 use Rattle.text_rules.specs.Reading as text_rules
 use Rattle.text_rules.specs.Writing as sheets
-use Rattle.list_rules.specs.Shanghai.{shanghai, shanghai_columns}
+use Rattle.list_rules.specs.Shanghai.{shanghai_columns}
 use Rattle.list_rules.specs.Reading as list_reading
 use Rattle.list_rules.specs.Writing as list_writing
 use Rattle.rules.specs.Opening.{table_checks}
@@ -31,16 +31,16 @@ use Rattle.five_flags.proofs.Sound.{components_as_before}
 -- ---- under any table
 
 pub reading_follows : ReadingFollows
-unfolding content_in column_fault numbers_read run_read wrong_row field_checks read_fault range_checks reading shanghai
+unfolding content_in column_fault numbers_read run_read wrong_row field_checks read_fault range_checks reading
     columns.flag_of columns.content_of columns.wrong_cell columns.column_fault columns.cell_read columns.numbers_read
-    text_rules.body_start text_rules.row_start text_rules.row_count text_rules.row_of text_rules.shape_checks text_rules.end_start
+    text_rules.body_start text_rules.row_start text_rules.row_count text_rules.row_of
     text_rules.wrong_row text_rules.column_place text_rules.field_checks text_rules.run_read
     list_reading.components_run list_reading.read_fault list_reading.range_checks list_reading.read_checks list_reading.read_reply
     list_reading.fields_handed list_reading.first_handed list_reading.run_after
 reading_follows t text run = refl
 
 pub writing_follows : WritingFollows
-unfolding row_text text_of write_fault writing shanghai table_checks
+unfolding row_text text_of write_fault writing table_checks
     columns.content_at columns.column_text columns.row_text
     sheets.numbers_at sheets.words_at sheets.rows_text sheets.sheet_text
     list_writing.sheet_of list_writing.text_of list_writing.write_fault list_writing.list_checks list_writing.write_checks list_writing.write_reply
