@@ -1,4 +1,4 @@
--- "Text blanks follow the columns": under any table, and so under our table as document 01's five rows have them.
+-- Text blanks follow the columns: under any table, and so under our table as document 01's five rows have them.
 use Rattle.std.specs.Prelude.{ℕ, ◌≡◌, true, List, [], length}
 use Rattle.flags.specs.Table.{FlagTable, flag_table}
 use Rattle.fund.specs.Components.{component_fault}
