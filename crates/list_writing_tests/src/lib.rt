@@ -15,11 +15,12 @@ ghost use Rattle.list_writing_tests.specs.Answer.{size_told};
 use list_rules::Listing;
 use rules::Refusal;
 
-// A list that passes the tests of writing but that of the room. It is made where they are known to pass, so that no function asks it.
+// A list that passes the tests of writing but that of the room, and the flag table that it passes them under. It is made where they are known to pass, so that no function asks it.
 #[derive(Clone, Copy)]
 pub struct Checked<'a> {
+    pub table: &'a flags::Table,
     pub list: Listing<'a>,
-    pub ghost passing: { passes (list_checks (listed list)) ≡ true },
+    pub ghost passing: { passes (list_checks table.now (listed list)) ≡ true },
 }
 
 // Refusal 1's test. The range comes first, so that no product is too large.
@@ -35,11 +36,16 @@ fn sizes_fit(list: &Listing) -> bool
 
 // The first component at fault, by its numbers or by its name.
 #[tactic(auto, using(std::proofs::lemmas::Bool::Decides::nat_tests), unfolding(list_rules::specs::Writing::write_fault, list_rules::specs::Writing::sizes_fit, sequences::specs::Every::every, sequences::specs::Every::inside))]
-fn write_fault(list: &Listing) -> Option<usize>
+fn write_fault(table: &flags::Table, list: &Listing) -> Option<usize>
     requires { sizes_fit (listed list.now) ≡ true }
-    ensures { result ≡ below list.now.fields.count (write_fault (listed list.now)) }
+    ensures { result ≡ below list.now.fields.count (write_fault table.now (listed list.now)) }
 {
-    let numbers = fund::run_fault(list.fields.fund.first_code, list.run, list.fields.count);
+    let numbers = fund::run_fault(
+        table,
+        list.fields.fund.first_code,
+        list.run,
+        list.fields.count,
+    );
     let name = list_names::name_fault(list.names);
     let both = numbers.zip(name).map(|(a, b)| a.min(b));
     both.or(numbers).or(name)
@@ -58,28 +64,34 @@ impl<'a> Checked<'a> {
 
     // How many bytes the component lines take.
     pub fn lines_size(&self) -> usize
-        ensures value { result ≡ length (lines_of (listed self.now.list)) }
+        ensures value { result ≡ length (lines_of self.now.table.now (listed self.now.list)) }
         ensures upper_bound { result ≤ most_components * (most_line + 2) }
     {
-        let form = list_rules::line_form();
-        self.list.fields.count * form.columns().pitch()
+        self.list.fields.count * list_rules::columns().pitch()
     }
 
     // How many bytes the text takes.
     #[tactic(auto, using(crate::proofs::Sizes::parts))]
     fn text_size(&self) -> usize
-        ensures { result ≡ length (text_of (listed self.now.list)) }
+        ensures { result ≡ length (text_of self.now.table.now (listed self.now.list)) }
     {
         self.head_size() + (self.lines_size() + text_rules::END_SIZE)
     }
 }
 
 // The answer, which changes nothing: an accepted list, and how many bytes its text takes.
-#[tactic(auto, using(sequences::proofs::Below::below_some_facts, sequences::proofs::Below::below_none_fact, std::proofs::lemmas::Bool::Decides::nat_tests), unfolding(list_rules::specs::Writing::write_reply, list_rules::specs::Writing::write_checks, list_rules::specs::Writing::list_checks, sequences::specs::Checks::answering, sequences::specs::Checks::passes))]
-pub fn write_answer<'a>(list: &Listing<'a>, room: usize) -> Result<(Checked<'a>, usize), Refusal>
-    ensures answer { count_answer_reply (size_told result) ≡ write_reply (listed list.now) room }
-    ensures checked { IfOk result (λ x. x.0.list ≡ list.now) }
+#[tactic(auto, using(sequences::proofs::Below::below_some_facts, sequences::proofs::Below::below_none_fact, std::proofs::lemmas::Bool::Decides::nat_tests), unfolding(list_rules::specs::Writing::write_reply, list_rules::specs::Writing::write_checks, list_rules::specs::Writing::list_checks, rules::specs::Opening::table_checks, sequences::specs::Checks::answering, sequences::specs::Checks::passes))]
+pub fn write_answer<'a>(
+    table: &'a flags::Table,
+    list: &Listing<'a>,
+    room: usize,
+) -> Result<(Checked<'a>, usize), Refusal>
+    ensures answer { count_answer_reply (size_told result) ≡ write_reply table.now (listed list.now) room }
+    ensures checked { IfOk result (λ x. (x.0.table.now ≡ table.now) × (x.0.list ≡ list.now)) }
 {
+    if let Some(flag) = flags::table_fault(table) {
+        return Err(Refusal::FlagTable(flag));
+    }
     if !sizes_fit(list) {
         return Err(Refusal::Sizes);
     }
@@ -89,10 +101,10 @@ pub fn write_answer<'a>(list: &Listing<'a>, room: usize) -> Result<(Checked<'a>,
     if !text_lines::is_letters(list.letters) {
         return Err(Refusal::FundField);
     }
-    if let Some(fault) = write_fault(list) {
+    if let Some(fault) = write_fault(table, list) {
         return Err(Refusal::Component(fault));
     }
-    let checked = Checked { list: *list };
+    let checked = Checked { table, list: *list };
     let size = checked.text_size();
     if room < size {
         return Err(Refusal::ListTooShort);
