@@ -82,7 +82,8 @@ module _ (t : FlagTable) (l : List ℕ) where
 
 -- The j-th line.
 
-module _ (t : FlagTable) (text : List ℕ) (j : ℕ) (h : j < row_count shanghai_shape text) {row : List ℕ} (is : row ≡ take (line_pitch shanghai_columns) (drop (j * line_pitch shanghai_columns) (rows_of text))) where
+module _ (t : FlagTable) (text : List ℕ) (j : ℕ) (h : j < row_count shanghai_shape text) {row : List ℕ}
+    (is : row ≡ take (line_pitch shanghai_columns) (drop (j * line_pitch shanghai_columns) (rows_of text))) where
   row_is : take (line_width shanghai_columns) row ≡ row_of shanghai_shape text j
   unfolding rows_of row_of row_start
   row_is =
@@ -124,7 +125,8 @@ columns_ours f m = m ∙ ap (λ (t : TextForm). t.columns) f
 pub flags_ours : {t : FlagTable} {form : TextForm} → form ≡ shanghai_lines t → form.flags ≡ t
 flags_ours f = ap (λ (t : TextForm). t.flags) f
 
-pub pitch_ours : {t : FlagTable} {form : TextForm} {cs : List Column} {pitch : ℕ} → form ≡ shanghai_lines t → cs ≡ form.columns → pitch ≡ line_pitch cs → pitch ≡ line_pitch shanghai_columns
+pub pitch_ours : {t : FlagTable} {form : TextForm} {cs : List Column} {pitch : ℕ} → form ≡ shanghai_lines t → cs ≡ form.columns → pitch ≡ line_pitch cs
+    → pitch ≡ line_pitch shanghai_columns
 pitch_ours f m p = p ∙ ap line_pitch (columns_ours f m)
 
 module _ (text : List ℕ) {start count : ℕ} (at : (start ≡ body_start shanghai_shape text) × (count ≡ row_count shanghai_shape text))

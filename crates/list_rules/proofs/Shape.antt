@@ -3,7 +3,7 @@ use mathlib.Core.Path.{◌≡◌, refl}
 use mathlib.Core.List.{List}
 use Prim.Native.Nat.{ℕ}
 use Rattle.flags.specs.Table.{FlagTable}
-use Rattle.text_rules.specs.Reading.{body_start, row_start, row_count, row_of, end_start, shape_checks}
+use Rattle.text_rules.specs.Reading.{body_start, row_start, row_count, end_start, shape_checks}
 use Rattle.list_rules.specs.Shanghai.{shanghai, shanghai_shape}
 
 module _ (t : FlagTable) (text : List ℕ) where
@@ -14,10 +14,6 @@ module _ (t : FlagTable) (text : List ℕ) where
   pub count_same : row_count (shanghai t) text ≡ row_count shanghai_shape text
   unfolding row_count body_start
   count_same = refl
-
-  pub row_same : (j : ℕ) → row_of (shanghai t) text j ≡ row_of shanghai_shape text j
-  unfolding row_of row_start body_start
-  row_same j = refl
 
   pub checks_same : shape_checks (shanghai t) text ≡ shape_checks shanghai_shape text
   unfolding shape_checks end_start row_start row_count body_start

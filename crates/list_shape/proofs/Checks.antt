@@ -27,11 +27,13 @@ module _ (text : List ℕ) where
   unfolding shape_checks
   shape_passes a b c = passes_all (shape_checks shanghai_shape text) (a, (b, (c, tt)))
 
-  pub line_stops : line_wrong ≡ true → (passes (shape_checks shanghai_shape text) ≡ false) × (answered (shape_checks shanghai_shape text) 0 ≡ reply 18 (start_of text (wrong_line shanghai_fields text)) 0)
+  pub line_stops : line_wrong ≡ true
+      → (passes (shape_checks shanghai_shape text) ≡ false) × (answered (shape_checks shanghai_shape text) 0 ≡ reply 18 (start_of text (wrong_line shanghai_fields text)) 0)
   unfolding shape_checks passes answering
   line_stops e = (rw e, rw e)
 
-  pub end_stops : line_wrong ≡ false → end_missing ≡ true → (passes (shape_checks shanghai_shape text) ≡ false) × (answered (shape_checks shanghai_shape text) 0 ≡ reply 18 (end_start shanghai_shape text) 0)
+  pub end_stops : line_wrong ≡ false → end_missing ≡ true
+      → (passes (shape_checks shanghai_shape text) ≡ false) × (answered (shape_checks shanghai_shape text) 0 ≡ reply 18 (end_start shanghai_shape text) 0)
   unfolding shape_checks passes answering
   end_stops a e = (rw (a, e), rw (a, e))
 

@@ -23,20 +23,20 @@ fn put_head(checked: &Checked, output: &mut [u8]) -> usize
 
 // Writes its component lines from a place on, and answers where they end.
 fn put_lines(checked: &Checked, output: &mut [u8], start: usize) -> usize
-    requires { start + length (lines_of (listed checked.now.list)) ≤ length output.old }
-    ensures { Written output.old start (lines_of (listed checked.now.list)) output.new result }
+    requires { start + length (lines_of checked.now.table.now (listed checked.now.list)) ≤ length output.old }
+    ensures { Written output.old start (lines_of checked.now.table.now (listed checked.now.list)) output.new result }
 {
     let list = &checked.list;
     let end = start + checked.lines_size();
-    let form = list_rules::line_form();
+    let form = list_rules::line_form(checked.table);
     text_rows_writing::put_rows(&form, list.run, list.names, &mut output[start..end]);
     end
 }
 
 // Writes its text.
 fn put_list(checked: &Checked, output: &mut [u8])
-    requires { length (text_of (listed checked.now.list)) ≤ length output.old }
-    ensures { output.new ≡ put output.old 0 (text_of (listed checked.now.list)) }
+    requires { length (text_of checked.now.table.now (listed checked.now.list)) ≤ length output.old }
+    ensures { output.new ≡ put output.old 0 (text_of checked.now.table.now (listed checked.now.list)) }
 {
     let lines = put_head(checked, output);
     let last = put_lines(checked, output, lines);
@@ -45,12 +45,12 @@ fn put_list(checked: &Checked, output: &mut [u8])
     digits_put::put_bytes(output, end, b"\r\n");
 }
 
-// Writes a list at the front of the lent output, and answers how many bytes it takes. A refusal changes nothing.
+// Writes a list under a flag table at the front of the lent output, and answers how many bytes it takes. A refusal changes nothing.
 #[tactic(auto, using(std::proofs::lemmas::Bool::Decides::nat_tests), unfolding(list_rules::specs::Writing::output_after, sequences::specs::Checks::is_accepted))]
-pub fn write(list: &Listing, output: &mut [u8]) -> Result<usize, Refusal>
-    ensures { WriteOutcome (listed list.now) output.old result output.new }
+pub fn write(table: &flags::Table, list: &Listing, output: &mut [u8]) -> Result<usize, Refusal>
+    ensures { WriteOutcome table.now (listed list.now) output.old result output.new }
 {
-    let (checked, size) = list_writing_tests::write_answer(list, output.len())?;
+    let (checked, size) = list_writing_tests::write_answer(table, list, output.len())?;
     put_list(&checked, output);
     Ok(size)
 }

@@ -15,7 +15,8 @@ ghost use Rattle.list_writing_tests.specs.Answer.{size_told};
 use list_rules::Listing;
 use rules::Refusal;
 
-// A list that passes the tests of writing but that of the room, and the flag table that it passes them under. It is made where they are known to pass, so that no function asks it.
+// A list that passes the tests of writing but that of the room, and the flag table that it passes them under. It is made where they are
+// known to pass, so that no function asks it.
 #[derive(Clone, Copy)]
 pub struct Checked<'a> {
     pub table: &'a flags::Table,

@@ -5,7 +5,7 @@ use Rattle.list_writing_tests.proofs.Heads.{head_lent}
 use Rattle.list_writing.proofs.put_head.Goals as goal
 
 pub figures_of-figures-requires : goal.figures_of-figures-requires
-figures_of-figures-requires c = (passing _ c.args.checked.now.passing).ranges
+figures_of-figures-requires c = (passing _ _ c.args.checked.now.passing).ranges
 
 pub put_head-requires : goal.put_head-requires
 put_head-requires c = rw (head_lent _ c.field_table.ensures (listed c.args.checked.now.list) _ c.figures_of-figures.ensures) c.requires

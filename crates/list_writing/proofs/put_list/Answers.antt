@@ -3,16 +3,16 @@ use Rattle.list_writing.proofs.Sizes.{head_room, lines_room, end_room, line_end_
 use Rattle.list_writing.proofs.put_list.Goals as goal
 
 pub put_head-lines-requires : goal.put_head-lines-requires
-put_head-lines-requires c = head_room _ _ c.requires
+put_head-lines-requires c = head_room _ _ _ c.requires
 
 pub put_lines-last-requires : goal.put_lines-last-requires
-put_lines-last-requires c = lines_room _ _ c.requires c.put_head-lines.ensures
+put_lines-last-requires c = lines_room _ _ _ c.requires c.put_head-lines.ensures
 
 pub put_bytes-end-requires : goal.put_bytes-end-requires
-put_bytes-end-requires c = end_room _ _ c.requires c.put_head-lines.ensures c.put_lines-last.ensures
+put_bytes-end-requires c = end_room _ _ _ c.requires c.put_head-lines.ensures c.put_lines-last.ensures
 
 pub put_bytes-requires : goal.put_bytes-requires
-put_bytes-requires c = line_end_room _ _ c.requires c.put_head-lines.ensures c.put_lines-last.ensures c.put_bytes-end.ensures
+put_bytes-requires c = line_end_room _ _ _ c.requires c.put_head-lines.ensures c.put_lines-last.ensures c.put_bytes-end.ensures
 
 pub returns : goal.returns
-returns c = text-put _ _ c.requires c.put_head-lines.ensures c.put_lines-last.ensures c.put_bytes-end.ensures c.put_bytes.ensures
+returns c = text-put _ _ _ c.requires c.put_head-lines.ensures c.put_lines-last.ensures c.put_bytes-end.ensures c.put_bytes.ensures

@@ -9,4 +9,4 @@ pub put_list-requires : goal.put_list-requires
 unfolding is_accepted
 put_list-requires c =
     let told = c.in_ok-checked.ensures in
-    rw told.checked (accepted_fits (listed c.args.list.now) (length c.args.output.now) (rw (← told.answer))).1
+    rw (told.checked.0, told.checked.1) (accepted_fits c.args.table.now (listed c.args.list.now) (length c.args.output.now) (rw (← told.answer))).1
