@@ -1,3 +1,4 @@
 pub mod Openings
 pub mod Texts
+pub mod Tables
 mod Parts

@@ -33,14 +33,19 @@ fn numbers_given(table: &[u64]) -> &[u64]
 }
 
 // The table of a call on a text, where it loads; else 21, at place 0 where the run has another length than a table's.
+#[tactic(auto, using(crate::proofs::Tables::short_run, crate::proofs::Tables::table_faulty, crate::proofs::Tables::table_loads))]
 fn table_given(table: &[u64]) -> Result<&Table, Refusal>
     ensures { TableGiven table.now result }
 {
-    let table = flags::table_in(numbers_given(table)).ok_or(Refusal::FlagTable(0))?;
-    match flags::table_fault(table) {
-        Some(flag) => Err(Refusal::FlagTable(flag)),
-        None => Ok(table),
+    let numbers = numbers_given(table);
+    if numbers.len() != flags::TABLE_WIDTH {
+        return Err(Refusal::FlagTable(0));
     }
+    let table = flags::table_at(numbers);
+    if let Some(flag) = flags::table_fault(table) {
+        return Err(Refusal::FlagTable(flag));
+    }
+    Ok(table)
 }
 
 // Opens a day: the book, the prices and the day are filled.
@@ -133,7 +138,7 @@ pub fn letters(text: &[u8], part: &mut [u64]) -> u64
 }
 
 // Writes a list under a flag table at the front of the lent output. An accepted writing tells the count of bytes.
-#[tactic(auto, using(std::proofs::lemmas::Bool::Decides::nat_tests), unfolding(crate::specs::Text::of_width, sequences::specs::Checks::is_accepted, list_rules::specs::Writing::output_after))]
+#[tactic(auto, using(std::proofs::lemmas::Bool::Decides::nat_tests), unfolding(crate::specs::Text::writing_reply, crate::specs::Text::of_width, sequences::specs::Checks::is_accepted, list_rules::specs::Writing::output_after))]
 pub fn write(
     fields: &[u64],
     table: &[u64],
