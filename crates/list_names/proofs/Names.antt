@@ -17,7 +17,7 @@ use Rattle.text_rules.specs.declared.Column.{Column}
 use Rattle.text_rules.specs.Tables.{column_at}
 use Rattle.text_rules.specs.Columns.{column_width, column_start, line_width, line_pitch}
 use Rattle.list_rules.specs.declared.TextPart.{TextPart}
-use Rattle.list_rules.specs.Shanghai.{shanghai_columns, name_column, name_width}
+use Rattle.list_rules.specs.Shanghai.{shanghai_columns, name_column, amount_column, name_width}
 use Rattle.list_rules.specs.Reading.{name_place}
 use Rattle.text_rows.specs.Words.{words_fault}
 use Rattle.list_rules.specs.Writing.{name_at, name_fault}
@@ -26,11 +26,12 @@ pub pitch_some : (cs : List Column) {pitch : ℕ} → pitch ≡ line_pitch cs �
 unfolding line_pitch
 pitch_some cs e = omega (arith, e)
 
--- the name's column is one of the line's, and the name stands within the line
-pub name_there : name_column ≤ length shanghai_columns
+-- the table has its last column, and so those before it
+pub last_there : amount_column < length shanghai_columns
 unfolding shanghai_columns
-name_there = omega arith
+last_there = omega arith
 
+-- the name stands within the line
 pub name_within : column_start shanghai_columns name_column + name_width ≤ line_pitch shanghai_columns
 unfolding column_start line_width line_pitch column_width column_at shanghai_columns sum_below
 name_within = omega arith
@@ -57,7 +58,7 @@ module _ (text first j pitch : ℕ) (some : 0 < pitch) where
   line_some q = omega (arith, (le-div_iff_mul-le {k = pitch} {x = j + 1} {y = text - first} some).0 (omega arith), add-mul-one j pitch)
 
 -- what the search goes by where a name is looked for
-pub ruleset place_cases = (pitch_some, line_none, line_some, place_none, place_is, name_there, name_within)
+pub ruleset place_cases = (pitch_some, line_none, line_some, place_none, place_is, last_there, name_within)
 
 -- The names of a list.
 
