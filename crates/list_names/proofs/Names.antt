@@ -26,6 +26,11 @@ pub pitch_some : (cs : List Column) {pitch : ℕ} → pitch ≡ line_pitch cs �
 unfolding line_pitch
 pitch_some cs e = omega (arith, e)
 
+-- a column's start is within the line and its end
+pub width_within : (cs : List Column) {start : ℕ} → start ≤ line_width cs → start ≤ line_pitch cs
+unfolding line_pitch
+width_within cs h = omega (arith, h)
+
 -- the table has its last column, and so those before it
 pub last_there : amount_column < length shanghai_columns
 unfolding shanghai_columns
@@ -58,7 +63,7 @@ module _ (text first j pitch : ℕ) (some : 0 < pitch) where
   line_some q = omega (arith, (le-div_iff_mul-le {k = pitch} {x = j + 1} {y = text - first} some).0 (omega arith), add-mul-one j pitch)
 
 -- what the search goes by where a name is looked for
-pub ruleset place_cases = (pitch_some, line_none, line_some, place_none, place_is, last_there, name_within)
+pub ruleset place_cases = (pitch_some, width_within, line_none, line_some, place_none, place_is, last_there, name_within)
 
 -- The names of a list.
 
