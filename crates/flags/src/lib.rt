@@ -2,9 +2,9 @@
 // u64 both have 64 bits.
 #![tactic(auto)]
 
-ghost use Rattle.std.specs.Prelude.{◌≡◌, ◌≢◌, MatchOption, length};
+ghost use Rattle.std.specs.Prelude.{◌≡◌, ◌≢◌, MatchOption, length, true};
 ghost use Rattle.sequences.specs.Below.{below};
-ghost use Rattle.flags.specs.Table.{entry, column_number, flag_count, says, is_binary, use_fits, shortage_fits, row_fits, table_fault, table_of, table_width};
+ghost use Rattle.flags.specs.Table.{entry, column_number, flag_count, says, is_binary, use_fits, shortage_fits, row_fits, table_fault, table_of, table_width, in_use};
 
 // How many flags and how many columns a table has, and how many numbers.
 pub const FLAGS: usize = 10;
@@ -78,7 +78,16 @@ pub fn entry_of(table: &Table, flag: u64, column: Column) -> bool
     entry_in(table, flag, column.number())
 }
 
-// The same of a column by its place, as a text's table of columns has it; no past either end.
+// The same of a flag that is in use, as that of each component of a sound day is: its column alone is read.
+#[tactic(auto, using(crate::proofs::Laws::entry_says, crate::proofs::Laws::entry_row), unfolding(crate::specs::Table::says))]
+pub fn entry_in_use(table: &Table, flag: u64, column: Column) -> bool
+    requires { entry table.now flag in_use ≡ true }
+    ensures { result ≡ entry table.now flag (column_number column) }
+{
+    table[flag as usize][column.number()] == 1
+}
+
+// The same as `entry_of` of a column by its place, as a text's table of columns has it; no past either end.
 #[tactic(auto, using(std::proofs::lemmas::Bool::Decides::nat_tests), unfolding(crate::specs::Table::entry, crate::specs::Table::says))]
 pub fn entry_in(table: &Table, flag: u64, column: usize) -> bool
     ensures { result ≡ entry table.now flag column }

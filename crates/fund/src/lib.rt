@@ -100,12 +100,14 @@ pub fn outside_group(first_code: u64, code: u64) -> bool
 pub fn component_in_range(table: &Table, first_code: u64, c: Component) -> bool
     ensures { result ≡ component_in_range table.now first_code c }
 {
-    let rate_used = flags::entry_of(table, c.flag, Column::RateUsed);
-    let amount_used = flags::entry_of(table, c.flag, Column::AmountUsed);
+    if !flags::entry_of(table, c.flag, Column::InUse) {
+        return false;
+    }
+    let rate_used = flags::entry_in_use(table, c.flag, Column::RateUsed);
+    let amount_used = flags::entry_in_use(table, c.flag, Column::AmountUsed);
     c.code <= 999_999
         && outside_group(first_code, c.code)
         && c.quantity <= 99_999_999
-        && flags::entry_of(table, c.flag, Column::InUse)
         && used_within(Rate::ONE.0, rate_used, c.premium.0)
         && used_within(Rate::ONE.0, rate_used, c.discount.0)
         && used_within(MOST_AMOUNT, amount_used, c.amount.0)

@@ -33,12 +33,12 @@ priceable d b ps s =
       cash = fund.cash;
       countable = λ k h.
           let c = components_fine d.table d.fund.first_code d.components d.count s.own.components k h in
-          record { quantity = c.quantity; amount = c.amount; cost = s.prices.prices_most k h };
+          record { used = c.flag; quantity = c.quantity; amount = c.amount; cost = s.prices.prices_most k h };
     }
 
 -- The sum.
 
-worth_small : (t : FlagTable) (c : Component) (price : ℕ) → Countable c price → worth t c price ≤ 1_000_000_000_000_000
+worth_small : (t : FlagTable) (c : Component) (price : ℕ) → Countable t c price → worth t c price ≤ 1_000_000_000_000_000
 unfolding worth
 worth_small t c price r =
     let high = under 99_999_999 9_999_999 r.quantity r.cost in

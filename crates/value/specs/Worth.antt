@@ -3,7 +3,7 @@ use Rattle.std.specs.Prelude.{◌≡◌, Bool, true, cond, List, [], ◌∷◌, 
 use Rattle.sequences.specs.Every.{every}
 use Rattle.sequences.specs.Checks.{Reply, reply}
 use Rattle.units.specs.Units.{rounded}
-use Rattle.flags.specs.Table.{FlagTable, entry, priced}
+use Rattle.flags.specs.Table.{FlagTable, entry, priced, in_use}
 use Rattle.layout.specs.Places.{most_components}
 use Rattle.layout.specs.declared.Component.{Component}
 use Rattle.fund.specs.Fund.{cash_in_range}
@@ -26,8 +26,9 @@ value_from before taken size =
     (reply 0 0 (rounded (10 * (before - taken)) size))
     (reply 14 0 0)
 
--- a component and its price in their ranges
-pub record Countable (c : Component) (price : ℕ) : Type 0 where
+-- a component, whose flag is in use, and its price in their ranges
+pub record Countable (t : FlagTable) (c : Component) (price : ℕ) : Type 0 where
+  pub used : entry t c.flag in_use ≡ true
   pub quantity : c.quantity ≤ 99_999_999
   pub amount : c.amount.0 ≤ 99_999_999_999
   pub cost : price ≤ most_price
@@ -39,4 +40,4 @@ pub record Priceable (d : Day) (ps : List ℕ) : Type 0 where
   pub size_low : 1 ≤ d.fund.basket_size
   pub size_high : d.fund.basket_size ≤ 99_999_999
   pub cash : cash_in_range d.fund.estimated_cash ≡ true
-  pub countable : (k : ℕ) → k < d.count → Countable (component_of d k) (price_of ps k)
+  pub countable : (k : ℕ) → k < d.count → Countable d.table (component_of d k) (price_of ps k)

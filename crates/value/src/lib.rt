@@ -23,10 +23,10 @@ const MOST_VALUE: ReferenceValue = ReferenceValue(9_999_999);
 // What a component adds to the sum.
 #[tactic(auto, unfolding(crate::specs::Worth::worth))]
 fn worth_of(table: &Table, c: Component, price: u64) -> Money
-    requires { Countable c price }
+    requires { Countable table.now c price }
     ensures { result.0 ≡ worth table.now c price }
 {
-    if flags::entry_of(table, c.flag, Column::Priced) {
+    if flags::entry_in_use(table, c.flag, Column::Priced) {
         return Money(c.quantity * price);
     }
     c.amount
@@ -35,9 +35,10 @@ fn worth_of(table: &Table, c: Component, price: u64) -> Money
 // Whether a component that is counted by its price has none.
 #[tactic(auto, unfolding(crate::specs::Worth::lacks, sequences::specs::Every::every))]
 fn lacks_price(table: &Table, c: Component, price: u64) -> bool
+    requires { Countable table.now c price }
     ensures { result ≡ lacks table.now c price }
 {
-    flags::entry_of(table, c.flag, Column::Priced) && c.quantity != 0 && price == 0
+    flags::entry_in_use(table, c.flag, Column::Priced) && c.quantity != 0 && price == 0
 }
 
 // The sum of the components with the estimated cash, which is signed. None where it falls below zero.
