@@ -5,7 +5,7 @@ use Prim.Native.Nat.{ℕ, ◌+◌, ◌^◌, ◌≤◌, ◌<◌}
 use native.Mathlib.Omega.{arith}
 use Rattle.sequences.proofs.Stretch.{stretch-length}
 use Rattle.units.proofs.Laws.{under}
-use Rattle.fund.proofs.Laws.{components_fine}
+use Rattle.fund.proofs.Laws.{ComponentRanges, components_fine}
 use Rattle.layout.specs.Day.{Day}
 use Rattle.layout.specs.Book.{cash, head_at, lots_at, width, account, counter}
 use Rattle.rules.specs.declared.Kind.{Kind}
@@ -13,6 +13,7 @@ use Rattle.rules.specs.declared.Kind.TheVariants.{Creation, Redemption}
 use Rattle.rules.specs.declared.Rooms.{Rooms}
 use Rattle.rules.specs.Opening.{most_cash}
 use Rattle.rules.specs.Orders.{number_of, opposite_kind, baskets, fund_count}
+use Rattle.rules.specs.Lines.{component_of}
 use Rattle.rules.specs.Creation.{creation_due}
 use Rattle.rules.specs.Redemption.{redemption_paid}
 use Rattle.rules.specs.Kinds.{moved_by}
@@ -23,12 +24,16 @@ use Rattle.book.specs.Ready.{StockReady, LotsReady, OrderReady}
 
 -- what both kinds of order have, with the cash c
 module _ {d : Day} {b ps : List ℕ} {kind : Kind} {a units : ℕ} (c : ℕ) (s : SoundDay d b ps) (o : Orders d b kind a units) (most : c ≤ most_cash) where
+  fine : (i : ℕ) → i < d.count → ComponentRanges d.table d.fund.first_code (component_of d i)
+  fine i l = components_fine d.table d.fund.first_code d.components d.count s.own.components i l
+
   stock_ready : StockReady d (account d b a) (baskets d units)
   stock_ready =
       record {
         count_high = s.own.count_high;
         wide = omega (arith, stretch-length (width d) b a (account_within s a o.account_in));
-        needs = λ i l. omega (arith, under 20 99_999_999 o.baskets_high (components_fine d.table d.fund.first_code d.components d.count s.own.components i l).quantity);
+        used = λ i l. (fine i l).flag;
+        needs = λ i l. omega (arith, under 20 99_999_999 o.baskets_high (fine i l).quantity);
         held = λ i l. omega (arith, account_line_most s a o.account_in i (omega arith));
       }
 

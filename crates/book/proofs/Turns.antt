@@ -100,6 +100,7 @@ module _ (kind : Kind) (d : Day) (b : List ℕ) (a m : ℕ) (low : 0 < a) (fits 
             account_low = low;
             account_in = rw (ew, lines-length) fits;
             line_in_lem = rw ew (omega arith);
+            used = p.used i l;
             need = p.needs i l;
             held = rw (ew, own_here) (p.held i l);
             room = rw (ew, fund_here) (q.room i l);

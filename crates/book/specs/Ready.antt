@@ -1,9 +1,9 @@
 -- What the moves ask of the book: stock and cash are there, and no sum passes 64 bits.
-use Rattle.std.specs.Prelude.{ℕ, ◌+◌, ◌*◌, ◌^◌, ◌≤◌, ◌<◌, ◌≡◌, List, length}
+use Rattle.std.specs.Prelude.{ℕ, ◌+◌, ◌*◌, ◌^◌, ◌≤◌, ◌<◌, ◌≡◌, true, List, length}
 use Rattle.sequences.specs.Stretch.{stretch_of}
 use Rattle.lots.specs.declared.Lots.{Lots}
 use Rattle.lots.specs.Lots.{sellable, handable, lots_total}
-use Rattle.flags.specs.Table.{FlagTable}
+use Rattle.flags.specs.Table.{FlagTable, entry, in_use}
 use Rattle.layout.specs.Places.{most_components}
 use Rattle.layout.specs.declared.Component.{Component}
 use Rattle.layout.specs.Day.{Day}
@@ -37,6 +37,7 @@ pub record LineReady (kind : Kind) (t : FlagTable) (c : Component) (b : List ℕ
   pub account_low : 0 < a
   pub account_in : a * w + w ≤ length b
   pub line_in_lem : behind_line line ≤ w
+  pub used : entry t c.flag in_use ≡ true
   pub need : m * c.quantity < 2 ^ 62
   pub held : lots_total (lots_at (stretch_of w b a) line) < 2 ^ 62
   pub room : (lots_at (stretch_of w b 0) line).old < 2 ^ 62
@@ -46,6 +47,7 @@ pub record LineReady (kind : Kind) (t : FlagTable) (c : Component) (b : List ℕ
 pub record StockReady (d : Day) (s : List ℕ) (m : ℕ) : Type 0 where
   pub count_high : d.count ≤ most_components
   pub wide : width d ≤ length s
+  pub used : (i : ℕ) → i < d.count → entry d.table (component_of d i).flag in_use ≡ true
   pub needs : (i : ℕ) → i < d.count → m * (component_of d i).quantity < 2 ^ 62
   pub held : (i : ℕ) → i < d.count → lots_total (lots_at s i) < 2 ^ 62
 

@@ -43,10 +43,10 @@ missing-le : (b : Bool) (need have : ℕ) → cond b (need - have) 0 ≤ need
 missing-le b need have = cond_le b (sub-le need have) zero-le
 
 -- a component that passes the tests of refusal 3
-pub ranged : (t : FlagTable) (g : ℕ) (c : Component) → ComponentRanges t g c → Ranged c
-ranged t g c r = record { quantity = r.quantity; premium = r.premium; discount = r.discount; amount = r.amount }
+pub ranged : (t : FlagTable) (g : ℕ) (c : Component) → ComponentRanges t g c → Ranged t c
+ranged t g c r = record { used = r.flag; quantity = r.quantity; premium = r.premium; discount = r.discount; amount = r.amount }
 
-module _ (t : FlagTable) (c : Component) (m : ℕ) (r : Ranged c) (few : m ≤ most_baskets) where
+module _ (t : FlagTable) (c : Component) (m : ℕ) (r : Ranged t c) (few : m ≤ most_baskets) where
   pub need-le : m * c.quantity ≤ 1_999_999_980
   need-le = under 20 99_999_999 few r.quantity
 

@@ -40,7 +40,7 @@ pub struct Part<'a> {
     pub component: Component,
     pub table: &'a Table,
     pub baskets: u64,
-    pub ghost ranged: { Ranged component },
+    pub ghost ranged: { Ranged table.now component },
     pub ghost few: { baskets ≤ most_baskets },
     pub ghost loads: { table_fault table.now ≡ flag_count },
 }
@@ -57,7 +57,7 @@ impl Part<'_> {
     fn entry(&self, column: Column) -> bool
         ensures { result ≡ entry self.now.table.now self.now.component.flag (column_number column) }
     {
-        flags::entry_of(self.table, self.component.flag, column)
+        flags::entry_in_use(self.table, self.component.flag, column)
     }
 
     // Cash for it, which goes to its market.

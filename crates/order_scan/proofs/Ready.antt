@@ -28,7 +28,7 @@ use Rattle.order_scan.specs.Ready.{Scannable}
 use Rattle.order_lines.proofs.Laws.{ranged, creation_cash-le, redemption_cash-le}
 
 module _ (d : Day) (b ps : List ℕ) (s : SoundDay d b ps) (m : ℕ) (few : m ≤ most_baskets) where
-  all_ranged : (k : ℕ) → k < d.count → Ranged (component_of d k)
+  all_ranged : (k : ℕ) → k < d.count → Ranged d.table (component_of d k)
   all_ranged k h = ranged _ _ _ (components_fine d.table d.fund.first_code d.components d.count s.own.components k h)
 
   wide : (a : ℕ) → a < d.accounts → length (account d b a) ≡ width d

@@ -28,6 +28,6 @@ pub record Scannable (d : Day) (s f ps : List ℕ) (m : ℕ) : Type 0 where
   pub stretch : length s ≡ width d
   pub fund_stretch : length f ≡ width d
   pub prices_size : length ps ≡ d.count
-  pub ranges : (k : ℕ) → k < d.count → Ranged (component_of d k)
+  pub ranges : (k : ℕ) → k < d.count → Ranged d.table (component_of d k)
   pub prices : (k : ℕ) → k < d.count → price_of ps k ≤ most_price
   pub lots : (k : ℕ) → k < d.count → available s k ≤ 2_000_000_000_000_000_000

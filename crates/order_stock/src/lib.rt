@@ -1,10 +1,11 @@
 // Moves the stock of one component, from the account to the fund or back.
 #![tactic(auto)]
 
-ghost use Rattle.std.specs.Prelude.{◌≡◌, ◌+◌, ◌*◌, ◌≤◌, ◌<◌, ◌^◌, MatchOption};
+ghost use Rattle.std.specs.Prelude.{true, ◌≡◌, ◌+◌, ◌*◌, ◌≤◌, ◌<◌, ◌^◌, MatchOption};
 ghost use Rattle.std.specs.Int.NonZero.{non_zero_u64_get};
 ghost use Rattle.sequences.specs.Stretch.{stretch_of};
 ghost use Rattle.lots.specs.Lots.{handable};
+ghost use Rattle.flags.specs.Table.{entry, in_use};
 ghost use Rattle.layout.specs.Book.{lots_at};
 ghost use Rattle.rules.specs.declared.Kind.TheVariants.{Redemption};
 ghost use Rattle.rules.specs.Kinds.{fund_lots};
@@ -46,11 +47,12 @@ impl StockOrder<'_> {
     // keep it. No `order_lines::Part`: it asks the ranges of all of a component's numbers, and a move the need's alone.
     #[tactic(auto, unfolding(book::specs::Moved::moved_of))]
     fn stock_moved(&self, c: Component, x: Lots) -> Option<NonZeroU64>
+        requires used { entry self.now.table.now c.flag in_use ≡ true }
         requires quantity_bound { self.now.baskets * c.quantity < 2 ^ 62 }
         requires x_bound { handable x < 2 ^ 62 }
         ensures { MatchOption result (moved_of self.now.kind self.now.table.now c self.now.baskets x ≡ 0) (λ q. non_zero_u64_get q ≡ moved_of self.now.kind self.now.table.now c self.now.baskets x) }
     {
-        if !flags::entry_of(self.table, c.flag, Column::StockMoves) {
+        if !flags::entry_in_use(self.table, c.flag, Column::StockMoves) {
             return None;
         }
         let needed = self.baskets * c.quantity;
