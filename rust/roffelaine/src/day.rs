@@ -1,10 +1,10 @@
 //! An open day that owns its book and prices.
 
-use crate::layout::{component_run, fund_numbers, stretch_width, DAY_NUMBERS};
+use crate::layout::{component_run, fund_numbers, stretch_width, table_of, DAY_NUMBERS};
 use crate::lent::{self, Lengths, Lists, Reply};
 use crate::{
-    Batch, Book, Component, Counts, Execution, Fund, Money, OrderLists, Outcome, ReferenceValue,
-    Refusal, Rooms, Units, MOST_ACCOUNTS, MOST_COMPONENTS,
+    Batch, Book, Component, Counts, Execution, FlagTable, Fund, Money, OrderLists, Outcome,
+    ReferenceValue, Refusal, Rooms, Units, MOST_ACCOUNTS, MOST_COMPONENTS,
 };
 
 /// What an account opens with.
@@ -84,9 +84,55 @@ pub struct Day {
 }
 
 impl Day {
-    /// Opens a day on which no component has a price.
+    /// Opens a day under our flag table, on which no component has a price.
     pub fn open(
         fund: &Fund,
+        components: &[Component],
+        accounts: &[Holdings],
+    ) -> Result<Self, Refusal> {
+        Day::open_lent(fund, &[], components, accounts)
+    }
+
+    /// Opens a day under a flag table, which the day then holds. Under
+    /// [`FlagTable::OURS`] it is the day that [`Day::open`] opens.
+    ///
+    /// ```
+    /// use roffelaine::{Component, Day, FlagTable, Fund, Holdings, Money, Refusal, Units};
+    ///
+    /// # fn main() -> Result<(), Refusal> {
+    /// let fund = Fund { first_code: 510_300, basket_size: Units(1_000), ..Fund::default() };
+    /// let amount = Money::from_yuan(96);
+    /// let piloted = [Component { code: 600_036, quantity: 30, flag: 5, amount, ..Component::default() }];
+    /// let accounts = [
+    ///     Holdings { cash: Money(0), lines: vec![0, 0] },
+    ///     Holdings { cash: Money::from_yuan(9_000), lines: vec![0, 0] },
+    /// ];
+    /// assert_eq!(Day::open(&fund, &piloted, &accounts), Err(Refusal::Component { place: 0 }));
+    ///
+    /// let mut table = FlagTable::OURS;
+    /// table.set_row(5, [0, 0, 0, 1, 0, 0, 1]);
+    /// let day = Day::open_with_table(&fund, &table, &piloted, &accounts)?;
+    /// assert_eq!(day.flag_table(), table);
+    ///
+    /// table.set_row(5, [0, 0, 0, 0, 0, 0, 1]);
+    /// let refused = Day::open_with_table(&fund, &table, &piloted, &accounts);
+    /// assert_eq!(refused, Err(Refusal::FlagTable { place: 5 }));
+    /// # Ok(())
+    /// # }
+    /// ```
+    pub fn open_with_table(
+        fund: &Fund,
+        table: &FlagTable,
+        components: &[Component],
+        accounts: &[Holdings],
+    ) -> Result<Self, Refusal> {
+        Day::open_lent(fund, table.as_run(), components, accounts)
+    }
+
+    /// Opens a day under the table that a run has, under ours where it is empty.
+    fn open_lent(
+        fund: &Fund,
+        table: &[u64],
         components: &[Component],
         accounts: &[Holdings],
     ) -> Result<Self, Refusal> {
@@ -101,6 +147,7 @@ impl Day {
             accounts.len() as u64,
             count as u64,
             &fund_numbers(fund),
+            table,
             &component_run(components),
             &holdings,
             &mut opened.book,
@@ -147,6 +194,11 @@ impl Day {
     /// The code of a line.
     pub fn code_of(&self, line: usize) -> Option<u64> {
         self.codes.get(line).copied()
+    }
+
+    /// The flag table that the day was opened under.
+    pub fn flag_table(&self) -> FlagTable {
+        table_of(&self.day)
     }
 
     /// Sets the price of a component.

@@ -1,6 +1,6 @@
 //! The fund, its components and what a list says besides.
 
-use crate::{Cents, Money, Rate, Units};
+use crate::{Cents, FlagColumn, FlagTable, Money, Rate, Units};
 use std::fmt;
 
 /// The most components that a basket has.
@@ -142,31 +142,33 @@ pub struct Component {
     pub code: u64,
     /// Shares in a basket (Q).
     pub quantity: u64,
-    /// Substitution flag, 0 to 4.
+    /// Substitution flag, 0 to 9, in use by the flag table.
     pub flag: u64,
     /// Premium, which creation takes; 0 where the flag uses no rates.
     pub premium: Rate,
     /// Discount, which redemption takes; 0 where the flag uses no rates. That of
-    /// flag 1 enters no sum, since its redemption delivers stock.
+    /// a component whose stock moves enters no sum, since its redemption delivers
+    /// the stock.
     pub discount: Rate,
     /// Cash substitute of a basket (P), 0 where the flag uses none.
     pub amount: Money,
 }
 
 impl Component {
-    /// Whether its stock moves in an order; else cash stands in for it.
-    pub const fn moves_stock(&self) -> bool {
-        self.flag <= 1
+    /// Whether its stock moves in an order by a day's flag table; else cash
+    /// stands in for it.
+    pub fn moves_stock(&self, table: &FlagTable) -> bool {
+        table.says(self.flag, FlagColumn::StockMoves)
     }
 
     /// Whether a creation may pay cash for what is missing.
-    pub const fn takes_cash_for_shortage(&self) -> bool {
-        self.flag == 1
+    pub fn takes_cash_for_shortage(&self, table: &FlagTable) -> bool {
+        table.says(self.flag, FlagColumn::ShortageInCash)
     }
 
     /// Whether the reference value takes it at its price.
-    pub const fn is_priced(&self) -> bool {
-        matches!(self.flag, 0 | 1 | 3)
+    pub fn is_priced(&self, table: &FlagTable) -> bool {
+        table.says(self.flag, FlagColumn::Priced)
     }
 }
 

@@ -1,15 +1,25 @@
 //! The runs of numbers in which a fund, components, a list's fields and the
 //! rows of the driver cross to the archive.
 
-use crate::{Cents, Component, Fund, Head, Limits, Money, Rate, Switch, Units, MOST_COMPONENTS};
+use crate::{
+    Cents, Component, FlagTable, Fund, Head, Limits, Money, Rate, Switch, Units, MOST_COMPONENTS,
+};
 
 /// Numbers of a fund: first code, basket size, maximum cash ratio, switch,
 /// estimated cash (two numbers), the eight limits.
 pub const FUND_NUMBERS: usize = 14;
 /// Numbers of a component: code, quantity, flag, premium, discount, amount.
 pub const COMPONENT_NUMBERS: usize = 6;
-/// Numbers of a day: accounts, components, the fund, room for all components.
-pub const DAY_NUMBERS: usize = 2 + FUND_NUMBERS + COMPONENT_NUMBERS * MOST_COMPONENTS;
+/// Flags, 0 to 9.
+pub const FLAGS: usize = 10;
+/// Columns of the flag table: the paper's six, and whether the flag is in use.
+pub const FLAG_COLUMNS: usize = 7;
+/// Numbers of a flag table, a row for each flag.
+pub const TABLE_NUMBERS: usize = FLAGS * FLAG_COLUMNS;
+/// Numbers of a day: accounts, components, the fund, the flag table, room for all
+/// components.
+pub const DAY_NUMBERS: usize =
+    2 + FUND_NUMBERS + TABLE_NUMBERS + COMPONENT_NUMBERS * MOST_COMPONENTS;
 /// Numbers of a list's fields: the fund, Publish, TradingDay, PreTradingDay,
 /// CashComponent (two numbers), NAVperCU, NAV, the count of components.
 pub const FIELD_NUMBERS: usize = FUND_NUMBERS + 8;
@@ -32,6 +42,8 @@ pub const STRETCH_HEAD: usize = 3;
 pub const LOTS: usize = 3;
 
 const LIMITS_FROM: usize = 6;
+/// Where the flag table stands in a day.
+const TABLE_FROM: usize = 2 + FUND_NUMBERS;
 
 /// Numbers of an account in the book of a day with so many components.
 pub const fn stretch_width(components: usize) -> usize {
@@ -89,6 +101,14 @@ fn fund_of(numbers: &[u64]) -> Fund {
         estimated_cash: signed_of(&numbers[4..]),
         limits: Limits::from_order(limits),
     }
+}
+
+/// The flag table in a day's numbers.
+pub fn table_of(day: &[u64; DAY_NUMBERS]) -> FlagTable {
+    let numbers = &day[TABLE_FROM..];
+    FlagTable::new(std::array::from_fn(|flag| {
+        std::array::from_fn(|column| numbers[FLAG_COLUMNS * flag + column])
+    }))
 }
 
 pub fn component_numbers(component: &Component) -> [u64; COMPONENT_NUMBERS] {
@@ -177,6 +197,19 @@ mod tests {
         let component = component_of(&numbers);
         assert_eq!((component.premium, component.discount), (Rate(4), Rate(5)));
         assert_eq!(component_numbers(&component), numbers);
+    }
+
+    #[test]
+    fn the_table_stands_behind_the_fund() {
+        let mut day = [0; DAY_NUMBERS];
+        assert_eq!(DAY_NUMBERS, 1_886);
+        day[16..86].copy_from_slice(FlagTable::OURS.as_run());
+        assert_eq!(table_of(&day), FlagTable::OURS);
+        (day[15], day[86]) = (9, 9);
+        assert_eq!(table_of(&day), FlagTable::OURS);
+        (day[16], day[85]) = (7, 8);
+        let table = table_of(&day);
+        assert_eq!((table.row(0)[0], table.row(9)[6]), (7, 8));
     }
 
     #[test]

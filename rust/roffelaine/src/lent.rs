@@ -22,6 +22,8 @@ mod exported {
             count: usize,
             fund: *const u64,
             fund_length: usize,
+            table: *const u64,
+            table_length: usize,
             components: *const u64,
             components_length: usize,
             holdings: *const u64,
@@ -195,6 +197,8 @@ mod exported {
         pub fn roffelaine_read(
             text: *const u8,
             text_length: usize,
+            table: *const u64,
+            table_length: usize,
             run: *mut u64,
             run_length: usize,
             fields: *mut u64,
@@ -223,6 +227,8 @@ mod exported {
         pub fn roffelaine_write(
             fields: *const u64,
             fields_length: usize,
+            table: *const u64,
+            table_length: usize,
             run: *const u64,
             run_length: usize,
             names: *const u8,
@@ -313,12 +319,14 @@ fn order_reply(call: impl FnOnce(&mut u64, &mut u64, &mut u64) -> u64) -> Reply 
     }
 }
 
-/// Opens a day: the book, the prices and the day are filled.
+/// Opens a day: the book, the prices and the day are filled. An empty table is
+/// none, and ours is taken.
 #[allow(clippy::too_many_arguments)]
 pub fn open(
     accounts: u64,
     count: u64,
     fund: &[u64],
+    table: &[u64],
     components: &[u64],
     holdings: &[u64],
     book: &mut [u64],
@@ -332,6 +340,8 @@ pub fn open(
             count as usize,
             fund.as_ptr(),
             fund.len(),
+            table.as_ptr(),
+            table.len(),
             components.as_ptr(),
             components.len(),
             holdings.as_ptr(),
@@ -637,14 +647,22 @@ pub fn run_one_by_one(
     })
 }
 
-/// Reads a list text: its components, its fields, and where its first
-/// component line starts.
-pub fn read(text: &[u8], components: &mut [u64], fields: &mut [u64], first_row: &mut u64) -> Reply {
+/// Reads a list text under a flag table, under ours where it is empty: its
+/// components, its fields, and where its first component line starts.
+pub fn read(
+    text: &[u8],
+    table: &[u64],
+    components: &mut [u64],
+    fields: &mut [u64],
+    first_row: &mut u64,
+) -> Reply {
     // SAFETY: each pointer stands beside the length of its own slice.
     reply(|place, value| unsafe {
         exported::roffelaine_read(
             text.as_ptr(),
             text.len(),
+            table.as_ptr(),
+            table.len(),
             components.as_mut_ptr(),
             components.len(),
             fields.as_mut_ptr(),
@@ -681,9 +699,11 @@ pub fn letters(text: &[u8], part: &mut [u64]) -> u64 {
     }
 }
 
-/// Writes a list at the front of the output.
+/// Writes a list under a flag table, under ours where it is empty, at the front
+/// of the output.
 pub fn write(
     fields: &[u64],
+    table: &[u64],
     components: &[u64],
     names: &[u8],
     letters: &[u8],
@@ -694,6 +714,8 @@ pub fn write(
         exported::roffelaine_write(
             fields.as_ptr(),
             fields.len(),
+            table.as_ptr(),
+            table.len(),
             components.as_ptr(),
             components.len(),
             names.as_ptr(),

@@ -3,7 +3,8 @@
 //! One exchange-traded fund, one day: [`Day`] is opened with what each account
 //! holds and takes prices, trades, creations and redemptions of baskets; an
 //! order gives the [`Record`]s that brokers and the fund's manager post from, and
-//! the execution [`Report`]s to the investor and to the fund's manager.
+//! the execution [`Report`]s to the investor and to the fund's manager. A
+//! [`FlagTable`] may say other than ours what each component's flag means.
 //! [`Batch`] makes many calls at once, [`List`] is the fund's list as text.
 //! [`lent`] has the same calls over runs of numbers that the caller owns.
 //!
@@ -48,6 +49,7 @@ mod amounts;
 mod batch;
 mod book;
 mod day;
+mod flag_table;
 mod fund;
 mod layout;
 #[allow(unsafe_code)]
@@ -63,8 +65,9 @@ pub use amounts::{decimal, AmountError, Cents, Money, Rate, ReferenceValue, Unit
 pub use batch::{Batch, Outcome};
 pub use book::{Account, Book, Lots};
 pub use day::{Day, Holdings, Trade};
+pub use flag_table::{FlagColumn, FlagTable};
 pub use fund::{Component, Fund, Head, Limits, Switch, MOST_ACCOUNTS, MOST_COMPONENTS};
-pub use layout::NAME_BYTES;
+pub use layout::{FLAGS, FLAG_COLUMNS, NAME_BYTES};
 pub use list::{List, LONGEST_TEXT};
 pub use list_fault::{lines_in_lf, list_end, position, with_crlf, ListFault, Position};
 pub use orders::{Counts, Execution, OrderLists, Rooms};

@@ -4,7 +4,7 @@ use crate::layout::{
     component_of, component_run, field_numbers, head_of, part_of, COMPONENT_NUMBERS, FIELD_NUMBERS,
     NAME_BYTES, PART_NUMBERS,
 };
-use crate::{lent, Component, Head, Refusal, MOST_COMPONENTS};
+use crate::{lent, Component, FlagTable, Head, Refusal, MOST_COMPONENTS};
 
 /// The bytes of the longest list.
 pub const LONGEST_TEXT: usize = 17_969;
@@ -24,13 +24,24 @@ pub struct List<'t> {
 }
 
 impl<'t> List<'t> {
-    /// Reads a text. Where it is refused, [`ListFault`](crate::ListFault) says
-    /// what is wrong, and where.
+    /// Reads a text under our flag table. Where it is refused,
+    /// [`ListFault`](crate::ListFault) says what is wrong, and where.
     pub fn read(text: &'t [u8]) -> Result<Self, Refusal> {
+        Self::read_lent(text, &[])
+    }
+
+    /// Reads a text under a flag table, by which the rates and the amount that a
+    /// component's flag does not use are blank.
+    pub fn read_with_table(text: &'t [u8], table: &FlagTable) -> Result<Self, Refusal> {
+        Self::read_lent(text, table.as_run())
+    }
+
+    fn read_lent(text: &'t [u8], table: &[u64]) -> Result<Self, Refusal> {
         let mut run = [0; COMPONENT_NUMBERS * MOST_COMPONENTS];
         let mut fields = [0; FIELD_NUMBERS];
         let mut first_row = 0;
-        let count = lent::read(text, &mut run, &mut fields, &mut first_row).outcome()? as usize;
+        let reply = lent::read(text, table, &mut run, &mut fields, &mut first_row);
+        let count = reply.outcome()? as usize;
         let components = run.chunks_exact(COMPONENT_NUMBERS).take(count);
         let names = (0..count as u64).filter_map(|at| name(text, first_row, at).first_chunk());
         Ok(List {
@@ -41,13 +52,22 @@ impl<'t> List<'t> {
         })
     }
 
-    /// The list as text.
+    /// The list as text, under our flag table.
     pub fn write(&self) -> Result<Vec<u8>, Refusal> {
+        self.write_lent(&[])
+    }
+
+    /// The list as text, under a flag table.
+    pub fn write_with_table(&self, table: &FlagTable) -> Result<Vec<u8>, Refusal> {
+        self.write_lent(table.as_run())
+    }
+
+    fn write_lent(&self, table: &[u64]) -> Result<Vec<u8>, Refusal> {
         let fields = field_numbers(&self.head, self.components.len() as u64);
         let components = component_run(&self.components);
         let names: Vec<u8> = self.names.iter().copied().flatten().copied().collect();
         let mut text = vec![0; LONGEST_TEXT];
-        let reply = lent::write(&fields, &components, &names, self.letters, &mut text);
+        let reply = lent::write(&fields, table, &components, &names, self.letters, &mut text);
         text.truncate(reply.outcome()? as usize);
         Ok(text)
     }

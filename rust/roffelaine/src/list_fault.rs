@@ -5,6 +5,7 @@ mod component_line;
 mod digits;
 mod ends;
 mod fields;
+mod flags;
 mod form;
 mod lines;
 mod numbers;
@@ -12,7 +13,7 @@ mod ranges;
 mod text_lines;
 mod wanted;
 
-use crate::Refusal;
+use crate::{FlagTable, Refusal};
 use std::fmt;
 
 pub use ends::{lines_in_lf, list_end, with_crlf};
@@ -72,13 +73,21 @@ impl ListFault {
     /// The fault behind a refusal of this text by [`List::read`](crate::List::read).
     /// None for a refusal that reading it does not give.
     pub fn of(text: &[u8], refusal: Refusal) -> Option<Self> {
+        ListFault::of_with_table(text, refusal, &FlagTable::OURS)
+    }
+
+    /// The fault behind a refusal by
+    /// [`List::read_with_table`](crate::List::read_with_table). None for a refusal
+    /// that reading does not give, and for that of the table, which is no fault of
+    /// the text.
+    pub fn of_with_table(text: &[u8], refusal: Refusal, table: &FlagTable) -> Option<Self> {
         let place = usize::try_from(refusal.place()).ok()?;
         match refusal {
             Refusal::TextLine { .. } => lines::fault(text, place),
-            Refusal::TextField { .. } => fields::fault(text, place),
+            Refusal::TextField { .. } => fields::fault(text, place, table),
             Refusal::RecordCount => ranges::record_count(text),
             Refusal::FundField => ranges::fund_field(text),
-            Refusal::Component { .. } => ranges::component(text, place),
+            Refusal::Component { .. } => ranges::component(text, place, table),
             _ => None,
         }
     }

@@ -46,7 +46,7 @@ macro_rules! refusals {
                 }
             }
 
-            /// The paper's number, 1 to 20.
+            /// The paper's number, 1 to 21.
             pub const fn number(&self) -> u64 {
                 match self {
                     $(Refusal::$plain => $plain_number,)*
@@ -94,6 +94,7 @@ refusals! {
         FundShort = 17, "the fund is short of stock or cash", "the component, N for cash";
         TextLine = 18, "a line of the list does not stand as it must", "the line's first byte";
         TextField = 19, "a field of the list is not written as it must be", "the field's first byte";
+        FlagTable = 21, "the flag table breaks its rules", "the lowest flag at fault";
     }
 }
 

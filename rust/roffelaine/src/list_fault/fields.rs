@@ -2,20 +2,21 @@
 
 use super::digits::{date_expected, digits_expected};
 use super::ends::end_fault;
+use super::flags::{flag_of, in_use_words};
 use super::form::{
-    Column, Form, HeadField, AMOUNT, AMOUNT_FLAGS, BAR, COLUMNS, DISCOUNT, FIRST_FIELD, FIRST_ROW,
-    FLAG, HEAD, HIGHEST_FLAG, LINE_END, NAME, PREMIUM, QUANTITY, RATE_FLAGS, ROW_BYTES,
+    Column, Form, HeadField, AMOUNT, BAR, COLUMNS, DISCOUNT, FIRST_FIELD, FIRST_ROW, FLAG, HEAD,
+    LINE_END, NAME, PREMIUM, QUANTITY, ROW_BYTES,
 };
 use super::numbers::Number;
 use super::text_lines::{line_with, Line};
 use super::ListFault;
-use crate::{Money, Rate};
+use crate::{FlagColumn, FlagTable, Money, Rate};
 
 /// The fault in the field that starts at a place.
-pub fn fault(text: &[u8], place: usize) -> Option<ListFault> {
+pub fn fault(text: &[u8], place: usize, table: &FlagTable) -> Option<ListFault> {
     let (number, line) = line_with(text, place)?;
     if number >= FIRST_ROW {
-        return row_fault(text, &line, place);
+        return row_fault(text, &line, place, table);
     }
     let field = HEAD.get(number.checked_sub(FIRST_FIELD)?)?;
     let start = line.start + field.name.len() + 1;
@@ -41,7 +42,7 @@ fn value_expected(field: &HeadField, value: &[u8]) -> String {
 }
 
 /// The fault in a field of a component line.
-fn row_fault(text: &[u8], line: &Line<'_>, place: usize) -> Option<ListFault> {
+fn row_fault(text: &[u8], line: &Line<'_>, place: usize, table: &FlagTable) -> Option<ListFault> {
     let at = place.checked_sub(line.start)?;
     let column = COLUMNS.iter().find(|column| column.start == at)?;
     if line.bytes.len() != ROW_BYTES {
@@ -52,8 +53,8 @@ fn row_fault(text: &[u8], line: &Line<'_>, place: usize) -> Option<ListFault> {
     let expected = match *column {
         NAME => name_expected(found),
         QUANTITY => Number::unsigned(0).expected_right(found, QUANTITY.width),
-        FLAG => "a digit, 0 to 4".to_owned(),
-        PREMIUM | DISCOUNT | AMOUNT => used_expected(*column, flag, found),
+        FLAG => format!("a digit; {}", in_use_words(table)),
+        PREMIUM | DISCOUNT | AMOUNT => used_expected(*column, flag, found, table),
         _ => digits_expected(found, column.width),
     };
     Some(ListFault::new(text, place, column.name, found, expected))
@@ -75,17 +76,17 @@ fn name_expected(name: &[u8]) -> String {
 }
 
 /// What is expected of a rate or an amount under a flag.
-fn used_expected(column: Column, flag: u8, found: &[u8]) -> String {
-    let (flags, decimals, one) = match column {
-        PREMIUM | DISCOUNT => (RATE_FLAGS, Rate::DECIMALS, "a"),
-        _ => (AMOUNT_FLAGS, Money::DECIMALS, "an"),
+fn used_expected(column: Column, flag: u8, found: &[u8], table: &FlagTable) -> String {
+    let (use_of_it, decimals, one) = match column {
+        PREMIUM | DISCOUNT => (FlagColumn::RateUsed, Rate::DECIMALS, "a"),
+        _ => (FlagColumn::AmountUsed, Money::DECIMALS, "an"),
     };
-    let (flag, is_used) = (char::from(flag), flags.contains(&flag));
-    let name = column.name;
-    if !is_used && flag > char::from(HIGHEST_FLAG) {
-        return format!("flag {flag} uses no {name}: blank; flags are 0 to 4");
+    let (number, flag, name) = (flag_of(flag), char::from(flag), column.name);
+    if !table.says(number, FlagColumn::InUse) {
+        let in_use = in_use_words(table);
+        return format!("flag {flag} uses no {name}: blank; {in_use}");
     }
-    if !is_used {
+    if !table.says(number, use_of_it) {
         return format!("flag {flag} uses no {name}: blank");
     }
     let expected = Number::unsigned(decimals).expected_right(found, column.width);

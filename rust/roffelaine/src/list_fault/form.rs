@@ -185,10 +185,6 @@ pub const COLUMNS: [Column; 7] = [CODE, NAME, QUANTITY, FLAG, PREMIUM, DISCOUNT,
 /// Bytes of a component line without its end.
 pub const ROW_BYTES: usize = AMOUNT.bar() + 1;
 
-/// The highest flag, and the flags that use the two rates or an amount.
-pub const HIGHEST_FLAG: u8 = b'4';
-pub const RATE_FLAGS: &[u8] = b"13";
-pub const AMOUNT_FLAGS: &[u8] = b"234";
 /// A rate's highest number, and the words for it.
 pub const RATE_RANGE: Range = upto(100_000, "at most 1.00000");
 

@@ -1,13 +1,14 @@
 //! Numbers that are written well but out of range (refusals 20, 2 and 3).
 
+use super::flags::{flag_of, in_use_words};
 use super::form::{
     Column, HeadField, Range, CODE, COUNT_NAME, DISCOUNT, END, FIRST_FIELD, FIRST_ROW, FLAG, HEAD,
-    HIGHEST_FLAG, PREMIUM, RATE_RANGE, ROW_BYTES, UNIT_NAME,
+    PREMIUM, RATE_RANGE, ROW_BYTES, UNIT_NAME,
 };
 use super::numbers::number_of;
 use super::text_lines::{lines, Line};
 use super::ListFault;
-use crate::{Limits, MOST_COMPONENTS};
+use crate::{FlagColumn, FlagTable, Limits, MOST_COMPONENTS};
 
 /// A field of a text's head: where its value stands, and the value.
 struct Value<'t> {
@@ -101,14 +102,15 @@ fn no_multiple(limit: i128, unit: i128, most: i128) -> Option<String> {
     ))
 }
 
-/// The fault of a component that is out of range or order.
-pub fn component(text: &[u8], number: usize) -> Option<ListFault> {
+/// The fault of a component that is out of range or order, or whose flag is not
+/// in use.
+pub fn component(text: &[u8], number: usize, table: &FlagTable) -> Option<ListFault> {
     let row = rows(text).nth(number)?;
     let before = number
         .checked_sub(1)
         .and_then(|number| rows(text).nth(number));
     let (column, expected) = code_fault(text, &row, before.as_ref())
-        .or_else(|| flag_fault(&row))
+        .or_else(|| flag_fault(&row, table))
         .or_else(|| rate_fault(&row, PREMIUM))
         .or_else(|| rate_fault(&row, DISCOUNT))?;
     let found = column.of(row.bytes);
@@ -135,9 +137,9 @@ fn code_fault(text: &[u8], row: &Line<'_>, before: Option<&Line<'_>>) -> Option<
     })
 }
 
-fn flag_fault(row: &Line<'_>) -> Option<(Column, String)> {
-    let is_unknown = FLAG.of(row.bytes)[0] > HIGHEST_FLAG;
-    is_unknown.then(|| (FLAG, "0 to 4".to_owned()))
+fn flag_fault(row: &Line<'_>, table: &FlagTable) -> Option<(Column, String)> {
+    let flag = flag_of(FLAG.of(row.bytes)[0]);
+    (!table.says(flag, FlagColumn::InUse)).then(|| (FLAG, in_use_words(table)))
 }
 
 fn rate_fault(row: &Line<'_>, rate: Column) -> Option<(Column, String)> {
