@@ -46,6 +46,7 @@ impl Engine for Archive {
             opening.accounts,
             opening.count,
             &fund_numbers(&opening.fund),
+            opening.table,
             opening.components,
             opening.holdings,
             &mut lent.book,
@@ -89,13 +90,13 @@ impl Engine for Archive {
         lent::run_one_by_one(&day, book, prices, rows, lists, answers).into()
     }
 
-    fn read(&self, text: &[u8], lent: &mut LentList) -> Reply {
+    fn read(&self, text: &[u8], table: &[u64], lent: &mut LentList) -> Reply {
         let LentList {
             components,
             fields,
             first_row,
         } = lent;
-        lent::read(text, components, fields, first_row).into()
+        lent::read(text, table, components, fields, first_row).into()
     }
 
     fn name(&self, text: &[u8], first_row: u64, component: u64, part: &mut [u64]) -> u64 {
@@ -108,7 +109,15 @@ impl Engine for Archive {
 
     fn write(&self, list: &Writing<'_>, output: &mut [u8]) -> Reply {
         let fields = field_numbers(&list.head, list.count);
-        lent::write(&fields, list.components, list.names, list.letters, output).into()
+        lent::write(
+            &fields,
+            list.table,
+            list.components,
+            list.names,
+            list.letters,
+            output,
+        )
+        .into()
     }
 }
 

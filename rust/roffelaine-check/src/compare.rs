@@ -131,6 +131,7 @@ impl Findings {
         self.value("accounts", &one.accounts, &other.accounts);
         self.value("count", &one.count, &other.count);
         self.value("fund", &one.fund, &other.fund);
+        self.run("flag table", &one.table.0, &other.table.0);
         self.run("components", &one.components, &other.components);
         self.run("book", &first.book, &second.book);
         self.run("prices", &first.prices, &second.prices);
@@ -170,10 +171,11 @@ fn state(lent: &Lent) -> String {
     } = lent;
     let listed = prices.len().min(day.components.len());
     format!(
-        "accounts {}, count {}, {:?}, components {:?}, book {book:?}, prices {prices:?}, runs of {:?}",
+        "accounts {}, count {}, {:?}, {:?}, components {:?}, book {book:?}, prices {prices:?}, runs of {:?}",
         day.accounts,
         day.count,
         day.fund,
+        day.table,
         &day.components[..listed],
         runs.lengths(),
     )
@@ -346,8 +348,8 @@ impl<'e> Comparison<'e> {
     /// what reading is lent.
     pub fn text(&mut self, case: &TextCase, start: &LentList) -> Result<Reply, Difference> {
         let (mut lent, mut other) = (start.clone(), start.clone());
-        let reply = self.first.read(&case.text, &mut lent);
-        let second = self.second.read(&case.text, &mut other);
+        let reply = self.first.read(&case.text, &case.table, &mut lent);
+        let second = self.second.read(&case.text, &case.table, &mut other);
         self.texts += 1;
         self.tally.add("reading", reply.number);
         let mut findings = Findings::default();
@@ -357,8 +359,8 @@ impl<'e> Comparison<'e> {
         findings.value("first row", &lent.first_row, &other.first_row);
         self.parts(&mut findings, &case.text, lent.first_row, reply.value);
         findings.finish(|| {
-            let (room, shown) = (case.room, case.text.escape_ascii());
-            format!("reading with {room} numbers lent of text \"{shown}\"")
+            let (room, table, shown) = (case.room, &case.table, case.text.escape_ascii());
+            format!("reading with {room} numbers lent, table {table:?}, of text \"{shown}\"")
         })?;
         Ok(reply)
     }

@@ -61,8 +61,9 @@ pub trait Engine {
     /// The same, with the test of the day in each call.
     fn run_one_by_one(&self, rows: &[u64], lent: &mut Lent, answers: &mut [u64]) -> Reply;
 
-    /// Reads a list; the value of the reply is its count of components.
-    fn read(&self, text: &[u8], lent: &mut LentList) -> Reply;
+    /// Reads a list under the table of a run, under ours where it is empty; the
+    /// value of the reply is its count of components.
+    fn read(&self, text: &[u8], table: &[u64], lent: &mut LentList) -> Reply;
 
     /// Where the name of a component stands in a text whose first component
     /// line starts at `first_row`: its place and length go to the front of the
@@ -131,8 +132,8 @@ impl Engine for Model {
         model::run_one_by_one(&mut lent.work(), rows, answers)
     }
 
-    fn read(&self, text: &[u8], lent: &mut LentList) -> Reply {
-        match list::read(text, &mut lent.components) {
+    fn read(&self, text: &[u8], table: &[u64], lent: &mut LentList) -> Reply {
+        match list::read(text, table, &mut lent.components) {
             Ok(list) => {
                 lent.fields = field_numbers(&list.head, list.count);
                 lent.first_row = list.first_row as u64;

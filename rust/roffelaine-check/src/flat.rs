@@ -1,17 +1,17 @@
-//! The flat layouts in which a fund, a day, a list's fields, a part of a text
-//! and the rows of the driver cross to the archive.
+//! The flat layouts in which a fund, a day with its flag table, a list's fields, a
+//! part of a text and the rows of the driver cross to the archive.
 
 use crate::model::list::Head;
 use crate::model::{
-    Call, Component, Day, Fund, Lengths, Order, PerList, Trade, ANSWER_NUMBERS, COMPONENT_NUMBERS,
-    MAX_COMPONENTS, ROW_NUMBERS,
+    Call, Component, Day, FlagTable, Fund, Lengths, Order, PerList, Trade, ANSWER_NUMBERS,
+    COMPONENT_NUMBERS, MAX_COMPONENTS, ROW_NUMBERS, TABLE_NUMBERS,
 };
 use std::ops::Range;
 
 /// Numbers of a fund: first code, basket size, maximum cash ratio, switch,
 /// estimated cash (two numbers), the eight limits.
 pub const FUND_NUMBERS: usize = 14;
-/// Numbers of a day: A, N, the fund, room for all components.
+/// Numbers of a day: A, N, the fund, the flag table, room for all components.
 pub const DAY_NUMBERS: usize = COMPONENTS_FROM + COMPONENT_NUMBERS * MAX_COMPONENTS;
 /// Numbers of a list's fields: the fund, Publish, TradingDay, PreTradingDay,
 /// CashComponent (two numbers), NAVperCU, NAV, N.
@@ -20,10 +20,11 @@ pub const FIELD_NUMBERS: usize = FUND_NUMBERS + 8;
 pub const PART_NUMBERS: usize = 2;
 
 const FUND_FROM: usize = 2;
-const COMPONENTS_FROM: usize = FUND_FROM + FUND_NUMBERS;
+const TABLE_FROM: usize = FUND_FROM + FUND_NUMBERS;
+const COMPONENTS_FROM: usize = TABLE_FROM + TABLE_NUMBERS;
 const LIMITS_FROM: usize = 6;
 
-const _: () = assert!(DAY_NUMBERS == 1_816 && FIELD_NUMBERS == 22);
+const _: () = assert!(DAY_NUMBERS == 1_886 && FIELD_NUMBERS == 22);
 
 /// A number that may be below zero: 1 where it is, and its size.
 fn signed_numbers(number: i64) -> [u64; 2] {
@@ -67,7 +68,8 @@ pub fn fund_of(numbers: &[u64]) -> Fund {
 pub fn day_numbers(day: &Day) -> [u64; DAY_NUMBERS] {
     let mut numbers = [0; DAY_NUMBERS];
     numbers[..FUND_FROM].copy_from_slice(&[day.accounts, day.count]);
-    numbers[FUND_FROM..COMPONENTS_FROM].copy_from_slice(&fund_numbers(&day.fund));
+    numbers[FUND_FROM..TABLE_FROM].copy_from_slice(&fund_numbers(&day.fund));
+    numbers[TABLE_FROM..COMPONENTS_FROM].copy_from_slice(day.table.numbers());
     let places = numbers[COMPONENTS_FROM..].chunks_exact_mut(COMPONENT_NUMBERS);
     for (place, component) in places.zip(&day.components) {
         place.copy_from_slice(&component.numbers());
@@ -79,6 +81,7 @@ pub fn day_of(numbers: &[u64; DAY_NUMBERS]) -> Day {
     let mut day = Day::blank();
     (day.accounts, day.count) = (numbers[0], numbers[1]);
     day.fund = fund_of(&numbers[FUND_FROM..]);
+    day.table = FlagTable::from_numbers(&numbers[TABLE_FROM..]);
     let places = numbers[COMPONENTS_FROM..].chunks_exact(COMPONENT_NUMBERS);
     for (component, numbers) in day.components.iter_mut().zip(places) {
         *component = Component::from_numbers(numbers);
@@ -208,6 +211,8 @@ mod tests {
                 if below_zero == 1 { -7 } else { 7 }
             );
             assert_eq!(day.fund.limits[7], 15);
+            assert_eq!((day.table.0[0][0], day.table.0[9][6]), (16, 85));
+            assert_eq!(day.components[0].code, 86);
             let last = &day.components[299];
             let rates_and_amount = [last.premium, last.discount, last.amount];
             assert_eq!(

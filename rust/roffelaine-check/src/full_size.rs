@@ -1,10 +1,10 @@
-//! A fund of the most components, for the benchmark and for tests that count or
-//! watch what a call does: lines of all flags, an account that is short of
+//! A fund of the most components under our flag table, for the benchmark and for
+//! tests that count or watch what a call does: lines of the flags 0 to 4, an account that is short of
 //! some, holdings that outlast many orders, and its list as text.
 
 use crate::engine::{Engine, Model};
 use crate::model::list::{Head, Writing};
-use crate::model::{Component, Counts, Fund, Opening, Order, FLAG_TABLE};
+use crate::model::{Component, Counts, FlagColumn, FlagTable, Fund, Opening, Order};
 
 /// Components of the fund.
 pub const COUNT: usize = 300;
@@ -38,18 +38,21 @@ pub fn fund() -> Fund {
     }
 }
 
-/// Components of all flags; most move stock. The two rates of one are unlike.
+/// Components of the flags 0 to 4; most move stock. The two rates of one are unlike.
 fn components() -> impl Iterator<Item = Component> {
     (0..COUNT as u64).map(|line| {
         let flag = [0, 1, 0, 1, 2, 1, 0, 1, 3, 4][line as usize % 10];
-        let row = FLAG_TABLE[flag as usize];
+        let used = |column, number| match FlagTable::OURS.says(flag, column) {
+            true => number,
+            false => 0,
+        };
         Component {
             code: 600_000 + line,
             quantity: 100 * (1 + line % 20),
             flag,
-            premium: if row.uses_rates { 10_000 } else { 0 },
-            discount: if row.uses_rates { 5_000 } else { 0 },
-            amount: if row.uses_amount { 1_000_000 } else { 0 },
+            premium: used(FlagColumn::RateUsed, 10_000),
+            discount: used(FlagColumn::RateUsed, 5_000),
+            amount: used(FlagColumn::AmountUsed, 1_000_000),
         }
     })
 }
@@ -82,6 +85,7 @@ pub fn opening<'a>(accounts: usize, components: &'a [u64], holdings: &'a [u64]) 
         accounts: accounts as u64,
         count: COUNT as u64,
         fund: fund(),
+        table: &[],
         components,
         holdings,
     }
@@ -107,6 +111,7 @@ pub fn writing<'a>(components: &'a [u64], names: &'a [u8]) -> Writing<'a> {
         letters: b"300",
         head,
         count: COUNT as u64,
+        table: &[],
         components,
         names,
     }

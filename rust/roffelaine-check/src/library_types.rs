@@ -6,8 +6,8 @@ use crate::model::{
     SHANGHAI_KIND, STOCK_REPORT, UNIT_REPORT,
 };
 use roffelaine::{
-    CashGroup, CashKind, Cents, Component, Counts, Fund, Head, Limits, Money, Rate, Record,
-    Refusal, Report, ReportType, Rooms, Side, Switch, Trade, Units,
+    CashGroup, CashKind, Cents, Component, Counts, FlagTable, Fund, Head, Limits, Money, Rate,
+    Record, Refusal, Report, ReportType, Rooms, Side, Switch, Trade, Units,
 };
 
 /// A fund; none where its switch is none of the four.
@@ -49,6 +49,17 @@ pub fn component(component: &model::Component) -> Component {
         discount: Rate(component.discount),
         amount: Money(component.amount),
     }
+}
+
+/// A flag table.
+pub fn flag_table(table: &model::FlagTable) -> FlagTable {
+    FlagTable::new(table.0)
+}
+
+/// The flag table of a run; none where it has another length than a table.
+pub fn table_of_run(run: &[u64]) -> Option<FlagTable> {
+    let is_table = run.len() == model::TABLE_NUMBERS;
+    is_table.then(|| flag_table(&model::FlagTable::from_numbers(run)))
 }
 
 /// A list's head; none where a field has a number that its type has not.

@@ -1,4 +1,5 @@
-//! Seeded random cases: openings, days, calls, texts and lists to write.
+//! Seeded random cases: flag tables, openings, days, calls, texts and lists to
+//! write.
 
 mod calls;
 mod damage;
@@ -7,6 +8,7 @@ mod edges;
 mod lists;
 mod openings;
 mod rows;
+mod tables;
 mod text_damage;
 mod text_values;
 mod texts;
@@ -18,6 +20,7 @@ pub use edges::edge_call;
 pub use lists::{Scale, Size};
 pub use openings::OpeningCase;
 pub use rows::{wild_answers_length, wild_rows};
+pub use tables::sound_table;
 pub use texts::TextCase;
 pub use writings::WritingCase;
 

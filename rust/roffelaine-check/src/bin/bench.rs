@@ -11,8 +11,8 @@ use roffelaine_check::full_size::{
     component_run, holdings, list_text, names, opening, order, writing, COUNT, MOST, PRICE,
 };
 use roffelaine_check::model::{
-    self, book_length, lengths_for, Call, Day, Lengths, Opening, Order, Reply, Trade, Work,
-    ANSWER_NUMBERS, COMPONENT_NUMBERS,
+    self, book_length, lengths_for, Call, Day, FlagTable, Lengths, Opening, Order, Reply, Trade,
+    Work, ANSWER_NUMBERS, COMPONENT_NUMBERS,
 };
 use roffelaine_check::timing::{median_nanos, table_heading, Medians, Timing};
 use std::hint::black_box;
@@ -150,11 +150,19 @@ const ROWS: &[Row] = &[
     },
     Row {
         name: "opening",
-        time: time_opening,
+        time: |side| time_opening(side, &[]),
+    },
+    Row {
+        name: "opening, with a flag table",
+        time: |side| time_opening(side, A_TABLE.numbers()),
     },
     Row {
         name: "reading a list of 300 components",
-        time: time_reading,
+        time: |side| time_reading(side, &[]),
+    },
+    Row {
+        name: "reading a list of 300 components, with a flag table",
+        time: |side| time_reading(side, A_TABLE.numbers()),
     },
     Row {
         name: "writing a list of 300 components",
@@ -165,6 +173,9 @@ const ROWS: &[Row] = &[
         time: |side| time_call(side, Call::TestDay),
     },
 ];
+
+/// A table as a customer gives it. The fund's components go with ours.
+const A_TABLE: FlagTable = FlagTable::OURS;
 
 /// Who is timed.
 #[derive(Clone, Copy)]
@@ -230,6 +241,7 @@ impl Timed for (Box<[u64; DAY_NUMBERS]>, Lent) {
             opening.accounts,
             opening.count,
             &fund_numbers(&opening.fund),
+            opening.table,
             opening.components,
             opening.holdings,
             &mut lent.book,
@@ -334,25 +346,29 @@ fn time_list(side: Side, call: Call, length: usize, lists: usize) -> f64 {
     list / length as f64
 }
 
-fn time_opening(side: Side) -> f64 {
+fn time_opening(side: Side, table: &[u64]) -> f64 {
     let (components, holdings) = (component_run(), holdings(ACCOUNTS, HOLDER));
-    let opening = opening(ACCOUNTS, &components, &holdings);
+    let opening = Opening {
+        table,
+        ..opening(ACCOUNTS, &components, &holdings)
+    };
     let mut day = side.blank(lengths_for(MOST));
+    assert!(day.open(&opening).is_accepted());
     median_nanos(RUNS, 5, || {
         black_box(day.open(black_box(&opening)));
     })
 }
 
-fn time_reading(side: Side) -> f64 {
+fn time_reading(side: Side, table: &[u64]) -> f64 {
     let (engine, text) = (side.engine(), list_text());
     let mut lent = LentList {
         components: vec![0; COMPONENT_NUMBERS * COUNT],
         fields: [0; FIELD_NUMBERS],
         first_row: 0,
     };
-    assert!(engine.read(&text, &mut lent).is_accepted());
+    assert!(engine.read(&text, table, &mut lent).is_accepted());
     median_nanos(RUNS, 5, || {
-        black_box(engine.read(black_box(&text), black_box(&mut lent)));
+        black_box(engine.read(black_box(&text), black_box(table), black_box(&mut lent)));
     })
 }
 

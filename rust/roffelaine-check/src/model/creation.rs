@@ -3,6 +3,7 @@
 use super::book::{
     self, fund_and_account, handable, lots, lots_mut, stretch, CASH, CREATED, GOT, OLD,
 };
+use super::flags::FlagColumn::{Shanghai, ShortageInCash, StockMoves};
 use super::order_lists::{Lengths, Lists};
 use super::order_writer::OrderWriter;
 use super::orders::{test_order, with_premium, Kind, Terms};
@@ -71,7 +72,7 @@ fn hand_in_stock(
     writer: &mut OrderWriter<'_>,
 ) {
     for (line, component) in day.listed().iter().enumerate() {
-        if !component.flag_row().moves_stock {
+        if !day.table.says(component.flag, StockMoves) {
             continue;
         }
         let lots = lots_mut(own, line);
@@ -108,8 +109,9 @@ pub(super) fn test_on_sound_day(
     Ok(terms)
 }
 
-/// The terms of the order and, where anything is missing under flag 1, the
-/// worth of all that is missing. Refuses at the first flag 0 that is short.
+/// The terms of the order and, where anything is missing under flags short in
+/// cash, the worth of all that is missing. Refuses at the first component that is
+/// short under another flag.
 fn add_up(
     day: &Day,
     own: &[u64],
@@ -119,20 +121,20 @@ fn add_up(
     let mut terms = Terms::new(baskets);
     let mut substituted = None;
     for (line, (component, &price)) in day.listed().iter().zip(prices).enumerate() {
-        let row = component.flag_row();
-        if !row.moves_stock {
-            terms.add_cash(row.shanghai, fixed_cash(component, baskets));
+        let says = |column| day.table.says(component.flag, column);
+        if !says(StockMoves) {
+            terms.add_cash(says(Shanghai), fixed_cash(component, baskets));
             continue;
         }
         let need = baskets * component.quantity;
         let there = handable(lots(own, line));
         terms.stock_lines += u64::from(need.min(there) > 0);
         if there < need {
-            if !row.shortage_in_cash {
+            if !says(ShortageInCash) {
                 return Err(Refusal::at(SHORT_OF_STOCK, line));
             }
             let worth = (need - there) * price;
-            terms.add_cash(row.shanghai, with_premium(worth, component.premium));
+            terms.add_cash(says(Shanghai), with_premium(worth, component.premium));
             *substituted.get_or_insert(0) += worth;
         }
     }

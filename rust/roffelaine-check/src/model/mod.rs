@@ -29,7 +29,7 @@ pub use book::{book_length, holdings_length, stretch_width, LOTS, STRETCH_HEAD};
 pub use calls::{call, lengths_for, Call, Order};
 pub use creation::{create, test_creation};
 pub use driver::{run, run_one_by_one, Work, ANSWER_NUMBERS, ROW_NUMBERS};
-pub use flags::{FlagRow, FLAG_TABLE};
+pub use flags::{FlagColumn, FlagRow, FlagTable, FLAGS, FLAG_COLUMNS, TABLE_NUMBERS};
 pub use opening::{open, Opening};
 pub use order_lists::{Lengths, Lists, PerList};
 pub use price::set_price;

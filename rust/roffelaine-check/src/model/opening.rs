@@ -1,6 +1,7 @@
-//! Opening the day (refusals 1 to 4).
+//! Opening the day (refusals 1, 21, 2, 3, 4).
 
 use super::book::{book_length, holdings_length, stretch_width, LOTS, STRETCH_HEAD};
+use super::flags::FlagTable;
 use super::range;
 use super::refusal::{Refusal, COMPONENT, FUND_FIELD, SIZES, TOTAL};
 use super::types::{
@@ -13,6 +14,8 @@ pub struct Opening<'a> {
     pub accounts: u64,
     pub count: u64,
     pub fund: Fund,
+    /// Flat run of a flag table; none is given where it is empty.
+    pub table: &'a [u64],
     /// Flat run of components, 6 numbers each.
     pub components: &'a [u64],
     /// For each account its cash and then N+1 holdings.
@@ -21,11 +24,12 @@ pub struct Opening<'a> {
 
 /// Opens the day: holdings go to the old lots, all else starts at 0.
 pub fn open(opening: &Opening<'_>, book: &mut [u64], prices: &mut [u64]) -> Result<Day, Refusal> {
-    test_lengths(opening, book.len(), prices.len())?;
+    let table = test_lengths(opening, book.len(), prices.len())?.tested()?;
     if !opening.fund.in_range() {
         return Err(Refusal::new(FUND_FIELD));
     }
-    if let Some(place) = first_faulty_component(opening.fund.first_code, opening.listed()) {
+    let first_code = opening.fund.first_code;
+    if let Some(place) = first_faulty_component(first_code, &table, opening.listed()) {
         return Err(Refusal::at(COMPONENT, place));
     }
     if let Some(place) = first_faulty_total(opening.count as usize, opening.holdings) {
@@ -33,7 +37,7 @@ pub fn open(opening: &Opening<'_>, book: &mut [u64], prices: &mut [u64]) -> Resu
     }
     fill_book(opening.count as usize, opening.holdings, book);
     prices.fill(0);
-    Ok(opening.day())
+    Ok(opening.day(table))
 }
 
 impl Opening<'_> {
@@ -43,11 +47,12 @@ impl Opening<'_> {
             .map(Component::from_numbers)
     }
 
-    fn day(&self) -> Day {
+    fn day(&self, table: FlagTable) -> Day {
         let mut day = Day::blank();
         day.accounts = self.accounts;
         day.count = self.count;
         day.fund = self.fund;
+        day.table = table;
         for (place, component) in day.components.iter_mut().zip(self.listed()) {
             *place = component;
         }
@@ -63,16 +68,14 @@ pub(super) fn sizes_fit(accounts: u64, count: u64, book: usize, prices: usize) -
         && prices == count as usize
 }
 
-fn test_lengths(opening: &Opening<'_>, book: usize, prices: usize) -> Result<(), Refusal> {
+/// Refusal 1; gives the table.
+fn test_lengths(opening: &Opening<'_>, book: usize, prices: usize) -> Result<FlagTable, Refusal> {
     let (accounts, count) = (opening.accounts, opening.count);
     let fit = sizes_fit(accounts, count, book, prices)
         && opening.components.len() == COMPONENT_NUMBERS * count as usize
         && opening.holdings.len() == holdings_length(accounts as usize, count as usize);
-    if fit {
-        Ok(())
-    } else {
-        Err(Refusal::new(SIZES))
-    }
+    let table = FlagTable::given(opening.table).filter(|_| fit);
+    table.ok_or(Refusal::new(SIZES))
 }
 
 /// The lowest line whose total is over its bound, or the unit's line where the

@@ -3,6 +3,7 @@
 use super::book::{
     self, fund_and_account, handable, lots, lots_mut, stretch, CASH, GOT, OLD, REDEEMED,
 };
+use super::flags::FlagColumn::{Shanghai, StockMoves};
 use super::order_lists::{Lengths, Lists};
 use super::order_writer::OrderWriter;
 use super::orders::{less_discount, test_order, Kind, Terms};
@@ -70,7 +71,7 @@ fn deliver_stock(
 ) {
     for (line, component) in day.listed().iter().enumerate() {
         let delivered = baskets * component.quantity;
-        if component.flag_row().moves_stock && delivered > 0 {
+        if day.table.says(component.flag, StockMoves) && delivered > 0 {
             lots_mut(fund, line)[OLD] -= delivered;
             lots_mut(own, line)[GOT] += delivered;
             writer.stock(component.code, delivered);
@@ -104,9 +105,9 @@ pub(super) fn test_on_sound_day(
 fn add_up(day: &Day, fund: &[u64], baskets: u64) -> Result<Terms, Refusal> {
     let mut terms = Terms::new(baskets);
     for (line, component) in day.listed().iter().enumerate() {
-        let row = component.flag_row();
-        if !row.moves_stock {
-            terms.add_cash(row.shanghai, fixed_cash(component, baskets));
+        let says = |column| day.table.says(component.flag, column);
+        if !says(StockMoves) {
+            terms.add_cash(says(Shanghai), fixed_cash(component, baskets));
             continue;
         }
         let need = baskets * component.quantity;

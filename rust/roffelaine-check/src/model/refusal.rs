@@ -42,6 +42,8 @@ pub const TEXT_LINE: u64 = 18;
 pub const TEXT_FIELD: u64 = 19;
 /// Recordnum is out of range or not the count of component lines.
 pub const RECORD_COUNT: u64 = 20;
+/// The flag table breaks its rules.
+pub const FLAG_TABLE: u64 = 21;
 
 /// Why a call is turned back: the paper's number and a place.
 #[derive(Clone, Copy, Debug, PartialEq, Eq)]

@@ -33,6 +33,7 @@ pub(super) fn stays_sound(day: &Day, book: &[u64], prices: &[u64]) -> bool {
 
 fn is_sound(day: &Day, book: &[u64], prices: &[u64]) -> bool {
     sizes_fit(day.accounts, day.count, book.len(), prices.len())
+        && day.table.first_fault().is_none()
         && day.fund.in_range()
         && components_fit(day)
         && prices.iter().all(|price| price <= range::PRICE.end())
@@ -41,7 +42,8 @@ fn is_sound(day: &Day, book: &[u64], prices: &[u64]) -> bool {
 }
 
 fn components_fit(day: &Day) -> bool {
-    first_faulty_component(day.fund.first_code, day.listed().iter().copied()).is_none()
+    let listed = day.listed().iter().copied();
+    first_faulty_component(day.fund.first_code, &day.table, listed).is_none()
 }
 
 /// The fund creates, redeems, buys and gets nothing, and holds no units.

@@ -1,6 +1,7 @@
 //! The fund, its components and the day.
 
-use super::flags::{FlagRow, FLAG_TABLE};
+use super::flags::FlagColumn::{AmountUsed, InUse, RateUsed};
+use super::flags::FlagTable;
 use super::range;
 
 /// Room for components in a day.
@@ -102,18 +103,12 @@ impl Component {
         ]
     }
 
-    /// What the flag table says of this component; its flag must be 0 to 4.
-    #[inline]
-    pub(super) fn flag_row(&self) -> &'static FlagRow {
-        &FLAG_TABLE[self.flag as usize]
-    }
-
     /// Whether the component may stand after `previous` in a list of a fund
-    /// with this first code.
-    fn fits(&self, previous: Option<u64>, first_code: u64) -> bool {
+    /// with this first code, under this table.
+    fn fits(&self, previous: Option<u64>, first_code: u64, table: &FlagTable) -> bool {
         let in_range = self.code <= range::CODE_MAX
             && self.quantity <= range::QUANTITY_MAX
-            && self.flag < FLAG_TABLE.len() as u64
+            && table.says(self.flag, InUse)
             && self.premium <= range::RATE_MAX
             && self.discount <= range::RATE_MAX
             && self.amount <= range::AMOUNT_MAX;
@@ -122,24 +117,24 @@ impl Component {
             Some(code) => self.code > code,
             None => true,
         };
-        in_range && !in_group && rising && self.leaves_unused_blank()
+        in_range && !in_group && rising && self.leaves_unused_blank(table)
     }
 
-    fn leaves_unused_blank(&self) -> bool {
-        let row = self.flag_row();
-        (row.uses_rates || (self.premium == 0 && self.discount == 0))
-            && (row.uses_amount || self.amount == 0)
+    fn leaves_unused_blank(&self, table: &FlagTable) -> bool {
+        (table.says(self.flag, RateUsed) || (self.premium == 0 && self.discount == 0))
+            && (table.says(self.flag, AmountUsed) || self.amount == 0)
     }
 }
 
 /// The first component out of range, order or flag use (refusal 3).
 pub(super) fn first_faulty_component(
     first_code: u64,
+    table: &FlagTable,
     components: impl Iterator<Item = Component>,
 ) -> Option<usize> {
     let mut previous = None;
     for (place, component) in components.enumerate() {
-        if !component.fits(previous, first_code) {
+        if !component.fits(previous, first_code, table) {
             return Some(place);
         }
         previous = Some(component.code);
@@ -155,6 +150,8 @@ pub struct Day {
     /// Components (N); line N is the unit.
     pub count: u64,
     pub fund: Fund,
+    /// By which each component's flag is understood.
+    pub table: FlagTable,
     pub components: [Component; MAX_COMPONENTS],
 }
 
@@ -165,6 +162,7 @@ impl Day {
             accounts: 0,
             count: 0,
             fund: Fund::default(),
+            table: FlagTable::BLANK,
             components: [Component::BLANK; MAX_COMPONENTS],
         }
     }

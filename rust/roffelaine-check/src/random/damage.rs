@@ -1,7 +1,9 @@
-//! Single faults in a fund or a component, shared by openings, days and lists.
+//! Single faults in a fund or a component under a flag table, shared by openings,
+//! days and lists.
 
+use super::tables::flags_in_use;
 use super::Rng;
-use crate::model::{range, Component, Fund, COMPONENT_NUMBERS, FLAG_TABLE};
+use crate::model::{range, Component, FlagColumn, FlagTable, Fund, COMPONENT_NUMBERS, FLAGS};
 
 /// Takes one field of the fund out of its range.
 pub(super) fn damage_fund(rng: &mut Rng, fund: &mut Fund) {
@@ -28,7 +30,12 @@ pub(super) fn damage_fund(rng: &mut Rng, fund: &mut Fund) {
 }
 
 /// Takes one of the components out of its range, order or flag use.
-pub(super) fn damage_a_component(rng: &mut Rng, first_code: u64, components: &mut [Component]) {
+pub(super) fn damage_a_component(
+    rng: &mut Rng,
+    first_code: u64,
+    table: &FlagTable,
+    components: &mut [Component],
+) {
     if components.is_empty() {
         return;
     }
@@ -44,19 +51,35 @@ pub(super) fn damage_a_component(rng: &mut Rng, first_code: u64, components: &mu
         1 => component.code = previous.unwrap_or(range::CODE_MAX + 1),
         2 => component.code = previous.map_or(most, |code| code.saturating_sub(1)),
         3 => component.quantity = rng.pick(&[range::QUANTITY_MAX + 1, most]),
-        4 => component.flag = rng.pick(&[FLAG_TABLE.len() as u64, 9, 256, 1 << 32, most]),
+        4 => component.flag = flag_not_in_use(rng, table),
         5 => component.premium = rng.pick(&[range::RATE_MAX + 1, most]),
         6 => component.discount = rng.pick(&[range::RATE_MAX + 1, most]),
         7 => component.amount = rng.pick(&[range::AMOUNT_MAX + 1, most]),
-        _ => set_unused(rng, component),
+        _ => set_unused(rng, table, component),
     }
 }
 
+/// A flag that the table has not in use, or that is no flag.
+fn flag_not_in_use(rng: &mut Rng, table: &FlagTable) -> u64 {
+    let flags = 0..FLAGS as u64;
+    let unused = flags.filter(|&flag| !table.says(flag, FlagColumn::InUse));
+    let unused: Vec<u64> = unused.collect();
+    if unused.is_empty() || rng.one_in(2) {
+        return rng.pick(&[FLAGS as u64, 11, 256, 1 << 32, u64::MAX]);
+    }
+    rng.pick(&unused)
+}
+
 /// Takes one component of a flat run out of its range, order or flag use.
-pub(super) fn damage_component_run(rng: &mut Rng, first_code: u64, run: &mut [u64]) {
+pub(super) fn damage_component_run(
+    rng: &mut Rng,
+    first_code: u64,
+    table: &FlagTable,
+    run: &mut [u64],
+) {
     let numbers = run.chunks_exact(COMPONENT_NUMBERS);
     let mut components: Vec<Component> = numbers.map(Component::from_numbers).collect();
-    damage_a_component(rng, first_code, &mut components);
+    damage_a_component(rng, first_code, table, &mut components);
     for (numbers, component) in run.chunks_exact_mut(COMPONENT_NUMBERS).zip(&components) {
         numbers.copy_from_slice(&component.numbers());
     }
@@ -76,18 +99,22 @@ fn put_in_group(rng: &mut Rng, first_code: u64, components: &mut [Component]) {
 
 /// Gives the component a premium, a discount or an amount that its flag does
 /// not use, and no other of them.
-fn set_unused(rng: &mut Rng, component: &mut Component) {
+fn set_unused(rng: &mut Rng, table: &FlagTable, component: &mut Component) {
     let numbers = [
         &mut component.premium,
         &mut component.discount,
         &mut component.amount,
     ];
     let at = rng.index(numbers.len());
-    let (flags, most): (&[u64], u64) = match at {
-        2 => (&[0, 1], range::AMOUNT_MAX),
-        _ => (&[0, 2, 4], range::RATE_MAX),
+    let (column, most) = match at {
+        2 => (FlagColumn::AmountUsed, range::AMOUNT_MAX),
+        _ => (FlagColumn::RateUsed, range::RATE_MAX),
     };
-    component.flag = rng.pick(flags);
+    let in_use = flags_in_use(table).into_iter();
+    let flags: Vec<u64> = in_use.filter(|&flag| !table.says(flag, column)).collect();
+    if !flags.is_empty() {
+        component.flag = rng.pick(&flags);
+    }
     let unused = rng.pick(&[1, most]);
     for (place, each) in numbers.into_iter().enumerate() {
         *each = if place == at { unused } else { 0 };

@@ -1,6 +1,7 @@
 //! Days changed by hand: broken, or sound but at an edge.
 
 use super::damage::{damage_a_component, damage_fund, damage_length};
+use super::tables::{change_a_row, damage_table};
 use super::Rng;
 use crate::engine::Lent;
 use crate::model::{range, stretch_width, Day, LOTS, STRETCH_HEAD};
@@ -17,7 +18,7 @@ pub fn break_day(rng: &mut Rng, lent: &mut Lent) {
 }
 
 fn break_one_thing(rng: &mut Rng, lent: &mut Lent) {
-    match rng.below(17) {
+    match rng.below(20) {
         0 => lent.day.accounts = near(rng, lent.day.accounts, &[0, 1, 65, u64::MAX]),
         1 => lent.day.count = near(rng, lent.day.count, &[0, 301, 1 << 32, u64::MAX]),
         2 => damage_length(rng, &mut lent.book),
@@ -27,6 +28,9 @@ fn break_one_thing(rng: &mut Rng, lent: &mut Lent) {
         9 => break_a_price(rng, &mut lent.prices),
         10..=11 => break_the_fund_stretch(rng, lent),
         12 => wrap_a_total(rng, lent),
+        13..=14 => damage_table(rng, &mut lent.day.table),
+        // Sound where each component goes with its flag's new row.
+        15 => change_a_row(rng, &mut lent.day.table),
         _ => raise_a_total(rng, lent, 1),
     }
 }
@@ -52,7 +56,8 @@ fn near(rng: &mut Rng, number: u64, choices: &[u64]) -> u64 {
 
 fn break_a_component(rng: &mut Rng, day: &mut Day) {
     let listed = (day.count as usize).clamp(1, day.components.len());
-    damage_a_component(rng, day.fund.first_code, &mut day.components[..listed]);
+    let components = &mut day.components[..listed];
+    damage_a_component(rng, day.fund.first_code, &day.table, components);
 }
 
 fn break_a_price(rng: &mut Rng, prices: &mut [u64]) {

@@ -4,7 +4,7 @@
 
 use super::{calls, Rng, Scale};
 use crate::engine::{Engine, Lent, Model};
-use crate::model::{range, stretch_width, Call, Order, Reply, FLAG_TABLE, LOTS, STRETCH_HEAD};
+use crate::model::{range, stretch_width, Call, FlagColumn, Order, Reply, LOTS, STRETCH_HEAD};
 
 /// Tunes the day and gives a call that meets the edge. Where the day does not
 /// allow it, the day stays and the call is an ordinary order.
@@ -129,7 +129,11 @@ fn tune_ratio_exactly(rng: &mut Rng, lent: &mut Lent, order: Order) {
     let reply = Model.call(&Call::Value, lent);
     let worth = order.units * reply.value;
     let unit = 1_000_000 * lent.prices[line];
-    if component.flag != 1 || worth == 0 || unit == 0 {
+    let in_cash = lent
+        .day
+        .table
+        .says(component.flag, FlagColumn::ShortageInCash);
+    if !in_cash || worth == 0 || unit == 0 {
         return;
     }
     // The least ratio whose share is a whole number of missing stock.
@@ -155,7 +159,7 @@ fn greatest_divisor(one: u64, other: u64) -> u64 {
 fn tune_a_rate(rng: &mut Rng, lent: &mut Lent, call: &Call, order: Order) {
     let line = rng.index(lent.prices.len());
     let before = lent.day.components[line];
-    if !FLAG_TABLE[before.flag as usize].uses_rates {
+    if !lent.day.table.says(before.flag, FlagColumn::RateUsed) {
         return;
     }
     let other = rng.between(0, range::RATE_MAX);

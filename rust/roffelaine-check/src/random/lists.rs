@@ -1,7 +1,8 @@
-//! Random funds and components, in range.
+//! Random funds and components, in range under a flag table.
 
+use super::tables::flags_in_use;
 use super::Rng;
-use crate::model::{range, Component, Fund, FLAG_TABLE, MAX_COMPONENTS};
+use crate::model::{range, Component, FlagColumn, FlagTable, Fund, MAX_COMPONENTS};
 use std::collections::BTreeSet;
 
 /// How large the numbers of a case are.
@@ -116,16 +117,35 @@ fn limit(rng: &mut Rng, basket_size: u64) -> u64 {
     }
 }
 
-/// Components in order and range for a fund with this first code.
+/// Components in order and range for a fund with this first code, under a table
+/// that has a flag in use.
 pub(super) fn components(
     rng: &mut Rng,
     scale: Scale,
     count: u64,
     first_code: u64,
+    table: &FlagTable,
 ) -> Vec<Component> {
+    let flags = weighted_flags(table);
     codes(rng, count as usize, first_code)
         .into_iter()
-        .map(|code| component(rng, scale, code))
+        .map(|code| {
+            let flag = rng.pick(&flags);
+            component(rng, scale, code, flag, table)
+        })
+        .collect()
+}
+
+/// The flags in use, those of stock several times.
+fn weighted_flags(table: &FlagTable) -> Vec<u64> {
+    let times = |&flag: &u64| {
+        let moves = table.says(flag, FlagColumn::StockMoves);
+        let in_cash = table.says(flag, FlagColumn::ShortageInCash);
+        1 + 2 * usize::from(moves) + usize::from(in_cash)
+    };
+    let flags = flags_in_use(table).into_iter();
+    flags
+        .flat_map(|flag| std::iter::repeat_n(flag, times(&flag)))
         .collect()
 }
 
@@ -152,20 +172,16 @@ fn codes(rng: &mut Rng, count: usize, first_code: u64) -> BTreeSet<u64> {
     codes
 }
 
-fn component(rng: &mut Rng, scale: Scale, code: u64) -> Component {
-    let flag = rng.pick(&[0, 0, 0, 1, 1, 1, 1, 2, 3, 4]);
-    let row = FLAG_TABLE[flag as usize];
+fn component(rng: &mut Rng, scale: Scale, code: u64, flag: u64, table: &FlagTable) -> Component {
+    let uses_rates = table.says(flag, FlagColumn::RateUsed);
+    let uses_amount = table.says(flag, FlagColumn::AmountUsed);
     Component {
         code,
         quantity: quantity(rng, scale),
         flag,
-        premium: if row.uses_rates { rate(rng) } else { 0 },
-        discount: if row.uses_rates { rate(rng) } else { 0 },
-        amount: if row.uses_amount {
-            amount(rng, scale)
-        } else {
-            0
-        },
+        premium: if uses_rates { rate(rng) } else { 0 },
+        discount: if uses_rates { rate(rng) } else { 0 },
+        amount: if uses_amount { amount(rng, scale) } else { 0 },
     }
 }
 

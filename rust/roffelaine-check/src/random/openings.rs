@@ -1,9 +1,12 @@
 //! Random openings, accepted and refused.
 
 use super::damage::{damage_component_run, damage_fund, damage_length};
+use super::tables::{damage_table_run, lent_table, sound_table};
 use super::{lists, Rng, Scale, Size};
 use crate::engine::Lent;
-use crate::model::{book_length, lengths_for, range, Component, Counts, Day, Fund, Opening};
+use crate::model::{
+    book_length, lengths_for, range, Component, Counts, Day, FlagColumn, FlagTable, Fund, Opening,
+};
 
 /// An opening with what its book and prices hold beforehand.
 #[derive(Clone, Debug)]
@@ -12,6 +15,8 @@ pub struct OpeningCase {
     pub accounts: u64,
     pub count: u64,
     pub fund: Fund,
+    /// The run of the flag table; empty where none is given.
+    pub table: Vec<u64>,
     pub components: Vec<u64>,
     pub holdings: Vec<u64>,
     pub book: Vec<u64>,
@@ -23,14 +28,16 @@ impl OpeningCase {
     pub fn sound(rng: &mut Rng, size: Size, scale: Scale) -> Self {
         let (accounts, count) = (size.accounts(rng), size.count(rng));
         let fund = lists::fund(rng, scale);
-        let components = lists::components(rng, scale, count, fund.first_code);
+        let table = sound_table(rng);
+        let components = lists::components(rng, scale, count, fund.first_code, &table);
         let mut case = OpeningCase {
             scale,
             accounts,
             count,
             fund,
+            table: lent_table(rng, &table),
             components: components.iter().flat_map(Component::numbers).collect(),
-            holdings: holdings(rng, scale, accounts, &fund, &components),
+            holdings: holdings(rng, scale, accounts, (&fund, &table), &components),
             book: rng.numbers(book_length(accounts as usize, count as usize)),
             prices: rng.numbers(count as usize),
         };
@@ -55,6 +62,7 @@ impl OpeningCase {
             accounts: self.accounts,
             count: self.count,
             fund: self.fund,
+            table: &self.table,
             components: &self.components,
             holdings: &self.holdings,
         }
@@ -76,16 +84,23 @@ impl OpeningCase {
     }
 
     fn damage(&mut self, rng: &mut Rng) {
-        match rng.below(16) {
+        match rng.below(20) {
             0 => self.accounts = rng.pick(&[0, 1, 65, 1 << 32, u64::MAX]),
             1 => self.count = rng.pick(&[0, 301, 1 << 32, u64::MAX]),
             2 => self.damage_a_length(rng),
             3..=5 => damage_fund(rng, &mut self.fund),
-            6..=10 => damage_component_run(rng, self.fund.first_code, &mut self.components),
+            6..=10 => self.damage_a_component(rng),
             11 => self.give_the_fund_units(rng),
             12 => self.make_a_total_wrap(rng),
+            13..=15 => damage_table_run(rng, &mut self.table),
+            16 => self.table = sound_table(rng).numbers().to_vec(),
             _ => self.raise_a_total(rng, 1),
         }
+    }
+
+    fn damage_a_component(&mut self, rng: &mut Rng) {
+        let table = FlagTable::given(&self.table).unwrap_or(FlagTable::OURS);
+        damage_component_run(rng, self.fund.first_code, &table, &mut self.components);
     }
 
     fn damage_a_length(&mut self, rng: &mut Rng) {
@@ -186,7 +201,7 @@ fn holdings(
     rng: &mut Rng,
     scale: Scale,
     accounts: u64,
-    fund: &Fund,
+    (fund, table): (&Fund, &FlagTable),
     components: &[Component],
 ) -> Vec<u64> {
     let basket_cash = basket_cash(rng, scale, components);
@@ -195,9 +210,11 @@ fn holdings(
         let means = Means::any(rng);
         holdings.push(cash(rng, basket_cash).min(range::CASH_TOTAL_MAX / accounts));
         for component in components {
-            // A flag 0 line with gaps would refuse nearly every large order.
+            // A line with gaps for which no cash is taken would refuse nearly every
+            // large order.
+            let in_cash = table.says(component.flag, FlagColumn::ShortageInCash);
             let means = match means {
-                Means::Gaps if component.flag == 0 && components.len() > 9 => Means::Ample,
+                Means::Gaps if !in_cash && components.len() > 9 => Means::Ample,
                 means => means,
             };
             holdings.push(means.held(rng, component.quantity));

@@ -1,5 +1,6 @@
 //! Faults in list texts.
 
+use super::tables::flags_in_use;
 use super::text_values::{head_values, COMPONENT_VALUES, FIRST_LINES, MARKS, NO_VALUES};
 use super::texts::{component_line, name, Line, Lines};
 use super::Rng;
@@ -288,6 +289,7 @@ fn swap_columns(rng: &mut Rng, lines: &mut Lines) {
 /// Component lines up to the most there may be, or one more.
 fn fill_with_components(rng: &mut Rng, lines: &mut Lines) {
     let count = MAX_COMPONENTS as u64 + rng.below(2);
+    let flag = flags_in_use(&lines.table)[0];
     let codes =
         (0..1_000_000).filter(|code| !(lines.first_code..lines.first_code + 6).contains(code));
     lines.components = codes
@@ -296,8 +298,10 @@ fn fill_with_components(rng: &mut Rng, lines: &mut Lines) {
             component_line(
                 &Component {
                     code,
+                    flag,
                     ..Component::BLANK
                 },
+                &lines.table,
                 &name(rng),
             )
         })

@@ -1,13 +1,19 @@
 //! Random list texts, built line by line.
 
+use super::tables::{damage_table_run, lent_table, sound_table};
 use super::{lists, text_damage, Rng, Scale};
 use crate::model::list::{HEAD_NAMES, NAME_BYTES};
-use crate::model::{range, Component, Fund, COMPONENT_NUMBERS, MAX_COMPONENTS};
+use crate::model::{
+    range, Component, FlagColumn, FlagTable, Fund, COMPONENT_NUMBERS, MAX_COMPONENTS,
+};
 
-/// A text with the length, in numbers, of the lent component list.
+/// A text with the flag table to read it by, and the length, in numbers, of the
+/// lent component list.
 #[derive(Clone, Debug)]
 pub struct TextCase {
     pub text: Vec<u8>,
+    /// The run of the flag table; empty where none is given.
+    pub table: Vec<u64>,
     pub room: usize,
 }
 
@@ -18,21 +24,27 @@ impl TextCase {
         let needed = COMPONENT_NUMBERS * lines.component_count();
         TextCase {
             text: lines.text(),
+            table: lent_table(rng, &lines.table),
             room: enough_room(rng, needed),
         }
     }
 
-    /// A text with one fault or several, or with too little room.
+    /// A text with one fault or several, or with too little room or another table.
     pub fn damaged(rng: &mut Rng) -> Self {
         let mut lines = Lines::random(rng);
         let needed = COMPONENT_NUMBERS * lines.component_count();
+        let mut table = lent_table(rng, &lines.table);
         if rng.one_in(25) {
             return TextCase {
                 text: lines.text(),
+                table,
                 room: rng.index(needed),
             };
         }
-        let faults = rng.pick(&[1, 1, 1, 1, 1, 2, 2, 3]);
+        if rng.one_in(12) {
+            table = other_table(rng, table);
+        }
+        let faults = rng.pick(&[0, 1, 1, 1, 1, 1, 1, 2, 2, 3]);
         let in_lines = rng.between(0, faults);
         for _ in 0..in_lines {
             text_damage::damage_lines(rng, &mut lines);
@@ -43,9 +55,20 @@ impl TextCase {
         }
         TextCase {
             text,
+            table,
             room: enough_room(rng, needed + COMPONENT_NUMBERS),
         }
     }
+}
+
+/// No table, another that keeps the rules, or one that breaks a rule.
+fn other_table(rng: &mut Rng, mut run: Vec<u64>) -> Vec<u64> {
+    match rng.below(5) {
+        0 => run.clear(),
+        1 => run = sound_table(rng).numbers().to_vec(),
+        _ => damage_table_run(rng, &mut run),
+    }
+    run
 }
 
 fn enough_room(rng: &mut Rng, needed: usize) -> usize {
@@ -67,6 +90,8 @@ pub(super) struct Lines {
     pub(super) components: Vec<Line>,
     pub(super) after: Line,
     pub(super) first_code: u64,
+    /// By which the component lines are written.
+    pub(super) table: FlagTable,
 }
 
 #[derive(Clone, Debug)]
@@ -93,17 +118,19 @@ impl Lines {
             _ => rng.between(1, 6),
         };
         let fund = lists::fund(rng, scale);
-        let components = lists::components(rng, scale, count, fund.first_code);
+        let table = sound_table(rng);
+        let components = lists::components(rng, scale, count, fund.first_code, &table);
         Lines {
             first: Line::new(format!("[ETF{}]", letters(rng))),
             head: head(rng, &fund, count),
             before: Line::new("TAGTAG"),
             components: components
                 .iter()
-                .map(|each| component_line(each, &name(rng)))
+                .map(|each| component_line(each, &table, &name(rng)))
                 .collect(),
             after: Line::new("ENDENDEND"),
             first_code: fund.first_code,
+            table,
         }
     }
 
@@ -235,15 +262,13 @@ pub(super) fn date(rng: &mut Rng) -> u64 {
     }
 }
 
-pub(super) fn component_line(component: &Component, name: &[u8]) -> Line {
-    let uses_rates = matches!(component.flag, 1 | 3);
-    let uses_amount = matches!(component.flag, 2..=4);
-    let rate = |rate| match uses_rates {
+pub(super) fn component_line(component: &Component, table: &FlagTable, name: &[u8]) -> Line {
+    let rate = |rate| match table.says(component.flag, FlagColumn::RateUsed) {
         true => decimals(rate, 5),
         false => String::new(),
     };
     let (premium, discount) = (rate(component.premium), rate(component.discount));
-    let amount = if uses_amount {
+    let amount = if table.says(component.flag, FlagColumn::AmountUsed) {
         decimals(component.amount, 3)
     } else {
         String::new()

@@ -1,9 +1,10 @@
 //! Random lists to write, valid and damaged.
 
 use super::damage::{damage_component_run, damage_fund, damage_length};
+use super::tables::{damage_table_run, lent_table, sound_table};
 use super::{lists, texts, Rng, Scale};
 use crate::model::list::{write, Head, Writing, NAME_BYTES};
-use crate::model::{range, Component, COMPONENT_NUMBERS};
+use crate::model::{range, Component, FlagTable, COMPONENT_NUMBERS};
 
 /// More bytes than any list has.
 const LONGEST_TEXT: usize = 20_000;
@@ -14,6 +15,8 @@ pub struct WritingCase {
     pub letters: Vec<u8>,
     pub head: Head,
     pub count: u64,
+    /// The run of the flag table; empty where none is given.
+    pub table: Vec<u64>,
     pub components: Vec<u64>,
     pub names: Vec<u8>,
     pub output: Vec<u8>,
@@ -51,6 +54,7 @@ impl WritingCase {
             letters: &self.letters,
             head: self.head,
             count: self.count,
+            table: &self.table,
             components: &self.components,
             names: &self.names,
         }
@@ -64,7 +68,8 @@ impl WritingCase {
             _ => rng.between(1, 6),
         };
         let fund = lists::fund(rng, scale);
-        let components = lists::components(rng, scale, count, fund.first_code);
+        let table = sound_table(rng);
+        let components = lists::components(rng, scale, count, fund.first_code, &table);
         let head = Head {
             fund,
             publish: rng.below(2),
@@ -78,6 +83,7 @@ impl WritingCase {
             letters: texts::letters(rng).into_bytes(),
             head,
             count,
+            table: lent_table(rng, &table),
             components: components.iter().flat_map(Component::numbers).collect(),
             names: (0..count).flat_map(|_| texts::name(rng)).collect(),
             output: Vec::new(),
@@ -90,15 +96,23 @@ impl WritingCase {
     }
 
     fn damage(&mut self, rng: &mut Rng) {
-        match rng.below(10) {
+        match rng.below(13) {
             0 => self.count = near_or_far(rng, self.count),
             1 => self.damage_a_length(rng),
             2 => self.letters = rng.pick(BAD_LETTERS).to_vec(),
             3..=4 => self.damage_head(rng),
             5..=6 => damage_fund(rng, &mut self.head.fund),
             7 => self.damage_a_name(rng),
-            _ => damage_component_run(rng, self.head.fund.first_code, &mut self.components),
+            8..=9 => damage_table_run(rng, &mut self.table),
+            10 => self.table = sound_table(rng).numbers().to_vec(),
+            _ => self.damage_a_component(rng),
         }
+    }
+
+    fn damage_a_component(&mut self, rng: &mut Rng) {
+        let table = FlagTable::given(&self.table).unwrap_or(FlagTable::OURS);
+        let first_code = self.head.fund.first_code;
+        damage_component_run(rng, first_code, &table, &mut self.components);
     }
 
     fn damage_a_length(&mut self, rng: &mut Rng) {

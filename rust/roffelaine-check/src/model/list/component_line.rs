@@ -1,6 +1,7 @@
 //! One component line of the list text.
 
-use super::super::flags::FLAG_TABLE;
+use super::super::flags::FlagColumn::{AmountUsed, RateUsed};
+use super::super::flags::FlagTable;
 use super::super::types::Component;
 use super::layout::{
     Field, AMOUNT, BAR, CODE, COMPONENT_LINE, DISCOUNT, FIELDS, FLAG, NAME, PREMIUM, QUANTITY,
@@ -17,19 +18,21 @@ pub(super) fn name_fits(name: &[u8]) -> bool {
 }
 
 /// The component of a line whose bars stand right, or its first field that is
-/// not written as it must be.
-pub(super) fn read_component(line: &[u8]) -> Result<Component, Field> {
+/// not written as it must be under this table.
+pub(super) fn read_component(line: &[u8], table: &FlagTable) -> Result<Component, Field> {
     let code = digits(CODE.of(line)).ok_or(CODE)?;
     if !name_fits(NAME.of(line)) {
         return Err(NAME);
     }
     let quantity = whole(after_blanks(QUANTITY.of(line))).ok_or(QUANTITY)?;
     let flag = digits(FLAG.of(line)).ok_or(FLAG)?;
-    let (uses_rates, uses_amount) = uses(flag);
-    let rate =
-        |field: Field| number_or_blank(field.of(line), uses_rates, RATE_DECIMALS).ok_or(field);
-    let (premium, discount) = (rate(PREMIUM)?, rate(DISCOUNT)?);
-    let amount = number_or_blank(AMOUNT.of(line), uses_amount, AMOUNT_DECIMALS).ok_or(AMOUNT)?;
+    let used = |field: Field, column, decimals| {
+        let is_used = table.says(flag, column);
+        number_or_blank(field.of(line), is_used, decimals).ok_or(field)
+    };
+    let premium = used(PREMIUM, RateUsed, RATE_DECIMALS)?;
+    let discount = used(DISCOUNT, RateUsed, RATE_DECIMALS)?;
+    let amount = used(AMOUNT, AmountUsed, AMOUNT_DECIMALS)?;
     Ok(Component {
         code,
         quantity,
@@ -38,15 +41,6 @@ pub(super) fn read_component(line: &[u8]) -> Result<Component, Field> {
         discount,
         amount,
     })
-}
-
-/// Whether the flag uses the two rates, and the amount; the flags 5 to 9 use
-/// none of them.
-fn uses(flag: u64) -> (bool, bool) {
-    match FLAG_TABLE.get(flag as usize) {
-        Some(row) => (row.uses_rates, row.uses_amount),
-        None => (false, false),
-    }
 }
 
 /// A used number right in blanks, or 0 for an unused one left blank.
@@ -59,8 +53,13 @@ fn number_or_blank(bytes: &[u8], used: bool, decimals: usize) -> Option<u64> {
     }
 }
 
-/// Writes the line of a component that is in range.
-pub(super) fn put_component(line: &mut [u8], component: &Component, name: &[u8]) {
+/// Writes the line of a component that is in range under this table.
+pub(super) fn put_component(
+    line: &mut [u8],
+    component: &Component,
+    table: &FlagTable,
+    name: &[u8],
+) {
     line[..COMPONENT_LINE].fill(b' ');
     put_digits(&mut line[CODE.start..CODE.end], component.code);
     line[NAME.start..NAME.end].copy_from_slice(name);
@@ -70,13 +69,12 @@ pub(super) fn put_component(line: &mut [u8], component: &Component, name: &[u8])
         0,
     );
     put_digits(&mut line[FLAG.start..FLAG.end], component.flag);
-    let (uses_rates, uses_amount) = uses(component.flag);
-    if uses_rates {
+    if table.says(component.flag, RateUsed) {
         for (field, rate) in [(PREMIUM, component.premium), (DISCOUNT, component.discount)] {
             put_right(&mut line[field.start..field.end], rate, RATE_DECIMALS);
         }
     }
-    if uses_amount {
+    if table.says(component.flag, AmountUsed) {
         put_right(
             &mut line[AMOUNT.start..AMOUNT.end],
             component.amount,

@@ -1,5 +1,6 @@
-//! Reading the list text (refusals 18, 19, 20, 2, 3, 16).
+//! Reading the list text (refusals 21, 18, 19, 20, 2, 3, 16).
 
+use super::super::flags::FlagTable;
 use super::super::range;
 use super::super::refusal::{
     Refusal, COMPONENT, FUND_FIELD, LIST_TOO_SHORT, RECORD_COUNT, TEXT_FIELD,
@@ -31,13 +32,19 @@ impl<'t> List<'t> {
     }
 }
 
-/// Reads a list: the components go to the lent run, 6 numbers each.
-pub fn read<'t>(text: &'t [u8], components: &mut [u64]) -> Result<List<'t>, Refusal> {
+/// Reads a list under the table of a lent run: the components go to the lent run,
+/// 6 numbers each.
+pub fn read<'t>(
+    text: &'t [u8],
+    table: &[u64],
+    components: &mut [u64],
+) -> Result<List<'t>, Refusal> {
+    let table = FlagTable::for_text(table)?;
     let layout = Layout::of(text)?;
     let (head, record_count) =
         read_head(text, &layout.values).map_err(|at| wrong_value(&layout, at))?;
     let mut found = [Component::BLANK; MAX_COMPONENTS];
-    read_components(&layout, &mut found)?;
+    read_components(&layout, &table, &mut found)?;
     let count = layout.count();
     if !range::COMPONENTS.contains(&record_count) || record_count != count as u64 {
         return Err(Refusal::new(RECORD_COUNT));
@@ -46,7 +53,8 @@ pub fn read<'t>(text: &'t [u8], components: &mut [u64]) -> Result<List<'t>, Refu
         return Err(Refusal::new(FUND_FIELD));
     }
     let found = &found[..count];
-    if let Some(place) = first_faulty_component(head.fund.first_code, found.iter().copied()) {
+    let (first_code, listed) = (head.fund.first_code, found.iter().copied());
+    if let Some(place) = first_faulty_component(first_code, &table, listed) {
         return Err(Refusal::at(COMPONENT, place));
     }
     if components.len() < COMPONENT_NUMBERS * count {
@@ -95,10 +103,11 @@ fn name_in(component_lines: &[u8], component: usize) -> &[u8] {
 /// Reads every component line, past the room of `found` too.
 fn read_components(
     layout: &Layout<'_>,
+    table: &FlagTable,
     found: &mut [Component; MAX_COMPONENTS],
 ) -> Result<(), Refusal> {
     for (place, line) in layout.components.chunks_exact(COMPONENT_STRIDE).enumerate() {
-        let component = read_component(&line[..COMPONENT_LINE]).map_err(|field| {
+        let component = read_component(&line[..COMPONENT_LINE], table).map_err(|field| {
             let line_start = layout.components_at + COMPONENT_STRIDE * place;
             wrong_field(line_start, line_start + field.start)
         })?;

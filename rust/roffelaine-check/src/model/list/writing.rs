@@ -1,5 +1,6 @@
-//! Writing the list text (refusals 1, 2, 3, 16).
+//! Writing the list text (refusals 21, 1, 2, 3, 16).
 
+use super::super::flags::FlagTable;
 use super::super::range;
 use super::super::refusal::{Refusal, Reply, COMPONENT, FUND_FIELD, LIST_TOO_SHORT, SIZES};
 use super::super::types::{first_faulty_component, Component, COMPONENT_NUMBERS};
@@ -17,6 +18,8 @@ pub struct Writing<'a> {
     pub letters: &'a [u8],
     pub head: Head,
     pub count: u64,
+    /// Flat run of a flag table; none is given where it is empty.
+    pub table: &'a [u64],
     /// Flat run of components, 6 numbers each.
     pub components: &'a [u64],
     /// Names of 8 bytes each.
@@ -30,7 +33,8 @@ pub fn write(list: &Writing<'_>, output: &mut [u8]) -> Reply {
 }
 
 fn write_list(list: &Writing<'_>, output: &mut [u8]) -> Result<usize, Refusal> {
-    test_list(list)?;
+    let table = FlagTable::for_text(list.table)?;
+    test_list(list, &table)?;
     let mut space = [0; HEAD_ROOM];
     let head = head_text(list, &mut space);
     let components_end = head.len() + COMPONENT_STRIDE * list.count as usize;
@@ -41,7 +45,7 @@ fn write_list(list: &Writing<'_>, output: &mut [u8]) -> Result<usize, Refusal> {
     output[..head.len()].copy_from_slice(head);
     let lines = output[head.len()..components_end].chunks_exact_mut(COMPONENT_STRIDE);
     for ((line, component), name) in lines.zip(list.listed()).zip(list.each_name()) {
-        put_component(line, &component, name);
+        put_component(line, &component, &table, name);
         line[COMPONENT_LINE..].copy_from_slice(LINE_END);
     }
     output[components_end..].copy_from_slice(COMPONENTS_AFTER);
@@ -60,7 +64,7 @@ impl<'a> Writing<'a> {
     }
 }
 
-fn test_list(list: &Writing<'_>) -> Result<(), Refusal> {
+fn test_list(list: &Writing<'_>, table: &FlagTable) -> Result<(), Refusal> {
     let sizes_fit = range::COMPONENTS.contains(&list.count)
         && list.components.len() == COMPONENT_NUMBERS * list.count as usize
         && list.names.len() == NAME_BYTES * list.count as usize;
@@ -70,7 +74,7 @@ fn test_list(list: &Writing<'_>) -> Result<(), Refusal> {
     if !list.head.in_range() || !letters_fit(list.letters) {
         return Err(Refusal::new(FUND_FIELD));
     }
-    let component = first_faulty_component(list.head.fund.first_code, list.listed());
+    let component = first_faulty_component(list.head.fund.first_code, table, list.listed());
     let name = list.each_name().position(|name| !name_fits(name));
     match component.into_iter().chain(name).min() {
         Some(place) => Err(Refusal::at(COMPONENT, place)),
