@@ -11,8 +11,8 @@ use roffelaine_check::flat::{
 use roffelaine_check::library_types;
 use roffelaine_check::model::list::{self, Head, Writing};
 use roffelaine_check::model::{
-    book_length, lengths_for, stretch_width, Call, Component, Counts, Day, Fund, Opening, Order,
-    PerList, Reply, Trade, COMPONENT_NUMBERS, LOTS, MAX_COMPONENTS,
+    book_length, lengths_for, stretch_width, Call, Component, Counts, Day, FlagTable, Fund,
+    Opening, Order, PerList, Reply, Trade, COMPONENT_NUMBERS, FLAG_COLUMNS, LOTS, MAX_COMPONENTS,
 };
 use std::collections::BTreeSet;
 use support::json::Json;
@@ -78,6 +78,41 @@ fn fund(row: &Json) -> Fund {
     }
 }
 
+/// The run of a row's flag table: empty where none is given.
+fn table_run(row: &Json) -> Vec<u64> {
+    match row.get("table") {
+        Json::Null => Vec::new(),
+        table => table.run(),
+    }
+}
+
+/// The flag table of a day: ours where none is given.
+fn day_table(row: &Json) -> FlagTable {
+    FlagTable::given(&table_run(row)).expect("ten rows of seven numbers")
+}
+
+/// What the cause of a row starts with whose table has another length. A run of no
+/// numbers is none in all calls, so a row with a table of no rows is left out.
+const TABLE_LENGTH: &str = "table-length";
+
+fn is_left_out(row: &Json) -> bool {
+    let has_no_rows = matches!(row.get("table"), Json::List(rows) if rows.is_empty());
+    assert!(!has_no_rows || row.get("cause").text().starts_with(TABLE_LENGTH));
+    has_no_rows
+}
+
+/// How many rows of a file have a table of another length that is lent as it is.
+fn other_lengths(file: &str) -> usize {
+    let rows = rows(file);
+    let is_other = |row: &&Json| row.get("cause").text().starts_with(TABLE_LENGTH);
+    let (out, lent): (Vec<&Json>, Vec<&Json>) = rows
+        .iter()
+        .filter(is_other)
+        .partition(|row| is_left_out(row));
+    println!("{file}: {} rows left out", out.len());
+    lent.len()
+}
+
 /// A reply of a number and a place, and of a value and a count of reports where
 /// the row has them.
 fn reply(value: &Json) -> Reply {
@@ -140,6 +175,7 @@ fn day_of(row: &Json) -> Day {
     day.accounts = row.get("accounts").number();
     day.count = row.get("count").number();
     day.fund = fund(row);
+    day.table = day_table(row);
     let numbers = row.get("components").run();
     let components = numbers.chunks_exact(COMPONENT_NUMBERS);
     assert!(components.remainder().is_empty());
@@ -161,11 +197,12 @@ fn check_opening(engine: &dyn Engine, row: &Json, holdings: &[u64], expected: Re
         prices: vec![FILLER; length("prices_length", &|| count as usize)],
         runs: blank_runs(),
     };
-    let components = row.get("components").run();
+    let (table, components) = (table_run(row), row.get("components").run());
     let opening = Opening {
         accounts,
         count,
         fund: fund(row),
+        table: &table,
         components: &components,
         holdings,
     };
@@ -196,10 +233,11 @@ fn opened_book(holdings: &[u64], count: usize) -> Vec<u64> {
     stretches.collect()
 }
 
-const OPENING_FIELDS: [&str; 8] = [
+const OPENING_FIELDS: [&str; 9] = [
     "accounts",
     "count",
     "fund",
+    "table",
     "components",
     "holdings",
     "book_length",
@@ -210,6 +248,9 @@ const OPENING_FIELDS: [&str; 8] = [
 #[test]
 fn openings() {
     each_row("openings.jsonl", &OPENING_FIELDS, |engine, row| {
+        if is_left_out(row) {
+            return;
+        }
         let holdings = row.get("holdings").run();
         check_opening(engine, row, &holdings, reply(row.get("reply")));
     });
@@ -302,10 +343,11 @@ fn only_reads(call: &Call) -> bool {
     )
 }
 
-const DAY_FIELDS: [&str; 9] = [
+const DAY_FIELDS: [&str; 10] = [
     "accounts",
     "count",
     "fund",
+    "table",
     "components",
     "holdings",
     "opening",
@@ -432,10 +474,11 @@ fn check_big_end(row: &Json, lent: &Lent) {
     assert_eq!(shown, row.get("last_account").run());
 }
 
-const BIG_DAY_FIELDS: [&str; 15] = [
+const BIG_DAY_FIELDS: [&str; 16] = [
     "accounts",
     "count",
     "fund",
+    "table",
     "components",
     "holdings_rows",
     "holdings_of",
@@ -467,10 +510,11 @@ fn big_days() {
 /// count says.
 const NO_RUN: &str = "day: one component more";
 
-const BROKEN_DAY_FIELDS: [&str; 7] = [
+const BROKEN_DAY_FIELDS: [&str; 8] = [
     "accounts",
     "count",
     "fund",
+    "table",
     "components",
     "book",
     "prices",
@@ -518,8 +562,9 @@ fn head(row: &Json) -> Head {
 }
 
 /// The fields of a list, besides those of its text or of its names.
-const LIST_FIELDS: [&str; 11] = [
+const LIST_FIELDS: [&str; 12] = [
     "letters",
+    "table",
     "fund",
     "publish",
     "trading_day",
@@ -536,7 +581,10 @@ const LIST_FIELDS: [&str; 11] = [
 fn texts() {
     let fields = [&LIST_FIELDS[..], &["text", "capacity", "name_places"]].concat();
     each_row("texts.jsonl", &fields, |engine, row| {
-        let text = row.get("text").bytes();
+        if is_left_out(row) {
+            return;
+        }
+        let (text, table) = (row.get("text").bytes(), table_run(row));
         let capacity: usize = row.get("capacity").number();
         let before = LentList {
             components: vec![FILLER; COMPONENT_NUMBERS * capacity],
@@ -544,7 +592,7 @@ fn texts() {
             first_row: FILLER,
         };
         let mut lent = before.clone();
-        let found = engine.read(text, &mut lent);
+        let found = engine.read(text, &table, &mut lent);
         check_any_parts(engine, text);
         let mut expected = reply(row.get("reply"));
         assert_eq!(expected.is_accepted(), row.find("count").is_some());
@@ -602,8 +650,13 @@ fn check_places(engine: &dyn Engine, row: &Json, text: &[u8], first_row: u64) {
 /// by the library; the head and the components are the row's.
 fn check_parts(row: &Json, text: &[u8]) {
     let mut components = vec![0; COMPONENT_NUMBERS * MAX_COMPONENTS];
-    let model = list::read(text, &mut components).expect("the model reads it");
-    let library = List::read(text).expect("the library reads it");
+    let table = table_run(row);
+    let model = list::read(text, &table, &mut components).expect("the model reads it");
+    let library = match library_types::table_of_run(&table) {
+        Some(table) => List::read_with_table(text, &table),
+        None => List::read(text),
+    };
+    let library = library.expect("the library reads it");
     let letters = row.get("letters").bytes();
     assert_eq!((model.letters, library.letters), (letters, letters));
     assert_eq!(model.head, head(row));
@@ -628,11 +681,15 @@ fn check_parts(row: &Json, text: &[u8]) {
 fn writings() {
     let fields = [&LIST_FIELDS[..], &["text", "names", "output_length"]].concat();
     each_row("writings.jsonl", &fields, |engine, row| {
-        let components = row.get("components").run();
+        if is_left_out(row) {
+            return;
+        }
+        let (table, components) = (table_run(row), row.get("components").run());
         let writing = Writing {
             letters: row.get("letters").bytes(),
             head: head(row),
             count: row.get("count").number(),
+            table: &table,
             components: &components,
             names: row.get("names").bytes(),
         };
@@ -646,6 +703,28 @@ fn writings() {
         assert_eq!(written, text);
         assert!(rest.iter().all(|&byte| byte == FILLER_BYTE));
     });
+}
+
+/// Tables of other lengths are lent to the calls as they are, but for those of no
+/// rows.
+#[test]
+fn tables_of_other_lengths() {
+    for file in ["openings.jsonl", "texts.jsonl", "writings.jsonl"] {
+        assert!(other_lengths(file) > 0, "{file}");
+    }
+    for file in ["days.jsonl", "big_days.jsonl", "broken_days.jsonl"] {
+        for row in rows(file) {
+            let table = row.get("table");
+            let is_given = *table != Json::Null;
+            assert!(
+                !is_given
+                    || table
+                        .list()
+                        .iter()
+                        .all(|row| row.run().len() == FLAG_COLUMNS)
+            );
+        }
+    }
 }
 
 /// A row like another one, bytes in pieces, and the text of a row with edits.

@@ -1,8 +1,9 @@
-//! A tiny JSON reader: objects, lists, texts and whole numbers.
+//! A tiny JSON reader: objects, lists, texts, whole numbers and null.
 
 /// A JSON value of a vector row.
 #[derive(Clone, Debug, PartialEq)]
 pub enum Json {
+    Null,
     Number(i128),
     Text(String),
     List(Vec<Json>),
@@ -97,6 +98,8 @@ impl Json {
     }
 }
 
+const NULL: &[u8] = b"null";
+
 struct Reader<'a> {
     bytes: &'a [u8],
     at: usize,
@@ -130,6 +133,10 @@ impl Reader<'_> {
         }
         if self.mark(b'"') {
             return Some(Json::Text(self.text()?));
+        }
+        if self.bytes[self.at..].starts_with(NULL) {
+            self.at += NULL.len();
+            return Some(Json::Null);
         }
         self.number()
     }

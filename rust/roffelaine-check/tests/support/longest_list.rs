@@ -40,6 +40,7 @@ pub fn longest_list() -> Vec<u8> {
         letters: b"ABCDEFGH",
         head,
         count: MAX_COMPONENTS as u64,
+        table: &[],
         components: &components
             .flat_map(|each| each.numbers())
             .collect::<Vec<_>>(),
