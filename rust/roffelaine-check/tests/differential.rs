@@ -6,10 +6,13 @@
 mod rest;
 #[path = "differential/misreporting.rs"]
 mod misreporting;
+#[path = "differential/misruling.rs"]
+mod misruling;
 #[path = "differential/mistesting.rs"]
 mod mistesting;
 
 use misreporting::Misreporting;
+use misruling::Misruling;
 use mistesting::Mistesting;
 use roffelaine_check::archive::Archive;
 use roffelaine_check::compare::Comparison;
@@ -17,8 +20,8 @@ use roffelaine_check::differential::Plan;
 use roffelaine_check::engine::{Engine, Lent, LentList, Model};
 use roffelaine_check::model::list::{self, Writing};
 use roffelaine_check::model::{
-    range, Call, Component, Opening, Order, Reply, ANSWER_NUMBERS, COMPONENT_NUMBERS,
-    RECORD_NUMBERS,
+    range, Call, Component, Day, FlagColumn, FlagTable, Opening, Order, Reply, ANSWER_NUMBERS,
+    COMPONENT_NUMBERS, RECORD_NUMBERS,
 };
 use roffelaine_check::random::{OpeningCase, Rng, Scale, Size};
 use std::cell::Cell;
@@ -48,9 +51,16 @@ const MANY_TEXTS: Plan = Plan {
     texts: 30_000,
 };
 
+/// Enough of both to find faults in tables.
+const RULED: Plan = Plan {
+    seed: 10,
+    days: 300,
+    texts: 5_000,
+};
+
 /// What each kind of call must have been answered.
 const REACHED: &[(&str, &[u64])] = &[
-    ("opening", &[0, 1, 2, 3, 4]),
+    ("opening", &[0, 1, 2, 3, 4, 21]),
     ("price", &[0, 5, 6, 7]),
     ("trade", &[0, 5, 6, 7, 8, 9, 10]),
     ("creation", &[0, 5, 8, 9, 10, 11, 12, 13, 14, 15, 16]),
@@ -75,8 +85,8 @@ const REACHED: &[(&str, &[u64])] = &[
     ("row: redemption", &[0, 5, 8, 9, 11, 12, 13, 16, 17]),
     ("row: value", &[0, 5, 14]),
     ("row: no call", &[1]),
-    ("reading", &[0, 2, 3, 16, 18, 19, 20]),
-    ("writing", &[0, 1, 2, 3, 16]),
+    ("reading", &[0, 2, 3, 16, 18, 19, 20, 21]),
+    ("writing", &[0, 1, 2, 3, 16, 21]),
 ];
 
 #[test]
@@ -184,24 +194,25 @@ fn swap_rates(run: &mut [u64]) {
     }
 }
 
-/// Brings a discount down to where it passes every test.
-fn pass_discount(component: &mut Component) {
-    let uses_rates = matches!(component.flag, 1 | 3);
+/// Brings a discount down to where it passes every test under a table.
+fn pass_discount(component: &mut Component, table: &FlagTable) {
+    let uses_rates = table.says(component.flag, FlagColumn::RateUsed);
     let most = if uses_rates { range::RATE_MAX } else { 0 };
     component.discount = component.discount.min(most);
 }
 
-/// The same in each component of a run.
-fn pass_discounts(run: &mut [u64]) {
+/// The same in each component of a run, under the table of another.
+fn pass_discounts(run: &mut [u64], table: &[u64]) {
+    let table = FlagTable::given(table).unwrap_or(FlagTable::OURS);
     for numbers in run.chunks_exact_mut(COMPONENT_NUMBERS) {
         let mut component = Component::from_numbers(numbers);
-        pass_discount(&mut component);
+        pass_discount(&mut component, &table);
         numbers.copy_from_slice(&component.numbers());
     }
 }
 
 /// The text with each line that ends in CR LF changed.
-fn with_lines(text: &[u8], change: fn(&mut Vec<u8>)) -> Vec<u8> {
+fn with_lines(text: &[u8], change: impl Fn(&mut Vec<u8>)) -> Vec<u8> {
     let lines = text.split_inclusive(|&byte| byte == b'\n');
     let lines = lines.map(|line| match line.strip_suffix(b"\r\n") {
         Some(bytes) => {
@@ -226,8 +237,9 @@ fn put_discount(line: &mut Vec<u8>) {
 }
 
 /// A blank in place of a discount that the flag does not use.
-fn blank_unused_discount(line: &mut [u8]) {
-    if line.len() == 56 && !matches!(line[FLAG], b'1' | b'3') {
+fn blank_unused_discount(line: &mut [u8], table: &FlagTable) {
+    let uses_rates = |flag: u8| table.says(flag.wrapping_sub(b'0').into(), FlagColumn::RateUsed);
+    if line.len() == 56 && !uses_rates(line[FLAG]) {
         line[DISCOUNT].fill(b' ');
     }
 }
@@ -244,7 +256,7 @@ impl Engine for Faulty {
         let before = lent.prices.clone();
         let mut components = opening.components.to_vec();
         if self.fault == Fault::OpensWithAnyDiscount {
-            pass_discounts(&mut components);
+            pass_discounts(&mut components, opening.table);
         }
         let opening = &Opening {
             components: &components,
@@ -259,17 +271,21 @@ impl Engine for Faulty {
 
     fn call(&self, call: &Call, lent: &mut Lent) -> Reply {
         let before = lent.clone();
-        let spoil: fn(&mut Component) = match (self.fault, call) {
+        let spoil: fn(&mut Component, &FlagTable) = match (self.fault, call) {
             (Fault::CreationTakesTheDiscount, Call::Create(_)) => {
-                |each| each.premium = each.discount
+                |each, _| each.premium = each.discount
             }
             (Fault::SoundWithAnyDiscount, _) => pass_discount,
             (Fault::RedemptionTakesThePremium, Call::Redeem(_)) => {
-                |each| each.discount = each.premium
+                |each, _| each.discount = each.premium
             }
-            _ => |_| {},
+            _ => |_, _| {},
         };
-        lent.day.components.iter_mut().for_each(spoil);
+        let Day {
+            table, components, ..
+        } = &mut lent.day;
+        let components = components.iter_mut();
+        components.for_each(|component| spoil(component, table));
         let mut reply = Model.call(call, lent);
         lent.day = before.day.clone();
         self.spoil_call(call, before, lent, &mut reply);
@@ -301,14 +317,15 @@ impl Engine for Faulty {
         reply
     }
 
-    fn read(&self, text: &[u8], lent: &mut LentList) -> Reply {
-        let change: fn(&mut Vec<u8>) = match self.fault {
-            Fault::ReadsLinesWithoutDiscount => put_discount,
-            Fault::ReadsUnusedDiscounts => |line| blank_unused_discount(line),
-            Fault::ReadsDiscountsAboveOne => |line| lower_discount(line),
-            _ => |_| {},
-        };
-        let mut reply = Model.read(&with_lines(text, change), lent);
+    fn read(&self, text: &[u8], table: &[u64], lent: &mut LentList) -> Reply {
+        let rules = FlagTable::given(table).unwrap_or(FlagTable::OURS);
+        let changed = with_lines(text, |line| match self.fault {
+            Fault::ReadsLinesWithoutDiscount => put_discount(line),
+            Fault::ReadsUnusedDiscounts => blank_unused_discount(line, &rules),
+            Fault::ReadsDiscountsAboveOne => lower_discount(line),
+            _ => {}
+        });
+        let mut reply = Model.read(&changed, table, lent);
         match self.fault {
             Fault::PlaceOff if reply.number == 19 => reply.place += 1,
             Fault::TouchesUnusedComponents if reply.is_accepted() => {
@@ -439,6 +456,17 @@ fn engines_that_test_wrongly_are_found() {
     assert!(agrees(mistesting::Fault::None).is_ok());
     for fault in mistesting::Fault::ALL {
         assert!(agrees(fault).is_err(), "{fault:?} is not found");
+    }
+}
+
+/// The flag table: rules that are not kept, refusals in another order, and columns
+/// read elsewhere.
+#[test]
+fn engines_that_rule_wrongly_are_found() {
+    assert!(!differs(&Misruling(misruling::Fault::None), RULED));
+    for fault in misruling::Fault::ALL {
+        let is_found = differs(&Misruling(fault), RULED);
+        assert!(is_found, "{fault:?} is not found");
     }
 }
 

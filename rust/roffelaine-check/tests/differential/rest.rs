@@ -11,8 +11,8 @@ macro_rules! the_rest_of_the_model {
             Model.open(opening, lent)
         }
 
-        fn read(&self, text: &[u8], lent: &mut LentList) -> Reply {
-            Model.read(text, lent)
+        fn read(&self, text: &[u8], table: &[u64], lent: &mut LentList) -> Reply {
+            Model.read(text, table, lent)
         }
 
         fn name(&self, text: &[u8], first_row: u64, component: u64, part: &mut [u64]) -> u64 {
