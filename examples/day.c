@@ -2,8 +2,9 @@
  * A day of one fund from C (or C++). The fund's list is read from its text, the day is opened with two accounts, prices are set,
  * and account 1 creates one basket: first the tests of the creation are made alone, which say how many records it will make and
  * change nothing, then its records are printed, and its reports to the investor and to the fund's manager. Account 1 may not redeem
- * that basket on the same day: the refusal is printed with its reason. Then the same calls are made as one list. Last a damaged list
- * text is refused, with line and column.
+ * that basket on the same day: the refusal is printed with its reason. Then the same calls are made as one list. A damaged list
+ * text is refused, with line and column. Last the manager pilots a flag of the customer's own: a list with flag 5 is refused under our
+ * flag table, and read, opened and created under one that has flag 5 in use.
  *
  *     cc -std=c99 day.c $(pkg-config --cflags --libs roffelaine) -o day
  */
@@ -53,6 +54,8 @@ static const uint64_t AMPLE = UINT64_C(1000000000000);
 
 /* The runs that the calls of a day are lent, with room for the longest list. Only the numbers of N components are lent. */
 static size_t components; /* N */
+static uint64_t table[ROFFELAINE_TABLE_WIDTH];
+static size_t table_length; /* 0 while no flag table is given */
 static uint64_t fields[ROFFELAINE_FIELDS_WIDTH];
 static uint64_t component_run[ROFFELAINE_COMPONENT_WIDTH * ROFFELAINE_MOST_COMPONENTS];
 static uint64_t day[ROFFELAINE_DAY_WIDTH];
@@ -86,8 +89,8 @@ static int read_list(const char *text)
     size_t line, column;
     uint64_t first_row, place, value;
     const uint64_t number = roffelaine_read(
-        bytes, strlen(text), component_run, ROFFELAINE_COMPONENT_WIDTH * ROFFELAINE_MOST_COMPONENTS,
-        fields, ROFFELAINE_FIELDS_WIDTH, &first_row, &place, &value);
+        bytes, strlen(text), table, table_length,
+        component_run, ROFFELAINE_COMPONENT_WIDTH * ROFFELAINE_MOST_COMPONENTS, fields, ROFFELAINE_FIELDS_WIDTH, &first_row, &place, &value);
     if (number == ROFFELAINE_TEXT_LINE || number == ROFFELAINE_TEXT_FIELD) {
         roffelaine_position(bytes, strlen(text), place, &line, &column);
         printf("line %lu, column %lu: %s\n", (unsigned long)line, (unsigned long)column, roffelaine_reason(number));
@@ -124,7 +127,7 @@ static int open_day(void)
     hold(of_holder, 600036, 3000);
     /* the fund stands at the front of the fields */
     number = roffelaine_open(
-        ACCOUNTS, components, fields, ROFFELAINE_FUND_WIDTH,
+        ACCOUNTS, components, fields, ROFFELAINE_FUND_WIDTH, table, table_length,
         component_run, ROFFELAINE_COMPONENT_WIDTH * components,
         holdings, ROFFELAINE_HOLDINGS_LENGTH(ACCOUNTS, components),
         book, ROFFELAINE_BOOK_LENGTH(ACCOUNTS, components), prices, components, day, ROFFELAINE_DAY_WIDTH,
@@ -244,6 +247,21 @@ static void print_units(void)
     printf("units old %" PRIu64 " bought %" PRIu64 " got %" PRIu64 "\n", units.old, units.bought, units.got);
 }
 
+/* Flag 5 is piloted: cash stands in for 600036, an amount with the premium; it is Shanghai cash, and the component is priced. */
+static int with_a_table(uint64_t units)
+{
+    static const char line[] = "|5|0.10000|0.10000|  120000.000|";
+    static const uint64_t flag_5[ROFFELAINE_FLAG_COLUMNS] = {0, 0, 1, 1, 1, 1, 1};
+    static char piloted[sizeof LIST];
+    memcpy(piloted, LIST, sizeof LIST);
+    memcpy(strstr(piloted, "|0|"), line, sizeof line - 1);
+    read_list(piloted);
+    roffelaine_our_table(table);
+    roffelaine_put_flag(table, 5, flag_5);
+    table_length = ROFFELAINE_TABLE_WIDTH;
+    return read_list(piloted) && open_day() && call_by_call(units);
+}
+
 int main(void)
 {
     static char damaged[sizeof LIST];
@@ -259,5 +277,5 @@ int main(void)
     memcpy(damaged, LIST, sizeof LIST);
     *strchr(damaged, '.') = ',';
     read_list(damaged);
-    return 0;
+    return with_a_table(basket) ? 0 : 1;
 }

@@ -41,11 +41,20 @@
  *    0 first code   1 basket size   2 maximum cash ratio   3 switch   4, 5 estimated cash, signed
  *    6 to 13 the limits in the list text's order, creation and redemption by turns: cumulative for the fund, cumulative per
  *    account, net for the fund, net per account; 0 is no limit
- * A component, 6 numbers: code, quantity, flag, premium, discount, amount; a run of components has 6 for each. Premium and discount
- * are rates: creation takes the premium, redemption the discount. Flags other than 1 and 3 use neither, and both are 0. The discount
- * of flag 1 enters no sum, since its redemption delivers stock.
- * A day, 1,816 numbers, filled by an accepted opening and lent to every later call of the day:
- *    0 accounts   1 components, N   2 to 15 the fund   16 on 300 components, those behind the N-th all 0
+ * A component, 6 numbers: code, quantity, flag, premium, discount, amount; a run of components has 6 for each. Its flag is 0 to 9 and
+ * in use by the flag table. Premium and discount are rates: creation takes the premium, redemption the discount. What the flag does
+ * not use by the table, the two rates or the amount, is 0. The discount of a flag that moves stock enters no sum, since its redemption
+ * delivers the stock.
+ * A flag table, 70 numbers: for each of the flags 0 to 9, one after another, a row of seven, which are 1 for yes and 0 for no:
+ *    0 stock moves   1 shortage in cash   2 rates used   3 amount used   4 Shanghai   5 priced   6 in use
+ *    All numbers are 0 or 1. A flag in use either moves stock, is Shanghai, is priced and uses no amount, or moves none and uses an
+ *    amount; a shortage is in cash only where stock moves, and then the rates are used. A row that is not in use says nothing, and has
+ *    no rule but 0 or 1. ROFFELAINE_FLAG_TABLE refuses a table that breaks these rules, with the lowest flag whose row does.
+ *    An opening, a reading and a writing take a table in a run of 70 numbers, or none in a run of 0 numbers. Where none is given it is
+ *    ours, with the flags 0 to 4 in use: 0 1000111, 1 1110111, 2 0001101, 3 0011011, 4 0001001, and the rows 5 to 9 all 0. A day
+ *    that was opened without a table is the same as one opened with ours.
+ * A day, 1,886 numbers, filled by an accepted opening and lent to every later call of the day:
+ *    0 accounts   1 components, N   2 to 15 the fund   16 to 85 the flag table   86 on 300 components, those behind the N-th all 0
  *    A run of another length, or of other numbers than an opening leaves, is a day too: the calls then answer
  *    ROFFELAINE_UNSOUND_DAY where it breaks a test.
  * The book, 3 + 3 (N + 1) numbers for each account: cash, units created today, units redeemed today, and for each line, the unit
@@ -78,14 +87,15 @@ extern "C" {
 #endif
 
 /* The version of this header and of the library that it came with. */
-#define ROFFELAINE_VERSION "0.5.0"
+#define ROFFELAINE_VERSION "0.6.0"
 #define ROFFELAINE_VERSION_MAJOR 0 /* with the next one, part of the shared library's name */
-#define ROFFELAINE_VERSION_MINOR 5 /* raised with each change request: calls, names or widths may change */
+#define ROFFELAINE_VERSION_MINOR 6 /* raised with each change request: calls, names or widths may change */
 #define ROFFELAINE_VERSION_PATCH 0 /* raised in between: none does */
 
 /* How many numbers each takes. */
 #define ROFFELAINE_FUND_WIDTH 14
-#define ROFFELAINE_DAY_WIDTH 1816
+#define ROFFELAINE_TABLE_WIDTH 70
+#define ROFFELAINE_DAY_WIDTH 1886
 #define ROFFELAINE_FIELDS_WIDTH 22
 #define ROFFELAINE_COMPONENT_WIDTH 6
 #define ROFFELAINE_RECORD_WIDTH 5
@@ -96,6 +106,10 @@ extern "C" {
 
 #define ROFFELAINE_MOST_ACCOUNTS 64
 #define ROFFELAINE_MOST_COMPONENTS 300
+
+/* The rows and the columns of a flag table. */
+#define ROFFELAINE_FLAGS 10
+#define ROFFELAINE_FLAG_COLUMNS 7
 
 #define ROFFELAINE_STRETCH_WIDTH(components) (3 + 3 * ((size_t)(components) + 1))
 #define ROFFELAINE_BOOK_LENGTH(accounts, components) ((size_t)(accounts) * ROFFELAINE_STRETCH_WIDTH(components))
@@ -116,7 +130,7 @@ extern "C" {
  */
 #define ROFFELAINE_LONGEST_TEXT 17969 /* bytes */
 
-/* The refusals. Where a place is said, it is the component, line, field or byte that the call names. */
+/* The refusals. Where a place is said, it is the component, line, field, byte or flag that the call names. */
 enum roffelaine_refusal {
     ROFFELAINE_ACCEPTED = 0,
     ROFFELAINE_SIZES = 1,              /* accounts, components or a lent length */
@@ -138,7 +152,8 @@ enum roffelaine_refusal {
     ROFFELAINE_FUND_SHORT = 17,        /* place: the component, N for cash */
     ROFFELAINE_TEXT_LINE = 18,         /* place: the line's first byte */
     ROFFELAINE_TEXT_FIELD = 19,        /* place: the field's first byte */
-    ROFFELAINE_RECORD_COUNT = 20
+    ROFFELAINE_RECORD_COUNT = 20,
+    ROFFELAINE_FLAG_TABLE = 21         /* the flag table breaks its rules; place: the lowest flag at fault */
 };
 
 /* The sides of a record and of a report. */
@@ -170,12 +185,13 @@ enum roffelaine_call {
 };
 
 /*
- * Opens a day with so many accounts and components. Takes the fund, the components and the holdings; fills the book, the prices and
- * the day. Refusals: 1, also for a fund or day of another width, 2, 3 and 4.
+ * Opens a day with so many accounts and components. Takes the fund, a flag table or none, the components and the holdings; fills the
+ * book, the prices and the day. Refusals: 1, also for a fund, table or day of another width, 21, 2, 3 and 4.
  */
 uint64_t roffelaine_open(
     size_t accounts, size_t components,
     const uint64_t *fund, size_t fund_length,
+    const uint64_t *table, size_t table_length,
     const uint64_t *component_run, size_t component_run_length,
     const uint64_t *holdings, size_t holdings_length,
     uint64_t *book, size_t book_length,
@@ -285,11 +301,13 @@ uint64_t roffelaine_run_public(
     uint64_t *place, uint64_t *value);
 
 /*
- * Reads a list text: its components to the front of the run, its fields, at `first_row` the byte at which its first component line
- * starts, and at `value` their count. Refusals: 1 for fields of another width than 22, 18, 19, 20, 2, 3, 16.
+ * Reads a list text under a flag table or none: its components to the front of the run, its fields, at `first_row` the byte at which
+ * its first component line starts, and at `value` their count. A rate or an amount is blank unless the component's flag is in use and
+ * uses it. Refusals: 21, with place 0 also for a table of another width, 1 for fields of another width than 22, 18, 19, 20, 2, 3, 16.
  */
 uint64_t roffelaine_read(
     const uint8_t *text, size_t text_length,
+    const uint64_t *table, size_t table_length,
     uint64_t *component_run, size_t component_run_length,
     uint64_t *fields, size_t fields_length,
     uint64_t *first_row,
@@ -316,11 +334,13 @@ uint64_t roffelaine_letters(
     uint64_t *part, size_t part_length);
 
 /*
- * Writes a list at the front of the output, and at `value` how many bytes it takes; what is past them stays. The run has 6 numbers
- * and the names 8 bytes for each of the fields' N components. Refusals: 1, also for fields of another width, 2, 3, 16.
+ * Writes a list under a flag table or none at the front of the output, and at `value` how many bytes it takes; what is past them
+ * stays. The run has 6 numbers and the names 8 bytes for each of the fields' N components. Refusals: 21, with place 0 also for a table
+ * of another width, 1, also for fields of another width, 2, 3, 16.
  */
 uint64_t roffelaine_write(
     const uint64_t *fields, size_t fields_length,
+    const uint64_t *table, size_t table_length,
     const uint64_t *component_run, size_t component_run_length,
     const uint8_t *names, size_t names_length,
     const uint8_t *letters, size_t letters_length,

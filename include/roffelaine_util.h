@@ -35,6 +35,7 @@ static inline const char *roffelaine_reason(uint64_t number)
     case ROFFELAINE_TEXT_LINE: return "a line of the list does not stand as it must";
     case ROFFELAINE_TEXT_FIELD: return "a field of the list is not written as it must be";
     case ROFFELAINE_RECORD_COUNT: return "Recordnum is not 1 to 300, or not the count of component lines";
+    case ROFFELAINE_FLAG_TABLE: return "the flag table breaks its rules";
     default: return "there is no such refusal";
     }
 }
@@ -49,6 +50,7 @@ static inline const char *roffelaine_place_meaning(uint64_t number)
     case ROFFELAINE_FUND_SHORT: return "the component, N for cash";
     case ROFFELAINE_TEXT_LINE: return "the line's first byte";
     case ROFFELAINE_TEXT_FIELD: return "the field's first byte";
+    case ROFFELAINE_FLAG_TABLE: return "the lowest flag at fault";
     default: return "";
     }
 }
@@ -58,7 +60,7 @@ static inline const char *roffelaine_place_meaning(uint64_t number)
 /*
  * The line and the column of a byte of a text, as an editor counts them: both from 1, a line ends behind its LF, and a column is a
  * byte. A place past the text, as that of a line that is absent, is taken as the text's end. Not for refusal 3, whose place is a
- * component: that stands in line ROFFELAINE_HEAD_LINES + 1 + place.
+ * component, which stands in line ROFFELAINE_HEAD_LINES + 1 + place, nor for refusal 21, whose place is a flag.
  */
 static inline void roffelaine_position(
     const uint8_t *text, size_t text_length, uint64_t place, size_t *line, size_t *column)
@@ -87,7 +89,8 @@ enum roffelaine_place_in_run {
     ROFFELAINE_DAY_ACCOUNTS = 0,
     ROFFELAINE_DAY_COMPONENTS = 1, /* their count, N */
     ROFFELAINE_DAY_FUND = 2,
-    ROFFELAINE_DAY_COMPONENT_RUN = 16,
+    ROFFELAINE_DAY_TABLE = 16,
+    ROFFELAINE_DAY_COMPONENT_RUN = 86,
     /* in a fund */
     ROFFELAINE_FUND_FIRST_CODE = 0,
     ROFFELAINE_FUND_BASKET_SIZE = 1,
@@ -112,6 +115,48 @@ static inline int64_t roffelaine_signed_at(const uint64_t *two)
     const uint64_t most = UINT64_C(1000000000000000000);
     const int64_t size = (int64_t)(two[1] < most ? two[1] : most);
     return two[0] == 1 ? -size : size;
+}
+
+/* ---- The flag table ---- */
+
+/* The columns of a flag's row. */
+enum roffelaine_flag_column {
+    ROFFELAINE_COLUMN_STOCK_MOVES = 0,
+    ROFFELAINE_COLUMN_SHORTAGE_IN_CASH = 1,
+    ROFFELAINE_COLUMN_RATE_USED = 2, /* both premium and discount */
+    ROFFELAINE_COLUMN_AMOUNT_USED = 3,
+    ROFFELAINE_COLUMN_SHANGHAI = 4,
+    ROFFELAINE_COLUMN_PRICED = 5,
+    ROFFELAINE_COLUMN_IN_USE = 6
+};
+
+/* Puts a row of ROFFELAINE_FLAG_COLUMNS numbers into a table, as that of a flag below ROFFELAINE_FLAGS. */
+static inline void roffelaine_put_flag(uint64_t *table, size_t flag, const uint64_t *row)
+{
+    size_t column;
+    for (column = 0; column < ROFFELAINE_FLAG_COLUMNS; column++)
+        table[ROFFELAINE_FLAG_COLUMNS * flag + column] = row[column];
+}
+
+/* Fills a table of ROFFELAINE_TABLE_WIDTH numbers with ours, to change rows of it. */
+static inline void roffelaine_our_table(uint64_t *table)
+{
+    static const uint64_t rows[ROFFELAINE_FLAGS][ROFFELAINE_FLAG_COLUMNS] = {
+        {1, 0, 0, 0, 1, 1, 1}, {1, 1, 1, 0, 1, 1, 1}, {0, 0, 0, 1, 1, 0, 1}, {0, 0, 1, 1, 0, 1, 1}, {0, 0, 0, 1, 0, 0, 1},
+        {0, 0, 0, 0, 0, 0, 0}, {0, 0, 0, 0, 0, 0, 0}, {0, 0, 0, 0, 0, 0, 0}, {0, 0, 0, 0, 0, 0, 0}, {0, 0, 0, 0, 0, 0, 0}};
+    size_t flag;
+    for (flag = 0; flag < ROFFELAINE_FLAGS; flag++)
+        roffelaine_put_flag(table, flag, rows[flag]);
+}
+
+/* Whether a table has a flag in use and 1 in a column of it; 0 for any number that is no flag. */
+static inline int roffelaine_flag_says(const uint64_t *table, uint64_t flag, enum roffelaine_flag_column column)
+{
+    const uint64_t *row;
+    if (flag >= ROFFELAINE_FLAGS)
+        return 0;
+    row = table + ROFFELAINE_FLAG_COLUMNS * flag;
+    return row[ROFFELAINE_COLUMN_IN_USE] == 1 && row[column] == 1;
 }
 
 /* ---- Components and lines ---- */

@@ -145,10 +145,10 @@ fn refusals() -> BTreeMap<u64, (String, String)> {
 #[test]
 fn the_helpers_give_reasons_places_and_fields() {
     let mut refusals = refusals();
-    assert_eq!(refusals.len(), 20);
+    assert_eq!(refusals.len(), 21);
     let words = |words: &str| (words.to_string(), String::new());
     refusals.insert(0, words("accepted"));
-    refusals.insert(21, words("there is no such refusal"));
+    refusals.insert(22, words("there is no such refusal"));
     let lines = refusals
         .iter()
         .map(|(number, (words, place))| format!("{number}|{words}|{place}\n"));
@@ -204,7 +204,7 @@ fn installed_files() -> BTreeSet<String> {
         "include/roffelaine_util.h",
         "lib/libroffelaine.a",
         "lib/libroffelaine.so",
-        "lib/libroffelaine.so.0.5",
+        "lib/libroffelaine.so.0.6",
         &shared,
         "lib/pkgconfig/roffelaine.pc",
         "share/man/man1/roffelaine.1",
@@ -265,8 +265,8 @@ fn functions() -> BTreeSet<String> {
 fn shows_the_calls_alone(prefix: &Path) {
     let link = |name: &str| std::fs::read_link(prefix.join("lib").join(name)).expect("a link");
     let file = format!("libroffelaine.so.{}", version());
-    assert_eq!(link("libroffelaine.so"), Path::new("libroffelaine.so.0.5"));
-    assert_eq!(link("libroffelaine.so.0.5"), Path::new(&file));
+    assert_eq!(link("libroffelaine.so"), Path::new("libroffelaine.so.0.6"));
+    assert_eq!(link("libroffelaine.so.0.6"), Path::new(&file));
     let library = prefix.join("lib").join(file);
     if is_there("nm", "the names of the shared library") {
         let mut command = Command::new("nm");
@@ -280,7 +280,7 @@ fn shows_the_calls_alone(prefix: &Path) {
     }
     if is_there("readelf", "the soname of the shared library") {
         let said = run(Command::new("readelf").arg("-d").arg(&library));
-        assert!(said.contains("soname: [libroffelaine.so.0.5]"), "{said}");
+        assert!(said.contains("soname: [libroffelaine.so.0.6]"), "{said}");
         assert!(!said.contains("TEXTREL"), "{said}");
     }
 }

@@ -14,10 +14,10 @@ use roffelaine_check::flat::{row_of, DAY_NUMBERS, FIELD_NUMBERS, FUND_NUMBERS, P
 use roffelaine_check::library_types;
 use roffelaine_check::model::list::NAME_BYTES;
 use roffelaine_check::model::{
-    book_length, holdings_length, range, stretch_width, Call, Component, Counts, Fund, Order,
-    PerList, Trade, ANSWER_NUMBERS, BUY, CASH_REPORT, COMPONENT_NUMBERS, LOTS, MAX_COMPONENTS,
-    OTHER_KIND, RECORD_NUMBERS, REPORT_NUMBERS, ROW_NUMBERS, SELL, SHANGHAI_KIND, STOCK_REPORT,
-    STRETCH_HEAD, UNIT_REPORT,
+    book_length, holdings_length, range, stretch_width, Call, Component, Counts, FlagTable, Fund,
+    Order, PerList, Trade, ANSWER_NUMBERS, BUY, CASH_REPORT, COMPONENT_NUMBERS, FLAGS,
+    FLAG_COLUMNS, LOTS, MAX_COMPONENTS, OTHER_KIND, RECORD_NUMBERS, REPORT_NUMBERS, ROW_NUMBERS,
+    SELL, SHANGHAI_KIND, STOCK_REPORT, STRETCH_HEAD, TABLE_NUMBERS, UNIT_REPORT,
 };
 use std::collections::{BTreeMap, BTreeSet};
 use std::path::Path;
@@ -94,8 +94,11 @@ fn functions_are_declared_as_in_the_header() {
 
 /// The widths by the model: the name in the header, the crate that has it too,
 /// the library's name, and the width.
-const WIDTHS: [(&str, &str, &str, usize); 11] = [
+const WIDTHS: [(&str, &str, &str, usize); 14] = [
     ("FUND_WIDTH", "layout", "FUND_NUMBERS", FUND_NUMBERS),
+    ("TABLE_WIDTH", "flags", "TABLE_NUMBERS", TABLE_NUMBERS),
+    ("FLAGS", "flags", "FLAGS", FLAGS),
+    ("FLAG_COLUMNS", "flags", "FLAG_COLUMNS", FLAG_COLUMNS),
     ("DAY_WIDTH", "layout", "DAY_NUMBERS", DAY_NUMBERS),
     (
         "FIELDS_WIDTH",
@@ -122,6 +125,14 @@ const WIDTHS: [(&str, &str, &str, usize); 11] = [
     ),
     ("NAME_WIDTH", "list_rules", "NAME_BYTES", NAME_BYTES),
 ];
+
+/// The name of a width in its crate.
+fn name_in_crate(name: &str) -> &str {
+    match name {
+        "FLAG_COLUMNS" => "COLUMNS",
+        _ => name,
+    }
+}
 
 /// The most accounts that a day has; the Rattle crates have it in their
 /// definitions alone.
@@ -187,7 +198,13 @@ fn widths_are_those_of_the_library() {
     let book = [("STRETCH_HEAD", STRETCH_HEAD), ("LOTS", LOTS)];
     // The place of the limits among a fund's numbers, eight before its end.
     let limits = [("LIMITS_FROM", FUND_NUMBERS - 8)];
-    let expected = widths.chain(book).chain(limits);
+    // The places of the flag table and of the components among a day's.
+    let table = 2 + FUND_NUMBERS;
+    let places = [
+        ("TABLE_FROM", table),
+        ("COMPONENTS_FROM", table + TABLE_NUMBERS),
+    ];
+    let expected = widths.chain(book).chain(limits).chain(places);
     let expected: BTreeMap<String, usize> = expected
         .map(|(name, width)| (name.to_string(), width))
         .collect();
@@ -196,21 +213,26 @@ fn widths_are_those_of_the_library() {
     assert_eq!(roffelaine::MOST_ACCOUNTS, MOST_ACCOUNTS);
 }
 
-/// The constants of a crate, which may use those of `layout` and `text_rules`.
+/// The constants of a crate, which may use those of `flags`, `layout` and
+/// `text_rules`.
 fn constants_of(name: &str) -> BTreeMap<String, usize> {
     let read = |name: &str, below: &BTreeMap<String, usize>| constants(&crate_source(name), below);
-    let mut below = read("layout", &BTreeMap::new());
-    if name == "layout" {
-        return below;
+    let mut below = read("flags", &BTreeMap::new());
+    for each in ["flags", "layout", "text_rules"] {
+        let own = read(each, &below);
+        if each == name {
+            return own;
+        }
+        below.extend(own);
     }
-    below.extend(read("text_rules", &BTreeMap::new()));
     read(name, &below)
 }
 
 #[test]
 fn widths_are_those_of_the_crates() {
     for (name, place, _, width) in WIDTHS {
-        assert_eq!(constants_of(place)[name], width, "{name} of {place}");
+        let found = constants_of(place)[name_in_crate(name)];
+        assert_eq!(found, width, "{name} of {place}");
     }
     let widest = stretch_width(MAX_COMPONENTS);
     assert_eq!(constants_of("layout")["MOST_WIDTH"], widest);
@@ -390,6 +412,37 @@ fn in_header_and_rules(
     let header = header();
     let block = block(&header, block_start, "};");
     [named_numbers(&block, prefix, " = "), in_rules(name)]
+}
+
+/// The columns of the flag table, by the names in the util header and in the crate
+/// `flags`, and our table in that crate, are those of the library and the model.
+#[test]
+fn the_flag_table_is_the_same_everywhere() {
+    let named = roffelaine::FlagColumn::ALL.map(|column| constant_name(&format!("{column:?}")));
+    let expected: BTreeMap<String, u64> = named.into_iter().zip(0..).collect();
+    let util = file("../../include/roffelaine_util.h");
+    let util = block(&util, "enum roffelaine_flag_column {", "};");
+    assert_eq!(named_numbers(&util, "ROFFELAINE_COLUMN_", " = "), expected);
+    let flags = crate_source("flags");
+    let columns = block(&flags, "pub enum Column {", "}").into_iter();
+    let columns = columns.map(|line| constant_name(line.trim_end_matches(',')));
+    assert_eq!(columns.zip(0..).collect::<BTreeMap<_, u64>>(), expected);
+    let rows = block(&flags, "pub const TABLE: Table = [", "];");
+    let rows: Vec<[u64; FLAG_COLUMNS]> = rows.into_iter().map(row_in_rattle).collect();
+    assert_eq!(rows, roffelaine::FlagTable::OURS.rows());
+    assert_eq!(rows, FlagTable::OURS.0);
+}
+
+/// A line of the crate's table: `[1, 0, 0, 0, 1, 1, 1],` or `[0; COLUMNS],`.
+fn row_in_rattle(line: &str) -> [u64; FLAG_COLUMNS] {
+    let numbers = line.trim_matches(['[', ']', ',']);
+    if numbers == "0; COLUMNS" {
+        return [0; FLAG_COLUMNS];
+    }
+    let numbers = numbers.split(", ").map(|number| number.parse());
+    let numbers: Result<Vec<u64>, _> = numbers.collect();
+    let row = numbers.ok().and_then(|numbers| numbers.try_into().ok());
+    row.unwrap_or_else(|| panic!("{line:?} is no row"))
 }
 
 #[test]

@@ -355,7 +355,7 @@ fn faulty_readings() -> [(u64, Vec<u8>, usize); 2] {
 /// Reads a list into the numbers of a run of its own pages, in a child.
 fn reading(text: &[u8], run: &mut Run) -> u64 {
     let (mut fields, mut first_row) = ([0; FIELD_NUMBERS], 0);
-    lent::read(text, run.numbers_mut(), &mut fields, &mut first_row).number
+    lent::read(text, &[], run.numbers_mut(), &mut fields, &mut first_row).number
 }
 
 /// All pages of the run are read-only while a list is refused, and a list that is

@@ -52,6 +52,7 @@ fn open(case: &OpeningCase, fund: &[u64], day: &mut [u64]) -> Reply {
         case.accounts,
         case.count,
         fund,
+        &case.table,
         &case.components,
         &case.holdings,
         &mut book,
@@ -157,7 +158,7 @@ fn check_rows_refused(day: &[u64], before: &Lent) {
 
 #[test]
 fn empty_runs_are_refused() {
-    let reply = lent::open(2, 1, &[], &[], &[], &mut [], &mut [], &mut []);
+    let reply = lent::open(2, 1, &[], &[], &[], &[], &mut [], &mut [], &mut []);
     assert_eq!(Reply::from(reply), refused(1));
     for asked in calls(Lengths::default()) {
         let reply = call(&[], &mut [], &mut [], PerList::default(), &asked);
@@ -169,11 +170,11 @@ fn empty_runs_are_refused() {
         assert_eq!(Reply::from(reply), Reply::accepted(0));
     }
     let mut first_row = 7;
-    let reply = lent::read(&[], &mut [], &mut [0; FIELD_NUMBERS], &mut first_row);
+    let reply = lent::read(&[], &[], &mut [], &mut [0; FIELD_NUMBERS], &mut first_row);
     assert_eq!((reply.into(), first_row), (refused(18), 7));
     assert_eq!(lent::name(&[], 0, 0, &mut []), 0);
     assert_eq!(lent::letters(&[], &mut []), 0);
-    let reply = lent::write(&[], &[], &[], &[], &mut []);
+    let reply = lent::write(&[], &[], &[], &[], &[], &mut []);
     assert_eq!(Reply::from(reply), refused(1));
 }
 
@@ -183,31 +184,162 @@ fn fields_of_another_length_are_refused() {
     for length in [0, FUND_NUMBERS, FIELD_NUMBERS - 1, FIELD_NUMBERS + 1] {
         let text = TextCase::sound(&mut rng);
         let (run, fields) = (rng.numbers(text.room), rng.numbers(length));
-        let (mut run_left, mut fields_left, mut first_row) = (run.clone(), fields.clone(), 7);
-        let reply = lent::read(&text.text, &mut run_left, &mut fields_left, &mut first_row);
-        assert_eq!((reply.into(), first_row), (refused(1), 7));
-        assert_eq!((run_left, fields_left), (run, fields));
-
+        assert_eq!(read_into(&text, &text.table, &run, &fields), refused(1));
         let list = WritingCase::sound(&mut rng);
         let mut fields = field_numbers(&list.head, list.count).to_vec();
         fields.resize(length, 0);
-        let mut output = list.output.clone();
-        let (names, letters) = (&list.names, &list.letters);
-        let reply = lent::write(&fields, &list.components, names, letters, &mut output);
-        assert_eq!((reply.into(), output), (refused(1), list.output));
+        assert_eq!(write_from(&list, &list.table, &fields), refused(1));
+    }
+}
+
+/// Reads a text that is refused into what these runs hold, which stays.
+fn read_into(case: &TextCase, table: &[u64], run: &[u64], fields: &[u64]) -> Reply {
+    let (mut run_left, mut fields_left, mut first_row) = (run.to_vec(), fields.to_vec(), 7);
+    let reply = lent::read(
+        &case.text,
+        table,
+        &mut run_left,
+        &mut fields_left,
+        &mut first_row,
+    );
+    assert_eq!((&run_left[..], &fields_left[..]), (run, fields));
+    assert_eq!(first_row, 7);
+    reply.into()
+}
+
+/// Writes a list that is refused; what the output holds stays.
+fn write_from(case: &WritingCase, table: &[u64], fields: &[u64]) -> Reply {
+    let mut output = case.output.clone();
+    let reply = lent::write(
+        fields,
+        table,
+        &case.components,
+        &case.names,
+        &case.letters,
+        &mut output,
+    );
+    assert_eq!(output, case.output);
+    reply.into()
+}
+
+/// Lengths that no table has, and that stand for none.
+const OTHER_LENGTHS: [usize; 8] = [1, 7, 10, 63, 69, 71, 77, 140];
+
+/// A run of no numbers is no table, and ours is taken; it is the day under ours.
+#[test]
+fn a_table_of_another_length_does_not_open() {
+    let mut rng = Rng::new(38);
+    let case = OpeningCase {
+        table: Vec::new(),
+        components: vec![0, 1, 0, 0, 0, 0],
+        ..one_component(&mut rng)
+    };
+    let fund = fund_numbers(&case.fund);
+    let with_table = |table: &[u64], fund: &[u64], day: &mut [u64]| {
+        let case = OpeningCase {
+            table: table.to_vec(),
+            ..case.clone()
+        };
+        open(&case, fund, day)
+    };
+    let mut day = rng.numbers(DAY_NUMBERS);
+    for length in OTHER_LENGTHS {
+        let other: Vec<u64> = our_numbers().cycle().take(length).collect();
+        assert_eq!(with_table(&other, &fund, &mut day), refused(1));
+        // The length comes before the table's rules and the fund's fields.
+        let broken = vec![2; length];
+        assert_eq!(
+            with_table(&broken, &[9; FUND_NUMBERS], &mut day),
+            refused(1)
+        );
+    }
+    let ours: Vec<u64> = our_numbers().collect();
+    let mut other = rng.numbers(DAY_NUMBERS);
+    assert!(with_table(&ours, &fund, &mut day).is_accepted());
+    assert!(with_table(&[], &fund, &mut other).is_accepted());
+    assert_eq!(day, other);
+    assert_eq!(day[16..86], ours);
+    // The rules come before the fund's fields, and behind all lengths.
+    let mut broken = ours;
+    broken[69] = 2;
+    let out_of_range = [u64::MAX; FUND_NUMBERS];
+    let refusal = with_table(&broken, &out_of_range, &mut day);
+    assert_eq!(refusal, Reply::refused(21, 9));
+    assert_eq!(with_table(&broken, &fund[1..], &mut day), refused(1));
+}
+
+/// Document 01's rows of the flags 0 to 4, all of them in use, and no others.
+fn our_numbers() -> impl Iterator<Item = u64> + Clone {
+    let rows = [
+        [1, 0, 0, 0, 1, 1, 1],
+        [1, 1, 1, 0, 1, 1, 1],
+        [0, 0, 0, 1, 1, 0, 1],
+        [0, 0, 1, 1, 0, 1, 1],
+        [0, 0, 0, 1, 0, 0, 1],
+    ];
+    rows.into_iter().chain([[0; 7]; 5]).flatten()
+}
+
+/// An opening on one component.
+fn one_component(rng: &mut Rng) -> OpeningCase {
+    loop {
+        let case = sound_opening(rng);
+        if case.count == 1 && case.fund.first_code > 0 {
+            return case;
+        }
+    }
+}
+
+/// A table of another length is refused with 21 before all else, and so is one
+/// that breaks a rule: also where the fields have another width, the sizes are
+/// wrong or the text is no list.
+#[test]
+fn a_table_comes_first_in_text_calls() {
+    let mut rng = Rng::new(39);
+    for length in OTHER_LENGTHS {
+        let other = rng.numbers(length);
+        check_table_first(&mut rng, &other, 0);
+    }
+    let ours: Vec<u64> = our_numbers().collect();
+    for at in 0..ours.len() {
+        for number in [2, 257, 1 << 32, u64::MAX] {
+            let mut broken = ours.clone();
+            broken[at] = number;
+            check_table_first(&mut rng, &broken, at as u64 / 7);
+        }
+    }
+}
+
+fn check_table_first(rng: &mut Rng, table: &[u64], place: u64) {
+    let refused = Reply::refused(21, place);
+    let damaged = rng.one_in(2);
+    let text = match damaged {
+        true => TextCase::damaged(rng),
+        false => TextCase::sound(rng),
+    };
+    let mut list = WritingCase::sound(rng);
+    if damaged {
+        list.components.pop();
+        list.head.publish = 2;
+    }
+    for width in [FIELD_NUMBERS, FIELD_NUMBERS - 1, 0] {
+        let (run, fields) = (rng.numbers(text.room), rng.numbers(width));
+        assert_eq!(read_into(&text, table, &run, &fields), refused);
+        let fields = &field_numbers(&list.head, list.count)[..width];
+        assert_eq!(write_from(&list, table, fields), refused);
     }
 }
 
 #[test]
 fn a_part_is_stored_where_there_is_room() {
     let mut rng = Rng::new(36);
-    let text = TextCase::sound(&mut rng).text;
+    let TextCase { text, table, .. } = TextCase::sound(&mut rng);
     let mut lent = LentList {
         components: vec![0; COMPONENT_NUMBERS * MAX_COMPONENTS],
         fields: [0; FIELD_NUMBERS],
         first_row: 0,
     };
-    assert!(Archive.read(&text, &mut lent).is_accepted());
+    assert!(Archive.read(&text, &table, &mut lent).is_accepted());
     for length in 0..5 {
         let before = rng.numbers(length);
         let (mut name, mut letters) = (before.clone(), before.clone());
@@ -314,6 +446,7 @@ fn a_creation_may_break_a_day_at_its_bound() {
             switch: 1,
             ..Fund::default()
         },
+        table: &[],
         components: &[600_000, 3, 0, 0, 0, 0],
         holdings: &[0, 0, 0, 0, 9, 1_000_000_000_000_000_000],
     };

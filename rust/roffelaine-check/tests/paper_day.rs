@@ -46,7 +46,7 @@ impl Setup {
 
     fn with_components(of_600000: u64, of_600036: u64, change: Change) -> Self {
         let mut run = [0; COMPONENT_NUMBERS * COUNT];
-        let list: List = list::read(LIST.as_bytes(), &mut run).expect("the list is read");
+        let list: List = list::read(LIST.as_bytes(), &[], &mut run).expect("the list is read");
         let components = run.chunks_exact(COMPONENT_NUMBERS);
         let mut components: Vec<_> = components.map(Component::from_numbers).collect();
         change(&mut components);
@@ -58,6 +58,7 @@ impl Setup {
             accounts: 2,
             count: list.count,
             fund: list.head.fund,
+            table: &[],
             components: &components,
             holdings: &holdings,
         };

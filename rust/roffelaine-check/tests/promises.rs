@@ -4,8 +4,8 @@ use roffelaine_check::archive::Archive;
 use roffelaine_check::engine::{Engine, Lent, Model};
 use roffelaine_check::model::list;
 use roffelaine_check::model::{
-    range, stretch_width, Call, Component, Reply, Trade, COMPONENT_NUMBERS, FLAG_TABLE, LOTS,
-    RECORD_NUMBERS, REPORT_NUMBERS, SELL, SHANGHAI_KIND, STRETCH_HEAD,
+    range, stretch_width, Call, Component, FlagColumn, FlagTable, Reply, Trade, COMPONENT_NUMBERS,
+    LOTS, RECORD_NUMBERS, REPORT_NUMBERS, SELL, SHANGHAI_KIND, STRETCH_HEAD,
 };
 use roffelaine_check::random::{
     any_call, break_day, price_calls, OpeningCase, Rng, Scale, Size, TextCase, WritingCase,
@@ -81,7 +81,7 @@ impl Counted {
                 let baskets = order.units / lent.day.fund.basket_size;
                 for line in 0..self.lines - 1 {
                     let component = lent.day.components[line];
-                    if component.flag <= 1 {
+                    if lent.day.table.says(component.flag, FlagColumn::StockMoves) {
                         self.of(order.account, line).got += baskets * component.quantity;
                     }
                 }
@@ -163,6 +163,9 @@ fn days_keep_what_was_opened() {
         let case = OpeningCase::sound(&mut rng, size, scale);
         let mut lent = case.lent(&mut rng);
         assert!(Model.open(&case.opening(), &mut lent).is_accepted());
+        let opened = lent.day.clone();
+        let table = FlagTable::given(&case.table).expect("a table or none");
+        assert_eq!(opened.table, table);
         let mut expected = totals(&lent);
         let mut counted = Counted::new(&case);
         let mut calls = price_calls(&mut rng, &lent, scale);
@@ -186,6 +189,7 @@ fn days_keep_what_was_opened() {
             }
             assert_eq!(totals(&lent), expected);
             counted.check(&lent);
+            assert_eq!(lent.day, opened, "{call:?} changes the day");
         }
     }
 }
@@ -302,7 +306,7 @@ fn an_order_reads_its_own_rate_alone() {
             }
             let mut other = before;
             for component in &mut other.day.components[..case.count as usize] {
-                if FLAG_TABLE[component.flag as usize].uses_rates {
+                if other.day.table.says(component.flag, FlagColumn::RateUsed) {
                     *unread_rate(&call, component) = rng.between(0, range::RATE_MAX);
                 }
             }
@@ -344,7 +348,8 @@ fn sound_texts_are_read_and_written_back() {
     for _ in 0..400 {
         let case = TextCase::sound(&mut rng);
         let mut components = vec![0; case.room];
-        let read = list::read(&case.text, &mut components).expect("a sound text is read");
+        let read = list::read(&case.text, &case.table, &mut components);
+        let read = read.expect("a sound text is read");
         let names: Vec<u8> = (0..read.count as usize)
             .flat_map(|at| read.name(at))
             .copied()
@@ -353,6 +358,7 @@ fn sound_texts_are_read_and_written_back() {
             letters: read.letters,
             head: read.head,
             count: read.count,
+            table: &case.table,
             components: &components[..COMPONENT_NUMBERS * read.count as usize],
             names: &names,
         };
@@ -380,7 +386,8 @@ fn sound_lists_are_written_and_read_back() {
         let length = reply.value as usize;
         assert_eq!(output[length..], case.output[length..]);
         let mut components = vec![0; case.components.len()];
-        let read = list::read(&output[..length], &mut components).expect("a written list is read");
+        let read = list::read(&output[..length], &case.table, &mut components);
+        let read = read.expect("a written list is read");
         assert_eq!(
             (read.letters, read.head, read.count),
             (&case.letters[..], case.head, case.count)

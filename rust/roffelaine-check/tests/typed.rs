@@ -2,7 +2,7 @@
 //! answers, records, reports, books and prices are compared.
 
 use roffelaine::{
-    Batch, Day, Execution, Holdings, Money, OrderLists, Refusal, Report, Rooms, Units,
+    Batch, Day, Execution, FlagTable, Holdings, Money, OrderLists, Refusal, Report, Rooms, Units,
 };
 use roffelaine_check::engine::{Engine, Lent, Model, Runs};
 use roffelaine_check::flat::row_of;
@@ -18,6 +18,8 @@ use std::collections::BTreeSet;
 /// How many accounts and components there are is what these lists say.
 struct Asked {
     fund: model::Fund,
+    /// The run of the flag table; empty where none is given.
+    table: Vec<u64>,
     components: Vec<model::Component>,
     accounts: Vec<Vec<u64>>,
 }
@@ -30,6 +32,7 @@ impl Asked {
         let accounts = case.holdings.chunks(components.len() + 2);
         Asked {
             fund: case.fund,
+            table: case.table.clone(),
             accounts: accounts.map(<[u64]>::to_vec).collect(),
             components,
         }
@@ -65,6 +68,7 @@ impl Asked {
             accounts: accounts as u64,
             count: count as u64,
             fund: self.fund,
+            table: &self.table,
             components: &components.collect::<Vec<_>>(),
             holdings: &self.accounts.concat(),
         };
@@ -80,7 +84,8 @@ impl Asked {
         }
     }
 
-    /// The same by the library; none where its types cannot say the fund.
+    /// The same by the library; none where its types cannot say the fund or the
+    /// table.
     fn by_library(&self) -> Option<Result<Day, Refusal>> {
         let fund = library_types::fund(&self.fund)?;
         let components = self.components.iter().map(library_types::component);
@@ -89,7 +94,11 @@ impl Asked {
             lines: account[1..].to_vec(),
         });
         let (components, accounts): (Vec<_>, Vec<_>) = (components.collect(), accounts.collect());
-        Some(Day::open(&fund, &components, &accounts))
+        if self.table.is_empty() {
+            return Some(Day::open(&fund, &components, &accounts));
+        }
+        let table = library_types::table_of_run(&self.table)?;
+        Some(Day::open_with_table(&fund, &table, &components, &accounts))
     }
 }
 
@@ -222,6 +231,24 @@ fn check_book(day: &Day, lent: &Lent) {
     }
 }
 
+/// The day's table is the model's; one that was opened without a table is the day
+/// under our own.
+fn check_table(asked: &Asked, day: &Day, lent: &Lent) {
+    let table = library_types::flag_table(&lent.day.table);
+    assert_eq!(day.flag_table(), table);
+    assert_eq!(table.as_run(), lent.day.table.numbers());
+    if asked.table.is_empty() {
+        assert_eq!(table, FlagTable::OURS);
+        let given = Asked {
+            fund: asked.fund,
+            table: table.as_run().to_vec(),
+            components: asked.components.clone(),
+            accounts: asked.accounts.clone(),
+        };
+        assert_eq!(given.by_library().as_ref(), Some(&Ok(day.clone())));
+    }
+}
+
 /// Each component's code has its line, the first code that of the unit, and
 /// another code has none.
 fn check_codes(day: &Day, lent: &Lent) {
@@ -314,6 +341,7 @@ fn days_answer_as_the_model() {
         let mut lent = asked.by_model().expect("it opens");
         let mut day = asked.by_library().expect("a switch").expect("it opens");
         let opened = day.clone();
+        check_table(&asked, &day, &lent);
         let mut all = Vec::new();
         for call in price_calls(&mut rng, &lent, scale) {
             all.push(same_call(call, &mut day, &mut lent));
@@ -324,6 +352,7 @@ fn days_answer_as_the_model() {
         }
         check_book(&day, &lent);
         check_codes(&day, &lent);
+        assert_eq!(day.flag_table(), opened.flag_table());
         check_batch(opened, &all, &lent);
         let numbers = all.iter().map(|made| (kind(&made.call), made.reply.number));
         reached.extend(numbers);
@@ -369,6 +398,7 @@ fn openings_are_refused_as_by_the_model() {
                 assert_same_numbers(&day, &lent);
                 check_book(&day, &lent);
                 check_codes(&day, &lent);
+                check_table(&asked, &day, &lent);
                 reached.insert(0);
             }
             (Err(expected), found) => {
@@ -378,7 +408,7 @@ fn openings_are_refused_as_by_the_model() {
             (Ok(_), Err(refusal)) => panic!("the library alone: {refusal}"),
         }
     }
-    assert_eq!(reached, BTreeSet::from([0, 1, 2, 3, 4]));
+    assert_eq!(reached, BTreeSet::from([0, 1, 2, 3, 4, 21]));
 }
 
 #[test]

@@ -5,7 +5,7 @@ mod longest_list;
 
 use longest_list::longest_list;
 use roffelaine::{Cents, List, Refusal};
-use roffelaine_check::library_types::{component, head, reply};
+use roffelaine_check::library_types::{component, head, reply, table_of_run};
 use roffelaine_check::model::list::{self, NAME_BYTES};
 use roffelaine_check::model::{Component, Reply, COMPONENT_NUMBERS, MAX_COMPONENTS};
 use roffelaine_check::random::{Rng, TextCase, WritingCase};
@@ -19,14 +19,18 @@ fn components(run: &[u64]) -> Vec<roffelaine::Component> {
 }
 
 /// Reads a text with the model and the library, which must agree; gives the
-/// number of the refusal.
-fn read_on_both(text: &[u8]) -> u64 {
+/// number of the refusal, none where the library's types cannot say the table.
+fn read_on_both(text: &[u8], table: &[u64]) -> Option<u64> {
     let mut run = [0; COMPONENT_NUMBERS * MAX_COMPONENTS];
-    let (model, library) = match (list::read(text, &mut run), List::read(text)) {
+    let library = match table {
+        [] => List::read(text),
+        _ => List::read_with_table(text, &table_of_run(table)?),
+    };
+    let (model, library) = match (list::read(text, table, &mut run), library) {
         (Ok(model), Ok(library)) => (model, library),
         (Err(refusal), library) => {
             assert_eq!(reply(library, |_| 0), Reply::from(refusal));
-            return refusal.number;
+            return Some(refusal.number);
         }
         (Ok(_), Err(refusal)) => panic!("the library alone: {refusal}"),
     };
@@ -45,23 +49,25 @@ fn read_on_both(text: &[u8]) -> u64 {
     let first_code = model.head.fund.first_code;
     assert_eq!(library.line_of(first_code), Some(count));
     assert_eq!(library.line_of(first_code + 1), None);
-    0
+    Some(0)
 }
 
 #[test]
 fn parts_of_a_text_are_those_of_the_model() {
     let mut rng = Rng::new(21);
     for _ in 0..300 {
-        assert_eq!(read_on_both(&TextCase::sound(&mut rng).text), 0);
+        let case = TextCase::sound(&mut rng);
+        assert_eq!(read_on_both(&case.text, &case.table), Some(0));
     }
 }
 
 #[test]
 fn texts_are_refused_as_by_the_model() {
     let mut rng = Rng::new(22);
-    let cases = (0..4_000).map(|_| TextCase::damaged(&mut rng).text);
-    let reached: BTreeSet<u64> = cases.map(|text| read_on_both(&text)).collect();
-    assert_eq!(reached, BTreeSet::from([0, 2, 3, 18, 19, 20]));
+    let cases = (0..4_000).map(|_| TextCase::damaged(&mut rng));
+    let reached = cases.filter_map(|case| read_on_both(&case.text, &case.table));
+    let reached: BTreeSet<u64> = reached.collect();
+    assert_eq!(reached, BTreeSet::from([0, 2, 3, 18, 19, 20, 21]));
 }
 
 /// A list to write, in the library's types; none where these cannot say it: a
@@ -84,7 +90,11 @@ fn library_list(case: &WritingCase) -> Option<List<'_>> {
 /// Writes a list with the model and the library, which must agree; gives the
 /// number of the refusal, none where the library's types cannot say the list.
 fn write_on_both(case: &WritingCase) -> Option<u64> {
-    let found = library_list(case)?.write();
+    let list = library_list(case)?;
+    let found = match case.table[..] {
+        [] => list.write(),
+        _ => list.write_with_table(&table_of_run(&case.table)?),
+    };
     let mut expected = vec![0; longest_list::LONGEST];
     let expected_reply = list::write(&case.list(), &mut expected);
     expected.truncate(expected_reply.value as usize);
@@ -103,7 +113,7 @@ fn lists_are_written_as_by_the_model() {
     }
     let cases = (0..2_000).map(|_| WritingCase::damaged(&mut rng));
     let reached: BTreeSet<u64> = cases.filter_map(|case| write_on_both(&case)).collect();
-    assert_eq!(reached, BTreeSet::from([0, 1, 2, 3]));
+    assert_eq!(reached, BTreeSet::from([0, 1, 2, 3, 21]));
 }
 
 #[test]
@@ -117,7 +127,7 @@ fn a_net_asset_value_below_zero_is_not_written() {
 #[test]
 fn the_longest_list_is_read_and_written() {
     let text = longest_list();
-    assert_eq!(read_on_both(&text), 0);
+    assert_eq!(read_on_both(&text, &[]), Some(0));
     let list = List::read(&text).expect("it is read");
     assert_eq!(list.write(), Ok(text.clone()));
 }

@@ -16,10 +16,13 @@ pub const FLAGS: usize = 10;
 pub const FLAG_COLUMNS: usize = 7;
 /// Numbers of a flag table, a row for each flag.
 pub const TABLE_NUMBERS: usize = FLAGS * FLAG_COLUMNS;
+/// Where the flag table stands in a day, behind its two counts and the fund, and
+/// where the components do.
+const TABLE_FROM: usize = 2 + FUND_NUMBERS;
+const COMPONENTS_FROM: usize = TABLE_FROM + TABLE_NUMBERS;
 /// Numbers of a day: accounts, components, the fund, the flag table, room for all
 /// components.
-pub const DAY_NUMBERS: usize =
-    2 + FUND_NUMBERS + TABLE_NUMBERS + COMPONENT_NUMBERS * MOST_COMPONENTS;
+pub const DAY_NUMBERS: usize = COMPONENTS_FROM + COMPONENT_NUMBERS * MOST_COMPONENTS;
 /// Numbers of a list's fields: the fund, Publish, TradingDay, PreTradingDay,
 /// CashComponent (two numbers), NAVperCU, NAV, the count of components.
 pub const FIELD_NUMBERS: usize = FUND_NUMBERS + 8;
@@ -42,8 +45,6 @@ pub const STRETCH_HEAD: usize = 3;
 pub const LOTS: usize = 3;
 
 const LIMITS_FROM: usize = 6;
-/// Where the flag table stands in a day.
-const TABLE_FROM: usize = 2 + FUND_NUMBERS;
 
 /// Numbers of an account in the book of a day with so many components.
 pub const fn stretch_width(components: usize) -> usize {

@@ -33,6 +33,7 @@ static uint64_t fund[ORDERS * ROFFELAINE_REPORT_WIDTH * ROFFELAINE_MOST_REPORTS(
 static uint64_t rows[ROFFELAINE_ROW_WIDTH * ROWS];
 static uint64_t answers[ROFFELAINE_ANSWER_WIDTH * ROWS];
 static uint64_t part[ROFFELAINE_PART_WIDTH];
+static uint64_t table[ROFFELAINE_TABLE_WIDTH];
 static uint64_t row_read, reports;
 static uint8_t names[ROFFELAINE_NAME_WIDTH * N + 1] = "ONE     TWO     THREE   FOUR    FIVE    ";
 static uint8_t letters[] = "510300";
@@ -44,12 +45,13 @@ static uint8_t output[ROFFELAINE_LONGEST_TEXT];
 static uint64_t make_open(const struct run *runs, uint64_t *place, uint64_t *value)
 {
     return roffelaine_open(
-        ACCOUNTS, N, NUMBERS(0), NUMBERS(1), NUMBERS(2), NUMBERS(3), NUMBERS(4), NUMBERS(5), place, value);
+        ACCOUNTS, N, NUMBERS(0), NUMBERS(1), NUMBERS(2), NUMBERS(3), NUMBERS(4), NUMBERS(5), NUMBERS(6), place, value);
 }
 
 static uint64_t make_open_none(const struct run *runs, uint64_t *place, uint64_t *value)
 {
-    return roffelaine_open(0, 0, NUMBERS(0), NUMBERS(1), NUMBERS(2), NUMBERS(3), NUMBERS(4), NUMBERS(5), place, value);
+    return roffelaine_open(
+        0, 0, NUMBERS(0), NUMBERS(1), NUMBERS(2), NUMBERS(3), NUMBERS(4), NUMBERS(5), NUMBERS(6), place, value);
 }
 
 static uint64_t make_price(const struct run *runs, uint64_t *place, uint64_t *value)
@@ -105,7 +107,7 @@ static uint64_t make_run_public(const struct run *runs, uint64_t *place, uint64_
 
 static uint64_t make_read(const struct run *runs, uint64_t *place, uint64_t *value)
 {
-    return roffelaine_read(BYTES(0), NUMBERS(1), NUMBERS(2), &row_read, place, value);
+    return roffelaine_read(BYTES(0), NUMBERS(1), NUMBERS(2), NUMBERS(3), &row_read, place, value);
 }
 
 static uint64_t make_name(const struct run *runs, uint64_t *place, uint64_t *value)
@@ -122,7 +124,7 @@ static uint64_t make_letters(const struct run *runs, uint64_t *place, uint64_t *
 
 static uint64_t make_write(const struct run *runs, uint64_t *place, uint64_t *value)
 {
-    return roffelaine_write(NUMBERS(0), NUMBERS(1), BYTES(2), BYTES(3), BYTES(4), place, value);
+    return roffelaine_write(NUMBERS(0), NUMBERS(1), NUMBERS(2), BYTES(3), BYTES(4), BYTES(5), place, value);
 }
 
 #define NUMBER_RUN(name) {#name, name, sizeof name[0], sizeof name / sizeof name[0], NULL}
@@ -131,13 +133,13 @@ static uint64_t make_write(const struct run *runs, uint64_t *place, uint64_t *va
 #define BYTE_RUN(name, count) {#name, name, 1, count, NULL}
 
 #define OPENING_RUNS \
-    {"fund", fields, sizeof fields[0], ROFFELAINE_FUND_WIDTH, NULL}, NUMBER_RUN(component_run), NUMBER_RUN(holdings), \
-        NUMBER_RUN(book), NUMBER_RUN(prices), NUMBER_RUN(day)
+    {"fund", fields, sizeof fields[0], ROFFELAINE_FUND_WIDTH, NULL}, NUMBER_RUN(table), NUMBER_RUN(component_run), \
+        NUMBER_RUN(holdings), NUMBER_RUN(book), NUMBER_RUN(prices), NUMBER_RUN(day)
 
 /* The length of the text is put in when it is known. */
 static struct call calls[] = {
-    {"open", make_open, 6, {OPENING_RUNS}},
-    {"open, no account", make_open_none, 6, {OPENING_RUNS}},
+    {"open", make_open, 7, {OPENING_RUNS}},
+    {"open, no account", make_open_none, 7, {OPENING_RUNS}},
     {"price", make_price, 3, {DAY_RUNS}},
     {"trade", make_trade, 3, {DAY_RUNS}},
     {"reference_value", make_reference_value, 3, {DAY_RUNS}},
@@ -147,12 +149,12 @@ static struct call calls[] = {
     {"redemption_test", make_redemption_test, 3, {DAY_RUNS}},
     {"run", make_run, 8, {DAY_RUNS, NUMBER_RUN(rows), LIST_RUNS, NUMBER_RUN(answers)}},
     {"run_public", make_run_public, 8, {DAY_RUNS, NUMBER_RUN(rows), LIST_RUNS, NUMBER_RUN(answers)}},
-    {"read", make_read, 3, {BYTE_RUN(text, 0), NUMBER_RUN(component_run), NUMBER_RUN(fields)}},
+    {"read", make_read, 4, {BYTE_RUN(text, 0), NUMBER_RUN(table), NUMBER_RUN(component_run), NUMBER_RUN(fields)}},
     {"name", make_name, 2, {BYTE_RUN(text, 0), NUMBER_RUN(part)}},
     {"letters", make_letters, 2, {BYTE_RUN(text, 0), NUMBER_RUN(part)}},
-    {"write", make_write, 5,
-     {NUMBER_RUN(fields), NUMBER_RUN(component_run), BYTE_RUN(names, sizeof names - 1), BYTE_RUN(letters, sizeof letters - 1),
-      BYTE_RUN(output, sizeof output)}},
+    {"write", make_write, 6,
+     {NUMBER_RUN(fields), NUMBER_RUN(table), NUMBER_RUN(component_run), BYTE_RUN(names, sizeof names - 1),
+      BYTE_RUN(letters, sizeof letters - 1), BYTE_RUN(output, sizeof output)}},
 };
 enum { CALLS = sizeof calls / sizeof calls[0] };
 
@@ -249,6 +251,7 @@ int main(int count, char **words)
     must(count == 2, "the list text is named");
     must(untouchable != MAP_FAILED, "there is memory that may not be touched");
     open_paper_day(words[1]);
+    roffelaine_our_table(table);
     roffelaine_row_price(rows, 0, 2, 10002);
     roffelaine_row_create(rows, 1, 1, BASKET, roffelaine_ample_lists(N, 0));
     roffelaine_row_redeem(rows, 2, 1, BASKET, roffelaine_ample_lists(N, 1));

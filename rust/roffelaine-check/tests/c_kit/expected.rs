@@ -1,6 +1,8 @@
 //! What the programs of the C kit are to print, written by hand from the paper.
 
-/// `examples/day.c`: case (e) of the paper's day to compare with, twice.
+/// `examples/day.c`: case (e) of the paper's day to compare with, twice, and once
+/// more with 120,000 yuan and a tenth of it in place of the 3,000 of 600036, of
+/// which no stock moves then.
 pub const EXAMPLE: &str = "\
 test create ok 8
 510300 B 1000000 0.000 0.000
@@ -44,13 +46,29 @@ fund 2 1 600000 3072
 fund 2 1 600036 3000
 fund 3 2 000000 0 1 173408.000 2 113600.000
 line 4, column 14: a field of the list is not written as it must be
+line 26, column 28: a field of the list is not written as it must be
+test create ok 7
+510300 B 1000000 0.000 0.000
+600000 S 3072 0.000 0.000
+510305 B 1000000 0.113 113000.000
+510305 B 1 600.000 600.000
+510302 B 1000000 0.305 305000.000
+510302 B 1 408.000 408.000
+510301 B 1000000 0.000 0.000
+investor 1 1 510300 1000000
+investor 2 2 600000 3072
+investor 3 1 000000 0 1 305408.000 2 113600.000
+fund 1 2 510300 1000000
+fund 2 1 600000 3072
+fund 3 2 000000 0 1 305408.000 2 113600.000
+redeem refused 9 0: short of stock or units
 ";
 
 /// `empty_runs.c`: by call, what it answers with no run empty, with each run
 /// alone empty, and with all. A name and letters answer their length.
 pub const EMPTY_RUNS: &str = "\
-open 0, fund 1, component_run 1, holdings 1, book 1, prices 1, day 1, all 1
-open, no account 1, fund 1, component_run 1, holdings 1, book 1, prices 1, day 1, all 1
+open 0, fund 1, table 0, component_run 1, holdings 1, book 1, prices 1, day 1, all 1
+open, no account 1, fund 1, table 1, component_run 1, holdings 1, book 1, prices 1, day 1, all 1
 price 0, day 5, book 5, prices 5, all 5
 trade 0, day 5, book 5, prices 5, all 5
 reference_value 0, day 5, book 5, prices 5, all 5
@@ -60,10 +78,10 @@ creation_test 0, day 5, book 5, prices 5, all 5
 redemption_test 0, day 5, book 5, prices 5, all 5
 run 0, day 0, book 0, prices 0, rows 1, records 0, investor 0, fund 0, answers 1, all 0
 run_public 0, day 0, book 0, prices 0, rows 1, records 0, investor 0, fund 0, answers 1, all 0
-read 0, text 18, component_run 16, fields 1, all 1
+read 0, text 18, table 0, component_run 16, fields 1, all 1
 name 8, text 0, part 8, all 0
 letters 6, text 0, part 6, all 0
-write 0, fields 1, component_run 1, names 1, letters 2, output 16, all 1
+write 0, fields 1, table 0, component_run 1, names 1, letters 2, output 16, all 1
 not open
 price 5, day 5, book 5, prices 5, all 5
 trade 5, day 5, book 5, prices 5, all 5
@@ -161,6 +179,20 @@ line of 600000: 2
 line of 600036: 3
 line of 600519: 4
 line of 600520: none
+flag 0 1 0 0 0 1 1 1
+flag 1 1 1 1 0 1 1 1
+flag 2 0 0 0 1 1 0 1
+flag 3 0 0 1 1 0 1 1
+flag 4 0 0 0 1 0 0 1
+flag 5 0 0 0 0 0 0 0
+flag 6 0 0 0 0 0 0 0
+flag 7 0 0 0 0 0 0 0
+flag 8 0 0 0 0 0 0 0
+flag 9 0 0 0 0 0 0 0
+flag 10 0 0 0 0 0 0 0
+last row starts 1
+last row ends 7
+row before ends 0
 accounts 3
 components 5
 first code 510300

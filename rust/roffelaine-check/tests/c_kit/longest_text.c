@@ -55,7 +55,7 @@ static void fill(void)
 static uint64_t write_list(size_t letter_count, size_t room, uint64_t *place, uint64_t *value)
 {
     return roffelaine_write(
-        fields, ROFFELAINE_FIELDS_WIDTH, run, RUN, names, NAMES, (const uint8_t *)letters, letter_count, output, room,
+        fields, ROFFELAINE_FIELDS_WIDTH, NULL, 0, run, RUN, names, NAMES, (const uint8_t *)letters, letter_count, output, room,
         place, value);
 }
 
@@ -64,7 +64,7 @@ static uint64_t read_list(const uint8_t *text, size_t length, uint64_t *place, u
     static uint64_t run_read[RUN], fields_read[ROFFELAINE_FIELDS_WIDTH];
     uint64_t first_row;
     const uint64_t number = roffelaine_read(
-        text, length, run_read, RUN, fields_read, ROFFELAINE_FIELDS_WIDTH, &first_row, place, value);
+        text, length, NULL, 0, run_read, RUN, fields_read, ROFFELAINE_FIELDS_WIDTH, &first_row, place, value);
     if (number != ROFFELAINE_ACCEPTED)
         return number;
     if (memcmp(run_read, run, sizeof run) != 0 || memcmp(fields_read, fields, sizeof fields) != 0)

@@ -53,7 +53,7 @@ static void open_paper_day(const char *path)
     read_text(path);
     must(
         roffelaine_read(
-            text, text_length, component_run, ROFFELAINE_COMPONENT_WIDTH * N, fields, ROFFELAINE_FIELDS_WIDTH,
+            text, text_length, NULL, 0, component_run, ROFFELAINE_COMPONENT_WIDTH * N, fields, ROFFELAINE_FIELDS_WIDTH,
             &first_row, &place, &value) == ROFFELAINE_ACCEPTED,
         "the list is read");
     must(value == N, "the list has five components");
@@ -62,7 +62,7 @@ static void open_paper_day(const char *path)
             holdings[(N + 2) * account + k] = held[account][k];
     must(
         roffelaine_open(
-            ACCOUNTS, N, fields, ROFFELAINE_FUND_WIDTH, component_run, ROFFELAINE_COMPONENT_WIDTH * N,
+            ACCOUNTS, N, fields, ROFFELAINE_FUND_WIDTH, NULL, 0, component_run, ROFFELAINE_COMPONENT_WIDTH * N,
             holdings, ROFFELAINE_HOLDINGS_LENGTH(ACCOUNTS, N), book, ROFFELAINE_BOOK_LENGTH(ACCOUNTS, N), prices, N,
             day, ROFFELAINE_DAY_WIDTH, &place, &value) == ROFFELAINE_ACCEPTED,
         "the day opens");

@@ -21,7 +21,7 @@ static void print_line(uint64_t code, size_t line)
 static void print_refusals(void)
 {
     uint64_t number;
-    for (number = 0; number <= ROFFELAINE_RECORD_COUNT + 1; number++)
+    for (number = 0; number <= ROFFELAINE_FLAG_TABLE + 1; number++)
         printf("%" PRIu64 "|%s|%s\n", number, roffelaine_reason(number), roffelaine_place_meaning(number));
 }
 
@@ -56,6 +56,30 @@ static void print_lines(void)
     must(roffelaine_line_of(NULL, 0, 1) == ROFFELAINE_NO_LINE, "an empty run is no day");
     must(roffelaine_line_of(blank, ROFFELAINE_DAY_WIDTH, 0) == ROFFELAINE_NO_LINE, "a day that is not open has no line");
     must(roffelaine_line_in(NULL, 0, 7, 7) == 0, "the unit stands behind no components");
+}
+
+/* Our table, as an opening without one leaves it in the day, and by what each flag says. */
+static void print_table(void)
+{
+    uint64_t table[ROFFELAINE_TABLE_WIDTH], flag;
+    static const uint64_t row[ROFFELAINE_FLAG_COLUMNS] = {1, 2, 3, 4, 5, 6, 7};
+    int column;
+    memset(table, 0xff, sizeof table);
+    roffelaine_our_table(table);
+    must(memcmp(table, day + ROFFELAINE_DAY_TABLE, sizeof table) == 0, "the day has our table");
+    for (flag = 0; flag <= ROFFELAINE_FLAGS; flag++) {
+        printf("flag %" PRIu64, flag);
+        for (column = 0; column < ROFFELAINE_FLAG_COLUMNS; column++)
+            printf(" %d", roffelaine_flag_says(table, flag, (enum roffelaine_flag_column)column));
+        printf("\n");
+    }
+    table[ROFFELAINE_FLAG_COLUMNS * 1 + ROFFELAINE_COLUMN_IN_USE] = 0;
+    must(!roffelaine_flag_says(table, 1, ROFFELAINE_COLUMN_STOCK_MOVES), "a flag that is not in use says nothing");
+    must(!roffelaine_flag_says(table, UINT64_MAX, ROFFELAINE_COLUMN_IN_USE), "there is no such flag");
+    roffelaine_put_flag(table, 9, row);
+    print_number("last row starts", table[ROFFELAINE_FLAG_COLUMNS * 9]);
+    print_number("last row ends", table[ROFFELAINE_TABLE_WIDTH - 1]);
+    print_number("row before ends", table[ROFFELAINE_FLAG_COLUMNS * 9 - 1]);
 }
 
 static void print_component(struct roffelaine_component component)
@@ -183,6 +207,7 @@ int main(int count, char **words)
     print_refusals();
     print_positions();
     print_lines();
+    print_table();
     print_fields();
     print_run();
     print_rows();

@@ -16,7 +16,7 @@ int main()
 {
     uint64_t place, value, reports, first_row;
     const uint64_t answers[] = {
-        roffelaine_open(0, 0, NUMBERS, NUMBERS, NUMBERS, NUMBERS, NUMBERS, NUMBERS, &place, &value),
+        roffelaine_open(0, 0, NUMBERS, NUMBERS, NUMBERS, NUMBERS, NUMBERS, NUMBERS, NUMBERS, &place, &value),
         roffelaine_price(NUMBERS, NUMBERS, NUMBERS, 0, 1, &place, &value),
         roffelaine_trade(NUMBERS, NUMBERS, NUMBERS, 0, 1, 1, 1, 2, &place, &value),
         roffelaine_reference_value(NUMBERS, NUMBERS, NUMBERS, &place, &value),
@@ -26,10 +26,10 @@ int main()
         roffelaine_redemption_test(NUMBERS, NUMBERS, NUMBERS, 1, 1, 0, 0, 0, &place, &value, &reports),
         roffelaine_run(NUMBERS, NUMBERS, NUMBERS, NUMBERS, NUMBERS, NUMBERS, NUMBERS, NUMBERS, &place, &value),
         roffelaine_run_public(NUMBERS, NUMBERS, NUMBERS, NUMBERS, NUMBERS, NUMBERS, NUMBERS, NUMBERS, &place, &value),
-        roffelaine_read(BYTES, NUMBERS, NUMBERS, &first_row, &place, &value),
+        roffelaine_read(BYTES, NUMBERS, NUMBERS, NUMBERS, &first_row, &place, &value),
         roffelaine_name(BYTES, 0, 0, NUMBERS),
         roffelaine_letters(BYTES, NUMBERS),
-        roffelaine_write(NUMBERS, NUMBERS, BYTES, BYTES, BYTES, &place, &value),
+        roffelaine_write(NUMBERS, NUMBERS, NUMBERS, BYTES, BYTES, BYTES, &place, &value),
     };
     std::printf("answers");
     for (uint64_t answer : answers)

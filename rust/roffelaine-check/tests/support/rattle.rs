@@ -158,7 +158,7 @@ impl<'t> Sum<'t> {
     }
 
     fn word(&self, word: &str) -> usize {
-        let name = word.trim_start_matches("layout::");
+        let name = word.rsplit("::").next().unwrap_or(word);
         match self.known.get(name) {
             Some(value) => *value,
             None => word
