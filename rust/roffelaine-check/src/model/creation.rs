@@ -3,6 +3,7 @@
 use super::book::{
     self, fund_and_account, handable, lots, lots_mut, stretch, CASH, CREATED, GOT, OLD,
 };
+use super::flags::yes;
 use super::flags::FlagColumn::{Shanghai, ShortageInCash, StockMoves};
 use super::order_lists::{Lengths, Lists};
 use super::order_writer::OrderWriter;
@@ -72,7 +73,7 @@ fn hand_in_stock(
     writer: &mut OrderWriter<'_>,
 ) {
     for (line, component) in day.listed().iter().enumerate() {
-        if !day.table.says(component.flag, StockMoves) {
+        if !yes(day.row_of(component), StockMoves) {
             continue;
         }
         let lots = lots_mut(own, line);
@@ -121,20 +122,20 @@ fn add_up(
     let mut terms = Terms::new(baskets);
     let mut substituted = None;
     for (line, (component, &price)) in day.listed().iter().zip(prices).enumerate() {
-        let says = |column| day.table.says(component.flag, column);
-        if !says(StockMoves) {
-            terms.add_cash(says(Shanghai), fixed_cash(component, baskets));
+        let row = day.row_of(component);
+        if !yes(row, StockMoves) {
+            terms.add_cash(yes(row, Shanghai), fixed_cash(component, baskets));
             continue;
         }
         let need = baskets * component.quantity;
         let there = handable(lots(own, line));
         terms.stock_lines += u64::from(need.min(there) > 0);
         if there < need {
-            if !says(ShortageInCash) {
+            if !yes(row, ShortageInCash) {
                 return Err(Refusal::at(SHORT_OF_STOCK, line));
             }
             let worth = (need - there) * price;
-            terms.add_cash(says(Shanghai), with_premium(worth, component.premium));
+            terms.add_cash(yes(row, Shanghai), with_premium(worth, component.premium));
             *substituted.get_or_insert(0) += worth;
         }
     }

@@ -27,6 +27,12 @@ use FlagColumn::{AmountUsed, InUse, Priced, RateUsed, Shanghai, ShortageInCash, 
 /// The numbers of one flag.
 pub type FlagRow = [u64; FLAG_COLUMNS];
 
+/// Whether a row has yes in a column.
+#[inline]
+pub(super) fn yes(row: &FlagRow, column: FlagColumn) -> bool {
+    row[column as usize] == 1
+}
+
 /// The rows of all flags. Any numbers may stand in it until it is tested.
 #[derive(Clone, Copy, Debug, PartialEq, Eq)]
 pub struct FlagTable(pub [FlagRow; FLAGS]);
@@ -69,13 +75,17 @@ impl FlagTable {
         self.0.as_flattened()
     }
 
+    /// The row of a flag that is in use.
+    #[inline]
+    pub(super) fn in_use(&self, flag: u64) -> Option<&FlagRow> {
+        let row = self.0.get(flag as usize);
+        row.filter(|row| yes(row, InUse))
+    }
+
     /// Whether a flag is in use and has yes in a column.
     #[inline]
     pub fn says(&self, flag: u64, column: FlagColumn) -> bool {
-        match self.0.get(flag as usize) {
-            Some(row) => row[InUse as usize] == 1 && row[column as usize] == 1,
-            None => false,
-        }
+        self.in_use(flag).is_some_and(|row| yes(row, column))
     }
 
     /// The lowest flag whose row breaks the rules (refusal 21).
@@ -102,7 +112,7 @@ impl FlagTable {
 /// priced and uses no amount, or moves none and uses an amount; a shortage in
 /// cash is only where stock moves and the rate is used.
 fn keeps_the_rules(row: &FlagRow) -> bool {
-    let yes = |column: FlagColumn| row[column as usize] == 1;
+    let yes = |column| yes(row, column);
     let stock = yes(Shanghai) && yes(Priced) && !yes(AmountUsed);
     let kind = if yes(StockMoves) {
         stock

@@ -3,6 +3,7 @@
 use super::book::{
     self, fund_and_account, handable, lots, lots_mut, stretch, CASH, GOT, OLD, REDEEMED,
 };
+use super::flags::yes;
 use super::flags::FlagColumn::{Shanghai, StockMoves};
 use super::order_lists::{Lengths, Lists};
 use super::order_writer::OrderWriter;
@@ -71,7 +72,7 @@ fn deliver_stock(
 ) {
     for (line, component) in day.listed().iter().enumerate() {
         let delivered = baskets * component.quantity;
-        if day.table.says(component.flag, StockMoves) && delivered > 0 {
+        if yes(day.row_of(component), StockMoves) && delivered > 0 {
             lots_mut(fund, line)[OLD] -= delivered;
             lots_mut(own, line)[GOT] += delivered;
             writer.stock(component.code, delivered);
@@ -105,9 +106,9 @@ pub(super) fn test_on_sound_day(
 fn add_up(day: &Day, fund: &[u64], baskets: u64) -> Result<Terms, Refusal> {
     let mut terms = Terms::new(baskets);
     for (line, component) in day.listed().iter().enumerate() {
-        let says = |column| day.table.says(component.flag, column);
-        if !says(StockMoves) {
-            terms.add_cash(says(Shanghai), fixed_cash(component, baskets));
+        let row = day.row_of(component);
+        if !yes(row, StockMoves) {
+            terms.add_cash(yes(row, Shanghai), fixed_cash(component, baskets));
             continue;
         }
         let need = baskets * component.quantity;

@@ -1,7 +1,7 @@
 //! The fund, its components and the day.
 
-use super::flags::FlagColumn::{AmountUsed, InUse, RateUsed};
-use super::flags::FlagTable;
+use super::flags::FlagColumn::{AmountUsed, RateUsed};
+use super::flags::{yes, FlagRow, FlagTable};
 use super::range;
 
 /// Room for components in a day.
@@ -108,7 +108,6 @@ impl Component {
     fn fits(&self, previous: Option<u64>, first_code: u64, table: &FlagTable) -> bool {
         let in_range = self.code <= range::CODE_MAX
             && self.quantity <= range::QUANTITY_MAX
-            && table.says(self.flag, InUse)
             && self.premium <= range::RATE_MAX
             && self.discount <= range::RATE_MAX
             && self.amount <= range::AMOUNT_MAX;
@@ -117,12 +116,14 @@ impl Component {
             Some(code) => self.code > code,
             None => true,
         };
-        in_range && !in_group && rising && self.leaves_unused_blank(table)
+        let row = table.in_use(self.flag);
+        let fits_its_flag = row.is_some_and(|row| self.leaves_unused_blank(row));
+        in_range && !in_group && rising && fits_its_flag
     }
 
-    fn leaves_unused_blank(&self, table: &FlagTable) -> bool {
-        (table.says(self.flag, RateUsed) || (self.premium == 0 && self.discount == 0))
-            && (table.says(self.flag, AmountUsed) || self.amount == 0)
+    fn leaves_unused_blank(&self, row: &FlagRow) -> bool {
+        (yes(row, RateUsed) || (self.premium == 0 && self.discount == 0))
+            && (yes(row, AmountUsed) || self.amount == 0)
     }
 }
 
@@ -165,6 +166,13 @@ impl Day {
             table: FlagTable::BLANK,
             components: [Component::BLANK; MAX_COMPONENTS],
         }
+    }
+
+    /// What the table says of a component, whose flag must be in use, as on every
+    /// sound day.
+    #[inline]
+    pub(super) fn row_of(&self, component: &Component) -> &FlagRow {
+        &self.table.0[component.flag as usize]
     }
 
     /// The components that the day has; its count must be in range.

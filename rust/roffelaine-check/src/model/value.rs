@@ -1,5 +1,6 @@
 //! The reference value of a unit, in ten-thousandths of a yuan.
 
+use super::flags::yes;
 use super::flags::FlagColumn::Priced;
 use super::range;
 use super::refusal::{Refusal, Reply, NO_REFERENCE_VALUE};
@@ -20,7 +21,7 @@ pub(super) fn value_on_sound_day(day: &Day, prices: &[u64]) -> Result<u64, Refus
 fn unit_value(day: &Day, prices: &[u64]) -> Option<u64> {
     let mut sum = 10 * day.fund.estimated_cash;
     for (component, &price) in day.listed().iter().zip(prices) {
-        let worth = if !day.table.says(component.flag, Priced) {
+        let worth = if !yes(day.row_of(component), Priced) {
             component.amount
         } else if price == 0 && component.quantity > 0 {
             return None;
