@@ -5,9 +5,9 @@ mod paper_list;
 
 use paper_list::LIST;
 use roffelaine::{
-    Batch, CashGroup, CashKind, Cents, Component, Counts, Day, Execution, Fund, Holdings, List,
-    Lots, Money, OrderLists, Rate, Record, ReferenceValue, Refusal, Report, ReportType, Rooms,
-    Side, Trade, Units,
+    Batch, CashGroup, CashKind, Cents, Component, Counts, Day, Execution, FlagTable, Fund,
+    Holdings, List, Lots, Money, OrderLists, Rate, Record, ReferenceValue, Refusal, Report,
+    ReportType, Rooms, Side, Trade, Units,
 };
 use Side::{Buy, Sell};
 
@@ -435,6 +435,134 @@ fn a_batch_does_what_its_calls_do() {
     one_by_one.redeem(1, BASKET).expect("it redeems");
     one_by_one.create(1, BASKET).expect("it creates");
     assert_eq!(day, one_by_one);
+}
+
+/// Ours without flag 1, with flag 5 for what flag 1 was, and with flag 6: an amount
+/// of Shanghai cash with rates, not priced.
+fn a_table() -> FlagTable {
+    let mut table = FlagTable::OURS;
+    table.set_row(1, [1, 1, 1, 0, 1, 1, 0]);
+    table.set_row(5, [1, 1, 1, 0, 1, 1, 1]);
+    table.set_row(6, [0, 0, 1, 1, 1, 0, 1]);
+    table
+}
+
+/// The list with flag 5 for 600000, and with flag 6 for 600519, at a premium of a
+/// tenth and a discount of a fifth.
+fn list_by_the_table() -> String {
+    let list = LIST.replace("5200|1|", "5200|5|");
+    list.replace("100|2|       |       |", "100|6|0.10000|0.20000|")
+}
+
+#[test]
+fn a_list_is_read_and_written_by_its_table() {
+    let (text, table) = (list_by_the_table(), a_table());
+    let list = List::read_with_table(text.as_bytes(), &table).expect("it is read");
+    let flags: Vec<u64> = list.components.iter().map(|each| each.flag).collect();
+    assert_eq!(flags, [3, 4, 5, 0, 6]);
+    let rates = (list.components[4].premium, list.components[4].discount);
+    assert_eq!(rates, (Rate(10_000), Rate(20_000)));
+    assert_eq!(
+        list.write_with_table(&table).as_deref(),
+        Ok(text.as_bytes())
+    );
+    // By ours flag 5 is not in use, and by the table flag 1 is not.
+    let premium = text.find("|5|").expect("flag 5") as u64 + 3;
+    let refused = Err(Refusal::TextField { place: premium });
+    assert_eq!(List::read(text.as_bytes()), refused);
+    assert_eq!(List::read_with_table(LIST.as_bytes(), &table), refused);
+    assert_eq!(list.write(), Err(Refusal::Component { place: 2 }));
+    let refused = Err(Refusal::Component { place: 2 });
+    assert_eq!(the_list().write_with_table(&table), refused);
+    assert_eq!(
+        the_list().write_with_table(&FlagTable::OURS),
+        the_list().write()
+    );
+}
+
+/// Cases (e) and (f), with 165,000 and 120,000 yuan for 600519 in place of 150,000.
+#[test]
+fn orders_follow_the_table_of_their_day() {
+    let (text, table) = (list_by_the_table(), a_table());
+    let list = List::read_with_table(text.as_bytes(), &table).expect("it is read");
+    let (fund, accounts) = (&list.head.fund, holdings(3_072, 3_000));
+    let by_ours = Day::open(fund, &list.components, &accounts);
+    assert_eq!(by_ours, Err(Refusal::Component { place: 2 }));
+    let day = Day::open_with_table(fund, &table, &list.components, &accounts);
+    let mut day = with_prices(day.expect("it opens"));
+    assert_eq!(day.flag_table(), table);
+    assert_eq!(day.reference_value(), Ok(ReferenceValue(4_257)));
+
+    let mut redemption = the_redemption();
+    redemption.records[5] = record(510_302, Sell, 1_000_000, 120);
+    let paid_to_the_fund = paid(Buy, 120_000, 94_400);
+    redemption.investor[3] = paid(Sell, 120_000, 94_400);
+    redemption.fund[3] = paid_to_the_fund;
+    assert_eq!(day.redeem(1, BASKET), Ok(redemption));
+
+    let mut creation = the_creation();
+    creation.records[5] = record(510_302, Buy, 1_000_000, 188);
+    creation.investor[3] = paid(Buy, 188_408, 113_600);
+    creation.fund[3] = paid(Sell, 188_408, 113_600);
+    assert_eq!(day.create(1, BASKET), Ok(creation));
+    assert_eq!(day.flag_table(), table);
+}
+
+#[test]
+fn a_day_without_a_table_is_one_under_ours() {
+    let list = the_list();
+    let accounts = holdings(3_072, 3_000);
+    let given = Day::open_with_table(
+        &list.head.fund,
+        &FlagTable::OURS,
+        &list.components,
+        &accounts,
+    );
+    assert_eq!(given, Ok(opened(3_072, 3_000)));
+    assert_eq!(opened(0, 0).flag_table(), FlagTable::default());
+    let read = List::read_with_table(LIST.as_bytes(), &FlagTable::OURS);
+    assert_eq!(read, Ok(the_list()));
+}
+
+/// Rows that break a rule, each in the place of one that no component has; the same
+/// row not in use is taken, but for one with another number than 0 and 1.
+#[test]
+fn a_table_that_breaks_a_rule_is_refused() {
+    let rows = [
+        [1, 0, 0, 1, 1, 1, 1],
+        [1, 0, 0, 0, 0, 1, 1],
+        [1, 0, 0, 0, 1, 0, 1],
+        [0, 0, 0, 0, 1, 1, 1],
+        [1, 1, 0, 0, 1, 1, 1],
+        [0, 1, 1, 1, 0, 0, 1],
+        [0, 0, 0, 2, 0, 0, 1],
+        [0, 0, 0, 1, 0, 0, 2],
+    ];
+    let (list, accounts) = (the_list(), holdings(0, 0));
+    for (flag, mut row) in (0..2).flat_map(|_| 5..=9).zip(rows) {
+        let mut table = FlagTable::OURS;
+        table.set_row(flag, row);
+        let mut fund = list.head.fund;
+        fund.basket_size = Units(0);
+        let refused = Refusal::FlagTable { place: flag as u64 };
+        let opened = Day::open_with_table(&fund, &table, &list.components, &accounts);
+        assert_eq!(opened.err(), Some(refused), "{row:?}");
+        assert_eq!(List::read_with_table(b"", &table), Err(refused));
+        let mut other = list.clone();
+        other.names.pop();
+        assert_eq!(other.write_with_table(&table), Err(refused));
+        // The lowest flag at fault.
+        table.set_row(3, row);
+        let refused = Refusal::FlagTable { place: 3 };
+        assert_eq!(List::read_with_table(b"", &table), Err(refused));
+
+        row[6] = 0;
+        table = FlagTable::OURS;
+        table.set_row(flag, row);
+        let is_taken = row.iter().all(|&number| number < 2);
+        let opened = Day::open_with_table(&list.head.fund, &table, &list.components, &accounts);
+        assert_eq!(opened.is_ok(), is_taken, "{row:?}");
+    }
 }
 
 #[test]

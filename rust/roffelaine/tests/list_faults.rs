@@ -4,7 +4,7 @@
 mod paper_list;
 
 use paper_list::LIST;
-use roffelaine::{lines_in_lf, list_end, with_crlf, List, ListFault, Refusal};
+use roffelaine::{lines_in_lf, list_end, with_crlf, FlagTable, List, ListFault, Refusal};
 
 /// The fault of a text that is refused with a number.
 fn fault(text: &[u8], number: u64) -> String {
@@ -60,6 +60,99 @@ fn every_row_of_the_table() {
         count += 1;
     }
     assert!(count > 100, "{count} rows");
+}
+
+/// Ours with rates for flag 0, without flag 4, whose columns still say what it used,
+/// and with flag 7: an amount with rates.
+fn a_table() -> FlagTable {
+    let mut table = FlagTable::OURS;
+    table.set_row(0, [1, 0, 1, 0, 1, 1, 1]);
+    table.set_row(4, [0, 0, 1, 1, 0, 0, 0]);
+    table.set_row(7, [0, 0, 1, 1, 0, 0, 1]);
+    table
+}
+
+/// The list as the table has it: flag 7 for 000002 and rates for 600036.
+fn list_by_the_table() -> String {
+    let list = LIST.replace("1000|4|       |       |", "1000|7|0.10000|0.20000|");
+    list.replace("3000|0|       |       |", "3000|0|0.00000|1.00000|")
+}
+
+/// Blanks and flags are judged by the table that the list was read under.
+#[test]
+fn faults_under_a_table() {
+    let (table, list) = (a_table(), list_by_the_table());
+    assert!(List::read_with_table(list.as_bytes(), &table).is_ok());
+    let rows = [
+        (
+            "7|0.10000|0.20000|",
+            "4|       |       |",
+            19,
+            "24:44 amount \"    8000.000\": flag 4 uses no amount: blank; \
+             flags in use: 0 to 3, 7",
+        ),
+        (
+            "7|0.10000|0.20000|    8000.000|",
+            "4|0.10000|       |            |",
+            19,
+            "24:28 premium \"0.10000\": flag 4 uses no premium: blank; \
+             flags in use: 0 to 3, 7",
+        ),
+        (
+            "7|0.10000|0.20000|    8000.000|",
+            "4|       |       |            |",
+            3,
+            "24:26 flag \"4\": flags in use: 0 to 3, 7",
+        ),
+        (
+            "7|0.10000|",
+            "x|0.10000|",
+            19,
+            "24:26 flag \"x\": a digit; flags in use: 0 to 3, 7",
+        ),
+        (
+            "0|0.00000|1.00000|",
+            "0|0.00000|       |",
+            19,
+            "26:36 discount \"       \": flag 0 uses a discount: \
+             five decimals right in blanks, as \"0.12345\"",
+        ),
+        (
+            "0|0.00000|1.00000|            |",
+            "0|0.00000|1.00000|       1.000|",
+            19,
+            "26:44 amount \"       1.000\": flag 0 uses no amount: blank",
+        ),
+        (
+            "0|0.00000|1.00000|",
+            "0|0.00000|1.00001|",
+            3,
+            "26:36 discount \"1.00001\": at most 1.00000",
+        ),
+    ];
+    for (from, to, number, words) in rows {
+        let text = list.replacen(from, to, 1);
+        assert_ne!(text, list, "{from}");
+        let refusal = List::read_with_table(text.as_bytes(), &table).expect_err("a fault");
+        assert_eq!(refusal.number(), number, "{to}");
+        let fault = ListFault::of_with_table(text.as_bytes(), refusal, &table);
+        assert_eq!(fault.expect("its words").to_string(), words);
+    }
+}
+
+/// A table that breaks its rules is no fault of the text.
+#[test]
+fn a_broken_table_has_no_words_of_a_text() {
+    let mut table = a_table();
+    table.set_row(9, [0, 0, 0, 0, 0, 0, 1]);
+    let text = LIST.as_bytes();
+    let refusal = List::read_with_table(text, &table).expect_err("a broken table");
+    assert_eq!(refusal, Refusal::FlagTable { place: 9 });
+    assert_eq!(ListFault::of_with_table(text, refusal, &table), None);
+    assert_eq!(
+        refusal.to_string(),
+        "refused 21 9: the flag table breaks its rules"
+    );
 }
 
 #[test]
@@ -210,7 +303,7 @@ fn ranges_are_those_of_the_archive() {
 #[test]
 fn other_refusals_are_no_faults_of_a_text() {
     let text = LIST.as_bytes();
-    for number in 1..=20 {
+    for number in 1..=21 {
         for place in [0, 3, 10, text.len() as u64, u64::MAX] {
             let refusal = Refusal::from_numbers(number, place).expect("a refusal");
             let fault = ListFault::of(text, refusal);

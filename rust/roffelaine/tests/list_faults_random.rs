@@ -4,7 +4,7 @@
 mod paper_list;
 
 use paper_list::LIST;
-use roffelaine::{position, List, ListFault, Position, Refusal};
+use roffelaine::{position, FlagTable, List, ListFault, Position, Refusal};
 
 const CASES: u64 = 50_000;
 
@@ -152,15 +152,36 @@ fn with_example(text: &[u8], place: usize, fault: &ListFault) -> Option<Vec<u8>>
     Some([&text[..place], example, &rest[length..]].concat())
 }
 
+/// Mostly our table, else one with other rows, which keep the rules.
+fn any_table(random: &mut Random) -> FlagTable {
+    let mut table = FlagTable::OURS;
+    if random.below(4) > 0 {
+        return table;
+    }
+    for flag in 0..10 {
+        let [rates, shanghai, priced] = [(); 3].map(|()| random.below(2) as u64);
+        let row = match random.below(5) {
+            0 => [0, 1, rates, 0, shanghai, priced, 0],
+            1 => [1, 0, rates, 0, 1, 1, 1],
+            2 => [1, 1, 1, 0, 1, 1, 1],
+            3 => [0, 0, rates, 1, shanghai, priced, 1],
+            _ => table.row(flag),
+        };
+        table.set_row(flag, row);
+    }
+    table
+}
+
 /// What words give as an example is written as it must be.
-fn check_example(text: &[u8], refusal: Refusal, fault: &ListFault) -> bool {
+fn check_example(text: &[u8], refusal: Refusal, fault: &ListFault, table: &FlagTable) -> bool {
     let place = refusal.place() as usize;
     let mended = match refusal.number() {
         19 => with_example(text, place, fault),
         _ => None,
     };
     if let Some(mended) = &mended {
-        assert_ne!(List::read(mended).err(), Some(refusal), "{fault}");
+        let again = List::read_with_table(mended, table);
+        assert_ne!(again.err(), Some(refusal), "{fault}");
     }
     mended.is_some()
 }
@@ -168,21 +189,22 @@ fn check_example(text: &[u8], refusal: Refusal, fault: &ListFault) -> bool {
 #[test]
 fn every_refusal_has_its_words() {
     let mut random = Random(0x9e37_79b9_7f4a_7c15);
-    let (mut numbers, mut examples) = ([0; 21], 0);
+    let (mut numbers, mut examples) = ([0; 22], 0);
     for case in 0..CASES {
         let mut text = LIST.as_bytes().to_vec();
         for _ in 0..1 + random.below(3) {
             damage(&mut random, &mut text);
         }
-        let Err(refusal) = List::read(&text) else {
+        let table = any_table(&mut random);
+        let Err(refusal) = List::read_with_table(&text, &table) else {
             continue;
         };
-        let Some(fault) = ListFault::of(&text, refusal) else {
+        let Some(fault) = ListFault::of_with_table(&text, refusal, &table) else {
             panic!("case {case}, {refusal}: {}", text.escape_ascii());
         };
         assert!(!fault.field.is_empty() && !fault.expected.is_empty());
         check_place(&text, refusal, &fault);
-        examples += usize::from(check_example(&text, refusal, &fault));
+        examples += usize::from(check_example(&text, refusal, &fault, &table));
         numbers[refusal.number() as usize] += 1;
     }
     for number in [2, 3, 18, 19, 20] {
@@ -201,9 +223,10 @@ fn refusals_of_other_texts_do_no_harm() {
             damage(&mut random, &mut text);
         }
         let place = random.below(text.len() + 3) as u64;
-        let number = 1 + random.below(20) as u64;
+        let number = 1 + random.below(21) as u64;
         let refusal = Refusal::from_numbers(number, place).expect("a refusal");
-        if let Some(fault) = ListFault::of(&text, refusal) {
+        let table = any_table(&mut random);
+        if let Some(fault) = ListFault::of_with_table(&text, refusal, &table) {
             place_of(&text, fault.position).expect("a place of the text");
         }
     }

@@ -4,16 +4,17 @@ use super::Rng;
 use crate::model::{FlagColumn, FlagRow, FlagTable, FLAGS, FLAG_COLUMNS, TABLE_NUMBERS};
 
 /// A table that keeps the rules and has a flag in use: ours, ours with other rows
-/// in places, or quite another.
+/// in places, or quite another, at times with all flags in use.
 pub fn sound_table(rng: &mut Rng) -> FlagTable {
     let mut table = FlagTable::OURS;
-    match rng.below(6) {
+    match rng.below(8) {
         0..=1 => {}
         2..=3 => {
             for _ in 0..rng.between(1, 3) {
                 change_a_row(rng, &mut table);
             }
         }
+        4 => table = FlagTable(std::array::from_fn(|_| row_in_use(rng))),
         _ => table = FlagTable(std::array::from_fn(|_| any_row(rng))),
     }
     if flags_in_use(&table).is_empty() {
