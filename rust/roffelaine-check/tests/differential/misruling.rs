@@ -21,7 +21,7 @@ pub enum Fault {
     TakesTwoForYes,
     TestsRowsNotInUse,
     TestsRowsOfComponentsAlone,
-    PlaceOfTheLastFault,
+    PlaceOfTheHighestFlag,
     TakesALongerRun,
     TableAfterTheFund,
     TableBehindTheText,
@@ -50,7 +50,7 @@ impl Fault {
         Fault::TakesTwoForYes,
         Fault::TestsRowsNotInUse,
         Fault::TestsRowsOfComponentsAlone,
-        Fault::PlaceOfTheLastFault,
+        Fault::PlaceOfTheHighestFlag,
         Fault::TakesALongerRun,
         Fault::TableAfterTheFund,
         Fault::TableBehindTheText,
@@ -107,7 +107,7 @@ impl Fault {
         let is_refused = reply.number == 21;
         match self {
             Fault::TestsRowsNotInUse if !is_refused => refused_row(&all_in_use(run)),
-            Fault::PlaceOfTheLastFault if is_refused => last_fault(run),
+            Fault::PlaceOfTheHighestFlag if is_refused => last_fault(run),
             Fault::TableAfterTheFund if is_refused && without_table.number == 2 => {
                 Some(without_table)
             }
