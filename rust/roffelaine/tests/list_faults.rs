@@ -62,8 +62,8 @@ fn every_row_of_the_table() {
     assert!(count > 100, "{count} rows");
 }
 
-/// Ours with rates for flag 0, without flag 4, whose columns still say what it used,
-/// and with flag 7: an amount with rates.
+/// Ours with rates for flag 0, without flag 4, whose row has yes for rates and amount
+/// all the same, and with flag 7: an amount with rates.
 fn a_table() -> FlagTable {
     let mut table = FlagTable::OURS;
     table.set_row(0, [1, 0, 1, 0, 1, 1, 1]);
@@ -78,59 +78,61 @@ fn list_by_the_table() -> String {
     list.replace("3000|0|       |       |", "3000|0|0.00000|1.00000|")
 }
 
+/// What stands in the list, what is put in its place, the refusal and its words.
+const UNDER_A_TABLE: [(&str, &str, u64, &str); 7] = [
+    (
+        "7|0.10000|0.20000|",
+        "4|       |       |",
+        19,
+        "24:44 amount \"    8000.000\": flag 4 uses no amount: blank; \
+         flags in use: 0 to 3, 7",
+    ),
+    (
+        "7|0.10000|0.20000|    8000.000|",
+        "4|0.10000|       |            |",
+        19,
+        "24:28 premium \"0.10000\": flag 4 uses no premium: blank; \
+         flags in use: 0 to 3, 7",
+    ),
+    (
+        "7|0.10000|0.20000|    8000.000|",
+        "4|       |       |            |",
+        3,
+        "24:26 flag \"4\": flags in use: 0 to 3, 7",
+    ),
+    (
+        "7|0.10000|",
+        "x|0.10000|",
+        19,
+        "24:26 flag \"x\": a digit; flags in use: 0 to 3, 7",
+    ),
+    (
+        "0|0.00000|1.00000|",
+        "0|0.00000|       |",
+        19,
+        "26:36 discount \"       \": flag 0 uses a discount: \
+         five decimals right in blanks, as \"0.12345\"",
+    ),
+    (
+        "0|0.00000|1.00000|            |",
+        "0|0.00000|1.00000|       1.000|",
+        19,
+        "26:44 amount \"       1.000\": flag 0 uses no amount: blank",
+    ),
+    (
+        "0|0.00000|1.00000|",
+        "0|0.00000|1.00001|",
+        3,
+        "26:36 discount \"1.00001\": at most 1.00000",
+    ),
+];
+
 /// Blanks and flags are judged by the table that the list was read under.
 #[test]
 fn faults_under_a_table() {
     let (table, list) = (a_table(), list_by_the_table());
     assert!(List::read_with_table(list.as_bytes(), &table).is_ok());
-    let rows = [
-        (
-            "7|0.10000|0.20000|",
-            "4|       |       |",
-            19,
-            "24:44 amount \"    8000.000\": flag 4 uses no amount: blank; \
-             flags in use: 0 to 3, 7",
-        ),
-        (
-            "7|0.10000|0.20000|    8000.000|",
-            "4|0.10000|       |            |",
-            19,
-            "24:28 premium \"0.10000\": flag 4 uses no premium: blank; \
-             flags in use: 0 to 3, 7",
-        ),
-        (
-            "7|0.10000|0.20000|    8000.000|",
-            "4|       |       |            |",
-            3,
-            "24:26 flag \"4\": flags in use: 0 to 3, 7",
-        ),
-        (
-            "7|0.10000|",
-            "x|0.10000|",
-            19,
-            "24:26 flag \"x\": a digit; flags in use: 0 to 3, 7",
-        ),
-        (
-            "0|0.00000|1.00000|",
-            "0|0.00000|       |",
-            19,
-            "26:36 discount \"       \": flag 0 uses a discount: \
-             five decimals right in blanks, as \"0.12345\"",
-        ),
-        (
-            "0|0.00000|1.00000|            |",
-            "0|0.00000|1.00000|       1.000|",
-            19,
-            "26:44 amount \"       1.000\": flag 0 uses no amount: blank",
-        ),
-        (
-            "0|0.00000|1.00000|",
-            "0|0.00000|1.00001|",
-            3,
-            "26:36 discount \"1.00001\": at most 1.00000",
-        ),
-    ];
-    for (from, to, number, words) in rows {
+    for (from, to, number, words) in UNDER_A_TABLE {
         let text = list.replacen(from, to, 1);
         assert_ne!(text, list, "{from}");
         let refusal = List::read_with_table(text.as_bytes(), &table).expect_err("a fault");

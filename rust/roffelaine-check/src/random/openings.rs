@@ -210,11 +210,12 @@ fn holdings(
         let means = Means::any(rng);
         holdings.push(cash(rng, basket_cash).min(range::CASH_TOTAL_MAX / accounts));
         for component in components {
-            // A line with gaps for which no cash is taken would refuse nearly every
-            // large order.
-            let in_cash = table.says(component.flag, FlagColumn::ShortageInCash);
+            // A stock line with gaps for which no cash is taken would refuse nearly
+            // every large order.
+            let says = |column| table.says(component.flag, column);
+            let is_strict = says(FlagColumn::StockMoves) && !says(FlagColumn::ShortageInCash);
             let means = match means {
-                Means::Gaps if !in_cash && components.len() > 9 => Means::Ample,
+                Means::Gaps if is_strict && components.len() > 9 => Means::Ample,
                 means => means,
             };
             holdings.push(means.held(rng, component.quantity));

@@ -28,6 +28,21 @@ pub fn longest_list() -> Vec<u8> {
         nav_per_basket: range::NAV_PER_BASKET_MAX,
         nav: range::NAV_MAX,
     };
+    let list = Writing {
+        letters: b"ABCDEFGH",
+        head,
+        count: MAX_COMPONENTS as u64,
+        table: &[],
+        components: &longest_components(),
+        names: &[b'A'; NAME_BYTES * MAX_COMPONENTS],
+    };
+    let mut text = vec![0; LONGEST];
+    let reply = write(&list, &mut text);
+    assert_eq!((reply.number, reply.value), (0, LONGEST as u64));
+    text
+}
+
+fn longest_components() -> Vec<u64> {
     let components = (0..MAX_COMPONENTS as u64).map(|at| Component {
         code: 600_000 + at,
         quantity: range::QUANTITY_MAX,
@@ -36,18 +51,5 @@ pub fn longest_list() -> Vec<u8> {
         discount: range::RATE_MAX,
         amount: range::AMOUNT_MAX,
     });
-    let list = Writing {
-        letters: b"ABCDEFGH",
-        head,
-        count: MAX_COMPONENTS as u64,
-        table: &[],
-        components: &components
-            .flat_map(|each| each.numbers())
-            .collect::<Vec<_>>(),
-        names: &[b'A'; NAME_BYTES * MAX_COMPONENTS],
-    };
-    let mut text = vec![0; LONGEST];
-    let reply = write(&list, &mut text);
-    assert_eq!((reply.number, reply.value), (0, LONGEST as u64));
-    text
+    components.flat_map(|each| each.numbers()).collect()
 }
