@@ -28,7 +28,7 @@ use roffelaine_check::full_size::{
     component_run, holdings, list_text, opening, order, COUNT, MOST, PRICE,
 };
 use roffelaine_check::model::{
-    book_length, lengths_for, stretch_width, Call, Day, Order, ANSWER_NUMBERS,
+    book_length, lengths_for, stretch_width, Call, Day, FlagTable, Order, ANSWER_NUMBERS,
 };
 use std::ffi::c_int;
 use std::io::Write;
@@ -337,10 +337,18 @@ fn an_order_by_itself_costs_more_on_a_larger_book() {
     }
 }
 
+/// A list to read: its text, its table, and how many numbers the run has.
+struct Reading {
+    text: Vec<u8>,
+    table: Vec<u64>,
+    length: usize,
+}
+
 /// The faults of a list that are found last: its last component has the code of
 /// the one before, by which it is out of order (3); and the run is a number short
-/// (16).
-fn faulty_readings() -> [(u64, Vec<u8>, usize); 2] {
+/// (16). The one that is found first, a table that breaks a rule in its last row
+/// (21). And a list without a fault (0).
+fn readings() -> [(u64, Reading); 4] {
     let numbers = component_run().len();
     let mut text = list_text();
     let place = |line: usize| {
@@ -349,35 +357,46 @@ fn faulty_readings() -> [(u64, Vec<u8>, usize); 2] {
     };
     let [before, last] = [COUNT - 2, COUNT - 1].map(|line| place(line).expect("its line"));
     text.copy_within(before..before + 6, last);
-    [(3, text, numbers), (16, list_text(), numbers - 1)]
+    let ours = FlagTable::OURS.numbers().to_vec();
+    let mut broken = ours.clone();
+    broken[ours.len() - 1] = 2;
+    let reading = |text, table, length| Reading {
+        text,
+        table,
+        length,
+    };
+    [
+        (3, reading(text, ours.clone(), numbers)),
+        (16, reading(list_text(), ours.clone(), numbers - 1)),
+        (21, reading(list_text(), broken, numbers)),
+        (0, reading(list_text(), ours, numbers)),
+    ]
 }
 
 /// Reads a list into the numbers of a run of its own pages, in a child.
-fn reading(text: &[u8], run: &mut Run) -> u64 {
+fn read(text: &[u8], table: &[u64], run: &mut Run) -> u64 {
     let (mut fields, mut first_row) = ([0; FIELD_NUMBERS], 0);
-    lent::read(text, &[], run.numbers_mut(), &mut fields, &mut first_row).number
+    lent::read(text, table, run.numbers_mut(), &mut fields, &mut first_row).number
 }
 
 /// All pages of the run are read-only while a list is refused, and a list that is
 /// accepted ends a child there: it is stored in no other place.
 #[test]
 fn a_refused_list_writes_nothing() {
-    let length = component_run().len();
-    let accepted = [(0, list_text(), length)];
-    for (number, text, length) in faulty_readings().into_iter().chain(accepted) {
-        let mut run = Run::of(&vec![7; length]);
+    for (number, reading) in readings() {
+        let mut run = Run::of(&vec![7; reading.length]);
         let state = child(|| {
             if !run.protect(&run.pages_without(&[])) {
                 return NOT_PROTECTED;
             }
-            reading(&text, &mut run) as c_int
+            read(&reading.text, &reading.table, &mut run) as c_int
         });
         let expected = match number {
             0 => State::Died(SIGSEGV),
             number => State::Exited(number as c_int),
         };
         assert_eq!(state, expected, "refusal {number}");
-        assert_eq!(run.numbers(), vec![7; length], "refusal {number}");
+        assert_eq!(run.numbers(), vec![7; reading.length], "refusal {number}");
     }
 }
 
@@ -388,7 +407,7 @@ fn reading_a_list_holds_no_number_for_each_component() {
     let text = list_text();
     let components = component_run();
     let mut run = Run::of(&vec![7; components.len()]);
-    let count = steps::count(|| reading(&text, &mut run) as c_int);
+    let count = steps::count(|| read(&text, &[], &mut run) as c_int);
     match count {
         Some(count) => {
             println!("reading: {count:?}");

@@ -196,7 +196,7 @@ impl Day {
         self.codes.get(line).copied()
     }
 
-    /// The flag table that the day was opened under.
+    /// The flag table that the day was opened under; all 0 where it is not open.
     pub fn flag_table(&self) -> FlagTable {
         table_of(&self.day)
     }
