@@ -1,6 +1,7 @@
 //! A rehearsal as one page that needs nothing else.
 
 mod calls;
+mod flags;
 mod front;
 mod limits;
 mod looks;

@@ -1,6 +1,8 @@
 //! A file with a list, and perhaps the lines of a day behind it.
 
-use roffelaine::{lines_in_lf, list_end, with_crlf, List, ListFault, Refusal};
+use crate::flag_rows::{above_first_open, GivenRows};
+use crate::reasons;
+use roffelaine::{lines_in_lf, list_end, with_crlf, FlagTable, List, ListFault, Refusal};
 use std::borrow::Cow;
 use std::ffi::OsStr;
 use std::fmt;
@@ -15,6 +17,10 @@ pub struct Input {
     list_end: usize,
     /// How many lines of the list were mended.
     pub mended: usize,
+    /// The rows of the flag table that the list is read under, which the lines
+    /// above the first `open` give, and why one of these lines gives none.
+    pub rows: GivenRows,
+    faulty_row: Option<String>,
 }
 
 /// A list that is refused, and why, with the file's name.
@@ -41,6 +47,8 @@ impl Input {
             list_end: list_end(&bytes),
             bytes,
             mended: 0,
+            rows: GivenRows::default(),
+            faulty_row: None,
         };
         if crlf {
             input.mended = lines_in_lf(input.list_text());
@@ -49,6 +57,7 @@ impl Input {
             input.bytes = bytes;
             input.list_end += input.mended;
         }
+        (input.rows, input.faulty_row) = above_first_open(input.texts());
         Ok(input)
     }
 
@@ -64,14 +73,27 @@ impl Input {
 
     /// The list, or what is wrong with it.
     pub fn list(&self) -> Result<List<'_>, RefusedList> {
-        let text = self.list_text();
-        List::read(text).map_err(|refusal| RefusedList {
+        let table = self.rows.table().unwrap_or_default();
+        let read = List::read_with_table(self.list_text(), &table);
+        read.map_err(|refusal| RefusedList {
             refusal,
-            reason: match ListFault::of(text, refusal) {
-                Some(fault) => format!("{}:{fault}", self.name),
-                None => refusal.words().to_string(),
-            },
+            reason: self.reason(&table, refusal),
         })
+    }
+
+    /// Why the list is refused. A line that was to give a row of the table and
+    /// does not may be the cause.
+    fn reason(&self, table: &FlagTable, refusal: Refusal) -> String {
+        let fault = ListFault::of_with_table(self.list_text(), refusal, table);
+        let mut reason = match (refusal, fault) {
+            (Refusal::FlagTable { place }, _) => reasons::flag_table(table, place as usize),
+            (_, Some(fault)) => format!("{}:{fault}", self.name),
+            (_, None) => refusal.words().to_string(),
+        };
+        if let Some(why) = &self.faulty_row {
+            reason += &format!("; {why}");
+        }
+        reason
     }
 
     /// The lines behind the list, with their numbers in the file.

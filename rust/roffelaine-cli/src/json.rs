@@ -5,12 +5,18 @@ use crate::names::{text_name, text_report_name};
 use crate::said::{Answer, Counts, Entry, Made, Position, Said, Total};
 use crate::statement::Call;
 use crate::text::figures;
-use roffelaine::{List, Report};
+use roffelaine::{FlagColumn, FlagTable, List, Report, FLAG_COLUMNS};
 use std::fmt::{self, Display};
 use std::io::{self, Write};
 
-/// Writes the list and the start of the entries.
-pub fn start(out: &mut impl Write, file: &str, list: &List<'_>) -> io::Result<()> {
+/// Writes the list, with the flag table that it was read under where one is
+/// given, and the start of the entries.
+pub fn start(
+    out: &mut impl Write,
+    file: &str,
+    list: &List<'_>,
+    table: Option<&FlagTable>,
+) -> io::Result<()> {
     let (head, fund) = (&list.head, &list.head.fund);
     let components = list.components.iter().map(|component| {
         object([
@@ -23,18 +29,16 @@ pub fn start(out: &mut impl Write, file: &str, list: &List<'_>) -> io::Result<()
             ("amount", string(&component.amount)),
         ])
     });
-    let list = object([
+    let mut list = vec![
         ("letters", string(&String::from_utf8_lossy(list.letters))),
         ("first_code", code(fund.first_code)),
         ("basket_size", fund.basket_size.to_string()),
         ("trading_day", string(&format!("{:08}", head.trading_day))),
         ("components", array(components)),
-    ]);
-    write!(
-        out,
-        "{{\"file\":{},\n\"list\":{list},\n\"entries\":[",
-        string(&file)
-    )
+    ];
+    list.extend(table.map(flag_table));
+    let (file, list) = (string(&file), object(list));
+    write!(out, "{{\"file\":{file},\n\"list\":{list},\n\"entries\":[")
 }
 
 /// Writes what a line came to, behind `before` others.
@@ -128,6 +132,7 @@ fn answer(list: &List<'_>, answer: &Answer) -> Members {
             members.push(("answer", string(&"ok")));
             match made {
                 Made::Done => {}
+                Made::Opened { table } => members.extend(table.as_deref().map(flag_table)),
                 Made::Value(value) => members.push(("value", string(value))),
                 Made::Order { reports, .. } => {
                     members.push(("records", records(list, answer)));
@@ -145,6 +150,30 @@ fn answer(list: &List<'_>, answer: &Answer) -> Members {
         }
     }
     members
+}
+
+/// The names of a flag table's columns, in the order of `FlagColumn::ALL`.
+const COLUMNS: [&str; FLAG_COLUMNS] = [
+    "stock_moves",
+    "shortage_in_cash",
+    "rate_used",
+    "amount_used",
+    "shanghai",
+    "priced",
+    "in_use",
+];
+
+/// A flag table as a member: an object for each flag.
+fn flag_table(table: &FlagTable) -> (&'static str, String) {
+    let rows = table.rows().iter().enumerate();
+    let rows = rows.map(|(flag, row)| {
+        let numbers = FlagColumn::ALL.map(|column| {
+            let at = column as usize;
+            (COLUMNS[at], row[at].to_string())
+        });
+        object([("flag", flag.to_string())].into_iter().chain(numbers))
+    });
+    ("flag_table", array(rows))
 }
 
 fn arguments(call: &Call) -> Members {

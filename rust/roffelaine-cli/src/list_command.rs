@@ -1,9 +1,10 @@
 //! `roffelaine list`: what a list has, or what is wrong with it and where.
 
+use crate::flag_rows::GivenRows;
 use crate::input::Input;
 use crate::names::text_name;
 use crate::output_error;
-use roffelaine::{Component, Limits, List};
+use roffelaine::{Component, FlagColumn, FlagTable, Limits, List};
 use std::ffi::OsStr;
 use std::io::{self, Write};
 
@@ -25,14 +26,14 @@ pub fn run(
                 let written = std::fs::write(output, input.bytes());
                 written.map_err(|error| format!("{}: {error}", output.to_string_lossy()))?;
             }
-            summary(out, &list).map(|()| true)
+            summary(out, &list, &input.rows).map(|()| true)
         }
         Err(refused) => writeln!(out, "{refused}").map(|()| false),
     }
     .map_err(output_error)
 }
 
-fn summary(out: &mut impl Write, list: &List<'_>) -> io::Result<()> {
+fn summary(out: &mut impl Write, list: &List<'_>, rows: &GivenRows) -> io::Result<()> {
     let (head, fund) = (&list.head, &list.head.fund);
     let letters = String::from_utf8_lossy(list.letters);
     writeln!(out, "list ETF{letters} of {:08}", head.trading_day)?;
@@ -54,9 +55,25 @@ fn summary(out: &mut impl Write, list: &List<'_>) -> io::Result<()> {
     for (name, limit) in set {
         writeln!(out, "{name} {limit}")?;
     }
+    if let Some(table) = rows.table() {
+        let mut flags = rows.flags();
+        flags.try_for_each(|each| flag(out, &table, each))?;
+    }
     writeln!(out, "{} components", list.components.len())?;
     let mut components = list.components.iter();
     components.try_for_each(|each| component(out, list, each))
+}
+
+/// What a given row says of a flag.
+fn flag(out: &mut impl Write, table: &FlagTable, flag: usize) -> io::Result<()> {
+    let is_yes = |column: &FlagColumn| table.says(flag as u64, *column);
+    if !is_yes(&FlagColumn::InUse) {
+        return writeln!(out, "flag {flag}: not in use");
+    }
+    let columns = FlagColumn::ALL.into_iter().filter(is_yes);
+    let others = columns.filter(|column| *column != FlagColumn::InUse);
+    let words: Vec<&str> = others.map(FlagColumn::words).collect();
+    writeln!(out, "flag {flag}: {}", words.join(", "))
 }
 
 fn component(out: &mut impl Write, list: &List<'_>, component: &Component) -> io::Result<()> {

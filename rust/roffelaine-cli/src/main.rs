@@ -3,6 +3,7 @@
 
 mod args;
 mod csv;
+mod flag_rows;
 mod html;
 mod input;
 mod json;

@@ -1,12 +1,15 @@
 //! Why a call was refused, in words and with figures. The day book decides;
 //! what stands here only says what it saw.
 
+mod flags;
 mod orders;
 
 use crate::statement::{Call, Trade};
 use crate::text::yuan;
 use orders::Kind;
-use roffelaine::{Component, Day, Fund, Holdings, List, Lots, Money, Refusal};
+use roffelaine::{Component, Day, FlagTable, Fund, Holdings, List, Lots, Money, Refusal};
+
+pub use flags::table as flag_table;
 
 const PRICES: &str = "0.001 to 9999.999";
 const QUANTITIES: &str = "1 to 999999999";
@@ -19,6 +22,7 @@ const MOST_QUANTITY: u64 = 999_999_999;
 /// Why an opening was refused.
 pub fn opening(
     list: &List<'_>,
+    table: &FlagTable,
     accounts: Option<u64>,
     holdings: &[Holdings],
     refusal: Refusal,
@@ -26,6 +30,8 @@ pub fn opening(
     match (refusal, accounts) {
         (Refusal::Sizes, None) => "there is no line `accounts` above".to_string(),
         (Refusal::Sizes, Some(accounts)) => format!("accounts {accounts}: a day has 2 to 64"),
+        (Refusal::FlagTable { place }, _) => flags::table(table, place as usize),
+        (Refusal::Component { place }, _) => flags::component(list, table, place as usize),
         (Refusal::Total { place }, _) => total(list, holdings, place as usize),
         _ => refusal.words().to_string(),
     }
@@ -175,10 +181,11 @@ impl Situation<'_> {
         if refusal != Refusal::NoReferenceValue {
             return None;
         }
+        let table = self.day.flag_table();
         let lines = self.components().iter().enumerate();
         let mut unpriced = lines.filter(|(line, component)| {
             let has_none = self.day.price(*line) == Some(Money(0));
-            component.is_priced() && component.quantity > 0 && has_none
+            component.is_priced(&table) && component.quantity > 0 && has_none
         });
         Some(match unpriced.next() {
             Some((_, component)) => format!("{:06} has no price", component.code),
@@ -189,9 +196,10 @@ impl Situation<'_> {
 
     /// What a basket is worth, in thousandths of a yuan.
     fn basket_worth(&self) -> i128 {
+        let table = self.day.flag_table();
         let worth = |(line, component): (usize, &Component)| -> i128 {
             let price = self.day.price(line).unwrap_or_default();
-            if component.is_priced() {
+            if component.is_priced(&table) {
                 i128::from(component.quantity) * i128::from(price.0)
             } else {
                 component.amount.0.into()

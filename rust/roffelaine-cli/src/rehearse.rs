@@ -9,7 +9,7 @@ use crate::said::Entry;
 use crate::session::Session;
 use crate::statement::{statement, Statement};
 use crate::{json, text};
-use roffelaine::List;
+use roffelaine::{FlagTable, List};
 use std::ffi::OsStr;
 use std::io::{self, Write};
 
@@ -70,6 +70,8 @@ struct Printer<'p, W> {
     form: Form,
     file: &'p str,
     list: &'p List<'p>,
+    /// The flag table that the list was read under, where one is given.
+    flags: Option<FlagTable>,
     table: Table,
     printed: usize,
     /// What a page shows, which is written at the end.
@@ -83,6 +85,7 @@ impl<'p, W: Write> Printer<'p, W> {
             form,
             file: &input.name,
             list,
+            flags: input.rows.table(),
             table: Table {
                 has_reports: form == Form::Csv && turns_reports_on(input),
             },
@@ -95,7 +98,7 @@ impl<'p, W: Write> Printer<'p, W> {
         match self.form {
             Form::Text | Form::Html => Ok(()),
             Form::Csv => self.table.header(self.out),
-            Form::Json => json::start(self.out, self.file, self.list),
+            Form::Json => json::start(self.out, self.file, self.list, self.flags.as_ref()),
         }
     }
 

@@ -1,7 +1,7 @@
 //! What a rehearsal says of its lines, for the forms that print it.
 
 use crate::statement::Call;
-use roffelaine::{Lots, Money, Record, ReferenceValue, Refusal, Report, Units};
+use roffelaine::{FlagTable, Lots, Money, Record, ReferenceValue, Refusal, Report, Units};
 
 /// What a line of a day came to; lines with nothing to say have none.
 #[derive(Clone, Debug, PartialEq, Eq)]
@@ -41,6 +41,10 @@ pub struct Answer {
 #[derive(Clone, Debug, PartialEq, Eq)]
 pub enum Made {
     Done,
+    Opened {
+        /// The flag table, none where no line gives a row of it.
+        table: Option<Box<FlagTable>>,
+    },
     Value(ReferenceValue),
     Order {
         records: Vec<Record>,

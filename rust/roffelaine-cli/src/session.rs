@@ -114,6 +114,10 @@ impl<'l> Session<'l> {
                 self.opening.give(line, at, quantity, &name)?;
                 Ok(None)
             }
+            Statement::Flag { flag, row } => {
+                self.opening.give_row(line, flag, row)?;
+                Ok(None)
+            }
             Statement::Call(Call::Open) => Ok(Some(self.open(line))),
             Statement::Call(call) => Ok(self.call(call)),
             Statement::Reports { on } => {
@@ -148,23 +152,36 @@ impl<'l> Session<'l> {
             1 => return not_made("1 line above is faulty"),
             lines => return not_made(&format!("{lines} lines above are faulty")),
         }
-        let holdings = self.opening.holdings(self.list.components.len() + 1);
-        let opened = Day::open(&self.list.head.fund, &self.list.components, &holdings);
-        let outcome = opened.map(|day| {
-            self.day = day;
-            self.posting = Posting::of(&holdings);
+        let outcome = self.opened();
+        if outcome.is_ok() {
             self.opening.open_since = Some(line);
-            Made::Done
-        });
-        let accounts = self.opening.accounts.map(|(accounts, _)| accounts);
-        let reason = |refusal| reasons::opening(self.list, accounts, &holdings, refusal);
+        }
         self.answer(Answer {
             call: Call::Open,
-            outcome: outcome.map_err(|refusal| Refused {
-                refusal,
-                reason: reason(refusal),
-            }),
+            outcome,
         })
+    }
+
+    /// Opens the day with what the lines above have given.
+    fn opened(&mut self) -> Result<Made, Refused> {
+        let (fund, components) = (&self.list.head.fund, &self.list.components);
+        let holdings = self.opening.holdings(components.len() + 1);
+        let given = self.opening.rows.table();
+        let table = given.unwrap_or_default();
+        match Day::open_with_table(fund, &table, components, &holdings) {
+            Ok(day) => {
+                self.day = day;
+                self.posting = Posting::of(&holdings);
+                Ok(Made::Opened {
+                    table: given.map(Box::new),
+                })
+            }
+            Err(refusal) => {
+                let accounts = self.opening.accounts.map(|(accounts, _)| accounts);
+                let reason = reasons::opening(self.list, &table, accounts, &holdings, refusal);
+                Err(Refused { refusal, reason })
+            }
+        }
     }
 
     /// Why a call is refused on the day as it stands.

@@ -1,6 +1,7 @@
 //! A line of a day, understood word by word.
 
-use roffelaine::{Money, ReferenceValue, Units};
+use crate::flag_rows::Row;
+use roffelaine::{Money, ReferenceValue, Units, FLAGS, FLAG_COLUMNS};
 use std::str::FromStr;
 
 /// What a line of a day says.
@@ -15,6 +16,11 @@ pub enum Statement {
         account: u64,
         code: u64,
         quantity: u64,
+    },
+    /// A flag's row of the flag table.
+    Flag {
+        flag: usize,
+        row: Row,
     },
     Call(Call),
     /// Whether orders say their reports from here on.
@@ -33,7 +39,10 @@ impl Statement {
     pub fn is_opening(&self) -> bool {
         matches!(
             self,
-            Statement::Accounts(_) | Statement::Cash { .. } | Statement::Hold { .. }
+            Statement::Accounts(_)
+                | Statement::Cash { .. }
+                | Statement::Hold { .. }
+                | Statement::Flag { .. }
         )
     }
 }
@@ -156,6 +165,7 @@ pub fn statement(line: &str) -> Result<Option<Statement>, Fault> {
         "accounts" => words.whole("A").map(Statement::Accounts),
         "cash" => cash(&mut words).map(|(account, amount)| Statement::Cash { account, amount }),
         "hold" => hold(&mut words),
+        "flag" => flag(&mut words),
         "open" => Ok(Statement::Call(Call::Open)),
         "price" => price(&mut words),
         "trade" => trade(&mut words),
@@ -176,7 +186,7 @@ pub fn statement(line: &str) -> Result<Option<Statement>, Fault> {
         }),
     };
     let said = said.and_then(|said| words.end().map(|()| said));
-    let opening = matches!(word, "accounts" | "cash" | "hold");
+    let opening = matches!(word, "accounts" | "cash" | "hold" | "flag");
     said.map(Some).map_err(|fault| Fault {
         stops_open: fault.stops_open || opening,
         ..fault
@@ -184,9 +194,9 @@ pub fn statement(line: &str) -> Result<Option<Statement>, Fault> {
 }
 
 /// The words that a line of a day starts with.
-const FIRST_WORDS: [&str; 14] = [
-    "accounts", "cash", "hold", "open", "price", "trade", "create", "redeem", "test", "value",
-    "reports", "show", "totals", "expect",
+const FIRST_WORDS: [&str; 15] = [
+    "accounts", "cash", "hold", "flag", "open", "price", "trade", "create", "redeem", "test",
+    "value", "reports", "show", "totals", "expect",
 ];
 
 fn unknown_word(word: &str) -> String {
@@ -195,6 +205,11 @@ fn unknown_word(word: &str) -> String {
         true => format!("{word:?} is written {small}"),
         false => format!("{word:?} is no word that a line of a day starts with"),
     }
+}
+
+/// The word that a line starts with; none where it is empty or a comment.
+pub fn first_word(line: &str) -> Option<&str> {
+    Words::of(line).next().map(|(_, word)| word)
 }
 
 /// The column at which a word of a line starts; the words count from 0.
@@ -214,6 +229,20 @@ fn hold(words: &mut Words<'_>) -> Result<Statement, Fault> {
         code: words.code()?,
         quantity: words.whole("QUANTITY")?,
     })
+}
+
+/// The numbers of a flag's row, by their columns.
+const ROW: [&str; FLAG_COLUMNS] = [
+    "MOVES", "SHORT", "RATE", "AMOUNT", "SHANGHAI", "PRICED", "USE",
+];
+
+fn flag(words: &mut Words<'_>) -> Result<Statement, Fault> {
+    let flag = words.flag()?;
+    let mut row = [0; FLAG_COLUMNS];
+    for (number, name) in row.iter_mut().zip(ROW) {
+        *number = words.whole(name)?;
+    }
+    Ok(Statement::Flag { flag, row })
 }
 
 fn price(words: &mut Words<'_>) -> Result<Statement, Fault> {
@@ -376,6 +405,15 @@ impl<'l> Words<'l> {
         code.ok_or_else(|| fault(column, format!("CODE {word:?}: a code has six digits")))
     }
 
+    /// A flag of the table.
+    fn flag(&mut self) -> Result<usize, Fault> {
+        let (column, word) = self.clone().named("FLAG")?;
+        let flag = usize::try_from(self.whole("FLAG")?).ok();
+        let flag = flag.filter(|flag| *flag < FLAGS);
+        let last = FLAGS - 1;
+        flag.ok_or_else(|| fault(column, format!("FLAG {word:?}: a flag is 0 to {last}")))
+    }
+
     /// Nothing may follow.
     fn end(&mut self) -> Result<(), Fault> {
         match self.next() {
@@ -429,6 +467,46 @@ mod tests {
             why,
             "QUANTITY \"18446744073709551616\": more than 18446744073709551615"
         );
+    }
+
+    #[test]
+    fn a_row_of_the_flag_table_may_have_any_numbers() {
+        assert_eq!(
+            said("flag 5 1 1 1 0 1 1 1 # piloted"),
+            Statement::Flag {
+                flag: 5,
+                row: [1, 1, 1, 0, 1, 1, 1]
+            }
+        );
+        assert_eq!(
+            said("flag 9 0 2 18446744073709551615 0 0 0 0"),
+            Statement::Flag {
+                flag: 9,
+                row: [0, 2, u64::MAX, 0, 0, 0, 0]
+            }
+        );
+        let faults = [
+            ("flag", 5, "FLAG is missing"),
+            ("flag 10 1 1 1 0 1 1 1", 6, "FLAG \"10\": a flag is 0 to 9"),
+            ("flag x", 6, "FLAG \"x\": a number has digits alone"),
+            (
+                "flag 18446744073709551615",
+                6,
+                "FLAG \"18446744073709551615\": a flag is 0 to 9",
+            ),
+            ("flag 5", 7, "MOVES is missing"),
+            ("flag 5 1 1 1 0 1 1", 19, "USE is missing"),
+            ("flag 5 1 -1", 10, "SHORT \"-1\": a number has digits alone"),
+            (
+                "flag 5 1 1 1 0 1 yes 1",
+                18,
+                "PRICED \"yes\": a number has digits alone",
+            ),
+            ("flag 5 1 1 1 0 1 1 1 1", 22, "\"1\" is one word too many"),
+        ];
+        for (line, column, why) in faults {
+            assert_eq!(faulty(line), (column, why.to_string(), true), "{line:?}");
+        }
     }
 
     #[test]

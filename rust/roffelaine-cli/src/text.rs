@@ -22,7 +22,7 @@ pub fn entry(out: &mut impl Write, entry: &Entry) -> io::Result<()> {
 fn answer(out: &mut impl Write, line: usize, answer: &Answer) -> io::Result<()> {
     let word = answer.call.word();
     match &answer.outcome {
-        Ok(Made::Done) => writeln!(out, "{line} {word} ok"),
+        Ok(Made::Done | Made::Opened { .. }) => writeln!(out, "{line} {word} ok"),
         Ok(Made::Value(value)) => writeln!(out, "{line} {word} ok {value}"),
         Ok(Made::Order { records, reports }) => {
             writeln!(out, "{line} {word} ok {}", records.len())?;

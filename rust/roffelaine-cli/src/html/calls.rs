@@ -3,11 +3,11 @@
 use super::looks::How;
 use super::text::{account_name, code, counted, shortened, Escaped};
 use super::words::arguments;
-use super::{positions, records, reports, runs, totals, Kept};
+use super::{flags, positions, records, reports, runs, totals, Kept};
 use crate::posting::Posting;
 use crate::said::{Answer, Made, Position, Refused, Said, Total};
 use crate::statement::Call;
-use roffelaine::List;
+use roffelaine::{List, FLAGS};
 use std::io::{self, Write};
 
 /// Writes all entries; prices and trades that follow each other stand in a
@@ -110,6 +110,11 @@ impl<W: Write> Calls<'_, W> {
             Err(refused) => self.refused(line, &said, refused),
             Ok(Made::Value(value)) => {
                 self.start(line, How::Plain, &said, &format!("{value} yuan for a unit"))
+            }
+            Ok(Made::Opened { table: Some(table) }) => {
+                self.start(line, How::of_rows(FLAGS), &said, "accepted")?;
+                flags::table(self.out, table)?;
+                self.post(call, &Made::Done, opened)
             }
             Ok(Made::Tested { records, reports }) => {
                 self.start(line, How::Plain, &said, &would_make(*records, *reports))

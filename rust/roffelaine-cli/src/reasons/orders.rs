@@ -118,9 +118,9 @@ impl Situation<'_> {
 
     /// What the stock that is missing is worth, and the most that it may be.
     fn ratio_reason(&self, order: &Order) -> Option<String> {
-        let baskets = self.baskets(order.units);
+        let (baskets, table) = (self.baskets(order.units), self.day.flag_table());
         let lines = self.components().iter().enumerate();
-        let missing = lines.filter(|(_, component)| component.takes_cash_for_shortage());
+        let missing = lines.filter(|(_, component)| component.takes_cash_for_shortage(&table));
         let worth: u128 = missing
             .map(|(line, component)| {
                 let lots = self.lots(order.account, line).unwrap_or_default();
@@ -197,7 +197,8 @@ impl Situation<'_> {
         }
         let holdings = |cash, lines| Holdings { cash, lines };
         let accounts = [holdings(fund_cash, delivered), holdings(cash, handed_in)];
-        let mut day = Day::open(&fund, self.components(), &accounts).ok()?;
+        let table = self.day.flag_table();
+        let mut day = Day::open_with_table(&fund, &table, self.components(), &accounts).ok()?;
         for line in 0..self.unit() {
             let price = self.day.price(line).filter(|price| price.0 > 0);
             price.map(|price| day.set_price(line, price));

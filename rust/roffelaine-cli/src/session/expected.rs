@@ -24,7 +24,7 @@ impl Session<'_> {
                 let records = match outcome.as_ref().ok()? {
                     Made::Order { records, .. } => Some(records.len() as u64),
                     Made::Tested { records, .. } => Some(*records as u64),
-                    Made::Done | Made::Value(_) => None,
+                    Made::Done | Made::Opened { .. } | Made::Value(_) => None,
                 };
                 (count.is_none() || count == records).then_some(())
             }),
@@ -65,7 +65,7 @@ impl Session<'_> {
         }
         let word = call.word();
         Some(match outcome {
-            Ok(Made::Done) => format!("{word} answered ok"),
+            Ok(Made::Done | Made::Opened { .. }) => format!("{word} answered ok"),
             Ok(Made::Value(value)) => format!("{word} answered ok {value}"),
             Ok(Made::Order { records, .. }) => format!("{word} answered ok {}", records.len()),
             Ok(Made::Tested { records, .. }) => format!("{word} answered ok {records}"),

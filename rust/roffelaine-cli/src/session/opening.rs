@@ -1,6 +1,7 @@
 //! What the lines above `open` give.
 
 use super::{misfit, Misfit, ACCOUNT_WORD, FIRST_WORD};
+use crate::flag_rows::{GivenRows, Row};
 use roffelaine::{Holdings, Money, MOST_ACCOUNTS};
 use std::collections::btree_map::{self, BTreeMap};
 
@@ -10,6 +11,8 @@ pub(super) struct Opening {
     pub(super) accounts: Option<(u64, usize)>,
     /// What an account has at a place, and the line that said so.
     pub(super) given: BTreeMap<(u64, usize), (u64, usize)>,
+    /// The rows of the flag table, which may stand above `accounts` too.
+    pub(super) rows: GivenRows,
     /// How many lines stop `open`.
     pub(super) faulty: usize,
     /// How many of these stand above the last `open`, where there is one;
@@ -32,12 +35,17 @@ impl Opening {
             let why = format!("`accounts` is given in line {before}");
             return Err(misfit(FIRST_WORD, why));
         }
+        let before = std::mem::take(self);
         *self = Opening {
             accounts: Some((accounts, line)),
-            faulty: self.faulty - self.tried.unwrap_or(0),
+            faulty: before.faulty - before.tried.unwrap_or(0),
             waiting: Some(line),
             ..Opening::default()
         };
+        if before.tried.is_none() {
+            self.rows = before.rows;
+            self.waiting = before.waiting.or(self.waiting);
+        }
         Ok(())
     }
 
@@ -60,10 +68,7 @@ impl Opening {
         number: u64,
         name: &str,
     ) -> Result<(), Misfit> {
-        if let Some(since) = self.open_since {
-            let why = format!("the day is open since line {since}: it belongs above `open`");
-            return Err(misfit(FIRST_WORD, why));
-        }
+        self.test_not_open()?;
         let Some((accounts, _)) = self.accounts else {
             let why = "a line `accounts` comes before it".to_string();
             return Err(misfit(FIRST_WORD, why));
@@ -81,6 +86,26 @@ impl Opening {
             btree_map::Entry::Occupied(before) => {
                 let before = before.get().1;
                 let why = format!("{name} of account {account} is given in line {before}");
+                Err(misfit(FIRST_WORD, why))
+            }
+        }
+    }
+
+    /// Gives a flag its row of the flag table.
+    pub(super) fn give_row(&mut self, line: usize, flag: usize, row: Row) -> Result<(), Misfit> {
+        self.test_not_open()?;
+        let given = self.rows.give(line, flag, row);
+        given.map_err(|why| misfit(FIRST_WORD, why))?;
+        self.waiting.get_or_insert(line);
+        Ok(())
+    }
+
+    /// What an opening is given belongs above it.
+    fn test_not_open(&self) -> Result<(), Misfit> {
+        match self.open_since {
+            None => Ok(()),
+            Some(since) => {
+                let why = format!("the day is open since line {since}: it belongs above `open`");
                 Err(misfit(FIRST_WORD, why))
             }
         }
