@@ -41,7 +41,7 @@ fn day_lines(help: &str) -> Vec<&str> {
 fn readme_has_the_lines_of_a_day() {
     let (help, readme) = (run(&["--help"]).out, document("README.md"));
     let lines = day_lines(&help);
-    assert_eq!(lines.len(), 20);
+    assert_eq!(lines.len(), 21);
     for line in lines {
         let in_readme = |text: &str| text.lines().any(|each| each.trim().starts_with(line));
         assert!(in_readme(&readme), "{line:?} is not in the README");

@@ -39,6 +39,19 @@ fn cases() -> Vec<(u64, String, String, &'static str)> {
         (1, same.clone(), "open\n".into(), "open refused 1 0: there is no line `accounts` above"),
         (1, same.clone(), "accounts 1\nopen\n".into(), "open refused 1 0: accounts 1: a day has 2 to 64"),
         (
+            3,
+            same.clone(),
+            "accounts 2\nopen\naccounts 2\nflag 4 0 0 0 0 0 0 0\nopen\n".into(),
+            "open refused 3 1: 000002 has flag 4, which is not in use",
+        ),
+        (
+            21,
+            same.clone(),
+            "accounts 2\nopen\naccounts 2\nflag 5 1 1 0 0 1 1 1\nopen\n".into(),
+            "open refused 21 5: the flag table breaks its rules at flag 5: \
+             shortage in cash, but no rate is used",
+        ),
+        (
             4,
             same.clone(),
             "accounts 3\nhold 1 600000 1000000000000000000\nhold 2 600000 1\nopen\n".into(),
@@ -286,16 +299,20 @@ fn every_refusal_is_made() {
     let mut made: Vec<u64> = calls.chain(lists).collect();
     made.sort_unstable();
     made.dedup();
-    assert_eq!(made, Vec::from_iter(1..=20));
+    assert_eq!(made, Vec::from_iter(1..=21));
 }
 
 #[test]
 fn the_table_has_them_all() {
     let ran = run(&["refusals"]);
     assert_eq!(ran.status, 0);
-    assert_eq!(ran.lines().len(), 20);
+    assert_eq!(ran.lines().len(), 21);
     assert_eq!(
         ran.lines()[8],
         " 9 short of stock or units (place: the component, where a creation is short)"
+    );
+    assert_eq!(
+        ran.lines()[20],
+        "21 the flag table breaks its rules (place: the lowest flag at fault)"
     );
 }
