@@ -4,14 +4,15 @@
     rehearse_text.py examples/day.txt > rust/roffelaine-cli/tests/days/example.out
 
 Answers come from `Model` of day_model.py, which is written from the papers alone and shares nothing with the day book; words
-and figures of refusals are computed here from that model. The list is taken as well written. Of a line that is not understood
-only the start is written, and ` ..` for the rest.
+and figures of refusals are computed here from that model. The list is taken as well written under the rows of the flag table above
+the first `open`. Of a line that is not understood only the start is written, and ` ..` for the rest.
 """
 import copy
 import re
 import sys
 
-from day_model import CEILING, E18, ORDERS, PRICED, Model, accepted, refused
+from day_model import (AMOUNT_USED, CEILING, E18, IN_CASH, IN_USE, OURS, ORDERS, PRICED, RATE_USED, Model, accepted, fault_of,
+                       refused, says)
 from vector_files import LISTS
 
 HEAD = ("Fundid1 CreationRedemptionUnit MaxCashRatio Publish CreationRedemption Recordnum EstimateCashComponent TradingDay "
@@ -22,8 +23,9 @@ MOST = 2**64 - 1
 ALL = [1530, 3020, 3020]  # the lengths of lists that take the records and the reports of any order
 PARTIES = {"investor": "investor", "fund": "fund_reports"}  # whose reports are printed, and their list
 SWITCHES = ("neither creation nor redemption", "creation and redemption", "creation only", "redemption only")
+COLUMNS = ("stock moves", "shortage in cash", "rate used", "amount used", "Shanghai", "priced", "in use")
 SHAPES = {
-    "accounts": "n", "cash": "nm", "hold": "ncn", "open": "", "price": "cm", "trade": "cnmnn",
+    "accounts": "n", "cash": "nm", "hold": "ncn", "flag": "n" * (1 + len(COLUMNS)), "open": "", "price": "cm", "trade": "cnmnn",
     "create": "nn", "redeem": "nn", "value": "", "show": "n", "totals": "",
 }
 TESTS = {f"test {name}": name for name in ORDERS}  # the tests alone, and whose they are
@@ -60,6 +62,17 @@ def yuan(x, places=3):
     return f"{x // 10**places}.{x % 10**places:0{places}}"
 
 
+def row_reason(row):
+    """What breaks the rules in a row of a flag table."""
+    moves, in_cash, rate, amount, shanghai, priced, _ = row
+    wrong = [f"{name} {x}, which is not 0 or 1" for name, x in zip(COLUMNS, row) if x > 1]
+    rules = [(moves and not shanghai, "stock moves, but it is not Shanghai"), (moves and not priced, "stock moves, but it is not priced"),
+             (moves and amount, "stock moves, but an amount is used"), (not moves and not amount, "no stock moves, but no amount is used"),
+             (in_cash and not moves, "shortage in cash, but no stock moves"),
+             (in_cash and not rate, "shortage in cash, but no rate is used")]
+    return "; ".join(wrong or [words for broken, words in rules if broken])
+
+
 def report(party, kind, side, code, q, *groups):
     """The line of a report, with the groups that are there."""
     cash = "".join(f" {kind} {yuan(x)}" for kind, x in zip(groups[::2], groups[1::2]) if kind)
@@ -70,7 +83,7 @@ class Rehearsal:
     def __init__(self, fund, parts):
         self.fund, self.parts, self.n = fund, parts, len(parts)
         self.codes = [p[0] for p in parts] + [fund["first_code"]]
-        self.accounts, self.held, self.faulty, self.tried, self.waits = None, {}, 0, None, None
+        self.accounts, self.held, self.rows, self.faulty, self.tried, self.waits = None, {}, {}, 0, None, None
         self.day, self.since, self.out, self.last, self.tells = None, None, [], None, False
         self.counts = {"accepted": 0, "refused": 0, "not": 0, "met": 0, "unmet": 0}
 
@@ -80,11 +93,18 @@ class Rehearsal:
     # Openings
 
     def open_reply(self):
-        """1 and 4; the list's own tests are reading's."""
+        """1, 21, 3 under another table than the list was read under, and 4; the list's other tests are reading's."""
         a, w = self.accounts or 0, self.n + 2
+        table = [self.rows.get(flag, row) for flag, row in enumerate(OURS)]
         if not 2 <= a <= 64:
             why = "there is no line `accounts` above" if self.accounts is None else f"accounts {a}: a day has 2 to 64"
             return refused(1), why
+        at = fault_of(table)
+        if at is not None:
+            return refused(21, at), f"the flag table breaks its rules at flag {at}: {row_reason(table[at])}"
+        for i, part in enumerate(self.parts):
+            if why := self.misused(table, *part):
+                return refused(3, i), f"{part[0]:06} has {why}"
         rows = [[self.held.get((b, i), 0) for i in range(w)] for b in range(a)]
         totals = [sum(r[i] for r in rows) for i in range(w)]
         for line in range(self.n + 1):
@@ -94,10 +114,17 @@ class Rehearsal:
                 return refused(4, line), f"the fund holds {rows[0][line + 1]} of {self.codes[line]:06}, it may hold no units"
         if totals[0] > 4 * E18:
             return refused(4, self.n + 1), f"cash totals {yuan(totals[0])}, at most {yuan(4 * E18)}"
-        self.day = Model(a, self.fund, self.parts, [x for r in rows for x in r])
+        self.day = Model(a, self.fund, self.parts, [x for r in rows for x in r], table)
         self.opened = [totals[i + 1] for i in range(self.n + 1)] + [totals[0]]
         self.moved = [[0, 0] for _ in self.opened]
         return accepted(), ""
+
+    def misused(self, table, _code, _quantity, flag, premium, discount, amount):
+        """What a component of the list has that is not for its flag in a table; None where it has nothing such."""
+        if not says(table, flag, IN_USE):
+            return f"flag {flag}, which is not in use"
+        used = (("a premium", premium, RATE_USED), ("a discount", discount, RATE_USED), ("an amount", amount, AMOUNT_USED))
+        return next((f"{name}, which flag {flag} does not use" for name, x, k in used if x and not says(table, flag, k)), None)
 
     def open(self, k):
         self.tried, self.waits = self.faulty, None
@@ -122,11 +149,20 @@ class Rehearsal:
         self.waits = self.waits or k
         return True
 
+    def give_row(self, k, flag, *row):
+        if self.tried is not None or flag >= len(OURS) or flag in self.rows:
+            return False
+        self.rows[flag] = list(row)
+        self.waits = self.waits or k
+        return True
+
     def start(self, k, accounts):
         if self.accounts is not None and self.tried is None:
             return False
+        if self.tried is not None:  # another day, with rows of its own
+            self.rows, self.waits = {}, None
         self.faulty -= self.tried or 0
-        self.accounts, self.held, self.tried, self.since, self.waits, self.day = accounts, {}, None, None, k, None
+        self.accounts, self.held, self.tried, self.since, self.waits, self.day = accounts, {}, None, None, self.waits or k, None
         return True
 
     # Calls
@@ -219,9 +255,9 @@ class Rehearsal:
 
     def value_reason(self, *_):
         for (code, q, flag, *_), price in zip(self.parts, self.day.prices):
-            if flag in PRICED and q and not price:
+            if self.day.says(flag, PRICED) and q and not price:
                 return f"{code:06} has no price"
-        worth = sum(q * p if flag in PRICED else x for (_, q, flag, _, _, x), p in zip(self.parts, self.day.prices))
+        worth = sum(q * p if self.day.says(flag, PRICED) else x for (_, q, flag, _, _, x), p in zip(self.parts, self.day.prices))
         return "the basket is worth less than 0" if worth + 10 * self.fund["estimated_cash"] < 0 \
             else "the value would be above 999.9999"
 
@@ -251,7 +287,7 @@ class Rehearsal:
             return f"account {a} has {old + bought} units to redeem, needs {units}{kept}"
         if reply[0] == 15:
             worth = sum(max(0, m * q - d.lots[a][i][0] - d.lots[a][i][1]) * d.prices[i]
-                        for i, (_, q, flag, *_) in enumerate(self.parts) if flag == 1)
+                        for i, (_, q, flag, *_) in enumerate(self.parts) if d.says(flag, IN_CASH))
             most = units * d.reference() * self.fund["max_cash_ratio"] // 10**6
             ratio = yuan(self.fund["max_cash_ratio"], 5)
             return f"missing stock is worth {yuan(worth)}, at most {yuan(most)} by MaxCashRatio {ratio}"
@@ -386,6 +422,8 @@ class Rehearsal:
             return self.give(k, words[0], 0, words[1])
         if name == "hold":
             return words[1] in self.codes and self.give(k, words[0], 1 + self.line(words[1]), words[2])
+        if name == "flag":
+            return self.give_row(k, *words)
         if name in ("show", "totals", "open"):
             return getattr(self, name)(k, *words)
         return self.made(k, name, *words)
@@ -395,7 +433,7 @@ class Rehearsal:
             words = re.findall(r"[^ \t\r]+", line.split(b"#")[0].decode("latin-1"))
             if words and not self.understood(k, words):
                 self.counts["not"] += 1
-                opens = words[0] in ("accounts", "cash", "hold") or words[0] not in (*SHAPES, "test", "expect", "reports")
+                opens = words[0] in ("accounts", "cash", "hold", "flag") or words[0] not in (*SHAPES, "test", "expect", "reports")
                 self.faulty += opens and self.since is None
                 self.out.append(f"{k} not understood: column ..")
         if self.waits is not None:

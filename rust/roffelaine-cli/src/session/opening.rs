@@ -91,9 +91,14 @@ impl Opening {
         }
     }
 
-    /// Gives a flag its row of the flag table.
+    /// Gives a flag its row of the flag table. Behind an `open` that was refused
+    /// it would be lost at the next `accounts`.
     pub(super) fn give_row(&mut self, line: usize, flag: usize, row: Row) -> Result<(), Misfit> {
         self.test_not_open()?;
+        if self.tried.is_some() {
+            let why = "a row of another day stands behind its `accounts`".to_string();
+            return Err(misfit(FIRST_WORD, why));
+        }
         let given = self.rows.give(line, flag, row);
         given.map_err(|why| misfit(FIRST_WORD, why))?;
         self.waiting.get_or_insert(line);
