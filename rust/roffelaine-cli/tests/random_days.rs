@@ -1,15 +1,16 @@
-//! Random days as files: what the command answers is what the independent model
-//! answers to the same calls, records, reports and positions too.
+//! Random days as files, under random flag tables: what the command answers is
+//! what the independent model answers to the same calls, records, reports and
+//! positions too.
 
 mod support;
 
 use roffelaine_check::engine::{Engine, Lent, Model};
 use roffelaine_check::model::list::{write, Head, Writing, NAME_BYTES};
 use roffelaine_check::model::{
-    stretch_width, Call, Lengths, Order, Reply, COMPONENT_NUMBERS, LOTS, RECORD_NUMBERS,
-    REPORT_NUMBERS, STRETCH_HEAD,
+    stretch_width, Call, FlagTable, Lengths, Order, Reply, COMPONENT_NUMBERS, FLAGS, FLAG_COLUMNS,
+    LOTS, RECORD_NUMBERS, REPORT_NUMBERS, STRETCH_HEAD,
 };
-use roffelaine_check::random::{any_call, price_calls, OpeningCase, Rng, Scale, Size};
+use roffelaine_check::random::{any_call, price_calls, sound_table, OpeningCase, Rng, Scale, Size};
 use std::collections::BTreeSet;
 use std::fmt::Write;
 use support::{run, scratch};
@@ -26,6 +27,10 @@ struct Rehearsed {
     reports: usize,
     /// How many orders pass their tests alone.
     tests: usize,
+    /// How many rows of a flag table are given.
+    rows: usize,
+    /// What opening another day is answered: 0 where it is accepted.
+    reopened: BTreeSet<u64>,
 }
 
 fn money(thousandths: u64) -> String {
@@ -45,6 +50,7 @@ fn list_text(case: &OpeningCase) -> Vec<u8> {
     let list = Writing {
         head,
         count: case.count,
+        table: &case.table,
         components: &case.components,
         names: &names,
         letters: b"300",
@@ -57,7 +63,7 @@ fn list_text(case: &OpeningCase) -> Vec<u8> {
 }
 
 impl Rehearsed {
-    fn opened(case: &OpeningCase) -> Self {
+    fn opened(rng: &mut Rng, case: &OpeningCase) -> Self {
         let list = list_text(case);
         let lines = list.iter().filter(|&&byte| byte == b'\n').count();
         let mut rehearsed = Rehearsed {
@@ -68,7 +74,13 @@ impl Rehearsed {
             reports_on: false,
             reports: 0,
             tests: 0,
+            rows: 0,
+            reopened: BTreeSet::new(),
         };
+        let rows_come_first = rng.one_in(2);
+        if rows_come_first {
+            rehearsed.give_rows(rng, &table_of(case));
+        }
         rehearsed.say(&format!("accounts {}", case.accounts));
         let codes = codes(case);
         let accounts = case.holdings.chunks_exact(codes.len() + 1);
@@ -80,9 +92,51 @@ impl Rehearsed {
                 }
             }
         }
+        if !rows_come_first {
+            rehearsed.give_rows(rng, &table_of(case));
+        }
         rehearsed.say("open");
         rehearsed.expect("open ok");
         rehearsed
+    }
+
+    /// The rows of a table. One that is ours may be left out.
+    fn give_rows(&mut self, rng: &mut Rng, table: &FlagTable) {
+        for (flag, (row, ours)) in table.0.iter().zip(FlagTable::OURS.0).enumerate() {
+            if *row == ours && rng.one_in(2) {
+                continue;
+            }
+            let numbers = row.map(|number| number.to_string()).join(" ");
+            self.say(&format!("flag {flag} {numbers}"));
+            self.rows += 1;
+        }
+    }
+
+    /// Another day on which nobody holds anything, under a table that may break
+    /// the rules or not fit the list.
+    fn reopen(&mut self, rng: &mut Rng, case: &OpeningCase, lent: &mut Lent) {
+        let mut table = match rng.one_in(2) {
+            true => table_of(case),
+            false => sound_table(rng),
+        };
+        if rng.one_in(2) {
+            let row = &mut table.0[rng.index(FLAGS)];
+            row[rng.index(FLAG_COLUMNS)] = rng.pick(&[0, 1, 2, u64::MAX]);
+        }
+        let again = OpeningCase {
+            table: table.numbers().to_vec(),
+            holdings: vec![0; case.holdings.len()],
+            ..case.clone()
+        };
+        self.say(&format!("accounts {}", case.accounts));
+        self.give_rows(rng, &table);
+        self.say("open");
+        let Reply { number, place, .. } = Model.open(&again.opening(), lent);
+        match number {
+            0 => self.expect("open ok"),
+            _ => self.expect(&format!("open refused {number} {place}: ")),
+        }
+        self.reopened.insert(number);
     }
 
     fn say(&mut self, line: &str) {
@@ -187,6 +241,11 @@ impl Rehearsed {
     }
 }
 
+/// The flag table of an opening.
+fn table_of(case: &OpeningCase) -> FlagTable {
+    FlagTable::given(&case.table).expect("a table or none")
+}
+
 /// The code of each line, the unit's last.
 fn codes(case: &OpeningCase) -> Vec<u64> {
     let components = case.components.chunks_exact(COMPONENT_NUMBERS);
@@ -262,7 +321,7 @@ fn day(rng: &mut Rng) -> Rehearsed {
     let opened = Model.open(&case.opening(), &mut lent);
     assert!(opened.is_accepted(), "{opened:?}");
     let codes = codes(&case);
-    let mut rehearsed = Rehearsed::opened(&case);
+    let mut rehearsed = Rehearsed::opened(rng, &case);
     for call in price_calls(rng, &lent, scale) {
         rehearsed.call(&codes, &call, &mut lent);
     }
@@ -274,14 +333,16 @@ fn day(rng: &mut Rng) -> Rehearsed {
         rehearsed.call(&codes, &call, &mut lent);
     }
     rehearsed.show(&codes, &lent);
+    rehearsed.reopen(rng, &case, &mut lent);
     rehearsed
 }
 
 #[test]
 fn random_days_answer_as_the_model() {
     let mut rng = Rng::new(12);
-    let (mut refusals, mut reports, mut tests) = (BTreeSet::new(), 0, 0);
-    for _ in 0..150 {
+    let (mut refusals, mut reopened) = (BTreeSet::new(), BTreeSet::new());
+    let (mut reports, mut tests, mut rows) = (0, 0, 0);
+    for _ in 0..300 {
         let rehearsed = day(&mut rng);
         let file = scratch("day.txt", &rehearsed.file);
         let ran = run(&["rehearse", file.to_str().expect("a path")]);
@@ -299,10 +360,15 @@ fn random_days_answer_as_the_model() {
         refusals.extend(rehearsed.refusals);
         reports += rehearsed.reports;
         tests += rehearsed.tests;
+        rows += rehearsed.rows;
+        reopened.extend(rehearsed.reopened);
         std::fs::remove_file(&file).expect("removed");
     }
     let made: Vec<u64> = refusals.into_iter().collect();
     assert_eq!(made, Vec::from_iter(6..=17), "refusals that were made");
     assert!(reports > 10_000, "{reports} reports");
     assert!(tests > 50, "{tests} orders pass their tests alone");
+    assert!(rows > 2_000, "{rows} rows of flag tables");
+    let reopened: Vec<u64> = reopened.into_iter().collect();
+    assert_eq!(reopened, [0, 3, 21], "answers to another opening");
 }
