@@ -38,68 +38,63 @@ fn the_example_answers_as_worked_by_hand() {
     assert_eq!((ran.status, ran.out.as_str()), (0, expected), "{}", ran.err);
 }
 
-/// A list, lines behind it, and how its refusal starts behind the file's name;
-/// the place is that of the field, found by what stands there.
-fn refused_fields() -> Vec<(String, &'static str, &'static str, &'static str)> {
-    let blank = piloted().replace("0.02000|0.03000", "       |       ");
-    vec![
-        (
-            piloted(),
-            "",
-            "0.02000",
-            "26:28 premium \"0.02000\": flag 5 uses no premium: blank",
-        ),
-        (
-            // A flag that is not in use has blanks, whatever its other columns say.
-            piloted(),
-            "flag 5 1 1 1 0 1 1 0\n",
-            "0.02000",
-            "26:28 premium \"0.02000\": flag 5 uses no premium: blank",
-        ),
-        (
-            piloted(),
-            "flag 5 1 0 0 0 1 1 1\n",
-            "0.02000",
-            "26:28 premium \"0.02000\": flag 5 uses no premium: blank",
-        ),
-        (
-            // Below the first opening it belongs to another day.
-            piloted(),
-            "accounts 2\nopen\naccounts 2\nflag 5 1 1 1 0 1 1 1\nopen\n",
-            "0.02000",
-            "26:28 premium \"0.02000\": flag 5 uses no premium: blank",
-        ),
-        (
-            piloted(),
-            "flag 5 0 0 1 1 1 0 1\n",
-            "            |\r\n600519",
-            "26:44 amount \"            \": flag 5 uses an amount: ",
-        ),
-        (
-            blank,
-            STOCK,
-            "       |       |            |\r\n600519",
-            "26:28 premium \"       \": flag 5 uses a premium: ",
-        ),
-        (
-            // A table may change our rows, and have them out of use.
-            LIST.to_string(),
-            "flag 3 0 0 0 1 0 1 1\n",
-            "0.10000|0.10000|   96000.000",
-            "23:28 premium \"0.10000\": flag 3 uses no premium: blank",
-        ),
-        (
-            LIST.to_string(),
-            "flag 4 0 0 0 1 0 0 0\n",
-            "    8000.000",
-            "24:44 amount \"    8000.000\": flag 4 uses no amount: blank",
-        ),
-    ]
+/// The paper's list.
+fn paper() -> String {
+    LIST.to_string()
 }
+
+/// The piloted list without rates.
+fn without_rates() -> String {
+    piloted().replace("0.02000|0.03000", "       |       ")
+}
+
+const NO_PREMIUM: &str = "26:28 premium \"0.02000\": flag 5 uses no premium: blank";
+
+/// A list, lines behind it, what stands in the field at fault, and how the reason
+/// starts behind the file's name.
+const REFUSED_FIELDS: [(fn() -> String, &str, &str, &str); 8] = [
+    (piloted, "", "0.02000", NO_PREMIUM),
+    // A flag that is not in use has blanks, whatever its other columns say.
+    (piloted, "flag 5 1 1 1 0 1 1 0\n", "0.02000", NO_PREMIUM),
+    (piloted, "flag 5 1 0 0 0 1 1 1\n", "0.02000", NO_PREMIUM),
+    // Below the first opening it belongs to another day.
+    (
+        piloted,
+        "accounts 2\nopen\naccounts 2\nflag 5 1 1 1 0 1 1 1\nopen\n",
+        "0.02000",
+        NO_PREMIUM,
+    ),
+    (
+        piloted,
+        "flag 5 0 0 1 1 1 0 1\n",
+        "            |\r\n600519",
+        "26:44 amount \"            \": flag 5 uses an amount: ",
+    ),
+    (
+        without_rates,
+        STOCK,
+        "       |       |            |\r\n600519",
+        "26:28 premium \"       \": flag 5 uses a premium: ",
+    ),
+    // A table may change our rows, and have them out of use.
+    (
+        paper,
+        "flag 3 0 0 0 1 0 1 1\n",
+        "0.10000|0.10000|   96000.000",
+        "23:28 premium \"0.10000\": flag 3 uses no premium: blank",
+    ),
+    (
+        paper,
+        "flag 4 0 0 0 1 0 0 0\n",
+        "    8000.000",
+        "24:44 amount \"    8000.000\": flag 4 uses no amount: blank",
+    ),
+];
 
 #[test]
 fn blanks_of_the_list_follow_the_rows() {
-    for (list, lines, field, expected) in refused_fields() {
+    for (list, lines, field, expected) in REFUSED_FIELDS {
+        let list = list();
         let (ran, file) = listed(&list, lines);
         let place = list.find(field).expect("the field");
         let expected = format!("list refused 19 {place}: {file}:{expected}");
@@ -107,8 +102,7 @@ fn blanks_of_the_list_follow_the_rows() {
         let rehearsed = run(&["rehearse", &file]);
         assert_eq!((rehearsed.status, rehearsed.out), (1, ran.out));
     }
-    let blank = piloted().replace("0.02000|0.03000", "       |       ");
-    let (ran, file) = listed(&blank, "");
+    let (ran, file) = listed(&without_rates(), "");
     let expected = format!("list refused 3 3: {file}:26:26 flag \"5\": ");
     assert!(ran.out.starts_with(&expected), "{}", ran.out);
 }
@@ -480,14 +474,9 @@ fn json_has_the_tables_that_were_given() {
         &format!("{STOCK}accounts 2\nopen\n{second}"),
         &["--json"],
     );
-    let table = format!(
-        r#""flag_table":[{{"flag":0,"stock_moves":1,"shortage_in_cash":0,"rate_used":0,"amount_used":0,"shanghai":1,"priced":1,"in_use":1}},"#
-    );
+    let table = r#""flag_table":[{"flag":0,"stock_moves":1,"shortage_in_cash":0,"rate_used":0,"amount_used":0,"shanghai":1,"priced":1,"in_use":1},"#;
     let (list, entries) = ran.out.split_once("\"entries\":").expect("the entries");
-    assert!(
-        list.contains(&table) && list.contains(ROW_IN_JSON),
-        "{list}"
-    );
+    assert!(list.contains(table) && list.contains(ROW_IN_JSON), "{list}");
     let entries: Vec<&str> = entries
         .lines()
         .filter(|line| line.contains("\"open\""))
