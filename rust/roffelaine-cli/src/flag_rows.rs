@@ -2,6 +2,7 @@
 
 use crate::statement::{first_word, statement, Call, Statement};
 use roffelaine::{FlagTable, FLAGS, FLAG_COLUMNS};
+use std::borrow::Cow;
 
 /// What the table says of a flag: its numbers in the order of the columns.
 pub type Row = [u64; FLAG_COLUMNS];
@@ -43,7 +44,7 @@ impl GivenRows {
 /// The rows that a file's lines above its first `open` give. With them goes why
 /// the first faulty line among these gives none.
 pub fn above_first_open<'t>(
-    lines: impl Iterator<Item = (usize, std::borrow::Cow<'t, str>)>,
+    lines: impl Iterator<Item = (usize, Cow<'t, str>)>,
 ) -> (GivenRows, Option<String>) {
     let (mut rows, mut fault) = (GivenRows::default(), None);
     for (line, text) in lines {

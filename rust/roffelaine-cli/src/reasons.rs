@@ -31,7 +31,10 @@ pub fn opening(
         (Refusal::Sizes, None) => "there is no line `accounts` above".to_string(),
         (Refusal::Sizes, Some(accounts)) => format!("accounts {accounts}: a day has 2 to 64"),
         (Refusal::FlagTable { place }, _) => flags::table(table, place as usize),
-        (Refusal::Component { place }, _) => flags::component(list, table, place as usize),
+        (Refusal::Component { place }, _) => {
+            let reason = flags::component(list, table, place as usize);
+            reason.unwrap_or_else(|| refusal.words().to_string())
+        }
         (Refusal::Total { place }, _) => total(list, holdings, place as usize),
         _ => refusal.words().to_string(),
     }

@@ -52,7 +52,9 @@ const NO_PREMIUM: &str = "26:28 premium \"0.02000\": flag 5 uses no premium: bla
 
 /// A list, lines behind it, what stands in the field at fault, and how the reason
 /// starts behind the file's name.
-const REFUSED_FIELDS: [(fn() -> String, &str, &str, &str); 8] = [
+type RefusedField = (fn() -> String, &'static str, &'static str, &'static str);
+
+const REFUSED_FIELDS: [RefusedField; 8] = [
     (piloted, "", "0.02000", NO_PREMIUM),
     // A flag that is not in use has blanks, whatever its other columns say.
     (piloted, "flag 5 1 1 1 0 1 1 0\n", "0.02000", NO_PREMIUM),

@@ -111,10 +111,10 @@ impl<W: Write> Calls<'_, W> {
             Ok(Made::Value(value)) => {
                 self.start(line, How::Plain, &said, &format!("{value} yuan for a unit"))
             }
-            Ok(Made::Opened { table: Some(table) }) => {
+            Ok(made @ Made::Opened { table: Some(table) }) => {
                 self.start(line, How::of_rows(FLAGS), &said, "accepted")?;
                 flags::table(self.out, table)?;
-                self.post(call, &Made::Done, opened)
+                self.post(call, made, opened)
             }
             Ok(Made::Tested { records, reports }) => {
                 self.start(line, How::Plain, &said, &would_make(*records, *reports))

@@ -53,26 +53,22 @@ fn broken_rules(is: impl Fn(FlagColumn) -> bool) -> Vec<&'static str> {
     broken.map(|(_, words)| words).collect()
 }
 
-/// Why a component of a list that was read is refused under the table of a day.
-pub fn component(list: &List<'_>, table: &FlagTable, line: usize) -> String {
-    let refusal = Refusal::Component { place: line as u64 };
-    let fault = list.components.get(line).and_then(|component| {
-        let (code, flag) = (component.code, component.flag);
-        if !table.says(flag, InUse) {
-            return Some(format!("{code:06} has flag {flag}, which is not in use"));
-        }
-        let used = [
-            ("premium", component.premium.0, RateUsed),
-            ("discount", component.discount.0, RateUsed),
-            ("amount", component.amount.0, AmountUsed),
-        ];
-        let mut used = used.into_iter();
-        let (name, ..) =
-            used.find(|&(_, number, column)| number > 0 && !table.says(flag, column))?;
-        let article = if name == "amount" { "an" } else { "a" };
-        Some(format!(
-            "{code:06} has {article} {name}, which flag {flag} does not use"
-        ))
-    });
-    fault.unwrap_or_else(|| refusal.words().to_string())
+/// Why a component of a list that was read is refused under the table of a day;
+/// none where its flag is not the cause.
+pub fn component(list: &List<'_>, table: &FlagTable, line: usize) -> Option<String> {
+    let component = list.components.get(line)?;
+    let (code, flag) = (component.code, component.flag);
+    if !table.says(flag, InUse) {
+        return Some(format!("{code:06} has flag {flag}, which is not in use"));
+    }
+    let fields = [
+        ("a premium", component.premium.0, RateUsed),
+        ("a discount", component.discount.0, RateUsed),
+        ("an amount", component.amount.0, AmountUsed),
+    ];
+    let mut fields = fields.into_iter();
+    let (field, ..) = fields.find(|&(_, number, used)| number > 0 && !table.says(flag, used))?;
+    Some(format!(
+        "{code:06} has {field}, which flag {flag} does not use"
+    ))
 }
