@@ -62,6 +62,7 @@ DAY_ROWS = """\
 -- Rows of test vectors, and when a row is right.
 use Rattle.std.specs.Prelude.{ℕ, zero, suc, ◌+◌, ℤ, Bool, true, false, List, [], ◌∷◌, ◌++◌, eqb, length, drop, replicate}
 use Rattle.sequences.specs.Checks.{Reply}
+use Rattle.flags.specs.Table.{FlagTable, flag_table, table_numbers}
 use Rattle.layout.specs.declared.Fund.{Fund}
 use Rattle.layout.specs.declared.Component.{Component}
 use Rattle.layout.specs.Places.{day_width}
@@ -77,10 +78,19 @@ abbrev pub component : ℕ → ℕ → ℕ → ℕ → ℕ → ℕ → Component
 component code q flag premium discount amount =
     record { code = code; quantity = q; flag = flag; premium = record { 0 = premium }; discount = record { 0 = discount }; amount = record { 0 = amount } }
 
--- accounts, count, fund, components, holdings, and the lengths of the lent book and prices
-abbrev pub opening : ℕ → ℕ → Fund → List ℕ → List ℕ → ℕ → ℕ → Opening
-opening a n f cs hs b ps =
-    record { accounts = a; count = n; fund = f; components = cs; holdings = hs; book = lent b; prices = lent ps; day = replicate day_width 7 }
+-- the flag table where none is given: its rows, and its run
+abbrev pub ours : FlagTable
+ours = flag_table
+
+abbrev pub our_numbers : List ℕ
+our_numbers = table_numbers flag_table
+
+-- accounts, count, fund, flag table, components, holdings, and the lengths of the lent book and prices
+abbrev pub opening : ℕ → ℕ → Fund → List ℕ → List ℕ → List ℕ → ℕ → ℕ → Opening
+opening a n f t cs hs b ps =
+    record {
+      accounts = a; count = n; fund = f; table = t; components = cs; holdings = hs; book = lent b; prices = lent ps; day = replicate day_width 7
+    }
 
 abbrev pub state : Day → List ℕ → List ℕ → State
 state d b ps = record { day = d; book = b; prices = ps }
@@ -237,7 +247,7 @@ rows_right = refl
 DAY_USES = """\
 use Rattle.rules.specs.Lent.{lent_of}
 use Rattle.balance.specs.Calls.{price, trade, create, redeem, value}
-use Rattle.rows.specs.Rows.{all, fund, component, opening, state, made, tests_creation, tests_redemption}
+use Rattle.rows.specs.Rows.{all, fund, component, ours, our_numbers, opening, state, made, tests_creation, tests_redemption}
 use Rattle.rows.specs.Rows.{kept, holds, met, Row, opens, plays, meets, follows, right}"""
 
 TEXT_USES = "use Rattle.rows_of_texts.specs.Rows.{all, fund, fields, Row, fails, reads, writes, right}"
@@ -259,7 +269,8 @@ def fund(f):
 
 
 def opening(v, book, prices):
-    return (f"(opening {v['accounts']} {v['count']} {fund(v['fund'])} {listed(numbers(v['components']))} "
+    table = "our_numbers" if v["table"] is None else listed(numbers(v["table"]))
+    return (f"(opening {v['accounts']} {v['count']} {fund(v['fund'])} {table} {listed(numbers(v['components']))} "
             f"{listed(v['holdings'])} {book} {prices})")
 
 
@@ -301,7 +312,9 @@ def day_row(v):
 
 def state(v):
     parts = listed("component " + " ".join(map(str, c)) for c in v["components"])
-    day = f"record {{ accounts = {v['accounts']}; count = {v['count']}; fund = {fund(v['fund'])}; components = {parts} }}"
+    table = "ours" if v["table"] is None else listed(map(listed, v["table"]))
+    day = (f"record {{ accounts = {v['accounts']}; count = {v['count']}; fund = {fund(v['fund'])}; table = {table}; "
+           f"components = {parts} }}")
     return f"(state ({day}) {listed(v['book'])} {listed(v['prices'])})"
 
 
