@@ -1,11 +1,12 @@
-"""A model of a day after an accepted opening, written from document 01 and change requests 1 to 3 alone; it shares nothing with the
-day book. Python's numbers have no upper end.
+"""A model of a day, written from document 01 and change requests 1 to 4 alone; it shares nothing with the day book. Python's numbers
+have no upper end.
 
-A component is code, quantity, flag, premium, discount, amount, and a fund a dict in the form of the vectors (vectors/README.md).
+A component is code, quantity, flag, premium, discount, amount; a flag table is ten rows of seven numbers, flag after flag, None where
+none is given; and a fund is a dict in the form of the vectors (vectors/README.md).
 """
 import hashlib
 
-from vector_files import LISTS, numbers
+from vector_files import COMPONENT_WIDTH, LISTS, numbers
 
 B, S = 1, 2  # the sides of a record and of a report
 CEILING = 999_999_999_999
@@ -19,8 +20,118 @@ TESTS = ("test-create", "test-redeem")
 # The calls that change nothing, whatever they are answered.
 READS = ("value", *TESTS)
 
-# The flag table: the flags whose stock moves, whose shortage is paid in cash, whose cash is Shanghai's, and that are priced.
-MOVES, IN_CASH, SHANGHAI, PRICED = {0, 1}, {1}, {0, 1, 2}, {0, 1, 3}
+
+# ---- the flag table
+
+# Its columns, and how many numbers it has.
+MOVES, IN_CASH, RATE_USED, AMOUNT_USED, SHANGHAI, PRICED, IN_USE = range(7)
+TABLE_WIDTH = 70
+
+# The table when none is given: a row for each of the flags 0 to 9.
+OURS = [[1, 0, 0, 0, 1, 1, 1], [1, 1, 1, 0, 1, 1, 1], [0, 0, 0, 1, 1, 0, 1], [0, 0, 1, 1, 0, 1, 1], [0, 0, 0, 1, 0, 0, 1],
+        *([0] * 7 for _ in range(5))]
+
+
+def table_of(given):
+    return OURS if given is None else given
+
+
+def says(table, flag, column):
+    """Whether a flag is there and in use, and has a 1 in a column."""
+    return flag < len(table) and table[flag][IN_USE] == 1 == table[flag][column]
+
+
+def is_faulty(row):
+    """Whether a row breaks the rules."""
+    moves, in_cash, rate, amount, shanghai, priced, in_use = row
+    if any(x > 1 for x in row):
+        return True
+    fits = (shanghai and priced and not amount if moves else amount) and (not in_cash or moves and rate)
+    return bool(in_use and not fits)
+
+
+def fault_of(table):
+    """21: the lowest flag whose row breaks the rules, None where none does."""
+    return next((flag for flag, row in enumerate(table) if is_faulty(row)), None)
+
+
+# ---- the ranges of the fund and of its components
+
+CASH = range(-999_999_999, 9_999_999_999 + 1)
+LIMIT = range(CEILING + 1)
+
+
+def fund_fits(f):
+    return (f["first_code"] in range(999_995) and f["basket_size"] in range(1, 100_000_000)
+            and f["max_cash_ratio"] in range(100_001) and f["switch"] in range(4) and f["estimated_cash"] in CASH
+            and all(x in LIMIT and x % f["basket_size"] == 0 for x in f["limits"]))
+
+
+def component_fits(table, g, parts, i):
+    code, quantity, flag, premium, discount, amount = parts[i]
+
+    def fits(x, most, column):
+        return x in range(most + 1) if says(table, flag, column) else x == 0
+
+    return (code in range(1_000_000) and code not in range(g, g + 6) and (i == 0 or parts[i - 1][0] < code)
+            and quantity in range(100_000_000) and says(table, flag, IN_USE) and fits(premium, 100_000, RATE_USED)
+            and fits(discount, 100_000, RATE_USED) and fits(amount, 99_999_999_999, AMOUNT_USED))
+
+
+# ---- opening, and refusal 5, which makes its tests again
+
+
+def list_fault(table, fund, parts):
+    """21, 2 and 3: number and place, None where all is well."""
+    flag = fault_of(table)
+    if flag is not None:
+        return [21, flag]
+    if not fund_fits(fund):
+        return [2, 0]
+    return next(([3, i] for i in range(len(parts)) if not component_fits(table, fund["first_code"], parts, i)), None)
+
+
+def total_fault(cash, lines, most_units, fund_units):
+    """4: the lowest place that totals too much, a line, of which the unit is the last, or one past it for cash."""
+    *stock, units = lines
+    over = [*(x > E18 for x in stock), units > most_units or fund_units > 0, cash > 4 * E18]
+    return [4, over.index(True)] if any(over) else None
+
+
+def are_sizes_right(accounts, count, lengths):
+    """1: A and N in their ranges, and each length as long as they need."""
+    return 2 <= accounts <= 64 and 1 <= count <= 300 and all(length == needed for length, needed in lengths)
+
+
+def opening_reply(v):
+    """What an opening of the vectors is answered: number and place."""
+    a, n, table = v["accounts"], v["count"], table_of(v["table"])
+    run = numbers(v["components"])
+    lengths = [(len(numbers(table)), TABLE_WIDTH), (len(run), COMPONENT_WIDTH * n), (len(v["holdings"]), a * (n + 2)),
+               (v["book_length"], a * (3 * n + 6)), (v["prices_length"], n)]
+    if not are_sizes_right(a, n, lengths):
+        return [1, 0]
+    cash, *lines = [sum(v["holdings"][i::n + 2]) for i in range(n + 2)]
+    parts = [run[i:i + COMPONENT_WIDTH] for i in range(0, len(run), COMPONENT_WIDTH)]
+    return list_fault(table, v["fund"], parts) or total_fault(cash, lines, E18, v["holdings"][n + 1]) or [0, 0]
+
+
+def is_sound(v):
+    """5: whether a state of the vectors passes opening's tests, with units up to twice as many, and the tests of a later day."""
+    a, n, book, prices, table = v["accounts"], v["count"], v["book"], v["prices"], table_of(v["table"])
+    width = 3 * n + 6
+    lengths = [(len(numbers(table)), TABLE_WIDTH), (len(v["components"]), n), (len(book), a * width), (len(prices), n)]
+    if not are_sizes_right(a, n, lengths) or list_fault(table, v["fund"], v["components"]):
+        return False
+    cash, created, redeemed, *lots = [sum(book[i::width]) for i in range(width)]
+    lines = [sum(lots[i:i + 3]) for i in range(0, len(lots), 3)]
+    # the fund's: no counters, nothing bought or got on any line, and no units
+    still = [*book[1:3], *book[4:width:3], *book[5:width:3], book[width - 3]]
+    return (total_fault(cash, lines, 2 * E18, 0) is None and max(prices) <= 9_999_999 and max(created, redeemed) <= CEILING
+            and not any(still))
+
+
+# ---- the day after an accepted opening
 
 
 def rounded(x, by):
@@ -79,8 +190,9 @@ def is_too_short(rooms, lists):
 class Model:
     """A day, its book and its prices. A call gives its reply, an order also the lists that it writes."""
 
-    def __init__(self, accounts, fund, parts, holdings):
+    def __init__(self, accounts, fund, parts, holdings, table=None):
         width = len(parts) + 2
+        self.table = table_of(table)
         rows = [holdings[a * width:(a + 1) * width] for a in range(accounts)]
         self.fund, self.parts, self.accounts, self.n = fund, parts, accounts, len(parts)
         self.cash = [r[0] for r in rows]
@@ -92,7 +204,7 @@ class Model:
     def on_state(cls, v):
         """On a state of the vectors that is sound: a day, its book and its prices."""
         width = 3 * v["count"] + 6
-        day = cls(v["accounts"], v["fund"], v["components"], [0] * v["accounts"] * (v["count"] + 2))
+        day = cls(v["accounts"], v["fund"], v["components"], [0] * v["accounts"] * (v["count"] + 2), v["table"])
         for a in range(v["accounts"]):
             day.cash[a], day.created[a], day.redeemed[a], *lots = v["book"][a * width:(a + 1) * width]
             day.lots[a] = [lots[i:i + 3] for i in range(0, len(lots), 3)]
@@ -102,6 +214,9 @@ class Model:
     def book(self):
         return [x for a in range(self.accounts)
                 for x in [self.cash[a], self.created[a], self.redeemed[a], *(y for lots in self.lots[a] for y in lots)]]
+
+    def says(self, flag, column):
+        return says(self.table, flag, column)
 
     def price(self, line, p):
         if line >= self.n:
@@ -135,9 +250,10 @@ class Model:
         """The reference value, None where it doesn't exist."""
         total = 10 * self.fund["estimated_cash"]
         for (_, q, flag, _, _, amount), p in zip(self.parts, self.prices):
-            if flag in PRICED and q > 0 and p == 0:
+            priced = self.says(flag, PRICED)
+            if priced and q > 0 and p == 0:
                 return None
-            total += q * p if flag in PRICED else amount
+            total += q * p if priced else amount
         if total < 0:
             return None
         value = rounded(total * 10, self.fund["basket_size"])
@@ -194,17 +310,17 @@ class Model:
         moved, cash, missing = [0] * self.n, {True: 0, False: 0}, 0
         short = [max(0, m * q - self.lots[a][i][0] - self.lots[a][i][1]) for i, (_, q, *_) in enumerate(self.parts)]
         for i, (_, _, flag, *_) in enumerate(self.parts):
-            if flag in MOVES and flag not in IN_CASH and short[i]:
+            if self.says(flag, MOVES) and not self.says(flag, IN_CASH) and short[i]:
                 return refused_order(9, i)
         for i, (_, q, flag, premium, _, amount) in enumerate(self.parts):
-            if flag in MOVES:
+            if self.says(flag, MOVES):
                 moved[i] = m * q - short[i]
                 missing += short[i] * self.prices[i]
                 amount = short[i] * self.prices[i]
             else:
                 amount *= m
-            cash[flag in SHANGHAI] += with_premium(amount, premium)
-        if any(short[i] for i, part in enumerate(self.parts) if part[2] in IN_CASH):
+            cash[self.says(flag, SHANGHAI)] += with_premium(amount, premium)
+        if any(short[i] for i, part in enumerate(self.parts) if self.says(part[2], IN_CASH)):
             value = self.reference()
             if value is None:
                 return refused_order(14)
@@ -243,10 +359,10 @@ class Model:
             return refused_order(9)
         moved, cash = [0] * self.n, {True: 0, False: 0}
         for i, (_, q, flag, _, discount, amount) in enumerate(self.parts):
-            if flag in MOVES:
+            if self.says(flag, MOVES):
                 moved[i] = m * q
             else:
-                cash[flag in SHANGHAI] += less_discount(m * amount, discount)
+                cash[self.says(flag, SHANGHAI)] += less_discount(m * amount, discount)
         for i, q in enumerate(moved):
             if self.lots[0][i][0] < q:
                 return refused_order(17, i)
@@ -284,7 +400,7 @@ class Model:
 
 def played(v):
     """A day of the vectors, opened and played: its calls with replies and lists, and the book and the prices at the end."""
-    model = Model(v["accounts"], v["fund"], v["components"], v["holdings"])
+    model = Model(v["accounts"], v["fund"], v["components"], v["holdings"], v["table"])
     calls = list(model.played([c["call"] for c in v["calls"]]))
     return {**v, "calls": calls, "book": model.book(), "prices": model.prices}
 
@@ -294,7 +410,7 @@ def played(v):
 
 def unfolded(v):
     """A big day in the form of the others: what the vectors have in short is the model's."""
-    kept = {key: v[key] for key in ("cause", "accounts", "count", "fund", "components", "opening", "calls")}
+    kept = {key: v[key] for key in ("cause", "accounts", "count", "fund", "components", "table", "opening", "calls")}
     day = played({**kept, "holdings": numbers(v["holdings_rows"][i] for i in v["holdings_of"])})
     assert is_short_form(day, v)
     return day

@@ -1,17 +1,16 @@
-"""A model of the list text, written from document 01 and change request 1 alone; it shares nothing with the day book.
+"""A model of the list text, written from document 01 and change requests 1 and 4 alone; it shares nothing with the day book.
 
-`read` answers a text and a lent component run of so many numbers, `write` a list and a lent output of so many bytes. A list
-is a dict in the form of the vectors (vectors/README.md): money counts its last decimal; a component is code, quantity, flag,
-premium, discount, amount. Python's numbers have no upper end.
+`read` answers a flag table, a text and a lent component run of so many numbers, `write` a list, which says its table, and a lent output
+of so many bytes. A list is a dict in the form of the vectors (vectors/README.md): money counts its last decimal; a component is code,
+quantity, flag, premium, discount, amount; a table is rows of numbers, None where none is given. Python's numbers have no upper end.
 """
 import datetime
 import re
 
+from day_model import AMOUNT_USED, CASH, RATE_USED, TABLE_WIDTH, component_fits, fault_of, fund_fits, says, table_of
 from vector_files import COMPONENT_WIDTH, numbers
 
 WHOLE = rb"(?:0|[1-9][0-9]*)"
-CASH = range(-999_999_999, 9_999_999_999 + 1)
-LIMIT = range(999_999_999_999 + 1)
 
 # A head line: name, where its value stands in a list (a number: among the limits), decimals, and the form of its characters.
 HEAD = [
@@ -51,8 +50,8 @@ COLUMNS = [
 ROW_WIDTH = 56
 ROW = re.compile(rb"(?s).{6}\|.{8}\|.{8}\|.\|.{7}\|.{7}\|.{12}\|")
 
-# The flags that use a rate, the premium and the discount alike, and those that use an amount.
-USES = {PREMIUM: (1, 3), DISCOUNT: (1, 3), AMOUNT: (2, 3, 4)}
+# The fields that are blank but for some flags, and the column of the flag table that says for which.
+USES = {PREMIUM: RATE_USED, DISCOUNT: RATE_USED, AMOUNT: AMOUNT_USED}
 
 FUND = ["first_code", "basket_size", "max_cash_ratio", "switch", "estimated_cash"]
 OTHERS = ["publish", "trading_day", "pre_trading_day", "cash_component", "nav_per_cu", "nav", "count"]
@@ -78,27 +77,21 @@ def is_date(d):
     return True
 
 
-def fund_fits(v):
-    f = v["fund"]
-    return (f["first_code"] in range(999_995) and f["basket_size"] in range(1, 100_000_000)
-            and f["max_cash_ratio"] in range(100_001) and f["switch"] in range(4) and f["estimated_cash"] in CASH
-            and all(x in LIMIT and x % f["basket_size"] == 0 for x in f["limits"]))
-
-
 def others_fit(v):
     return (v["publish"] in (0, 1) and is_date(v["trading_day"]) and is_date(v["pre_trading_day"])
             and v["cash_component"] in CASH and v["nav_per_cu"] in range(100_000_000_000) and v["nav"] in range(10_000_000))
 
 
-def component_fits(g, parts, i):
-    code, quantity, flag, premium, discount, amount = parts[i]
+# ---- the flag table
 
-    def fits(x, most, k):
-        return x in range(most + 1) if flag in USES[k] else x == 0
 
-    return (code in range(1_000_000) and code not in range(g, g + 6) and (i == 0 or parts[i - 1][0] < code)
-            and quantity in range(100_000_000) and flag in range(5) and fits(premium, 100_000, PREMIUM)
-            and fits(discount, 100_000, DISCOUNT) and fits(amount, 99_999_999_999, AMOUNT))
+def loaded(given):
+    """21, before all else: the table, ours where none is given."""
+    table = table_of(given)
+    refuse(len(numbers(table)) != TABLE_WIDTH, 21)
+    flag = fault_of(table)
+    refuse(flag is not None, 21, flag)
+    return table
 
 
 # ---- reading
@@ -144,12 +137,12 @@ def head_value(k, value, place):
     return number(value)
 
 
-def component(line, place):
-    """A component line's numbers."""
+def component(table, line, place):
+    """A component line's numbers. A flag that is no digit is at fault before any field that it decides about."""
     flag, out = line[COLUMNS[FLAG][0]:][:1], []
     for k, (start, width, form) in enumerate(COLUMNS):
         field = line[start:start + width]
-        is_blank = k in USES and flag not in [b"%d" % x for x in USES[k]]
+        is_blank = k in USES and not says(table, int(flag), USES[k])
         refuse(not re.fullmatch(rb" *" if is_blank else form, field), 19, place + start)
         if k != NAME:
             out.append(0 if is_blank else number(field.strip()))
@@ -162,26 +155,27 @@ def listing(values, parts):
     return {"fund": fund, **{key: values[key] for key in OTHERS}, "components": parts}
 
 
-def read_list(text, room):
+def read_list(given, text, room):
+    table = loaded(given)
     starts = lines_of(text)
     values = {}
     for k, (name, key, *_) in enumerate(HEAD):
         at, line = starts[k + 1], line_at(text, starts[k + 1])
         values[key] = head_value(k, line[len(name) + 1:], at + len(name) + 1)
-    parts = [component(text[at:at + ROW_WIDTH], at) for at in starts[22:]]
+    parts = [component(table, text[at:at + ROW_WIDTH], at) for at in starts[22:]]
     v = listing(values, parts)
     refuse(v["count"] not in range(1, 301) or v["count"] != len(parts), 20)
-    refuse(values["fundid"] == 0 or not fund_fits(v) or not others_fit(v), 2)
+    refuse(values["fundid"] == 0 or not fund_fits(v["fund"]) or not others_fit(v), 2)
     for i in range(len(parts)):
-        refuse(not component_fits(v["fund"]["first_code"], parts, i), 3, i)
+        refuse(not component_fits(table, v["fund"]["first_code"], parts, i), 3, i)
     refuse(room < COMPONENT_WIDTH * len(parts), 16)
     return {"letters": letters(text), **v, "name_places": [at + COLUMNS[NAME][0] for at in starts[22:]]}
 
 
-def read(text, room):
+def read(given, text, room):
     """The reply, and where it is read all that is handed back."""
     try:
-        return {"reply": [0, 0], **read_list(text, room)}
+        return {"reply": [0, 0], **read_list(given, text, room)}
     except Refused as why:
         return {"reply": list(why.args)}
 
@@ -227,11 +221,11 @@ def head_lines(v):
             *(f"{name}={head_text(v, key, decimals)}".encode() for name, key, decimals, _ in HEAD), b"TAGTAG"]
 
 
-def row(part, name):
+def row(table, part, name):
     code, quantity, flag, premium, discount, amount = part
 
     def cell(x, decimals, k):
-        return pointed(x, decimals).encode() if flag in USES[k] else b""
+        return pointed(x, decimals).encode() if says(table, flag, USES[k]) else b""
 
     return b"%06d|%s|%8d|%d|%7s|%7s|%12s|" % (code, name, quantity, flag, cell(premium, 5, PREMIUM), cell(discount, 5, DISCOUNT),
                                               cell(amount, 3, AMOUNT))
@@ -239,7 +233,8 @@ def row(part, name):
 
 def lines(v):
     """All lines of a list's text."""
-    rows = [row(part, v["names"][8 * i:8 * i + 8]) for i, part in enumerate(v["components"])]
+    table = table_of(v["table"])
+    rows = [row(table, part, v["names"][8 * i:8 * i + 8]) for i, part in enumerate(v["components"])]
     return [*head_lines(v), *rows, b"ENDENDEND"]
 
 
@@ -248,13 +243,14 @@ def text_of(lines):
 
 
 def write_list(v, room):
+    table = loaded(v["table"])
     n, names = v["count"], v["names"]
     refuse(n not in range(1, 301) or len(numbers(v["components"])) != COMPONENT_WIDTH * n or len(names) != 8 * n, 1)
     is_right = re.fullmatch(rb"[0-9A-Za-z]{1,8}", v["letters"])
-    refuse(not fund_fits(v) or not others_fit(v) or not is_right, 2)
+    refuse(not fund_fits(v["fund"]) or not others_fit(v) or not is_right, 2)
     for i in range(n):
         is_name = re.fullmatch(COLUMNS[NAME][2], names[8 * i:8 * i + 8])
-        refuse(not is_name or not component_fits(v["fund"]["first_code"], v["components"], i), 3, i)
+        refuse(not is_name or not component_fits(table, v["fund"]["first_code"], v["components"], i), 3, i)
     text = text_of(lines(v))
     refuse(room < len(text), 16)
     return text
