@@ -31,8 +31,8 @@ from pathlib import Path
 
 import vector_text
 from day_model import ORDERS, accepted, refused
-from vector_files import LISTS
-from vector_text import cut, item, line, lists, opening, save, state, texts
+from vector_files import LISTS, cut
+from vector_text import item, line, lists, opening, save, state, texts
 
 vector_text.TAGS["batch"] = 10
 

@@ -6,7 +6,7 @@ none is given; and a fund is a dict in the form of the vectors (vectors/README.m
 """
 import hashlib
 
-from vector_files import COMPONENT_WIDTH, LISTS, numbers
+from vector_files import COMPONENT_WIDTH, LISTS, cut, numbers
 
 B, S = 1, 2  # the sides of a record and of a report
 CEILING = 999_999_999_999
@@ -112,8 +112,7 @@ def opening_reply(v):
     if not are_sizes_right(a, n, lengths):
         return [1, 0]
     cash, *lines = [sum(v["holdings"][i::n + 2]) for i in range(n + 2)]
-    parts = [run[i:i + COMPONENT_WIDTH] for i in range(0, len(run), COMPONENT_WIDTH)]
-    return list_fault(table, v["fund"], parts) or total_fault(cash, lines, E18, v["holdings"][n + 1]) or [0, 0]
+    return list_fault(table, v["fund"], cut(run, COMPONENT_WIDTH)) or total_fault(cash, lines, E18, v["holdings"][n + 1]) or [0, 0]
 
 
 def is_sound(v):
@@ -124,7 +123,7 @@ def is_sound(v):
     if not are_sizes_right(a, n, lengths) or list_fault(table, v["fund"], v["components"]):
         return False
     cash, created, redeemed, *lots = [sum(book[i::width]) for i in range(width)]
-    lines = [sum(lots[i:i + 3]) for i in range(0, len(lots), 3)]
+    lines = map(sum, cut(lots, 3))
     # the fund's: no counters, nothing bought or got on any line, and no units
     still = [*book[1:3], *book[4:width:3], *book[5:width:3], book[width - 3]]
     return (total_fault(cash, lines, 2 * E18, 0) is None and max(prices) <= 9_999_999 and max(created, redeemed) <= CEILING
@@ -207,7 +206,7 @@ class Model:
         day = cls(v["accounts"], v["fund"], v["components"], [0] * v["accounts"] * (v["count"] + 2), v["table"])
         for a in range(v["accounts"]):
             day.cash[a], day.created[a], day.redeemed[a], *lots = v["book"][a * width:(a + 1) * width]
-            day.lots[a] = [lots[i:i + 3] for i in range(0, len(lots), 3)]
+            day.lots[a] = cut(lots, 3)
         day.prices = list(v["prices"])
         return day
 
@@ -423,7 +422,7 @@ def sha256(run):
 def is_short_form(day, v):
     """Whether a day is what the vectors have in short: every reply, hash, sum and number of it."""
     width, book = 3 * v["count"] + 6, day["book"]
-    stretches = [book[i:i + width] for i in range(0, len(book), width)]
+    stretches = cut(book, width)
     cash, created, redeemed = (sum(s[k] for s in stretches) for k in range(3))
     short = {"book_sha256": sha256(book), "prices_sha256": sha256(day["prices"]), "cash_total": cash, "created_total": created,
              "redeemed_total": redeemed, "units_total": sum(sum(s[-3:]) for s in stretches),

@@ -1,5 +1,5 @@
 #!/usr/bin/env python3
-"""Writes vectors of the list text at the edges of document 01 and change request 1, with answers by hand and by a model.
+"""Writes vectors of the list text at the edges of document 01 and change requests 1 and 4, with answers by hand and by a model.
 
     edge_texts.py VECTORS OUT
 
@@ -11,8 +11,10 @@ place. First it is put against texts.jsonl and writings.jsonl of VECTORS, whose 
 import argparse
 from pathlib import Path
 
+import edge_tables
 import list_model
 import vector_files
+from edge_tables import KEPT, PAID, RATED, SHORT, STOCK, UNUSED, ruled
 from list_model import AMOUNT, CODE, COLUMNS, DISCOUNT, FLAG, HEAD, NAME, PREMIUM, QUANTITY, ROW_WIDTH, lines, text_of
 from vector_files import COMPONENT_WIDTH, component_room
 
@@ -41,7 +43,7 @@ def listed(parts, **changes):
             "limits": [0] * 8}
     v = {"letters": b"510300", "fund": fund, "publish": 1, "trading_day": 20_250_630, "pre_trading_day": 20_250_627,
          "cash_component": -32_958, "nav_per_cu": 42_566_878, "nav": 4257, "count": len(parts), "components": parts,
-         "names": b"".join(b"NAME %03d" % i for i in range(len(parts)))}
+         "names": b"".join(b"NAME %03d" % i for i in range(len(parts))), "table": None}
     fund.update({key: changes.pop(key) for key in list(changes) if key in fund})
     return {**v, **changes}
 
@@ -90,25 +92,25 @@ def filled(ls, j, k, new):
     return put(ls, ROWS + j, old[:at] + new.rjust(width) + old[at + width:])
 
 
-def text(cause, given, number, place=0, room=ROOM, of=None):
+def text(cause, given, number, place=0, room=ROOM, of=None, table=None):
     """A row: a text or its lines, its reply, and where it is read the list that it was made of."""
     given = text_of(given) if isinstance(given, list) else given
-    got = list_model.read(given, room)
+    got = list_model.read(table, given, room)
     assert got["reply"] == [number, place], (cause, given, got["reply"], [number, place])
     assert of is None or all(got[key] == of[key] for key in ("fund", "components", *list_model.OTHERS))
-    return {"cause": cause, "text": given, "room": room, **got}
+    return {"cause": cause, "text": given, "table": table, "room": room, **got}
 
 
 def grown(cause, front, part, times, tail, number, place=0, room=ROOM):
     """A row of a long text, a part of which stands in it many times."""
-    got = list_model.read(front + part * times + tail, room)
+    got = list_model.read(None, front + part * times + tail, room)
     assert got["reply"] == [number, place], (cause, got["reply"], [number, place])
-    return {"cause": cause, "front": front, "part": part, "times": times, "tail": tail, "room": room, **got}
+    return {"cause": cause, "front": front, "part": part, "times": times, "tail": tail, "table": None, "room": room, **got}
 
 
 def read(cause, v, **changes):
-    """A row: a list whose text is read."""
-    return text(cause, lines(v), 0, of=v, **changes)
+    """A row: a list whose text is read under its table."""
+    return text(cause, lines(v), 0, of=v, table=v["table"], **changes)
 
 
 # ---- 18
@@ -497,6 +499,85 @@ def meetings():
     yield text("basket size 0", said(said(DAY, 1, b"0"), 12, b"5"), 2)
 
 
+# ---- flag tables
+
+# Fields that a flag may use, with a column of the table; and for each what stands there where it is used.
+USED = {PREMIUM: 2, DISCOUNT: 2, AMOUNT: 3}
+WRITTEN = {PREMIUM: b"0.10000", DISCOUNT: b"0.05000", AMOUNT: b"7.000"}
+WORTH = {PREMIUM: 10_000, DISCOUNT: 5_000, AMOUNT: 7_000}
+
+
+def of_row(flag, row, worth=WORTH):
+    """A component whose flag has a row: what it uses is worth so much."""
+    return [600_000, 5200, flag, *(worth[k] if row[USED[k]] else 0 for k in USED)]
+
+
+def tables():
+    """21, before all else: the lowest flag at fault."""
+    for table, flag in edge_tables.faulty():
+        yield text("a table at fault", DAY, 21, flag, table=table)
+    # 21 before 18, wherever it is, 19, 20, 2, 3 and 16
+    late = len(DAY) - 1
+    for given in (b"", put(DAY, 0, b"x"), put(DAY, late, b"x"), text_of(DAY) + b"x", said(DAY, 0, b"x"), filled(DAY, 4, AMOUNT, b"x"),
+                  said(DAY, 5, b"4"), said(DAY, 1, b"0"), filled(DAY, 4, CODE, b"000001")):
+        yield text("21 before others", given, 21, 9, table=edge_tables.set_at(9, 6))
+        yield text("21 before others", given, 21, 2, room=0, table=ruled({2: (0, 0, 0, 0, 1, 0, 1)}))
+    yield text("21 before 16", DAY, 21, 9, room=29, table=edge_tables.set_at(9, 6))
+    # a table that loads leaves the other refusals and their places
+    table = ruled({5: SHORT, 9: PAID[7]})
+    for given, number, place in ((b"", 18, 0), (put(DAY, late, b"x"), 18, start(DAY, late)), (said(DAY, 0, b"x"), 19, value(DAY, 0)),
+                                 (said(DAY, 5, b"4"), 20, 0), (said(DAY, 1, b"0"), 2, 0), (filled(DAY, 4, CODE, b"000001"), 3, 4)):
+        yield text("others under a table", given, number, place, table=table)
+    yield text("16 under a table", DAY, 16, room=29, table=table)
+    yield read("our table given", listed(PARTS, table=ruled({})))
+    for row in UNUSED[::9]:
+        yield read("rows not in use", listed(SINGLE, table=ruled({flag: row for flag in (0, 1, 2, 4, 5, 9)})))
+
+
+def blanks():
+    """A rate or an amount is blank unless the flag is in use and its column says used: each field as it has to be, and each otherwise."""
+    for flag in (6, 2):
+        for row in KEPT:
+            v = listed([of_row(flag, row)], table=ruled({flag: row}))
+            yield read("a row in use", v)
+            for k in USED:
+                other = filled(lines(v), 0, k, b"" if row[USED[k]] else WRITTEN[k])
+                yield text("a field otherwise", other, 19, column(other, 0, k), table=v["table"])
+    # not in use, all are blank, whatever else the row has; then the component is 3
+    for flag, row in ((0, STOCK), (3, PAID[7]), (7, SHORT), (5, (0, 0, 1, 1, 1, 1, 1)), (9, (0, 0, 0, 0, 0, 0, 1))):
+        table = ruled({flag: (*row[:6], 0)})
+        blank = lines(listed([[600_000, 5200, flag, 0, 0, 0]], table=table))
+        yield text("not in use", blank, 3, table=table)
+        for k in USED:
+            yield text("not in use, a field written", filled(blank, 0, k, WRITTEN[k]), 19, column(blank, 0, k), table=table)
+            zero = WRITTEN[k].translate(bytes.maketrans(b"157", b"000"))
+            yield text("not in use, a field of 0", filled(blank, 0, k, zero), 19, column(blank, 0, k), table=table)
+    # the paper's day under a table whose rows of flags 3 and 1 are exchanged, or whose flag 4 is not in use: by our table it would be read
+    exchanged = ruled({3: SHORT, 1: PAID[5]})
+    yield text("by our table alone", DAY, 19, column(DAY, 0, AMOUNT), table=exchanged)
+    yield text("by our table alone", DAY, 19, column(DAY, 1, AMOUNT), table=ruled({4: UNUSED[-1]}))
+    yield text("by our table alone", DAY, 19, column(DAY, 2, PREMIUM), table=ruled({1: STOCK}))
+    # and a list under another that ours would not let be read
+    other = [[*part[:2], {3: 8, 4: 5, 1: 9, 0: 2, 2: 0}[part[2]], *part[3:]] for part in PARTS]
+    by_table = listed(other, table=ruled({8: PAID[5], 5: PAID[0], 9: SHORT, 2: STOCK, 0: PAID[2]}))
+    yield read("by another table", by_table)
+    yield text("by another table", lines(by_table), 19, column(DAY, 0, PREMIUM))
+
+
+def ten_flags():
+    """All ten flags in use, with numbers at the ends of their ranges, and past them."""
+    table = [STOCK, SHORT, *PAID]
+    for worth in ((100_000, 99_999, 99_999_999_999), (0, 0, 0), (1, 100_000, 999)):
+        parts = [[i, 99_999_999, *of_row(i, row, dict(zip(USED, worth)))[2:]] for i, row in enumerate(table)]
+        yield read("ten flags", listed(parts, table=table))
+    # flag 7 has rates and an amount, flag 1 rates
+    for flag in (1, 7):
+        for k in (PREMIUM, DISCOUNT):
+            v = listed([of_row(flag, table[flag])], table=table)
+            yield text("past its range", filled(lines(v), 0, k, b"1.00001"), 3, table=table)
+    yield read("a stock flag with rates", listed([of_row(5, RATED)], table=ruled({5: RATED})))
+
+
 # ---- long texts, which the program makes
 
 
@@ -725,6 +806,43 @@ def outputs():
         yield written("output", v, number, room=room)
 
 
+def tables_written():
+    """21, before 1 and all else; the columns by the list's table."""
+    for table, flag in edge_tables.faulty():
+        yield written("a table at fault", listed(SINGLE, table=table), 21, flag)
+    wrong = edge_tables.set_at(9, 6)
+    for changes in ({"count": 2}, {"components": []}, {"components": [SINGLE[0][:5]]}, {"names": b""}, {"basket_size": 0}, {"letters": b""},
+                    {"publish": 2}, {"components": [[G, 1, 0, 0, 0, 0]]}, {"components": [[600_000, 1, 5, 0, 0, 0]]}, {"names": b"|" * 8}):
+        yield written("21 before others", listed(SINGLE, table=wrong, **changes) if "components" not in changes
+                      else {**listed(SINGLE, table=wrong), **changes}, 21, 9, room=0)
+    yield written("21 before 16", listed(SINGLE, table=wrong), 21, 9, room=0)
+    yield written("16 under a table", listed(SINGLE, table=[PAID[7]] * 10), 16, room=0)
+    yield written("1 under a table", listed(SINGLE, table=ruled({5: STOCK}), count=2), 1)
+    yield written("our table given", listed(PARTS, table=ruled({})))
+    for flag in (6, 0, 3):
+        for row in KEPT:
+            table = ruled({flag: row})
+            yield written("a row in use", listed([of_row(flag, row)], table=table))
+            # what it does not use has to be 0, what it uses may be
+            yield written("a row in use, all 0", listed([[600_000, 5200, flag, 0, 0, 0]], table=table))
+            for k, at in zip(USED, (3, 4, 5)):
+                part = of_row(flag, row)
+                part[at] = 0 if row[USED[k]] else 1
+                yield written("a field otherwise", listed([part], table=table), 0 if row[USED[k]] else 3)
+    for flag, row in ((0, STOCK), (3, PAID[7]), (7, SHORT), (5, UNUSED[-1]), (9, UNUSED[0])):
+        yield written("not in use", listed([[600_000, 5200, flag, 0, 0, 0]], table=ruled({flag: (*row[:6], 0)})), 3)
+    for flag in (10, MOST):
+        yield written("no flag", listed([[600_000, 5200, flag, 0, 0, 0]], table=[STOCK] * 10), 3)
+    table = [STOCK, SHORT, *PAID]
+    for worth in ((100_000, 99_999, 99_999_999_999), (0, 0, 0), (1, 100_000, 999)):
+        parts = [[i, 99_999_999, *of_row(i, row, dict(zip(USED, worth)))[2:]] for i, row in enumerate(table)]
+        yield written("ten flags", listed(parts, table=table))
+    for at, x in ((3, 100_001), (4, 100_001), (5, 10 ** 11)):
+        part = of_row(7, PAID[5])
+        part[at] = x
+        yield written("past its range", listed([part], table=table), 3)
+
+
 def writings_that_meet():
     """1, 2, 3, 16 in this order."""
     three = listed([*PARTS[:4], [1, 0, 0, 0, 0, 0]])
@@ -745,7 +863,7 @@ def is_model_right(vectors):
     def rows(file):
         return vector_files.rows(vectors / f"{file}.jsonl")
 
-    texts = [list_model.read(v["text"], component_room(v)).items() <= v.items() for v in rows("texts")]
+    texts = [list_model.read(v["table"], v["text"], component_room(v)).items() <= v.items() for v in rows("texts")]
     writings = [list_model.write(v, v["output_length"]).items() <= v.items() for v in rows("writings")]
     print(f"the model answers {sum(texts)} of {len(texts)} texts and {sum(writings)} of {len(writings)} writings as the vectors")
     return all(texts) and all(writings)
@@ -756,8 +874,8 @@ def is_covered(files):
     replies = {name: {tuple(v["reply"][:2]) for v in rows if "reply" in v} for name, rows in files.items()}
     def numbers(name, is_placed):
         return {n for n, place in replies[name] if place > 0 or not is_placed}
-    return (numbers("texts", False) == {0, 2, 3, 16, 18, 19, 20} and numbers("texts", True) == {3, 18, 19}
-            and numbers("writings", False) == {0, 1, 2, 3, 16} and numbers("writings", True) == {3})
+    return (numbers("texts", False) == {0, 2, 3, 16, 18, 19, 20, 21} and numbers("texts", True) == {3, 18, 19, 21}
+            and numbers("writings", False) == {0, 1, 2, 3, 16, 21} and numbers("writings", True) == {3, 21})
 
 
 def main():
@@ -767,9 +885,9 @@ def main():
     args = parser.parse_args()
     assert is_model_right(args.vectors)
     kinds = {"texts": (moved_lines, line_ends, first_lines, names, widths_and_bars, old_widths, head_values, dates, recordnums,
-                       columns, name_bytes, flags, two_rates, components, rooms, full_size, meetings, long_texts),
+                       columns, name_bytes, flags, two_rates, components, rooms, full_size, meetings, tables, blanks, ten_flags, long_texts),
              "parts": (parts,),
-             "writings": (field_ends, limit_ends, whole_lists, lengths, component_faults, name_faults, outputs,
+             "writings": (field_ends, limit_ends, whole_lists, lengths, component_faults, name_faults, outputs, tables_written,
                           writings_that_meet)}
     files = {file: [v for made in kind for v in made()] for file, kind in kinds.items()}
     assert is_covered(files)

@@ -1,18 +1,20 @@
 #!/usr/bin/env python3
-"""Writes test vectors at the edges of document 01 and change requests 1 to 3, with answers worked out from the papers.
+"""Writes test vectors at the edges of document 01 and change requests 1 to 4, with answers worked out from the papers.
 
     edge_vectors.py VECTORS OUT
 
 OUT gets openings.jsonl, days.jsonl, broken_days.jsonl and chains.jsonl, in the form of VECTORS (vectors/README.md). The small
 rows have their replies, records and reports by hand, with the arithmetic beside them. What an accepted call of these leaves in the
 book and the prices, and the day of full size, are worked out by day_model.py, which must give the same replies, records and reports.
-First that model is put against the days, the big days and the broken days of VECTORS, whose answers another model of the papers gave.
+First that model is put against VECTORS, whose answers another model of the papers gave.
 """
 import argparse
 from pathlib import Path
 
+import edge_tables
 import vector_files
-from day_model import B, CEILING, E18, ORDERS, S, TESTS, Model, accepted, played, refused, turned, unfolded
+from day_model import B, CEILING, E18, ORDERS, S, TESTS, Model, accepted, is_sound, opening_reply, played, refused, turned, unfolded
+from edge_tables import KEPT, PAID, RATED, SHORT, STOCK, UNUSED, ruled
 from vector_files import LISTS, numbers
 
 # ---- rows by hand: one component, code 1, one share to a basket, stock moves (flag 0); baskets of one unit
@@ -71,9 +73,9 @@ def of_cash(side, *groups):
     return [3, side, 0, 0, *groups, *[0] * (6 - len(groups))]
 
 
-def state(accounts, calls, components=ONE, prices=(1,), **fields):
+def state(accounts, calls, components=ONE, prices=(1,), table=None, **fields):
     """accounts: for each its cash, created, redeemed, then old, bought, got of each line."""
-    return {"accounts": len(accounts), "count": len(components), "fund": fund(**fields), "components": components,
+    return {"accounts": len(accounts), "count": len(components), "fund": fund(**fields), "table": table, "components": components,
             "book": numbers(accounts), "prices": list(prices), "calls": calls}
 
 
@@ -335,12 +337,13 @@ def paper_day():
     """The paper's day to compare with, (a) to (f), with both rates its r and with one of them another."""
     fields = {"first_code": 510_300, "basket_size": 1_000_000, "max_cash_ratio": 5000, "estimated_cash": -33_122}
 
-    def row(stock_1, stock_0, calls, rates=(10_000, 10_000)):
-        parts = [[1, 8000, 3, *rates, 96_000_000], [2, 1000, 4, 0, 0, 8_000_000], [600_000, 5200, 1, 10_000, 10_000, 0],
-                 [600_036, 3000, 0, 0, 0, 0], [600_519, 100, 2, 0, 0, 150_000_000]]
+    def row(stock_1, stock_0, calls, rates=(10_000, 10_000), table=None, flags=(0, 1, 2, 3, 4)):
+        parts = [[1, 8000, flags[3], *rates, 96_000_000], [2, 1000, flags[4], 0, 0, 8_000_000],
+                 [600_000, 5200, flags[1], 10_000, 10_000, 0], [600_036, 3000, flags[0], 0, 0, 0],
+                 [600_519, 100, flags[2], 0, 0, 150_000_000]]
         rich = [10**12, 0, 0, *[10**6, 0, 0] * 5, 0, 0, 0]
         one = [10**12, 0, 0, *[0] * 6, stock_1, 0, 0, stock_0, 0, 0, 0, 0, 0, 10**7, 0, 0]
-        return state([rich, one], calls, components=parts, prices=(12_000, 0, 10_000, 40_000, 0), **fields)
+        return state([rich, one], calls, components=parts, prices=(12_000, 0, 10_000, 40_000, 0), table=table, **fields)
 
     def basket(name, *lists):
         return makes(name, 1, 1_000_000, [40, 40, 40], *lists)
@@ -375,6 +378,13 @@ def paper_day():
     yield row(3072, 3000, both((108, 800_000), (94, 400_000)), rates=(5_000, 10_000))
     yield row(3071, 3000, [refusal(15)])
     yield row(3072, 2999, [refusal(9, 3)])
+    # the five rows at other flags, and out of use or others at their own
+    for flags, others in (((9, 8, 7, 6, 5), [UNUSED[0]] * 5), ((4, 3, 2, 1, 0), []), ((1, 0, 9, 4, 6), [PAID[7], STOCK, SHORT, PAID[0], RATED])):
+        table = ruled({**dict(enumerate(others)), **{flag: row for flag, row in zip(flags, edge_tables.OURS)}})
+        rates = (10_000, 5_000)
+        yield row(3072, 3000, both((113, 600_000), (99, 200_000)), rates, table, flags)
+        yield row(3071, 3000, [refusal(15)], rates, table, flags)
+        yield row(3072, 2999, [refusal(9, 3)], rates, table, flags)
 
 
 def paper_cash():
@@ -542,6 +552,162 @@ def stock_reports():
                     components=[[code, 99_999_999, 0, 0, 0, 0]], first_code=first, basket_size=99_999_999)
 
 
+# ---- calls under flag tables
+
+
+# Orders on one component of another flag than 0 whose stock moves are those of `CREATED` and `REDEEMED`.
+def of_flag(flag, *numbers):
+    return [[1, 1, flag, *numbers, *[0] * (3 - len(numbers))]]
+
+
+def tables_of_days():
+    """5: the day's table, all ten rows, also those that no component uses. The component has flag 0."""
+    for table, _ in edge_tables.faulty():
+        yield state([FUND, holder()], BROKEN, table=table)
+    # rows that keep the rules, and rows not in use, at flags that no component uses
+    yield state([FUND, holder()], SOUND, table=ruled({}))
+    for i in range(0, len(KEPT), 5):
+        yield state([FUND, holder()], SOUND, table=ruled(dict(enumerate(KEPT[i:i + 5], 5))))
+    for i in range(0, len(UNUSED), 9):
+        yield state([FUND, holder()], SOUND, table=ruled(dict(enumerate(UNUSED[i:i + 9], 1))))
+    # the component's own flag: in use with stock that moves, and not in use
+    for flag in range(10):
+        for row in (STOCK, RATED, SHORT):
+            yield state([FUND, holder()], SOUND, components=of_flag(flag), table=ruled({flag: row}))
+        for row in (UNUSED[0], UNUSED[-1], (*STOCK[:6], 0)):
+            yield state([FUND, holder()], BROKEN, components=of_flag(flag), table=ruled({flag: row}))
+    for flag in (5, 9):
+        yield state([FUND, holder()], BROKEN, components=of_flag(flag))
+    for flag in (10, 70, 2**64 - 1):
+        yield state([FUND, holder()], BROKEN, components=of_flag(flag), table=[STOCK] * 10)
+
+
+def uses(row):
+    """Components of a flag with this row, each with one number at the end of its range, past it, or just above 0 where it has to be 0;
+    and whether it may stand. The rates are numbers 3 and 4 of a component, the amount is number 5."""
+    for at, used, most in ((3, row[2], 100_000), (4, row[2], 100_000), (5, row[3], 99_999_999_999)):
+        for x in (1, most, most + 1, 2**64 - 1):
+            yield [[1, 1, 7, *(x if i == at else 0 for i in (3, 4, 5))]], used and x <= most
+
+
+def uses_of_days():
+    """5: a component's rates and amount under the row of its flag."""
+    for row in KEPT:
+        for components, is_right in uses(row):
+            calls = [made(PRICE, accepted())] if is_right else BROKEN
+            yield state([[0] * 9, [0] * 9], calls, components=components, table=ruled({7: row}))
+
+
+def several_short():
+    """One basket needs 10 of components 1 and 2, whose flags 1 and 6 are both short in cash; component 3 (flag 4) has the amount that
+    makes the sum 100,000,000 at prices of 400 and 600. U 1,000,000, X 1: the value is 1,000, and what is missing may cost 1,000."""
+    table = ruled({6: SHORT})
+
+    def row(prices, stock, call, rates=(0, 0), cash=10**12):
+        parts = [[1, 10, 1, rates[0], 9, 0], [2, 10, 6, rates[1], 9, 0], [3, 0, 4, 0, 0, 99_990_000]]
+        accounts = [[0] * 15, [cash, 0, 0, stock[0], 0, 0, 0, stock[1], 99, *[0] * 6]]
+        return state(accounts, [call], components=parts, prices=(*prices, 0), table=table, basket_size=1_000_000, max_cash_ratio=1)
+
+    def create(stock, *costs, rooms=(40, 40, 40)):
+        """A basket with so much handed in. What the missing stock costs is Shanghai cash."""
+        moved = [(code, q) for code, q in zip((1, 2), stock) if q > 0]
+        records = [[500_000, B, 1_000_000, 0, 0], *([code, S, q, 0, 0] for code, q in moved), [500_005, B, 1_000_000, 99, 99_000_000],
+                   [500_005, B, 1, 990_000, 990_000], *([500_002, B, 1, x, x] for x in costs), [500_001, B, 1_000_000, 0, 0]]
+        groups = numbers([1, x] for x in costs)
+        investor = [of_unit(B, 1_000_000), *(of_stock(S, *x) for x in moved), of_cash(B, *groups, 2, 99_990_000)]
+        return makes("create", 1, 1_000_000, list(rooms), records, investor)
+
+    def refusal(number):
+        return refuses("create", 1, 1_000_000, [40, 40, 40], number)
+
+    # one of each missing: 400 + 600 is just the bound, 400 + 601 and 401 + 600 pass it, though either alone does not
+    yield row((400, 600), (9, 9), create((9, 9), 1000))
+    for prices in ((400, 601), (401, 600)):
+        yield row(prices, (9, 9), refusal(15))
+    yield row((401, 600), (9, 10), create((9, 10), 401))
+    yield row((400, 601), (10, 9), create((10, 9), 601))
+    # each premium is its own, rounded by itself: 400 x 1.5 + 600 x 1.00001 is 600 + 600, 600 x 1.00084 is 600.504, 601
+    yield row((400, 600), (9, 9), create((9, 9), 1200), rates=(50_000, 1))
+    yield row((400, 600), (9, 9), create((9, 9), 1201), rates=(50_000, 84))
+    # just enough cash, and one too little
+    yield row((400, 600), (9, 9), create((9, 9), 1201), rates=(50_000, 84), cash=99_991_201)
+    yield row((400, 600), (9, 9), refusal(10), rates=(50_000, 84), cash=99_991_200)
+    # nothing there of one, 10 x 100; of the other all
+    yield row((100, 600), (0, 10), create((0, 10), 1000))
+    yield row((101, 600), (0, 10), refusal(15))
+    # no price of the one that is short, or of the other: no value
+    yield row((0, 600), (9, 10), refusal(14))
+    yield row((400, 0), (9, 10), refusal(14))
+    yield row((0, 0), (10, 10), create((10, 10)))
+
+
+def rated_stock():
+    """A flag whose stock moves, with rates and without shortage in cash: 9 where short, and its rates enter no sum."""
+    parts = [[1, 1, 6, 100_000, 100_000, 0], [2, 1, 5, 100_000, 100_000, 0]]
+    table = ruled({5: RATED, 6: SHORT})
+    lists = [([[500_000, rest, 1, 0, 0], [1, side, 1, 0, 0], [2, side, 1, 0, 0], [500_001, rest, 1, 0, 0]],
+              [of_unit(rest, 1), of_stock(side, 1, 1), of_stock(side, 2, 1)]) for rest, side in ((B, S), (S, B))]
+
+    def row(stock, calls, fund_stock=(1, 1)):
+        accounts = [[0, 0, 0, *(x for q in stock for x in (q, 0, 0)), *units] for stock, units in ((fund_stock, (0, 0, 0)), (stock, (9, 0, 0)))]
+        return state(accounts, calls, components=parts, prices=(0, 0), table=table)
+
+    yield row((1, 1), [makes(name, 1, 1, exact(*ls), *ls) for name, ls in zip(ORDERS, lists)])
+    # short of both: 9 at the second, before 14; short of the first alone: 14
+    yield row((0, 0), [refuses("create", 1, 1, ROOMS, 9, 1), refuses("redeem", 1, 10, ROOMS, 9)])
+    yield row((0, 1), [refuses("create", 1, 1, ROOMS, 14)])
+    yield row((1, 0), [refuses("create", 1, 1, ROOMS, 9, 1)])
+    # the fund short of either: 17 at its place
+    yield row((1, 1), [refuses("redeem", 1, 1, ROOMS, 17, 0)], fund_stock=(0, 0))
+    yield row((1, 1), [refuses("redeem", 1, 1, ROOMS, 17, 1)], fund_stock=(1, 0))
+
+
+def paid_flags():
+    """A flag that moves no stock pays M times its amount, with the rate that is used, priced or not, whatever its quantity. Of 9 at a
+    price of 7 the value is 63 x 10 where the flag is priced, else 5 x 10; with no price it has none where it is priced."""
+    for i, row in enumerate(PAID):
+        _, _, rate, _, shanghai, priced, _ = row
+        flag, code, kind = i + 2, *((500_002, 1) if shanghai else (500_005, 2))
+        # 5 x 1.1 = 5.5 is 6, 5 x 0.89999 = 4.49995 is 4
+        premium, discount, due, back = (10_000, 10_001, 6, 4) if rate else (0, 0, 5, 5)
+        lists = [([[500_000, side, 1, 0, 0], [code, side, 1, cash, cash], [500_001, side, 1, 0, 0]],
+                  [of_unit(side, 1), of_cash(side, kind, cash)]) for side, cash in ((B, due), (S, back))]
+        orders = [makes(name, 1, 1, exact(*ls), *ls) for name, ls in zip(ORDERS, lists)]
+        poor = [refuses("create", 1, 1, ROOMS, 10), refuses("redeem", 1, 1, ROOMS, 17, 1)]
+        for price, value in ((7, accepted(630 if priced else 50)), (0, refused(14) if priced else accepted(50))):
+            for short, calls in ((0, orders), (1, poor)):
+                accounts = [[back - short, *[0] * 8], [due - short, *[0] * 5, 1, 0, 0]]
+                yield state(accounts, [made(VALUE, value), *calls], components=[[1, 9, flag, premium, discount, 5]], prices=(price,),
+                            table=ruled({flag: row}))
+
+
+def ten_flags():
+    """All ten flags in use: 0 moves stock, 1 is short in cash, 2 to 9 are paid in each way. One basket of one unit; X 100,000."""
+    table = [list(STOCK), list(SHORT), *map(list, PAID)]
+    parts = [[1, 2, 0, 0, 0, 0], [2, 3, 1, 50_000, 50_000, 0],
+             *([flag + 1, 4, flag, *((10_000, 10_001) if row[2] else (0, 0)), 5] for flag, row in enumerate(PAID, 2))]
+    # of the other market's four, two without rates pay 5 and 5, two with rates 6 and 6, or 4 and 4; so Shanghai's. Creation: all 3 of
+    # component 2 are missing, 3 x 7 x 1.5 = 31.5 is 32 more.
+    created = ([[500_000, B, 1, 0, 0], [1, S, 2, 0, 0], [500_005, B, 1, 22, 22], [500_002, B, 1, 54, 54], [500_001, B, 1, 0, 0]],
+               [of_unit(B, 1), of_stock(S, 1, 2), of_cash(B, 1, 54, 2, 22)])
+    redeemed = ([[500_000, S, 1, 0, 0], [1, B, 2, 0, 0], [2, B, 3, 0, 0], [500_005, S, 1, 18, 18], [500_002, S, 1, 18, 18],
+                 [500_001, S, 1, 0, 0]], [of_unit(S, 1), of_stock(B, 1, 2), of_stock(B, 2, 3), of_cash(S, 1, 18, 2, 18)])
+    # the sum: 2 x 1 + 3 x 7, four priced ones 4 x 2 each, four others 5 each: 23 + 32 + 20 = 75. Missing 21 of at most 750 x 100,000 /
+    # 1,000,000 = 75.
+    calls = [made(VALUE, accepted(750)), *(makes(name, 1, 1, exact(*ls), *ls) for name, ls in zip(ORDERS, (created, redeemed)))]
+    accounts = [[36, 0, 0, 2, 0, 0, 3, 0, 0, *[0] * 27], [76, 0, 0, 2, *[0] * 29, 1, 0, 0]]
+    yield state(accounts, calls, components=parts, prices=(1, 7, *[2] * 8), table=table, max_cash_ratio=100_000)
+    # one of cash fewer on either side
+    poor = [[x - (i == 0) for i, x in enumerate(stretch)] for stretch in accounts]
+    yield state(poor, [refuses("create", 1, 1, [99] * 3, 10), refuses("redeem", 1, 1, [99] * 3, 17, 10)], components=parts,
+                prices=(1, 7, *[2] * 8), table=table, max_cash_ratio=100_000)
+    # no price of a priced flag that moves no stock: no value, so no shortage in cash
+    for i, row in enumerate(PAID, 2):
+        prices = [0 if j == i else 2 for j in range(10)]
+        answer = refuses("create", 1, 1, [99] * 3, 14) if row[5] else refuses("create", 1, 1, EMPTY, 16)
+        yield state(accounts, [answer], components=parts, prices=prices, table=table, max_cash_ratio=100_000)
+
+
 def full_states():
     """64 accounts and 300 components, all empty but for the last account's units: 2 x 10^18, then one more."""
     parts = [[i, 1, 0, 0, 0, 0] for i in range(300)]
@@ -557,8 +723,8 @@ def full_states():
 
 def opening(accounts, count, reply, **changed):
     held = [1] * (count + 1) + [0] + [1] * ((accounts - 1) * (count + 2)) if accounts else []
-    return {"accounts": accounts, "count": count, "fund": fund(), "components": [[i, 1, 0, 0, 0, 0] for i in range(count)],
-            "holdings": held, "book_length": accounts * (3 + 3 * (count + 1)), "prices_length": count, "reply": reply, **changed}
+    return {"accounts": accounts, "count": count, "fund": fund(), "table": None,
+            "components": [[i, 1, 0, 0, 0, 0] for i in range(count)], "holdings": held, "book_length": accounts * (3 + 3 * (count + 1)), "prices_length": count, "reply": reply, **changed}
 
 
 def openings():
@@ -623,6 +789,57 @@ def openings():
     yield opening(2, 3, [3, 0], components=[[1, 1, 0, 0, 1, 0], [2, 1, 3, 0, 100_001, 0], [3, 1, 0, 0, 0, 0]])
 
 
+def table_openings():
+    """21, and the flags and columns that 3 looks at."""
+    for table, flag in edge_tables.faulty():
+        yield opening(2, 1, [21, flag], table=table)
+    # what keeps the rules: our table, each row in use, and each that is not, at flags of no component
+    parts = [[0, 1, 0, 0, 0, 0]]
+    yield opening(2, 1, [0, 0], table=ruled({}))
+    for i, row in enumerate(KEPT + UNUSED):
+        yield opening(2, 1, [0, 0], table=ruled({1 + i % 9: row}), components=parts)
+        if i % 9 == 0:
+            yield opening(2, 1, [0, 0], table=ruled({0: row}), components=[[0, 1, 4, 0, 0, 0]])
+    yield opening(2, 1, [0, 0], table=[STOCK] * 10)
+    # 3: a flag that is not in use, whatever else its row has; no flag from 10 on is
+    for flag in range(10):
+        for row, number in ((STOCK, 0), (PAID[flag % 8], 0), (UNUSED[0], 3), (UNUSED[-1], 3), ((*STOCK[:6], 0), 3)):
+            yield opening(2, 2, [number, number and 1], table=ruled({(flag + 1) % 10: STOCK, flag: row}),
+                          components=[[0, 1, (flag + 1) % 10, 0, 0, 0], [1, 1, flag, 0, 0, 0]])
+    for flag in (10, 69, 70, 2**32, 2**64 - 1):
+        yield opening(2, 1, [3, 0], table=[STOCK] * 10, components=[[0, 1, flag, 0, 0, 0]])
+        yield opening(2, 1, [3, 0], components=[[0, 1, flag, 0, 0, 0]])
+    yield opening(2, 1, [3, 0], table=UNUSED[:10], components=parts)
+    # 3: the rates and the amount by the row of the component's flag
+    for row in KEPT:
+        for components, is_right in uses(row):
+            yield opening(2, 1, [0 if is_right else 3, 0], table=ruled({7: row}), components=components)
+    yield opening(2, 1, [0, 0], table=ruled({7: PAID[7]}), components=[[1, 99_999_999, 7, 100_000, 100_000, 99_999_999_999]])
+
+
+def table_meetings():
+    """1 before 21, which stands before 2, 3 and 4."""
+    wrong, bad = ruled({9: (0, 0, 0, 0, 0, 0, 2)}), {"fund": fund(basket_size=0), "components": [[500_000, 1, 0, 0, 0, 0]],
+                                                      "holdings": [5 * E18, 2 * E18, 1, 0, 0, 0]}
+    for table in (*edge_tables.of_other_length(ruled({})), *edge_tables.of_other_length(ruled({0: (2, 0, 0, 0, 0, 0, 0)})), []):
+        yield opening(2, 1, [1, 0], table=table)
+        yield opening(2, 1, [1, 0], table=table, **bad)
+    for accounts, count in ((1, 1), (65, 1), (2, 0), (2, 301)):
+        yield opening(accounts, count, [1, 0], table=wrong)
+    for name in ("book_length", "prices_length"):
+        yield opening(2, 1, [1, 0], table=wrong, **{name: 0})
+    for name in ("components", "holdings"):
+        yield opening(2, 1, [1, 0], table=wrong, **{name: []})
+    for name in bad:
+        yield opening(2, 1, [21, 9], table=wrong, **{name: bad[name]})
+    yield opening(2, 1, [21, 9], table=wrong, **bad)
+    yield opening(2, 1, [2, 0], table=[STOCK] * 10, **bad)
+    # behind 21: a flag not in use before a total; under our table at a flag that a given one puts in use
+    yield opening(2, 1, [3, 0], table=ruled({0: UNUSED[0]}), holdings=bad["holdings"])
+    yield opening(2, 1, [4, 0], table=ruled({5: STOCK}), components=[[1, 1, 5, 0, 0, 0]], holdings=bad["holdings"])
+    yield opening(2, 1, [3, 0], components=[[1, 1, 5, 0, 0, 0]], holdings=bad["holdings"])
+
+
 # ---- calls in order on a state that no opening leaves
 
 
@@ -637,6 +854,8 @@ def chains():
     # shares: 1 got, 2 handed in of old; units: 1 of old redeemed, 2 got
     after = [0, 0, 0, 51, 0, 0, 0, 0, 0, 100, 2, 1, 3, 0, 1, 2 * E18 - 1, 0, 2]
     yield {**before, "after": {"book": after, "prices": [1]}}
+    # the same on a flag of a given table, which the day keeps from call to call
+    yield {**before, "table": ruled({0: UNUSED[0], 5: RATED}), "components": of_flag(5, 100_000, 100_000), "after": {"book": after, "prices": [1]}}
     # tests alone count for no limit and move nothing, however often they are made: one unit of each kind passes, and then none
     create_test, redeem_test = PASSES
     stops = [made(c, refused(13)) for c in (create_test["call"], CREATE)], [made(c, refused(13)) for c in (redeem_test["call"], REDEEM)]
@@ -677,13 +896,13 @@ def full_calls(n, size):
 
 
 def full_day():
-    """64 accounts, 300 components of all flags, orders of 20 baskets."""
+    """64 accounts, 300 components of all ten flags, orders of 20 baskets. Flags 5 to 9 have our five rows once more."""
     n, size = 300, 900_000
     f = fund(first_code=700_000, basket_size=size, max_cash_ratio=60_000, estimated_cash=-12_345,
              limits=[60 * size, 50 * size, 40 * size, 0, 0, 0, 0, 20 * size])
     # codes rise by 3,001 and pass over the group; quantities 40 to 139; unlike rates, and amounts, where the flag uses them
     flags = [(0, 1, 1, 3, 0, 2, 1, 4)[i % 8] for i in range(n)]
-    parts = [[3001 * i + 11, 40 + 37 * i % 100, flag, *((997 * i % 100_001, 641 * i % 100_001) if flag in (1, 3) else (0, 0)),
+    parts = [[3001 * i + 11, 40 + 37 * i % 100, flag + 5 * (i // 8 % 2), *((997 * i % 100_001, 641 * i % 100_001) if flag in (1, 3) else (0, 0)),
               1_000_003 * (i + 1) if flag in (2, 3, 4) else 0] for i, flag in enumerate(flags)]
     # stock for 20 baskets and a little more, but account 3 lacks all of one flag 1 line in six, and account 4 one share of
     # component 297 (flag 1) and of 296 (flag 0)
@@ -697,8 +916,8 @@ def full_day():
             return need - 1
         return 3 * need + i if a == 0 else need + (17 * a + i) % 90
     holdings = [x for a in range(64) for x in [10**14 + a, *(held(a, i) for i in range(n + 1))]]
-    return played({"accounts": 64, "count": n, "fund": f, "components": parts, "holdings": holdings, "opening": [0, 0],
-                   "calls": [{"call": c} for c in full_calls(n, size)]})
+    return played({"accounts": 64, "count": n, "fund": f, "table": edge_tables.OURS[:5] * 2, "components": parts, "holdings": holdings,
+                   "opening": [0, 0], "calls": [{"call": c} for c in full_calls(n, size)]})
 
 
 # ---- the model
@@ -706,41 +925,50 @@ def full_day():
 
 def left(v, call):
     """What the model makes of a call on a state: the reply, the lists, and the runs that are other than before."""
+    if not is_sound(v):
+        return made(call, refused(5))
     model = Model.on_state(v)
-    [made] = model.played([call])
+    [found] = model.played([call])
     after = {"book": model.book(), "prices": model.prices}
     changed = {name: run for name, run in after.items() if run != v[name]}
-    return {**made, "after": changed} if changed else made
+    return {**found, "after": changed} if changed else found
 
 
 def with_after(v):
-    """A state whose accepted calls have what they leave. But for 5 the model must give what is said by hand."""
-    calls = [c if c["reply"][0] == 5 else left(v, c["call"]) for c in v["calls"]]
+    """A state whose accepted calls have what they leave. The model must give what is said by hand."""
+    calls = [left(v, c["call"]) for c in v["calls"]]
     for c, found in zip(v["calls"], calls):
         assert {key: found.get(key) for key in c} == c and all((name in c) == (name in found) for name in LISTS), (v, c, found)
     return {**v, "calls": calls}
 
 
+def opened(v):
+    """An opening. The model must give what is said by hand."""
+    assert opening_reply(v) == v["reply"], (v, opening_reply(v))
+    return v
+
+
 def is_model_right(vectors):
-    """Whether the model gives every answer of the vectors: days, big days, and what is called on broken days and is not 5."""
+    """Whether the model gives every answer of the vectors."""
     def rows(file):
         return vector_files.rows(vectors / f"{file}.jsonl")
 
     big = [unfolded(v) for v in rows("big_days")]
     days = [played(v) == v for v in rows("days")]
-    calls = [left(v, c["call"]) == c for v in rows("broken_days") for c in v["calls"] if c["reply"][0] != 5]
-    print(f"the model answers {len(big)} big days, {sum(days)} of {len(days)} days and {sum(calls)} of {len(calls)} calls on "
-          "broken days as the vectors")
-    return all(days) and all(calls)
+    openings = [opening_reply(v) == v["reply"] for v in rows("openings")]
+    calls = [left(v, c["call"]) == c for v in rows("broken_days") for c in v["calls"]]
+    print(f"the model answers {len(big)} big days, {sum(days)} of {len(days)} days, {sum(openings)} of {len(openings)} openings and "
+          f"{sum(calls)} of {len(calls)} calls on broken days as the vectors")
+    return all(days) and all(openings) and all(calls)
 
 
 def is_covered(files):
-    """Every refusal from 1 to 17, and a place above 0 for each that has places; 5 and 16 by the tests alone of either order."""
+    """Every refusal from 1 to 17, and 21, and a place above 0 for each that has places; 5 and 16 by the tests alone of either order."""
     calls = [c for name in files for v in files[name] for c in v.get("calls", [])]
     replies = [tuple(x["reply"][:2]) for x in files["openings"] + calls]
     tested = {(c["call"][0], c["reply"][0]) for c in calls}
     numbers, placed = {n for n, _ in replies}, {n for n, place in replies if place > 0}
-    return numbers == set(range(18)) and placed == {3, 4, 9, 17} and tested >= {(name, n) for name in TESTS for n in (0, 5, 16)}
+    return numbers == {*range(18), 21} and placed == {3, 4, 9, 17, 21} and tested >= {(name, n) for name in TESTS for n in (0, 5, 16)}
 
 
 def main():
@@ -750,8 +978,9 @@ def main():
     args = parser.parse_args()
     assert is_model_right(args.vectors)
     states = (sound_ends, trades, limits, switches_and_baskets, values, ratios, places, meetings, paper_day, paper_cash, rates,
-              rate_ranges, short_lists, tests_alone, cash_reports, stock_reports, full_states)
-    files = {"openings": list(openings()), "days": [full_day()],
+              rate_ranges, short_lists, tests_alone, cash_reports, stock_reports, tables_of_days, uses_of_days, several_short,
+              rated_stock, paid_flags, ten_flags, full_states)
+    files = {"openings": [opened(v) for rows in (openings, table_openings, table_meetings) for v in rows()], "days": [full_day()],
              "broken_days": [with_after(v) for rows in states for v in rows()], "chains": list(chains())}
     assert is_covered(files)
     args.out.mkdir(parents=True, exist_ok=True)

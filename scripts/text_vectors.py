@@ -5,17 +5,19 @@
 
 Each folder VECTORS has texts.jsonl, parts.jsonl and writings.jsonl, or some of them (vectors/README.md says what is in them).
 The script writes stdin and stdout to the folders TEXTS and LISTS. What is expected comes from the vectors, and the text of a list
-that was read from list_model.py.
+that was read from list_model.py. The calls take a flag table as ten rows of seven numbers, so that rows with one of another length are
+left out.
 
-The input is items, as in vector_text.py; the library crate `program_texts` reads them. Bytes are numbers.
+The input is items, as in vector_text.py; the library crate `program_texts` reads them. Bytes are numbers. A text or a list starts
+with its head: row, length of the lent component run or output, length of the flag table (0 where none is given), and the table.
 
-    1  a text that is given whole: row, length of the lent component run, its bytes
-    2  a change of the last text that was given whole: row, length of the lent component run, the place of the bytes that go,
-       how many they are, the bytes that come in their place
-    3  a long text: row, length of the lent component run, how often its middle part stands in it, lengths of its front and of
-       that part, the bytes of the front, of the part and of the tail
+    1  a text that is given whole: head, its bytes
+    2  a change of the last text that was given whole: head, the place of the bytes that go, how many they are, the bytes that come
+       in their place
+    3  a long text: head, how often its middle part stands in it, lengths of its front and of that part, the bytes of the front, of
+       the part and of the tail
     4  a change, of which two parts are asked for: row, the component, and then as in 2
-    5  a list: row, length of the lent output, lengths of components and names, 22 fields, components, names, letters
+    5  a list: head, lengths of components and names, 22 fields, components, names, letters
 
 Fields are first code, basket size, maximum cash ratio, switch, estimated cash as sign (1 is minus) and size, eight limits,
 publish, trading day, previous trading day, cash component as sign and size, NAV per CU, NAV, count. Lent runs hold other
@@ -53,8 +55,8 @@ from pathlib import Path
 import vector_files
 import vector_text
 from list_model import COLUMNS, HEAD, NAME, ROW_WIDTH, lines, text_of
-from vector_files import component_room, numbers, whole_text
-from vector_text import cut, item, line, save
+from vector_files import component_room, cut, has_ten_rows, numbers, whole_text
+from vector_text import item, line, save
 
 vector_text.TAGS.update({"text": 1, "changed": 2, "grown": 3, "parts": 4, "list": 5})
 
@@ -68,6 +70,12 @@ SUM_FACTOR, SUM_PRIME = 257, 1_000_000_007
 def split(text):
     """The bytes of a text, a line of numbers for each of its lines."""
     return [list(x) for x in text.splitlines(keepends=True)]
+
+
+def head(row, room, v):
+    """The parts that an item starts with: the table stands on a line of its own."""
+    table = numbers(v["table"] or [])
+    return [row, room, len(table)], table
 
 
 def signed(x):
@@ -133,24 +141,24 @@ class Texts:
     def __init__(self):
         self.base = b""
 
-    def text(self, row, room, text):
+    def text(self, start, text):
         place, gone, come = change(self.base, text)
         if 4 * len(come) < len(text):
-            return item("changed", [row, room, place, gone], *split(come))
+            return item("changed", *start, [place, gone], *split(come))
         self.base = text
-        return item("text", [row, room], *split(text))
+        return item("text", *start, *split(text))
 
     def reading(self, row, v):
         """A text, whole, changed or long: the item, and what is printed."""
-        room, text = component_room(v), whole_text(v)
+        start, text = head(row, component_room(v), v), whole_text(v)
         if "times" in v:
             front, part, tail = v["front"], v["part"], v["tail"]
-            into = item("grown", [row, room, v["times"], len(front), len(part)], *split(front), *split(part), *split(tail))
+            into = item("grown", *start, [v["times"], len(front), len(part)], *split(front), *split(part), *split(tail))
         else:
-            into = self.text(row, room, text)
+            into = self.text(start, text)
         number, place = v["reply"]
-        head = [line("row", row), line("read", number, place, 0 if number else v["count"])]
-        return into, [*head, *(["same"] if number else handed_back(v, text))]
+        printed = [line("row", row), line("read", number, place, 0 if number else v["count"])]
+        return into, [*printed, *(["same"] if number else handed_back(v, text))]
 
     def asking(self, row, v):
         place, gone, come = change(self.base, v["text"])
@@ -160,8 +168,8 @@ class Texts:
 
 def writing(row, v):
     names, text = v["names"], v.get("text", b"")
-    head = [row, v["output_length"], len(numbers(v["components"])), len(names)]
-    into = item("list", head, fields(v), *v["components"], *cut(names, 8), v["letters"])
+    lengths = [len(numbers(v["components"])), len(names)]
+    into = item("list", *head(row, v["output_length"], v), lengths, fields(v), *v["components"], *cut(names, 8), v["letters"])
     number, place, *size = v["reply"]
     if number:
         return into, [line("row", row), line("write", number, place, 0), "same"]
@@ -176,14 +184,15 @@ def played(folders, kinds):
     for folder in folders:
         for file, made in kinds.items():
             path = folder / f"{file}.jsonl"
-            vectors = vector_files.rows(path)
+            given = vector_files.rows(path)
+            vectors = [v for v in given if has_ten_rows(v)]
             for row, v in enumerate(vectors, row + 1):
-                given, printed = made(row, v)
-                into += given
+                item_of, printed = made(row, v)
+                into += item_of
                 out += printed
-            print(f"{path}: {len(vectors)} rows, to row {row}")
+            print(f"{path}: {len(vectors)} of {len(given)} rows, to row {row}")
     # a list of no numbers is malformed, and what stands behind it is not read
-    return [*into, *item("list"), *item("text", [row + 1, 0])], [*out, "bad input"]
+    return [*into, *item("list"), *item("text", [row + 1, 0, 0])], [*out, "bad input"]
 
 
 def main():

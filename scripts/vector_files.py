@@ -54,6 +54,11 @@ def is_held(v):
     return len(v["prices"]) != v["count"] or len(v["book"]) != v["accounts"] * (3 * v["count"] + 6)
 
 
+def has_ten_rows(v):
+    """Whether a row's flag table, if it has one, is ten rows of seven numbers; where it is lent as a run it may have another length."""
+    return v.get("table") is None or [len(row) for row in v["table"]] == 10 * [7]
+
+
 def save(path, rows):
     """Writes rows; a byte string comes out as hex."""
     path.write_text("".join(json.dumps(row, default=bytes.hex) + "\n" for row in rows))
@@ -62,6 +67,11 @@ def save(path, rows):
 def numbers(parts):
     """The parts one after another, as a flat run."""
     return [x for part in parts for x in part]
+
+
+def cut(run, width):
+    """A run in parts of a width; the last has what is left."""
+    return [run[i:i + width] for i in range(0, len(run), width)]
 
 
 def whole_text(v):
@@ -76,6 +86,4 @@ def component_room(v):
 
 def opened_book(v):
     """The book that an accepted opening leaves: each account's cash, no counters, and each line's holding in old."""
-    width = v["count"] + 2
-    stretches = [v["holdings"][i:i + width] for i in range(0, len(v["holdings"]), width)]
-    return numbers([cash, 0, 0, *(x for h in held for x in (h, 0, 0))] for cash, *held in stretches)
+    return numbers([cash, 0, 0, *(x for h in held for x in (h, 0, 0))] for cash, *held in cut(v["holdings"], v["count"] + 2))

@@ -10,7 +10,9 @@ vector_files.py).
 
 The input is items of unsigned numbers: a tag, how many numbers follow, and these (the library crate `program_replay` reads
 them). An opening and a state start with a head: row, accounts, count, first code, basket size, maximum cash ratio,
-switch, estimated cash as sign (1 is minus) and size, eight limits, and the lengths of components, book and prices.
+switch, estimated cash as sign (1 is minus) and size, eight limits, the length of the flag table and one more (0 where none is
+given), and the lengths of components, book and prices. Behind it stand the table and the components, and then the holdings, or the
+book and the prices. A state has always a table, ours where the vectors have none.
 
 A row is an opening with what it is answered (openings.jsonl); an opening, its calls in order, the book and the prices at
 the end (days.jsonl, big_days.jsonl); a state and calls that are each made on it anew (broken_days.jsonl); or a state, its
@@ -36,8 +38,8 @@ import argparse
 from pathlib import Path
 
 import vector_files
-from day_model import ORDERS, READS, TESTS, unfolded
-from vector_files import LISTS, is_held, numbers, opened_book
+from day_model import ORDERS, READS, TESTS, table_of, unfolded
+from vector_files import LISTS, cut, is_held, numbers, opened_book
 
 TAGS = {"opening": 1, "anew": 2, "state": 3, "price": 4, "trade": 5, "create": 6, "redeem": 7, "value": 8, "show": 9,
         "test-create": 11, "test-redeem": 12}
@@ -55,27 +57,23 @@ def item(name, *parts):
     return [line(TAGS[name], numbers), *(line(*p) for p in parts if p)]
 
 
-def cut(numbers, width):
-    """A run in lines of a width."""
-    return [numbers[i:i + width] for i in range(0, len(numbers), width)]
-
-
-def head(row, v, book, prices):
+def given(name, row, v, table, book, prices, *rest):
+    """The item of an opening or a state: its head, its table and components, and the rest."""
     f = v["fund"]
     e = f["estimated_cash"]
-    return [row, v["accounts"], v["count"], f["first_code"], f["basket_size"], f["max_cash_ratio"], f["switch"],
-            int(e < 0), abs(e), *f["limits"], len(numbers(v["components"])), book, prices]
+    head = [row, v["accounts"], v["count"], f["first_code"], f["basket_size"], f["max_cash_ratio"], f["switch"],
+            int(e < 0), abs(e), *f["limits"], 0 if table is None else len(numbers(table)) + 1, len(numbers(v["components"])), book, prices]
+    return item(name, head, numbers(table or []), *v["components"], *rest)
 
 
 def opening(row, v, reply, book, prices):
     """An opening on lent runs of two lengths, with its number and place: the item, and what is printed."""
-    into = item("opening", head(row, v, book, prices), *v["components"], *cut(v["holdings"], v["count"] + 2))
+    into = given("opening", row, v, v["table"], book, prices, *cut(v["holdings"], v["count"] + 2))
     return into, [line("row", row), line("opening", *reply, 0, 0), *(["same"] if reply[0] else [])]
 
 
 def state(row, v, name):
-    into = item(name, head(row, v, len(v["book"]), len(v["prices"])), *v["components"],
-                *cut(v["book"], 3 * v["count"] + 6), v["prices"])
+    into = given(name, row, v, table_of(v["table"]), len(v["book"]), len(v["prices"]), *cut(v["book"], 3 * v["count"] + 6), v["prices"])
     return into, [line("row", row)]
 
 

@@ -2,6 +2,7 @@
 use crate::given::{Given, Lengths};
 use crate::replies;
 use answers::Numbers;
+use layout::DayHead;
 use program_io::fault::Fault;
 use program_io::items::split;
 use program_io::{changes, marks};
@@ -68,8 +69,8 @@ impl Session {
         Ok(())
     }
 
-    // Opens on the runs as they are.
-    fn open_given(&mut self, given: &Given<'_>) -> Result<(), Refusal> {
+    // Opens on the runs as they are, with no flag table.
+    fn open_with_ours(&mut self, given: &Given<'_>) -> Result<(), Refusal> {
         day::open(
             given.accounts,
             given.count,
@@ -80,6 +81,48 @@ impl Session {
             &mut self.prices,
             &mut self.day,
         )
+    }
+
+    // The same under a table.
+    fn open_with_table(&mut self, given: &Given<'_>, table: &flags::Table) -> Result<(), Refusal> {
+        day::open_with_table(
+            given.accounts,
+            given.count,
+            given.fund,
+            table,
+            given.components,
+            given.rest,
+            &mut self.book,
+            &mut self.prices,
+            &mut self.day,
+        )
+    }
+
+    // The same with a table's run, which may have any length.
+    fn open_with_run(&mut self, given: &Given<'_>, table: &[u64]) -> Result<(), Refusal> {
+        let head = DayHead {
+            accounts: given.accounts,
+            count: given.count,
+            fund: given.fund,
+        };
+        let given = opening::Given {
+            head,
+            table,
+            components: given.components,
+            holdings: given.rest,
+        };
+        opening::open(given, &mut self.book, &mut self.prices, &mut self.day)
+    }
+
+    // The call for users where no table is given or a whole one; a run of another length can only be lent to the call below these.
+    fn open_given(&mut self, given: &Given<'_>) -> Result<(), Refusal> {
+        let Some(run) = given.table else {
+            return self.open_with_ours(given);
+        };
+        match flags::table_in(run) {
+            Some(table) => self.open_with_table(given, table),
+            None => self.open_with_run(given, run),
+        }
     }
 
     // What a refused opening leaves: `same`, or for each run that differs the first such place.
@@ -106,14 +149,19 @@ impl Session {
         Ok(())
     }
 
-    // Takes a state: the day with zeros behind its components, the book and the prices.
+    // Takes a state: the day with its flag table and zeros behind its components, the book and the prices.
     pub fn set<W: Write>(&mut self, given: &Given<'_>, out: &mut W) -> Result<(), Fault> {
         self.fits(given)?;
         let (book, prices) = split(given.rest, given.lengths.book)?;
-        if prices.len() != given.lengths.prices || layout::BASKET_WIDTH < given.components.len() {
+        let table = given.table.ok_or(Fault::BadInput)?;
+        if prices.len() != given.lengths.prices
+            || table.len() != flags::TABLE_WIDTH
+            || layout::BASKET_WIDTH < given.components.len()
+        {
             return Err(Fault::BadInput);
         }
         let mut day = given.day.to_vec(self.alloc)?;
+        day.extend_from_slice(table)?;
         day.extend_from_slice(given.components)?;
         day.resize(layout::DAY_WIDTH, 0)?;
         self.day = day;

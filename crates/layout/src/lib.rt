@@ -106,9 +106,9 @@ const COUNT_AT: usize = 1;
 
 const FUND_FROM: usize = 2;
 
-const TABLE_FROM: usize = FUND_FROM + FUND_WIDTH;
+pub const TABLE_FROM: usize = FUND_FROM + FUND_WIDTH;
 
-pub const BASKET_FROM: usize = TABLE_FROM + flags::TABLE_WIDTH;
+const BASKET_FROM: usize = TABLE_FROM + flags::TABLE_WIDTH;
 
 pub const DAY_WIDTH: usize = BASKET_FROM + BASKET_WIDTH;
 

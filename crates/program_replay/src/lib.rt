@@ -52,7 +52,11 @@ impl Calls {
 }
 
 impl Caller for Calls {
-    const MOST_NUMBERS: usize = given::HEAD + layout::BASKET_WIDTH + MOST_BOOK + MOST_PRICES;
+    const MOST_NUMBERS: usize = given::HEAD
+        + flags::TABLE_WIDTH
+        + layout::BASKET_WIDTH
+        + MOST_BOOK
+        + MOST_PRICES;
 
     const LONGEST: Lengths = Lengths {
         book: MOST_BOOK,
@@ -102,7 +106,7 @@ mod tests {
             ("0 2", "18 401", false),
         ] {
             let item = format!(in rt.alloc();
-                "1 20 1 2 1 510050 2 9524 1 {cash} 0 0 0 0 0 0 0 0 0 {lengths}"
+                "1 21 1 2 1 510050 2 9524 1 {cash} 0 0 0 0 0 0 0 0 0 0 {lengths}"
             )?;
             let out = player::printed::<Replay<Calls>, _>(rt.alloc(), item.as_bytes())?;
             let want = if is_read {
@@ -111,6 +115,33 @@ mod tests {
                 "bad input\n"
             };
             assert_eq!(rt; out.as_slice(), want.as_bytes(), "{cash}, {lengths}");
+        }
+        Ok(())
+    }
+
+    // The length of a flag table and one more, 0 where none is given: an opening may be lent any, a state has a whole one.
+    #[test]
+    fn tables_of_any_length(rt: HostRuntime) -> Result<(), Fail> {
+        for (tag, length, table, want) in [
+            (1, 0, 0, "row 1\nopening 1 0 0 0\nsame\n"),
+            (1, 1, 0, "row 1\nopening 1 0 0 0\nsame\n"),
+            (1, 71, 70, "row 1\nopening 1 0 0 0\nsame\n"),
+            (1, 70, 69, "row 1\nopening 1 0 0 0\nsame\n"),
+            (1, 72, 70, "bad input\n"),
+            (2, 71, 70, "row 1\n"),
+            (2, 70, 69, "bad input\n"),
+            (2, 72, 71, "bad input\n"),
+            (2, 1, 0, "bad input\n"),
+            (2, 0, 0, "bad input\n"),
+            (3, 71, 70, "row 1\n"),
+            (3, 0, 0, "bad input\n"),
+        ] {
+            let head = "1 2 1 510050 2 9524 1 0 2 0 0 0 0 0 0 0 0";
+            let numbers = " 0".repeat(rt.alloc(), table)?;
+            let width = table + 21;
+            let item = format!(in rt.alloc(); "{tag} {width} {head} {length} 0 0 0{numbers}")?;
+            let out = player::printed::<Replay<Calls>, _>(rt.alloc(), item.as_bytes())?;
+            assert_eq!(rt; out.as_slice(), want.as_bytes(), "{tag} {length} {table}");
         }
         Ok(())
     }
@@ -139,8 +170,9 @@ mod tests {
             ("12 4 1 2 3 4", "bad input\n"),
             ("10 0", "bad input\n"),
         ] {
-            let state = "2 22 1 2 1 510050 2 9524 1 0 2 0 0 0 0 0 0 0 0 0 0 2 7 8";
-            let input = format!(in rt.alloc(); "{state}\n{call}\n")?;
+            let head = "2 93 1 2 1 510050 2 9524 1 0 2 0 0 0 0 0 0 0 0 71 0 0 2";
+            let table = " 0".repeat(rt.alloc(), 70)?;
+            let input = format!(in rt.alloc(); "{head}{table} 7 8\n{call}\n")?;
             let out = player::printed::<Replay<Calls>, _>(rt.alloc(), input.as_bytes())?;
             let printed = format!(in rt.alloc(); "row 1\n{want}")?;
             assert_eq!(rt; out.as_slice(), printed.as_bytes(), "{call}");
@@ -150,7 +182,7 @@ mod tests {
 
     #[test]
     fn items_in_room(rt: HostRuntime) -> Result<(), Fail> {
-        for (length, want) in [(60_204, "book\nprices\n"), (60_205, "bad input\n")] {
+        for (length, want) in [(60_275, "book\nprices\n"), (60_276, "bad input\n")] {
             let numbers = " 0".repeat(rt.alloc(), length)?;
             let item = format!(in rt.alloc(); "9 {length}{numbers}")?;
             let out = player::printed::<Replay<Calls>, _>(rt.alloc(), item.as_bytes())?;

@@ -2,10 +2,12 @@
 // answer and leave. `scripts/text_vectors.py` writes the items, and what is to be printed.
 #![tactic(auto)]
 
+mod head;
 mod lists;
 mod read_text;
 mod texts;
 
+use head::Head;
 use lists::List;
 use program_io::fault::Fault;
 use program_io::items::Item;
@@ -15,7 +17,7 @@ use std::alloc::{AllocError, Global};
 use std::io::{Input, Print, Write};
 use text_parts::bytes;
 use text_parts::made::{Change, Grown};
-use texts::{Asking, Reading};
+use texts::Asking;
 
 // More numbers of components than a list has, and the longest text that is given whole or written.
 const MOST_RUN: usize = layout::BASKET_WIDTH + 600;
@@ -52,17 +54,20 @@ impl Player for Replay {
         let alloc = self.alloc;
         match (item.tag, item.numbers.as_slice()) {
             // A text that is given whole.
-            (1, [row, room, bytes @ ..]) => {
+            (1, numbers) => {
+                let (head, bytes) = Head::split(numbers)?;
                 self.take(bytes)?;
-                Reading::new(*row, *room).read(alloc, &self.base, out)
+                texts::read(alloc, head, &self.base, out)
             }
-            (2, [row, room, change @ ..]) => {
+            (2, numbers) => {
+                let (head, change) = Head::split(numbers)?;
                 let text = Change::try_from(change)?.made(alloc, &self.base)?;
-                Reading::new(*row, *room).read(alloc, &text, out)
+                texts::read(alloc, head, &text, out)
             }
-            (3, [row, room, grown @ ..]) => {
+            (3, numbers) => {
+                let (head, grown) = Head::split(numbers)?;
                 let text = Grown::try_from(grown)?.made(alloc)?;
-                Reading::new(*row, *room).read(alloc, &text, out)
+                texts::read(alloc, head, &text, out)
             }
             // A text of which only the letters and one component's name are asked for.
             (4, [row, component, change @ ..]) => {
@@ -91,27 +96,47 @@ mod tests {
     #[test]
     fn texts_of_a_form(rt: HostRuntime) -> Result<(), Fail> {
         for (item, want) in [
-            ("1 1 1", "bad input\n"),
-            ("1 2 1 2400", REFUSED),
-            ("1 2 1 2401", "bad input\n"),
-            ("2 6 1 6 1 1 68 69", REFUSED),
-            ("2 4 1 6 3 0", REFUSED),
-            ("2 4 1 6 4 0", "bad input\n"),
-            ("2 4 1 6 2 2", "bad input\n"),
-            ("2 3 1 6 0", "bad input\n"),
-            ("3 8 1 6 2 1 1 65 66 67", REFUSED),
-            ("3 6 1 6 4000000 0 1 65", REFUSED),
-            ("3 6 1 6 4000001 0 1 65", "bad input\n"),
-            ("3 5 1 6 1 1 0", "bad input\n"),
-            ("3 4 1 6 1 0", "bad input\n"),
+            ("1 2 1 6", "bad input\n"),
+            ("1 3 1 2400 0", REFUSED),
+            ("1 3 1 2401 0", "bad input\n"),
+            ("2 7 1 6 0 1 1 68 69", REFUSED),
+            ("2 5 1 6 0 3 0", REFUSED),
+            ("2 5 1 6 0 4 0", "bad input\n"),
+            ("2 5 1 6 0 2 2", "bad input\n"),
+            ("2 4 1 6 0 0", "bad input\n"),
+            ("3 9 1 6 0 2 1 1 65 66 67", REFUSED),
+            ("3 7 1 6 0 4000000 0 1 65", REFUSED),
+            ("3 7 1 6 0 4000001 0 1 65", "bad input\n"),
+            ("3 6 1 6 0 1 1 0", "bad input\n"),
+            ("3 5 1 6 0 1 0", "bad input\n"),
             ("4 4 1 0 0 0", "row 1\nletters\nname\n"),
             ("4 4 1 0 4 0", "bad input\n"),
             ("6 0", "bad input\n"),
         ] {
-            let input = format!(in rt.alloc(); "1 5 1 6 65 66 67\n{item}\n")?;
+            let input = format!(in rt.alloc(); "1 6 1 6 0 65 66 67\n{item}\n")?;
             let out = player::printed::<Replay, _>(rt.alloc(), input.as_bytes())?;
             let printed = format!(in rt.alloc(); "{REFUSED}{want}")?;
             assert_eq!(rt; out.as_slice(), printed.as_bytes(), "{item}");
+        }
+        Ok(())
+    }
+
+    // The length of the flag table, which is no one or ten rows of seven, and its first number. No text stands behind it.
+    #[test]
+    fn tables_of_a_form(rt: HostRuntime) -> Result<(), Fail> {
+        for (length, first, want) in [
+            (70, 0, REFUSED),
+            (70, 1, REFUSED),
+            (70, 2, "row 1\nread 21 0 0\nsame\n"),
+            (69, 0, "bad input\n"),
+            (71, 0, "bad input\n"),
+            (1, 0, "bad input\n"),
+        ] {
+            let numbers = " 0".repeat(rt.alloc(), length - 1)?;
+            let width = length + 3;
+            let item = format!(in rt.alloc(); "1 {width} 1 6 {length} {first}{numbers}")?;
+            let out = player::printed::<Replay, _>(rt.alloc(), item.as_bytes())?;
+            assert_eq!(rt; out.as_slice(), want.as_bytes(), "{length} {first}");
         }
         Ok(())
     }
@@ -122,8 +147,8 @@ mod tests {
         for (output, components, names, letters, is_read) in [
             (20_000, 0, 0, 0, true),
             (20_001, 0, 0, 0, false),
-            (0, 20_074, 0, 0, true),
-            (0, 20_075, 0, 0, false),
+            (0, 20_073, 0, 0, true),
+            (0, 20_074, 0, 0, false),
             (0, 0, 3_000, 0, true),
             (0, 0, 3_001, 0, false),
             (0, 0, 0, 100, true),
@@ -131,9 +156,9 @@ mod tests {
         ] {
             let width = 22 + components + names + letters;
             let numbers = " 0".repeat(rt.alloc(), width)?;
-            let length = width + 4;
+            let length = width + 5;
             let item = format!(in rt.alloc();
-                "5 {length} 1 {output} {components} {names}{numbers}"
+                "5 {length} 1 {output} 0 {components} {names}{numbers}"
             )?;
             let out = player::printed::<Replay, _>(rt.alloc(), item.as_bytes())?;
             let want = if is_read {
@@ -154,8 +179,8 @@ mod tests {
     fn whole_texts_in_room(rt: HostRuntime) -> Result<(), Fail> {
         for (length, want) in [(20_000, REFUSED), (20_001, "bad input\n")] {
             let numbers = " 65".repeat(rt.alloc(), length)?;
-            let width = length + 2;
-            let item = format!(in rt.alloc(); "1 {width} 1 6{numbers}")?;
+            let width = length + 3;
+            let item = format!(in rt.alloc(); "1 {width} 1 6 0{numbers}")?;
             let out = player::printed::<Replay, _>(rt.alloc(), item.as_bytes())?;
             assert_eq!(rt; out.as_slice(), want.as_bytes(), "{length}");
         }

@@ -1,5 +1,6 @@
 // Items that are lists: each is written, what writing answers and leaves is printed, and a text that was written is read again.
 // The casts by `as` lose nothing: usize and u64 both have 64 bits.
+use crate::head::Head;
 use crate::read_text::ReadText;
 use list_layout::FIELDS_WIDTH;
 use list_rules::Listing;
@@ -20,9 +21,8 @@ const MOST_LETTERS: usize = 100;
 
 #[derive(Drop)]
 pub struct List<'a> {
-    row: u64,
-    // The length of the lent output.
-    room: usize,
+    // With the length of the lent output.
+    head: Head<'a>,
     fields: [u64; FIELDS_WIDTH],
     components: &'a [u64],
     names: Vec<u8>,
@@ -48,10 +48,11 @@ impl Display for Difference {
 }
 
 impl<'a> List<'a> {
-    // The numbers of a list: its row, the length of the lent output, the lengths of its components and of its names, its fields, its
-    // components, the bytes of its names and its letters.
+    // The numbers of a list: its head, the lengths of its components and of its names, its fields, its components, the bytes of its
+    // names and its letters.
     pub fn new(alloc: Global, numbers: &'a [u64]) -> Result<List<'a>, Fault> {
-        let [row, room, components, names, body @ ..] = numbers else {
+        let (head, behind) = Head::split(numbers)?;
+        let [components, names, body @ ..] = behind else {
             return Err(Fault::BadInput);
         };
         let Some((given, behind)) = body.split_first_chunk::<FIELDS_WIDTH>() else {
@@ -63,8 +64,7 @@ impl<'a> List<'a> {
             return Err(Fault::BadInput);
         }
         Ok(List {
-            row: *row,
-            room: *room as usize,
+            head,
             fields: *given,
             components,
             names: bytes::of_numbers(alloc, names)?,
@@ -98,13 +98,14 @@ impl<'a> List<'a> {
     // Reads a text that was written, into a run that holds other numbers.
     fn read_back<W: Write>(&self, alloc: Global, text: &[u8], out: &mut W) -> Result<(), Fault> {
         let mut run = marks::marked(alloc, crate::MOST_RUN)?;
-        let answer = list_reading::read(text, &mut run);
+        let answer = list_reading::read(self.head.table, text, &mut run);
         replies::print(out, "read", answer.map(|read| read.fields.count))?;
         let Ok(read) = answer else {
             return Ok(());
         };
         let back = ReadText {
             text,
+            table: self.head.table,
             read,
             run: &run,
         };
@@ -131,18 +132,18 @@ impl<'a> List<'a> {
 
     // Writes the list into an output that holds other bytes.
     pub fn write<W: Write>(&self, alloc: Global, out: &mut W) -> Result<(), Fault> {
-        if crate::MOST_BYTES < self.room {
+        if crate::MOST_BYTES < self.head.room {
             return Err(Fault::BadInput);
         }
-        writeln!(out, "row {}", self.row)?;
-        let mut output = marks::marked(alloc, self.room)?;
+        writeln!(out, "row {}", self.head.row)?;
+        let mut output = marks::marked(alloc, self.head.room)?;
         let list = Listing {
             fields: fields::of_numbers(&self.fields),
             run: self.components,
             names: &self.names,
             letters: &self.letters,
         };
-        let answer = list_writing::write(&list, &mut output);
+        let answer = list_writing::write(self.head.table, &list, &mut output);
         replies::print(out, "write", answer)?;
         match answer {
             Ok(size) => self.print_written(alloc, &output, size, out),

@@ -12,10 +12,11 @@ use text_parts::{bytes, replies};
 // The bytes of a written text are printed up to this length.
 const SHOWN: usize = 2000;
 
-// The text, what reading answered, and the run with its components.
+// The text, the flag table that it was read under, what reading answered, and the run with its components.
 #[derive(Clone, Copy)]
 pub struct ReadText<'a> {
     pub text: &'a [u8],
+    pub table: &'a flags::Table,
     pub read: ListRead,
     pub run: &'a [u64],
 }
@@ -50,7 +51,7 @@ impl<'a> ReadText<'a> {
             letters: self.letters(),
         };
         let mut output = marks::marked(alloc, self.text.len().min(crate::MOST_BYTES))?;
-        let answer = list_writing::write(&list, &mut output);
+        let answer = list_writing::write(self.table, &list, &mut output);
         replies::print(out, "written", answer)?;
         if let Ok(size) = answer {
             output.truncate(size);

@@ -68,12 +68,12 @@ mod tests {
             ("12000 400", 0, true),
             ("12001 1", 0, false),
             ("18 401", 0, false),
-            ("18 1", 11_980, true),
-            ("18 1", 11_981, false),
+            ("18 1", 11_979, true),
+            ("18 1", 11_980, false),
         ] {
-            let width = behind + 20;
+            let width = behind + 21;
             let numbers = " 0".repeat(rt.alloc(), behind)?;
-            let head = "1 2 1 510050 2 9524 1 0 2 0 0 0 0 0 0 0 0 0";
+            let head = "1 2 1 510050 2 9524 1 0 2 0 0 0 0 0 0 0 0 0 0";
             let item = format!(in rt.alloc(); "1 {width} {head} {lengths}{numbers}")?;
             let out = player::printed::<Replay<Batches>, _>(rt.alloc(), item.as_bytes())?;
             let want = if is_read {
