@@ -36,8 +36,8 @@ def set_at(flag, column):
 
 
 def faulty():
-    """Tables at fault, each with the lowest flag that is: every row that breaks the rules, at one flag after the other, and a number
-    that is neither 0 nor 1 in each place."""
+    """Tables at fault, each with the lowest flag that is: every row that breaks the rules, at one flag after the other, and a
+    number that is neither 0 nor 1 in each place."""
     yield from ((ruled({i % 10: row}), i % 10) for i, row in enumerate(BROKEN))
     yield from ((set_at(flag, column), flag) for flag in range(10) for column in range(7))
     # the lowest flag, whichever rule its row breaks; a row not in use has 0 and 1 alone

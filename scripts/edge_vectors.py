@@ -13,7 +13,8 @@ from pathlib import Path
 
 import edge_tables
 import vector_files
-from day_model import B, CEILING, E18, ORDERS, S, TESTS, Model, accepted, is_sound, opening_reply, played, refused, turned, unfolded
+from day_model import (B, CEILING, E18, ORDERS, OURS, S, TESTS, Model, accepted, is_sound, opening_reply, played, refused, turned,
+                       unfolded)
 from edge_tables import KEPT, PAID, RATED, SHORT, STOCK, UNUSED, ruled
 from vector_files import LISTS, numbers
 
@@ -378,10 +379,11 @@ def paper_day():
     yield row(3072, 3000, both((108, 800_000), (94, 400_000)), rates=(5_000, 10_000))
     yield row(3071, 3000, [refusal(15)])
     yield row(3072, 2999, [refusal(9, 3)])
-    # the five rows at other flags, and out of use or others at their own
-    for flags, others in (((9, 8, 7, 6, 5), [UNUSED[0]] * 5), ((4, 3, 2, 1, 0), []), ((1, 0, 9, 4, 6), [PAID[7], STOCK, SHORT, PAID[0], RATED])):
-        table = ruled({**dict(enumerate(others)), **{flag: row for flag, row in zip(flags, edge_tables.OURS)}})
-        rates = (10_000, 5_000)
+    # our five rows at other flags, and at their own none in use or other rows
+    rates = (10_000, 5_000)
+    for flags, others in (((9, 8, 7, 6, 5), [UNUSED[0]] * 5), ((4, 3, 2, 1, 0), []),
+                          ((1, 0, 9, 4, 6), [PAID[7], STOCK, SHORT, PAID[0], RATED])):
+        table = ruled({**dict(enumerate(others)), **dict(zip(flags, OURS))})
         yield row(3072, 3000, both((113, 600_000), (99, 200_000)), rates, table, flags)
         yield row(3071, 3000, [refusal(15)], rates, table, flags)
         yield row(3072, 2999, [refusal(9, 3)], rates, table, flags)
@@ -649,7 +651,7 @@ def rated_stock():
               [of_unit(rest, 1), of_stock(side, 1, 1), of_stock(side, 2, 1)]) for rest, side in ((B, S), (S, B))]
 
     def row(stock, calls, fund_stock=(1, 1)):
-        accounts = [[0, 0, 0, *(x for q in stock for x in (q, 0, 0)), *units] for stock, units in ((fund_stock, (0, 0, 0)), (stock, (9, 0, 0)))]
+        accounts = [[0, 0, 0, *(x for q in held for x in (q, 0, 0))] for held in ((*fund_stock, 0), (*stock, 9))]
         return state(accounts, calls, components=parts, prices=(0, 0), table=table)
 
     yield row((1, 1), [makes(name, 1, 1, exact(*ls), *ls) for name, ls in zip(ORDERS, lists)])
@@ -724,7 +726,8 @@ def full_states():
 def opening(accounts, count, reply, **changed):
     held = [1] * (count + 1) + [0] + [1] * ((accounts - 1) * (count + 2)) if accounts else []
     return {"accounts": accounts, "count": count, "fund": fund(), "table": None,
-            "components": [[i, 1, 0, 0, 0, 0] for i in range(count)], "holdings": held, "book_length": accounts * (3 + 3 * (count + 1)), "prices_length": count, "reply": reply, **changed}
+            "components": [[i, 1, 0, 0, 0, 0] for i in range(count)], "holdings": held,
+            "book_length": accounts * (3 + 3 * (count + 1)), "prices_length": count, "reply": reply, **changed}
 
 
 def openings():
@@ -819,11 +822,12 @@ def table_openings():
 
 def table_meetings():
     """1 before 21, which stands before 2, 3 and 4."""
-    wrong, bad = ruled({9: (0, 0, 0, 0, 0, 0, 2)}), {"fund": fund(basket_size=0), "components": [[500_000, 1, 0, 0, 0, 0]],
-                                                      "holdings": [5 * E18, 2 * E18, 1, 0, 0, 0]}
-    for table in (*edge_tables.of_other_length(ruled({})), *edge_tables.of_other_length(ruled({0: (2, 0, 0, 0, 0, 0, 0)})), []):
-        yield opening(2, 1, [1, 0], table=table)
-        yield opening(2, 1, [1, 0], table=table, **bad)
+    wrong = ruled({9: (0, 0, 0, 0, 0, 0, 2)})
+    bad = {"fund": fund(basket_size=0), "components": [[500_000, 1, 0, 0, 0, 0]], "holdings": [5 * E18, 2 * E18, 1, 0, 0, 0]}
+    for whole in (ruled({}), ruled({0: (2, 0, 0, 0, 0, 0, 0)})):
+        for table in (*edge_tables.of_other_length(whole), []):
+            yield opening(2, 1, [1, 0], table=table)
+            yield opening(2, 1, [1, 0], table=table, **bad)
     for accounts, count in ((1, 1), (65, 1), (2, 0), (2, 301)):
         yield opening(accounts, count, [1, 0], table=wrong)
     for name in ("book_length", "prices_length"):
@@ -855,7 +859,8 @@ def chains():
     after = [0, 0, 0, 51, 0, 0, 0, 0, 0, 100, 2, 1, 3, 0, 1, 2 * E18 - 1, 0, 2]
     yield {**before, "after": {"book": after, "prices": [1]}}
     # the same on a flag of a given table, which the day keeps from call to call
-    yield {**before, "table": ruled({0: UNUSED[0], 5: RATED}), "components": of_flag(5, 100_000, 100_000), "after": {"book": after, "prices": [1]}}
+    tabled = {"table": ruled({0: UNUSED[0], 5: RATED}), "components": of_flag(5, 100_000, 100_000)}
+    yield {**before, **tabled, "after": {"book": after, "prices": [1]}}
     # tests alone count for no limit and move nothing, however often they are made: one unit of each kind passes, and then none
     create_test, redeem_test = PASSES
     stops = [made(c, refused(13)) for c in (create_test["call"], CREATE)], [made(c, refused(13)) for c in (redeem_test["call"], REDEEM)]
@@ -902,7 +907,8 @@ def full_day():
              limits=[60 * size, 50 * size, 40 * size, 0, 0, 0, 0, 20 * size])
     # codes rise by 3,001 and pass over the group; quantities 40 to 139; unlike rates, and amounts, where the flag uses them
     flags = [(0, 1, 1, 3, 0, 2, 1, 4)[i % 8] for i in range(n)]
-    parts = [[3001 * i + 11, 40 + 37 * i % 100, flag + 5 * (i // 8 % 2), *((997 * i % 100_001, 641 * i % 100_001) if flag in (1, 3) else (0, 0)),
+    parts = [[3001 * i + 11, 40 + 37 * i % 100, flag + 5 * (i // 8 % 2),
+              *((997 * i % 100_001, 641 * i % 100_001) if flag in (1, 3) else (0, 0)),
               1_000_003 * (i + 1) if flag in (2, 3, 4) else 0] for i, flag in enumerate(flags)]
     # stock for 20 baskets and a little more, but account 3 lacks all of one flag 1 line in six, and account 4 one share of
     # component 297 (flag 1) and of 296 (flag 0)
@@ -916,7 +922,7 @@ def full_day():
             return need - 1
         return 3 * need + i if a == 0 else need + (17 * a + i) % 90
     holdings = [x for a in range(64) for x in [10**14 + a, *(held(a, i) for i in range(n + 1))]]
-    return played({"accounts": 64, "count": n, "fund": f, "table": edge_tables.OURS[:5] * 2, "components": parts, "holdings": holdings,
+    return played({"accounts": 64, "count": n, "fund": f, "table": OURS[:5] * 2, "components": parts, "holdings": holdings,
                    "opening": [0, 0], "calls": [{"call": c} for c in full_calls(n, size)]})
 
 

@@ -12,7 +12,8 @@ they are told; the state stays.
 
 --chunk is the most rows to a module: with 1 a refusal names its row. --largest leaves out rows whose book or text has more
 numbers or bytes than that: the checker takes a limited number of steps for each theorem. A state that no day's run can hold is
-left out too (`is_held` in vector_files.py).
+left out too (`is_held` in vector_files.py), and so is a text or a list with a flag table that has not ten rows of seven numbers. An
+opening is lent its table as a run, of any length; where none is given the table of a row is ours.
 """
 import argparse
 import re
@@ -22,7 +23,7 @@ from pathlib import Path
 import vector_files
 from day_model import ORDERS, TESTS
 from list_model import COLUMNS, NAME
-from vector_files import LISTS, component_room, is_held, numbers, opened_book, whole_text
+from vector_files import LISTS, component_room, has_ten_rows, is_held, numbers, opened_book, whole_text
 
 # ---- what a row is, and when it is right
 
@@ -56,6 +57,10 @@ lent_right after room written = same after (written ++ drop (length written) (le
 
 abbrev pub reply_right : Reply → List ℕ → Bool
 reply_right r want = same (r.number ∷ r.place ∷ r.value ∷ r.reports ∷ []) want
+
+-- the flag table where none is given
+abbrev pub ours : FlagTable
+ours = flag_table
 """
 
 DAY_ROWS = """\
@@ -78,12 +83,8 @@ abbrev pub component : ℕ → ℕ → ℕ → ℕ → ℕ → ℕ → Component
 component code q flag premium discount amount =
     record { code = code; quantity = q; flag = flag; premium = record { 0 = premium }; discount = record { 0 = discount }; amount = record { 0 = amount } }
 
--- the flag table where none is given: its rows, and its run
-abbrev pub ours : FlagTable
-ours = flag_table
-
 abbrev pub our_numbers : List ℕ
-our_numbers = table_numbers flag_table
+our_numbers = table_numbers ours
 
 -- accounts, count, fund, flag table, components, holdings, and the lengths of the lent book and prices
 abbrev pub opening : ℕ → ℕ → Fund → List ℕ → List ℕ → List ℕ → ℕ → ℕ → Opening
@@ -173,6 +174,7 @@ TEXT_ROWS = """\
 -- Rows of test vectors of the list text, and when a row is right.
 use Rattle.std.specs.Prelude.{ℕ, zero, suc, ◌+◌, ℤ, pos, negsuc, Bool, true, false, List, [], ◌∷◌, ◌++◌, eqb, length, drop}
 use Rattle.sequences.specs.Checks.{Reply}
+use Rattle.flags.specs.Table.{FlagTable, flag_table}
 use Rattle.layout.specs.declared.Fund.{Fund}
 use Rattle.text_rules.specs.Reading.{letters_read}
 use Rattle.list_rules.specs.declared.ListFields.{ListFields}
@@ -196,17 +198,17 @@ flat l =
     ∷ (signed l.fund.estimated_cash ++ (signed l.cash_component ++ l.fund.limits))
 
 pub data Row : Type 0 where
-  -- a text, the length of the lent component run, and the reply: refused
-  fails : List ℕ → ℕ → List ℕ → Row
+  -- a flag table, a text, the length of the lent component run, and the reply: refused
+  fails : FlagTable → List ℕ → ℕ → List ℕ → Row
   -- the same: read, with the fields, the place of the first component line, the components, the letters, and the names
-  reads : List ℕ → ℕ → List ℕ → ListFields → ℕ → List ℕ → List ℕ → List (List ℕ) → Row
-  -- a list's fields, components, names and letters, the length of the lent output, the reply, and the text that is written
-  writes : ListFields → List ℕ → List ℕ → List ℕ → ℕ → List ℕ → List ℕ → Row
+  reads : FlagTable → List ℕ → ℕ → List ℕ → ListFields → ℕ → List ℕ → List ℕ → List (List ℕ) → Row
+  -- a flag table, a list's fields, components, names and letters, the length of the lent output, the reply, and the text that is written
+  writes : FlagTable → ListFields → List ℕ → List ℕ → List ℕ → ℕ → List ℕ → List ℕ → Row
 
 -- what a text hands back besides its components: fields, and the place of the first component line
-abbrev head_right : List ℕ → ℕ → ListFields → ℕ → Bool
-head_right text room f first =
-    both (same (flat (fields_handed text room)) (flat f)) (same (first_handed text room ∷ []) (first ∷ []))
+abbrev head_right : FlagTable → List ℕ → ℕ → ListFields → ℕ → Bool
+head_right t text room f first =
+    both (same (flat (fields_handed t text room)) (flat f)) (same (first_handed t text room ∷ []) (first ∷ []))
 
 -- the names from the j-th on, asked for in both ways
 abbrev names_right : List ℕ → ℕ → ℕ → List (List ℕ) → Bool
@@ -218,14 +220,14 @@ abbrev none : ListFields
 none = fields (fund 0 0 0 0 (pos 0) (0 ∷ 0 ∷ 0 ∷ 0 ∷ 0 ∷ 0 ∷ 0 ∷ 0 ∷ [])) 0 0 0 (pos 0) 0 0 0
 
 abbrev pub right : Row → Bool
-right (fails text room want) =
-    both (both (reply_right (read_reply text room) want) (lent_right (run_after text (lent room)) room [])) (head_right text room none 0)
-right (reads text room want f first run letters names) =
-    both (both (reply_right (read_reply text room) want) (lent_right (run_after text (lent room)) room run))
-    (both (head_right text room f first) (both (same (letters_read text) letters) (names_right text first 0 names)))
-right (writes f run names letters room want text) =
+right (fails t text room want) =
+    both (both (reply_right (read_reply t text room) want) (lent_right (run_after t text (lent room)) room [])) (head_right t text room none 0)
+right (reads t text room want f first run letters names) =
+    both (both (reply_right (read_reply t text room) want) (lent_right (run_after t text (lent room)) room run))
+    (both (head_right t text room f first) (both (same (letters_read text) letters) (names_right text first 0 names)))
+right (writes t f run names letters room want text) =
     let l = listing f run names letters in
-    both (reply_right (write_reply l room) want) (lent_right (output_after l (lent room)) room text)
+    both (reply_right (write_reply t l room) want) (lent_right (output_after t l (lent room)) room text)
 """
 
 # A module of rows.
@@ -250,7 +252,7 @@ use Rattle.balance.specs.Calls.{price, trade, create, redeem, value}
 use Rattle.rows.specs.Rows.{all, fund, component, ours, our_numbers, opening, state, made, tests_creation, tests_redemption}
 use Rattle.rows.specs.Rows.{kept, holds, met, Row, opens, plays, meets, follows, right}"""
 
-TEXT_USES = "use Rattle.rows_of_texts.specs.Rows.{all, fund, fields, Row, fails, reads, writes, right}"
+TEXT_USES = "use Rattle.rows_of_texts.specs.Rows.{all, fund, ours, fields, Row, fails, reads, writes, right}"
 
 # ---- rows
 
@@ -268,9 +270,14 @@ def fund(f):
             f"{listed(f['limits'])})")
 
 
+def table(v):
+    """The rows of a flag table."""
+    return "ours" if v["table"] is None else listed(map(listed, v["table"]))
+
+
 def opening(v, book, prices):
-    table = "our_numbers" if v["table"] is None else listed(numbers(v["table"]))
-    return (f"(opening {v['accounts']} {v['count']} {fund(v['fund'])} {table} {listed(numbers(v['components']))} "
+    run = "our_numbers" if v["table"] is None else listed(numbers(v["table"]))
+    return (f"(opening {v['accounts']} {v['count']} {fund(v['fund'])} {run} {listed(numbers(v['components']))} "
             f"{listed(v['holdings'])} {book} {prices})")
 
 
@@ -312,8 +319,7 @@ def day_row(v):
 
 def state(v):
     parts = listed("component " + " ".join(map(str, c)) for c in v["components"])
-    table = "ours" if v["table"] is None else listed(map(listed, v["table"]))
-    day = (f"record {{ accounts = {v['accounts']}; count = {v['count']}; fund = {fund(v['fund'])}; table = {table}; "
+    day = (f"record {{ accounts = {v['accounts']}; count = {v['count']}; fund = {fund(v['fund'])}; table = {table(v)}; "
            f"components = {parts} }}")
     return f"(state ({day}) {listed(v['book'])} {listed(v['prices'])})"
 
@@ -336,7 +342,7 @@ def fields(v):
 
 def text_row(v):
     text = whole_text(v)
-    given = f"{listed(text)} {component_room(v)}"
+    given = f"{table(v)} {listed(text)} {component_room(v)}"
     if v["reply"][0]:
         return f"fails {given} {reply(v['reply'])}"
     start, width, _ = COLUMNS[NAME]
@@ -350,7 +356,8 @@ def writing_row(v):
     number, place, *size = v["reply"]
     lists = " ".join(map(listed, (numbers(v["components"]), v["names"], v["letters"])))
     text = b"" if number else v["text"]
-    return f"writes {fields(v)} {lists}\n      {v['output_length']} {reply((number, place), *size)}\n      {listed(text)}"
+    return (f"writes {table(v)} {fields(v)} {lists}\n      {v['output_length']} {reply((number, place), *size)}\n"
+            f"      {listed(text)}")
 
 
 # ---- crates
@@ -390,7 +397,7 @@ def write_crate(name, vectors, scratch, chunk, largest):
     unfolding, modules = unfoldable(scratch / "crates", uses), ["Rows"]
     for file, row in files.items():
         given = vector_files.rows(vectors / f"{file}.jsonl")
-        chosen = [(i, v) for i, v in enumerate(given) if size(v) <= largest and is_held(v)]
+        chosen = [(i, v) for i, v in enumerate(given) if size(v) <= largest and is_held(v) and (file == "openings" or has_ten_rows(v))]
         for part in (chosen[at:at + chunk] for at in range(0, len(chosen), chunk)):
             first, last = part[0][0], part[-1][0]
             modules.append(f"{file.title().replace('_', '')}{first}")

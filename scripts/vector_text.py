@@ -61,8 +61,9 @@ def given(name, row, v, table, book, prices, *rest):
     """The item of an opening or a state: its head, its table and components, and the rest."""
     f = v["fund"]
     e = f["estimated_cash"]
+    lengths = [0 if table is None else len(numbers(table)) + 1, len(numbers(v["components"])), book, prices]
     head = [row, v["accounts"], v["count"], f["first_code"], f["basket_size"], f["max_cash_ratio"], f["switch"],
-            int(e < 0), abs(e), *f["limits"], 0 if table is None else len(numbers(table)) + 1, len(numbers(v["components"])), book, prices]
+            int(e < 0), abs(e), *f["limits"], *lengths]
     return item(name, head, numbers(table or []), *v["components"], *rest)
 
 
@@ -73,7 +74,8 @@ def opening(row, v, reply, book, prices):
 
 
 def state(row, v, name):
-    into = given(name, row, v, table_of(v["table"]), len(v["book"]), len(v["prices"]), *cut(v["book"], 3 * v["count"] + 6), v["prices"])
+    stretches = cut(v["book"], 3 * v["count"] + 6)
+    into = given(name, row, v, table_of(v["table"]), len(v["book"]), len(v["prices"]), *stretches, v["prices"])
     return into, [line("row", row)]
 
 
