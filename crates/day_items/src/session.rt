@@ -114,7 +114,8 @@ impl Session {
         opening::open(given, &mut self.book, &mut self.prices, &mut self.day)
     }
 
-    // The call for users where no table is given or a whole one; a run of another length can only be lent to the call below these.
+    // Opens by a call for users where no table is given, or a whole one. Both calls go through `opening`, which alone can be lent a run
+    // of another length.
     fn open_given(&mut self, given: &Given<'_>) -> Result<(), Refusal> {
         let Some(run) = given.table else {
             return self.open_with_ours(given);
