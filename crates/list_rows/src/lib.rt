@@ -164,7 +164,9 @@ fn put_numbers(run: &mut [u64], j: usize, numbers: [u64; COMPONENT_WIDTH])
     run[at..at + COMPONENT_WIDTH].copy_from_slice(&numbers);
 }
 
-// Stores the components of lines with no column at fault at the front of the run, each number once and in its place.
+// Stores the components of lines with no column at fault at the front of the run, each number once and in its place. Not inlined: in one
+// function with the tests of the lines too much is held for the registers, and reading takes 6 % more instructions.
+#[inline(never)]
 pub fn store_rows(table: &flags::Table, text: &[u8], rows: Rows, run: &mut [u64])
     requires start_value { (rows.start ≡ body_start shanghai_shape text.now) × (rows.count ≡ row_count shanghai_shape text.now) }
     requires rows_in_bounds { rows.start + rows.count * line_pitch shanghai_columns ≤ length text.now }

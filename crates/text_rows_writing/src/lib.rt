@@ -57,7 +57,8 @@ fn put_words_column(width: usize, taken: Taken, line: Taken, texts: &[u8], rows:
     }
 }
 
-// Writes the end of so many lines.
+// Writes the end of so many lines. Not inlined, as `list_rows::store_rows` for reading: writing would take 2 % more instructions.
+#[inline(never)]
 #[tactic(auto, using(crate::proofs::Stretches::end_laws))]
 fn put_ends(line: Taken, rows: &mut [u8])
     ghost count: { ℕ }
