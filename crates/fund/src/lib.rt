@@ -115,12 +115,7 @@ pub fn component_in_range(table: &Table, first_code: u64, c: Component) -> bool
 
 // Whether a component is in its ranges and above the code before it, where there is one.
 #[tactic(auto, using(std::proofs::lemmas::Bool::Decides::nat_tests), unfolding(crate::specs::Components::fits, crate::specs::Components::above_code, sequences::specs::Every::every))]
-pub fn component_fits(
-    table: &Table,
-    first_code: u64,
-    previous: Option<u64>,
-    c: Component,
-) -> bool
+pub fn component_fits(table: &Table, first_code: u64, previous: Option<u64>, c: Component) -> bool
     ensures { result ≡ fits table.now first_code previous c }
 {
     component_in_range(table, first_code, c) && previous.is_none_or(|code| code < c.code)

@@ -98,7 +98,12 @@ fn opening_answer(given: &Given, book: &[u64], prices: &[u64], day: &[u64]) -> R
     if !fund::fund_in_range(head.fund) {
         return Err(Refusal::FundField);
     }
-    if let Some(place) = fund::run_fault(table, head.fund.first_code, given.components, head.count) {
+    if let Some(place) = fund::run_fault(
+        table,
+        head.fund.first_code,
+        given.components,
+        head.count,
+    ) {
         return Err(Refusal::Component(place));
     }
     if let Some(place) = total_fault(given.holdings, head.accounts, head.count) {
