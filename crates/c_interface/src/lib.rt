@@ -268,7 +268,8 @@ pub extern "C" fn roffelaine_run_public(
     answers::tell(Numbers::from(answer), place, value)
 }
 
-// Reads a list text: its fields, its components at the front of the lent run, and where its first component line starts.
+// Reads a list text under a flag table, under ours where none is lent: its fields, its components at the front of the lent run, and where
+// its first component line starts.
 #[unsafe(no_mangle)]
 pub extern "C" fn roffelaine_read(
     text: &[u8],
@@ -303,7 +304,7 @@ pub extern "C" fn roffelaine_letters(text: &[u8], part: &mut [u64]) -> u64
     flat_calls::letters(text, part)
 }
 
-// Writes a list at the front of the lent output.
+// Writes a list under a flag table, under ours where none is lent, at the front of the lent output.
 #[unsafe(no_mangle)]
 pub extern "C" fn roffelaine_write(
     fields: &[u64],

@@ -51,7 +51,7 @@ pub fn open(
     )
 }
 
-// Opens a day under a flag table of the fund's manager.
+// Opens a day under a flag table of the manager's own, in the same way.
 pub fn open_with_table(
     accounts: usize,
     count: usize,

@@ -70,7 +70,7 @@ impl Session {
     }
 
     // Opens on the runs as they are, with no flag table.
-    fn open_with_ours(&mut self, given: &Given<'_>) -> Result<(), Refusal> {
+    fn open_without_table(&mut self, given: &Given<'_>) -> Result<(), Refusal> {
         day::open(
             given.accounts,
             given.count,
@@ -118,7 +118,7 @@ impl Session {
     // of another length.
     fn open_given(&mut self, given: &Given<'_>) -> Result<(), Refusal> {
         let Some(run) = given.table else {
-            return self.open_with_ours(given);
+            return self.open_without_table(given);
         };
         match flags::table_in(run) {
             Some(table) => self.open_with_table(given, table),

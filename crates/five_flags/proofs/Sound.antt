@@ -1,5 +1,5 @@
 -- Under our table refusal 3, opening's answer and 5 are as before: our table passes 21, and has document 01's columns.
-use mathlib.Core.Path.{◌≡◌, refl, ap, fun_ext}
+use mathlib.Core.Path.{◌≡◌, refl, ap, fun_ext, ◌∙◌}
 use mathlib.Core.Bool.{Bool}
 use mathlib.Core.List.{List}
 use Prim.Native.Nat.{ℕ}
@@ -9,6 +9,7 @@ use Rattle.sequences.specs.Every.{every}
 use Rattle.sequences.specs.Checks.{answering, passes}
 use Rattle.flags.specs.Table.{flag_table, table_numbers, table_of, rate_used, amount_used}
 use Rattle.flags.proofs.Laws.{ours_loads}
+use Rattle.flags.proofs.Run.{ours_back}
 use Rattle.layout.specs.declared.Component.{Component}
 use Rattle.layout.specs.declared.Fund.{Fund}
 use Rattle.fund.specs.Components.{component_in_range, fits, fault_at, component_fault}
@@ -29,8 +30,7 @@ components_as_before g cs n = ap (λ (f : ℕ → Bool). first_below f n) (fun_e
 -- the answer of opening
 module _ (o : Opening) (ours : o.table ≡ table_numbers flag_table) where
   ours_given : table_of o.table ≡ flag_table
-  unfolding table_of flag_table
-  ours_given = rw ours refl
+  ours_given = ap table_of ours ∙ ours_back
 
   same_sizes : opening_sizes_fit o ≡ before.sizes_fit o
   unfolding lent_sizes_fit every flag_table before.sizes_fit

@@ -1,5 +1,5 @@
 // Opening and the list text with the fund, the fields and the flag table as runs of numbers: refusal 1 where fund or fields have not their
-// width. An empty run is no table, and then it is ours.
+// width. An empty run is no table, and then it is ours; one of another length than a table's is 1 at opening, and 21 in the text calls.
 // The casts by `as` lose nothing: usize and u64 both have 64 bits.
 #![tactic(auto)]
 
@@ -80,8 +80,8 @@ pub fn open(
     opening::open(given, book, prices, day)
 }
 
-// Reads a list text under a flag table: its fields, its components at the front of the lent run, and where its first component line starts. An
-// accepted reading tells the count of components. The place of the first line goes to a lent number, as the fields go to a lent run: with
+// Reads a list text under a flag table: its fields, its components at the front of the lent run, and where its first component line
+// starts. An accepted reading tells the count of components. The place of the first line goes to a lent number, as the fields go to a lent run: with
 // a `ListRead` as the answer the C interface would test it once more to store the place, and tell the count by itself.
 #[tactic(auto, using(std::proofs::lemmas::Bool::Decides::nat_tests), unfolding(crate::specs::Text::taking_reply, crate::specs::Text::of_width, sequences::specs::Checks::is_accepted, list_rules::specs::Reading::run_after))]
 pub fn read(

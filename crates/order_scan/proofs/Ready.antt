@@ -14,6 +14,7 @@ use Rattle.fund.proofs.Laws.{components_fine}
 use Rattle.layout.specs.Places.{most_components}
 use Rattle.layout.specs.Day.{Day}
 use Rattle.layout.specs.Book.{lots_at, width, account, line_total}
+use Rattle.flags.specs.Table.{shanghai}
 use Rattle.rules.specs.Lines.{component_of, price_of, column, quantity, creation_rate, redemption_rate, creation_amount, redemption_amount}
 use Rattle.rules.specs.Orders.{most_baskets, need, other_cash, shanghai_cash}
 use Rattle.rules.specs.Creation.{available, missing, missing_worth, creation_cash}
@@ -66,7 +67,7 @@ both_markets shanghai f (suc n) = omega (arith, both_markets shanghai f n, one (
 
 cash-le : (d : Day) (f : ℕ → ℕ) → d.count ≤ most_components → ((k : ℕ) → k < d.count → f k ≤ 40_000_000_000_000_000) → other_cash d f + shanghai_cash d f ≤ 12_000_000_000_000_000_000
 unfolding other_cash shanghai_cash
-cash-le d f h all = omega (arith, both_markets (column d 4) f d.count, sum_le f d.count 40_000_000_000_000_000 all)
+cash-le d f h all = omega (arith, both_markets (column d shanghai) f d.count, sum_le f d.count 40_000_000_000_000_000 all)
 
 module _ (kind : Kind) (d : Day) (s f ps : List ℕ) (m : ℕ) (r : Scannable d s f ps m) where
   created-le : (k : ℕ) → k < d.count → creation_cash d s ps m k ≤ 40_000_000_000_000_000

@@ -1,4 +1,4 @@
--- The ranges under which no number of a scan wraps.
+-- The ranges under which no number of a scan wraps, and a flag table that loads.
 use Rattle.std.specs.Prelude.{◌≡◌, List, ℕ, ◌+◌, ◌≤◌, ◌<◌, length}
 use Rattle.flags.specs.Table.{flag_count, table_fault}
 use Rattle.layout.specs.Places.{most_components}
