@@ -80,8 +80,9 @@ fn limits_held(head: &DayHead, book: &[u64], ask: Ask) -> bool
 {
     let all = units_of_all(head, book, ask.kind);
     let own = units_of(head, book, ask.account, ask.kind);
+    let under_ceiling = all.made + ask.units <= fund::CEILING;
     within_both(head, all, ask, Limit::Cumulative, Limit::Net)
-        && all.made + ask.units <= fund::CEILING
+        && under_ceiling
         && within_both(head, own, ask, Limit::CumulativeEach, Limit::NetEach)
 }
 
