@@ -1,5 +1,5 @@
--- Records in a flat run.
-use Rattle.std.specs.Prelude.{ℕ, ◌+◌, ◌*◌, List, [], ◌∷◌, get_or}
+-- Records in a flat run, and in a list of structs.
+use Rattle.std.specs.Prelude.{ℕ, ◌+◌, ◌*◌, List, [], ◌∷◌, ◌++◌, length, drop, get_or}
 use Rattle.layout.specs.declared.Record.{Record}
 use Rattle.layout.specs.Places.{record_width}
 use Rattle.layout.specs.Laid.{laid, with_laid}
@@ -24,3 +24,7 @@ flatten rs = laid record_numbers rs
 
 unfoldable pub with_records : List Record → List ℕ → List ℕ
 with_records rs list = with_laid record_numbers record_width rs list
+
+-- the list with records at its front: places past the last stay
+abbrev pub at_front : List Record → List Record → List Record
+at_front rs list = rs ++ drop (length rs) list

@@ -14,9 +14,8 @@ use Rattle.rules.specs.declared.Rooms.{Rooms}
 use Rattle.rules.specs.Lent.{Lent, rooms_of, rooms_in}
 use Rattle.rules.specs.Creation.{creation_reply}
 use Rattle.rules.specs.Redemption.{redemption_reply}
-use Rattle.rules.specs.Kinds.{asked_reply}
+use Rattle.rules.specs.Kinds.{rooms_beside, asked_reply}
 use Rattle.balance.specs.Calls.{State, step, create, redeem}
-use Rattle.orders.specs.Orders.{rooms_beside}
 use Rattle.order_foretold.specs.Foretold.{Lengths, Foretells}
 use Rattle.order_foretold.proofs.Answers.{same_answer}
 

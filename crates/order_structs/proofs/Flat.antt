@@ -10,17 +10,15 @@ use Rattle.layout.specs.Places.{record_width}
 use Rattle.layout.specs.Day.{Day}
 use Rattle.layout.specs.declared.Record.{Record}
 use Rattle.layout.specs.Laid.{laid, with_laid, room_of}
-use Rattle.layout.specs.Records.{flatten, record_numbers, with_records}
+use Rattle.layout.specs.Records.{flatten, record_numbers, with_records, at_front}
 use Rattle.layout.proofs.Records.{flatten-append, flatten-length}
 use Rattle.rules.specs.declared.Ask.{Ask}
 use Rattle.rules.specs.declared.Rooms.{Rooms}
 use Rattle.rules.specs.Lent.{Lent, lent_of, rooms_in, with_order}
 use Rattle.rules.specs.Creation.{creation_reply, created_book, created_lists}
 use Rattle.rules.specs.Redemption.{redemption_reply, redeemed_book, redeemed_lists}
-use Rattle.rules.specs.Kinds.{by_kind, asked_records, asked_reports, counts_by, asked_checks, asked_reply, asked_moves, asked_book, asked_lists}
+use Rattle.rules.specs.Kinds.{by_kind, asked_records, asked_reports, records_of, rooms_beside, counts_by, asked_checks, asked_reply, asked_moves, asked_book, asked_lists}
 use Rattle.balance.specs.Calls.{State, Call, Result, step, create, redeem}
-use Rattle.record_writer.specs.Stored.{at_front}
-use Rattle.orders.specs.Orders.{records_of, rooms_beside}
 use Rattle.order_structs.specs.Made.{made_records, made_reports}
 use Rattle.rules.proofs.Asked.{by_ask}
 

@@ -9,6 +9,7 @@ use lib.ListN.{length}
 use Rattle.sequences.specs.Checks.{Reply, is_accepted}
 use Rattle.layout.specs.Day.{Day}
 use Rattle.layout.specs.declared.Record.{Record}
+use Rattle.layout.specs.Records.{at_front}
 use Rattle.layout.specs.Reports.{with_reports}
 use Rattle.rules.specs.declared.Ask.{Ask}
 use Rattle.rules.specs.declared.Rooms.{Rooms}
@@ -16,14 +17,14 @@ use Rattle.rules.specs.declared.Refusal.TheVariants.{UnsoundDay}
 use Rattle.rules.specs.Replies.{if_accepted}
 use Rattle.rules.specs.Reports.{opposite}
 use Rattle.rules.specs.Sound.{is_sound}
-use Rattle.rules.specs.Kinds.{asked_reply, asked_moves, asked_book}
+use Rattle.rules.specs.Kinds.{records_of, reports_of, rooms_beside, asked_reply, asked_moves, asked_book}
 use Rattle.rules.proofs.Replies.{leaves_before}
 use Rattle.order_records.specs.Put.{put_all}
 use Rattle.record_writer.specs.declared.Writer.{Writer}
-use Rattle.record_writer.specs.Stored.{room_left, pushed, at_front}
+use Rattle.record_writer.specs.Stored.{room_left, pushed}
 use Rattle.record_writer.proofs.Front.{put_first, same_list}
 use Rattle.orders.proofs.Laws.{left_part, left_same, records_fit}
-use Rattle.orders.specs.Orders.{asked_answer, records_of, reports_of, rooms_beside}
+use Rattle.orders.specs.Orders.{asked_answer}
 use Rattle.order_calls.proofs.Laws.{order_five, order_own}
 use Rattle.order_structs.specs.Made.{made_records, made_reports}
 

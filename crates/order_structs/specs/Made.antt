@@ -2,14 +2,13 @@
 use Rattle.std.specs.Prelude.{ℕ, List, map}
 use Rattle.layout.specs.Day.{Day}
 use Rattle.layout.specs.declared.Record.{Record}
+use Rattle.layout.specs.Records.{at_front}
 use Rattle.layout.specs.Reports.{with_reports}
 use Rattle.rules.specs.declared.Ask.{Ask}
 use Rattle.rules.specs.declared.Rooms.{Rooms}
 use Rattle.rules.specs.Replies.{if_accepted}
 use Rattle.rules.specs.Reports.{opposite}
-use Rattle.rules.specs.Kinds.{asked_reply}
-use Rattle.record_writer.specs.Stored.{at_front}
-use Rattle.orders.specs.Orders.{records_of, reports_of}
+use Rattle.rules.specs.Kinds.{asked_reply, records_of, reports_of}
 
 -- where accepted, the records at its front; places past the last stay
 unfoldable pub made_records : Day → List ℕ → List ℕ → Ask → Rooms → List Record → List Record

@@ -5,8 +5,7 @@
 ghost use Rattle.std.specs.Prelude.{◌≡◌, length};
 ghost use Rattle.layout.specs.Day.{day_at};
 ghost use Rattle.rules.specs.Replies.{order_answer_reply};
-ghost use Rattle.rules.specs.Kinds.{asked_reply, asked_book};
-ghost use Rattle.orders.specs.Orders.{rooms_beside};
+ghost use Rattle.rules.specs.Kinds.{asked_reply, asked_book, rooms_beside};
 ghost use Rattle.order_structs.specs.Made.{made_records, made_reports};
 
 use layout::Record;

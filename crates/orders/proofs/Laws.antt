@@ -33,7 +33,7 @@ use Rattle.rules.specs.Orders.{baskets, form_checks, permission_checks}
 use Rattle.rules.specs.Creation.{available, creation_due, creation_checks, creation_reply}
 use Rattle.rules.specs.Redemption.{redemption_paid, redemption_checks, redemption_reply}
 use Rattle.rules.specs.Kinds.{all_cash, cash_by, records_by, reports_by}
-use Rattle.rules.specs.Kinds.{asked_cash, asked_records, asked_reports, counts_by, asked_counts, asked_means, asked_checks, asked_reply, with_asked}
+use Rattle.rules.specs.Kinds.{asked_cash, asked_records, asked_reports, records_of, reports_of, rooms_beside, counts_by, asked_counts, asked_means, asked_checks, asked_reply, with_asked}
 use Rattle.rules.proofs.SoundDay.{SoundDay, sound_facts}
 use Rattle.rules.proofs.Accepted.{Orders, Listed, order_facts, creation_facts, creation_made, redemption_facts, redemption_made}
 use Rattle.rules.proofs.Replies.{refused, is_accepted_lem, on_sound}
@@ -57,7 +57,7 @@ use Rattle.value.proofs.Laws.{priceable}
 use Rattle.order_scan.specs.Ready.{Scannable}
 use Rattle.order_scan.proofs.Ready.{scannable}
 use Rattle.trades.proofs.Laws.{sound_fits}
-use Rattle.orders.specs.Orders.{asked_answer, answered_lists, records_of, reports_of, rooms_beside, Formed}
+use Rattle.orders.specs.Orders.{asked_answer, answered_lists, Formed}
 
 module _ (d : Day) (b ps : List ℕ) (ask : Ask) (f : Formed d b ps ask) where
   sound : SoundDay d b ps

@@ -11,10 +11,10 @@ ghost use Rattle.rules.specs.Replies.{order_answer_reply, if_accepted};
 ghost use Rattle.rules.specs.Sound.{is_sound};
 ghost use Rattle.rules.specs.Lent.{rooms_in};
 ghost use Rattle.rules.specs.Lists.{lent_in, left_in};
-ghost use Rattle.rules.specs.Kinds.{asked_cash, asked_moves};
+ghost use Rattle.rules.specs.Kinds.{asked_cash, asked_moves, records_of, reports_of, rooms_beside};
 ghost use Rattle.order_records.specs.Put.{put_all};
 ghost use Rattle.order_tests.specs.Tests.{accepted_reply, means_answer};
-ghost use Rattle.orders.specs.Orders.{asked_answer, answered_lists, records_of, reports_of, rooms_beside, Formed};
+ghost use Rattle.orders.specs.Orders.{asked_answer, answered_lists, Formed};
 
 use layout::DayView;
 use order_records::{Out, RecordSink};

@@ -6,9 +6,10 @@ use native.Mathlib.Omega.{arith}
 use lib.ListN.{length, set, length-append}
 use lib.Seq.{set_at}
 use Rattle.layout.specs.declared.Record.{Record}
+use Rattle.layout.specs.Records.{at_front}
 use Rattle.order_records.specs.Put.{put_all}
 use Rattle.record_writer.specs.declared.Writer.{Writer}
-use Rattle.record_writer.specs.Stored.{room_left, pushed, at_front}
+use Rattle.record_writer.specs.Stored.{room_left, pushed}
 
 -- a writer of the same borrow behind the records that stand in front of the rest of its list
 abbrev between : Writer → List Record → List Record → Writer

@@ -1,7 +1,7 @@
 -- Records in a lent list.
 use native.Mathlib.Omega.{arith}
 use lib.ListN.{length-set}
-use Rattle.std.specs.Prelude.{ℕ, ◌≡◌, ◌+◌, ◌-◌, List, ◌++◌, set, length, drop}
+use Rattle.std.specs.Prelude.{ℕ, ◌≡◌, ◌+◌, ◌-◌, set, length}
 use Rattle.layout.specs.declared.Record.{Record}
 use Rattle.record_writer.specs.declared.Writer.{Writer}
 
@@ -17,7 +17,3 @@ pushed w r = record w { list = record w.list { now = set w.list.now w.at r }; at
 pub left_less : (w : Writer) (r : Record) → room_left (pushed w r) ≡ room_left w - 1
 unfolding room_left
 left_less w r = omega (arith, length-set w.list.now w.at r)
-
--- the list with records at its front: places past the last stay
-abbrev pub at_front : List Record → List Record → List Record
-at_front rs list = rs ++ drop (length rs) list

@@ -1,6 +1,6 @@
 -- Creation and redemption by one text, for the code that serves both kinds of order: what an ask comes to, from the definitions of
 -- its kind.
-use Rattle.std.specs.Prelude.{ℕ, ◌+◌, ◌-◌, cond, List, eqb}
+use Rattle.std.specs.Prelude.{ℕ, ◌+◌, ◌-◌, cond, List, length, eqb}
 use Rattle.sequences.specs.Checks.{Check, Reply, answering}
 use Rattle.sequences.specs.Stretch.{on_stretch}
 use Rattle.lots.specs.declared.Lots.{Lots}
@@ -12,6 +12,8 @@ use Rattle.rules.specs.declared.Ask.{Ask}
 use Rattle.rules.specs.declared.CashByMarket.{CashByMarket}
 use Rattle.layout.specs.declared.Record.{Record}
 use Rattle.layout.specs.declared.Report.{Report}
+use Rattle.layout.specs.Places.{report_width}
+use Rattle.layout.specs.Laid.{room_of}
 use Rattle.rules.specs.declared.Rooms.{Rooms}
 use Rattle.rules.specs.declared.Counts.{Counts}
 use Rattle.rules.specs.Replies.{made_reply, if_accepted}
@@ -106,6 +108,18 @@ asked_records d s ps k = by_kind k.kind (creation_records d s ps k.units) (redem
 
 unfoldable pub asked_reports : Day → List ℕ → List ℕ → Ask → List Report
 asked_reports d s ps k = by_kind k.kind (creation_reports d s ps k.units) (redemption_reports d k.units)
+
+-- the records of an order of the account's, and the reports to the investor
+unfoldable pub records_of : Day → List ℕ → List ℕ → Ask → List Record
+records_of d b ps ask = asked_records d (account d b ask.account) ps ask
+
+abbrev pub reports_of : Day → List ℕ → List ℕ → Ask → List Report
+reports_of d b ps ask = asked_reports d (account d b ask.account) ps ask
+
+-- room for so many records, and the rooms of the two runs of reports beside them
+abbrev pub rooms_beside : ℕ → List ℕ → List ℕ → Rooms
+rooms_beside records investor fund =
+    record { records = records; investor = room_of report_width (length investor); fund = room_of report_width (length fund) }
 
 -- how many records and reports the order makes
 unfoldable pub counts_by : Day → List ℕ → List ℕ → Ask → Counts
