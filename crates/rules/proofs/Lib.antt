@@ -6,4 +6,5 @@ pub mod Sides
 pub mod Accepted
 pub mod Stock
 pub mod Asked
+pub mod Records
 pub mod Reports

@@ -2,6 +2,7 @@
 use Rattle.std.specs.Prelude.{ℕ, ◌+◌, ◌*◌, ◌/◌, ◌%◌, cond, List, [], ◌∷◌, ◌++◌, map, ltb, eqb, Result, Ok, Err}
 use Rattle.sequences.specs.Below.{join_below}
 use Rattle.units.specs.Units.{split_size}
+use Rattle.layout.specs.Places.{most_components}
 use Rattle.layout.specs.Day.{Day}
 use Rattle.layout.specs.declared.Record.{Record}
 use Rattle.rules.specs.declared.Side.{Side}
@@ -52,6 +53,14 @@ shanghai_step = 2
 
 abbrev pub other_step : ℕ
 other_step = 5
+
+-- the most records of an order beside stock: two of units, and two for each of the two kinds of cash
+abbrev pub beside_stock : ℕ
+beside_stock = 6
+
+-- the most records of an order: one for each component, and those beside stock
+abbrev pub most_records : ℕ
+most_records = most_components + beside_stock
 
 -- in order: unit (g); each component with stock moved; other cash (g+5); Shanghai cash (g+2); unit (g+1).
 -- Stock is on one side and the rest on the other.
