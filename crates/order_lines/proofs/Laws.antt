@@ -1,5 +1,5 @@
 -- One component in an order: its numbers are small, and the parts that the code finds make its line.
-use mathlib.Core.Path.{◌≡◌, refl, sym}
+use mathlib.Core.Path.{◌≡◌, refl, sym, ap}
 use mathlib.Core.Bool.{Bool, true, false, cond, not}
 use mathlib.Core.List.{[], ◌∷◌}
 use Rattle.std.specs.Prelude.{Some, None}
@@ -120,13 +120,17 @@ cond_same false x = refl
 
 -- a component of which stock moves
 module _ (t : FlagTable) (c : Component) (have m : ℕ) (moves : entry t c.flag stock_moves ≡ true) where
+  missing_is : entry t c.flag shortage_in_cash ≡ true → missing_of t c have m ≡ m * c.quantity - have
+  unfolding missing_of
+  missing_is in-cash = ap (λ (b : Bool). cond b (m * c.quantity - have) 0) in-cash
+
   -- cash stands for what is missing
   pub missing_line : (price : ℕ) (worth cash : Money) → have < m * c.quantity → entry t c.flag shortage_in_cash ≡ true
       → worth.0 ≡ (m * c.quantity - have) * price → cash.0 ≡ premium worth.0 c.premium.0
       → record { short = false; missing = m * c.quantity - have; worth = Some worth; cash = in_market t c cash.0; moved = min (m * c.quantity) have } ≡ creation_line t c have price m
-  unfolding creation_line worth_of missing_of every
+  unfolding creation_line worth_of every
   missing_line price worth cash lacks in-cash is_worth is_cash =
-      rw (moves, in-cash, is_cash, ← is_worth, lt-ltb 0 (m * c.quantity - have) (omega (arith, lacks)))
+      rw (moves, in-cash, missing_is in-cash, is_cash, ← is_worth, lt-ltb 0 (m * c.quantity - have) (omega (arith, lacks)))
 
   -- it is short, or is there in full
   pub short_line : (price : ℕ) → have < m * c.quantity → entry t c.flag shortage_in_cash ≡ false

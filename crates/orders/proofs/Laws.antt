@@ -148,6 +148,11 @@ sound_reply : (d : Day) (b ps : List ℕ) (ask : Ask) (rooms : Rooms) → is_sou
 unfolding asked_answer asked_reply
 sound_reply d b ps ask rooms whole = on_sound d b ps (asked_checks d b ps ask rooms) _ whole
 
+-- the answer, by the room that the records' sink tells
+pub answer_by_room : (d : Day) (b ps : List ℕ) (ask : Ask) (investor fund : List ℕ) {told room : ℕ} {r : Reply} → r ≡ asked_answer d b ps ask (rooms_beside told investor fund)
+    → told ≡ room → r ≡ asked_answer d b ps ask (rooms_beside room investor fund)
+answer_by_room d b ps ask investor fund r tells = r ∙ ap (λ (k : ℕ). asked_answer d b ps ask (rooms_beside k investor fund)) tells
+
 -- where so many records have room, and the runs of both parties their reports: it can be moved and put, and leaves the rules' records and
 -- reports; m is its count of baskets, and c its cash
 module _ (d : Day) (b ps : List ℕ) (ask : Ask) (room : ℕ) (investor fund : List ℕ) (whole : is_sound d b ps ≡ true) (counts : Counts)

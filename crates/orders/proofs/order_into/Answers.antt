@@ -3,13 +3,13 @@
 use mathlib.Core.Path.{refl, sym, ap, ◌∙◌}
 use Rattle.order_tests.specs.Tests.{accepted_reply}
 use Rattle.rules.proofs.Replies.{leaves_after}
-use Rattle.orders.proofs.Laws.{order_ready, order_writable, order_told, records_left, investor_told, mirrorable, fund_told}
+use Rattle.orders.proofs.Laws.{answer_by_room, order_ready, order_writable, order_told, records_left, investor_told, mirrorable, fund_told}
 use Rattle.orders.proofs.order_into.Goals as goal
 
 pub settle-requires : goal.settle-requires
 settle-requires g c =
     let a = c.args in
-    let made = ap accepted_reply (sym c.in_ok-accepted.was) ∙ (rw c.room.ensures at c.order_tested.ensures.answer_value) in
+    let made = ap accepted_reply (sym c.in_ok-accepted.was) ∙ answer_by_room _ _ _ _ a.investor.now a.fund.now c.order_tested.ensures.answer_value c.room.ensures in
     let whole = c.requires.prices_value in
     record {
       order_ready = order_ready _ _ _ _ (g.S.RecordSink.room a.records.now) a.investor.now a.fund.now whole _ made _ c.baskets_in-m.ensures _ c.in_ok-accepted.ensures.cash;
@@ -20,14 +20,14 @@ settle-requires g c =
 pub mirror-requires : goal.mirror-requires
 mirror-requires g c =
     let a = c.args in
-    let made = ap accepted_reply (sym c.in_ok-accepted.was) ∙ (rw c.room.ensures at c.order_tested.ensures.answer_value) in
+    let made = ap accepted_reply (sym c.in_ok-accepted.was) ∙ answer_by_room _ _ _ _ a.investor.now a.fund.now c.order_tested.ensures.answer_value c.room.ensures in
     mirrorable _ _ _ _ (g.S.RecordSink.room a.records.now) a.investor.now a.fund.now c.requires.prices_value _ made _ c.baskets_in-m.ensures _ c.in_ok-accepted.ensures.cash
     c.settle.ensures.investor
 
 pub returns-clause-records : goal.returns-clause-records
 returns-clause-records g c =
     let a = c.args in
-    let made = ap accepted_reply (sym c.in_ok-accepted.was) ∙ (rw c.room.ensures at c.order_tested.ensures.answer_value) in
+    let made = ap accepted_reply (sym c.in_ok-accepted.was) ∙ answer_by_room _ _ _ _ a.investor.now a.fund.now c.order_tested.ensures.answer_value c.room.ensures in
     records_left _ _ _ _ (g.S.RecordSink.room a.records.now) a.investor.now a.fund.now c.requires.prices_value _ made _ c.baskets_in-m.ensures _ c.in_ok-accepted.ensures.cash
     _ _ c.settle.ensures.records
     ∙ leaves_after _ _ _ _ refl made
@@ -35,7 +35,7 @@ returns-clause-records g c =
 pub returns-clause-investor : goal.returns-clause-investor
 returns-clause-investor g c =
     let a = c.args in
-    let made = ap accepted_reply (sym c.in_ok-accepted.was) ∙ (rw c.room.ensures at c.order_tested.ensures.answer_value) in
+    let made = ap accepted_reply (sym c.in_ok-accepted.was) ∙ answer_by_room _ _ _ _ a.investor.now a.fund.now c.order_tested.ensures.answer_value c.room.ensures in
     investor_told _ _ _ _ (g.S.RecordSink.room a.records.now) a.investor.now a.fund.now c.requires.prices_value _ made _ c.baskets_in-m.ensures _ c.in_ok-accepted.ensures.cash
     c.settle.ensures.investor
     ∙ leaves_after _ a.investor.now _ _ refl made
@@ -43,7 +43,7 @@ returns-clause-investor g c =
 pub returns-clause-fund : goal.returns-clause-fund
 returns-clause-fund g c =
     let a = c.args in
-    let made = ap accepted_reply (sym c.in_ok-accepted.was) ∙ (rw c.room.ensures at c.order_tested.ensures.answer_value) in
+    let made = ap accepted_reply (sym c.in_ok-accepted.was) ∙ answer_by_room _ _ _ _ a.investor.now a.fund.now c.order_tested.ensures.answer_value c.room.ensures in
     let told = investor_told _ _ _ _ (g.S.RecordSink.room a.records.now) a.investor.now a.fund.now c.requires.prices_value _ made _ c.baskets_in-m.ensures _ c.in_ok-accepted.ensures.cash
     c.settle.ensures.investor in
     fund_told _ _ _ _ (g.S.RecordSink.room a.records.now) a.investor.now a.fund.now c.requires.prices_value _ made _ c.baskets_in-m.ensures _ c.in_ok-accepted.ensures.cash
