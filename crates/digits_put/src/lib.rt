@@ -50,7 +50,8 @@ pub fn put_all(dst: &mut [u8], n: u64) -> usize
     for i in (0..dst.len()).rev() {
         let (rest, digit) = split_last(m);
         dst[i] = digit;
-        if rest == 0 {
+        let is_first = rest == 0;
+        if is_first {
             return i;
         }
         m = rest;

@@ -7,8 +7,8 @@ loop-i-init c = all_start _ _ c.requires (omega arith)
 
 pub loop-i-preserved : goal.loop-i-preserved
 loop-i-preserved c =
-    all_again _ _ c.requires _ _ _ c.loop-i.invariant c.split_last-rest.ensures.0 c.split_last-rest.ensures.1 c.if-rest-eq0.false
+    all_again _ _ c.requires _ _ _ c.loop-i.invariant c.split_last-rest.ensures.0 c.split_last-rest.ensures.1 (λ z. omega (arith, z))
 
-pub returns-then-rest-eq0 : goal.returns-then-rest-eq0
-returns-then-rest-eq0 c =
-    all_end _ _ c.requires _ _ _ c.loop-i.invariant c.split_last-rest.ensures.0 c.split_last-rest.ensures.1 c.if-rest-eq0.true
+pub returns-then-is_first : goal.returns-then-is_first
+returns-then-is_first c =
+    all_end _ _ c.requires _ _ _ c.loop-i.invariant c.split_last-rest.ensures.0 c.split_last-rest.ensures.1 (omega arith)
