@@ -30,7 +30,7 @@ read_component-requires-clause-row_in_bounds c =
 pub start-requires : goal.start-requires
 start-requires c =
     let ours = columns_ours c.line_form-form.ensures c.columns-columns.ensures.value in
-    omega (arith, c.place.ensures, column_there c.in-Err.column, ap length ours)
+    grind (arith, column_there, ap length ours)
 
 pub overflow_add-result-in-Err : goal.overflow_add-result-in-Err
 overflow_add-result-in-Err c =
