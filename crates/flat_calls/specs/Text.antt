@@ -6,7 +6,7 @@ use Rattle.rules.specs.Replies.{if_accepted}
 use Rattle.list_rules.specs.declared.TextPart.{TextPart}
 use Rattle.text_rules.specs.Reading.{body_start}
 use Rattle.list_rules.specs.Shanghai.{shanghai_shape}
-use Rattle.list_rules.specs.Reading.{fields_read, read_reply, run_after}
+use Rattle.list_rules.specs.Reading.{fields_read, read_reply, fields_handed, first_handed, run_after}
 use Rattle.list_rules.specs.Writing.{Listing, write_reply, output_after}
 use Rattle.list_layout.specs.Run.{fields_width, fields_numbers}
 use Rattle.answers.specs.Numbers.{Told}
@@ -29,12 +29,14 @@ of_width fields r = cond (eqb fields fields_width) r (reply 1 0 0)
 unfoldable pub taking_reply : List ℕ → List ℕ → Taking → Reply
 taking_reply table text t = under_table table (of_width (length t.fields) (read_reply (table_given table) text (length t.run)))
 
--- an accepted reading fills all three; a refused one leaves them as they were lent
+-- an accepted reading fills all three; a refused one leaves them as they were lent. What is handed back is said twice, as `ReadOutcome` does
 pub record TextRead (table text : List ℕ) (t : Taking) (number place value : ℕ) (after : Taking) : Type 0 where
   pub told : Told (taking_reply table text t) number place value
   pub run_is : after.run ≡ if_accepted (taking_reply table text t) (run_after (table_given table) text t.run) t.run
   pub fields_is : after.fields ≡ if_accepted (taking_reply table text t) (fields_numbers (fields_read text)) t.fields
   pub first_is : after.first ≡ if_accepted (taking_reply table text t) (body_start shanghai_shape text) t.first
+  pub fields_handed_is : after.fields ≡ if_accepted (taking_reply table text t) (fields_numbers (fields_handed (table_given table) text (length t.run))) t.fields
+  pub first_handed_is : after.first ≡ if_accepted (taking_reply table text t) (first_handed (table_given table) text (length t.run)) t.first
 
 -- a part of a text as two numbers, its place and its length: they are stored at the front of a run that has room for both, and a
 -- shorter run is left as it was lent

@@ -17,7 +17,7 @@ use Rattle.text_rules.specs.Reading.{row_count, wrong_row, column_place, shape_c
 use Rattle.list_rules.specs.declared.ListFields.{ListFields}
 use Rattle.list_rules.specs.declared.Rows.{Rows}
 use Rattle.list_rules.specs.Shanghai.{shanghai, shanghai_shape}
-use Rattle.list_rules.specs.Reading.{components_run, read_fault, read_reply, run_after}
+use Rattle.list_rules.specs.Reading.{components_run, read_fault, read_reply, fields_handed, first_handed, run_after}
 use Rattle.list_reading.specs.Outcome.{ReadOutcome}
 use Rattle.list_reading.specs.Stages.{Ranged}
 use Rattle.list_reading.proofs.Handed.{counted_facts}
@@ -34,7 +34,7 @@ module _ (t : FlagTable) (text run : List ℕ) where
   pub stored_outcome : {rows : Rows} {fields : ListFields} → Ranged t text rows fields → None ≡ below rows.count (read_fault t text) → component_width * rows.count ≤ length run
       → {run' : List ℕ} → run' ≡ components_run t text ++ drop (component_width * rows.count) run
       → ReadOutcome t text run (Ok (record { fields = fields; first_row = rows.start })) run'
-  unfolding run_after is_accepted
+  unfolding fields_handed first_handed run_after is_accepted
   stored_outcome {rows} {fields} v none room {run'} e =
       let fine = le-ltb (read_fault t text) (row_count shanghai_shape text) (omega (arith, below_none_fact rows.count (read_fault t text) none, v.stand.count_is)) in
       let fits = le-ltb (length run) (component_width * row_count shanghai_shape text) (omega (arith, room, v.stand.count_is)) in
@@ -44,6 +44,12 @@ module _ (t : FlagTable) (text run : List ℕ) where
       let count : fields.count ≡ row_count shanghai_shape text = ap (λ (l : ListFields). l.count) v.fields_are ∙ (counted_facts _ _ v.counted).0 in
       record {
         answer_is = rw count said;
-        handed = record { fields_is = v.fields_are; first_is = v.stand.start_is };
+        handed =
+            record {
+              fields_is = v.fields_are;
+              first_is = v.stand.start_is;
+              fields_handed_is = v.fields_are ∙ rw (← said) refl;
+              first_handed_is = v.stand.start_is ∙ rw (← said) refl;
+            };
         run_is = e ∙ rw (← said, v.stand.count_is) refl;
       }
