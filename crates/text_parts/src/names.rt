@@ -19,10 +19,15 @@ impl<'a> Names<'a> {
         }
     }
 
+    // The name of a component by its place; `list_reading::name` goes over the whole text.
+    fn placed(&self, j: usize) -> &'a [u8] {
+        list_reading::name_from(self.text, self.first, j)
+    }
+
     // Whether a component's name is given alike in both ways of asking for it.
     fn is_alike(&self, j: usize) -> bool {
         let name = list_reading::name(self.text, j);
-        name.len() == NAME_WIDTH && name == list_reading::name_from(self.text, self.first, j)
+        name.len() == NAME_WIDTH && name == self.placed(j)
     }
 
     // Joins the names, if each is given alike in both ways.
@@ -30,7 +35,7 @@ impl<'a> Names<'a> {
         if !(0..self.count).all(|j| self.is_alike(j)) {
             return Ok(None);
         }
-        let names = (0..self.count).flat_map(|j| list_reading::name(self.text, j).iter().copied());
+        let names = (0..self.count).flat_map(|j| self.placed(j).iter().copied());
         Ok(Some(names.collect(alloc)?))
     }
 
