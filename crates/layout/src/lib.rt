@@ -108,7 +108,7 @@ const FUND_FROM: usize = 2;
 
 pub const TABLE_FROM: usize = FUND_FROM + FUND_WIDTH;
 
-const BASKET_FROM: usize = TABLE_FROM + flags::TABLE_WIDTH;
+pub const BASKET_FROM: usize = TABLE_FROM + flags::TABLE_WIDTH;
 
 pub const DAY_WIDTH: usize = BASKET_FROM + BASKET_WIDTH;
 
