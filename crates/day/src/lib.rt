@@ -25,7 +25,6 @@ use rules::{Counts, Kind, Lists, Refusal, Rooms, Trade};
 use units::ReferenceValue;
 
 // Opens a day under our flag table: the book, the prices and the day are filled.
-#[tactic(auto, unfolding(flags::specs::Table::flag_table))]
 pub fn open(
     accounts: usize,
     count: usize,
@@ -42,7 +41,7 @@ pub fn open(
         accounts,
         count,
         fund,
-        &flags::TABLE,
+        flags::our_table(),
         components,
         holdings,
         book,

@@ -4,7 +4,7 @@
 
 ghost use Rattle.std.specs.Prelude.{◌≡◌, ◌≢◌, MatchOption, length, true};
 ghost use Rattle.sequences.specs.Below.{below};
-ghost use Rattle.flags.specs.Table.{entry, column_number, flag_count, says, is_binary, use_fits, shortage_fits, row_fits, table_fault, table_of, table_width, in_use};
+ghost use Rattle.flags.specs.Table.{entry, column_number, flag_count, says, is_binary, use_fits, shortage_fits, row_fits, table_fault, table_of, table_width, in_use, flag_table};
 
 // How many flags and how many columns a table has, and how many numbers.
 pub const FLAGS: usize = 10;
@@ -53,6 +53,14 @@ pub const TABLE: Table = [
     [0; COLUMNS],
     [0; COLUMNS],
 ];
+
+// Our table, which the code takes where none is given.
+#[tactic(auto, unfolding(crate::specs::Table::flag_table))]
+pub fn our_table() -> &'static Table
+    ensures { result.now ≡ flag_table }
+{
+    &TABLE
+}
 
 // The table that a run of its numbers says, where it lies.
 #[tactic(auto)]

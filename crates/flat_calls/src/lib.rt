@@ -22,12 +22,12 @@ use rules::Refusal;
 const PART_WIDTH: usize = 2;
 
 // The numbers of the table that a lent run gives.
-#[tactic(auto, unfolding(crate::specs::Table::numbers_given, flags::specs::Table::flag_table))]
+#[tactic(auto, unfolding(crate::specs::Table::numbers_given))]
 fn numbers_given(table: &[u64]) -> &[u64]
     ensures { result.now ≡ numbers_given table.now }
 {
     if table.is_empty() {
-        return flags::TABLE.as_flattened();
+        return flags::our_table().as_flattened();
     }
     table
 }

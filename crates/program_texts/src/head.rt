@@ -13,7 +13,7 @@ pub struct Head<'a> {
 // Ours where no numbers are given; none of any other length than a table's.
 fn table_of(numbers: &[u64]) -> Option<&flags::Table> {
     if numbers.is_empty() {
-        Some(&flags::TABLE)
+        Some(flags::our_table())
     } else {
         flags::table_in(numbers)
     }

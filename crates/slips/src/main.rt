@@ -104,7 +104,7 @@ fn open(
 // The fields and the components of a list text, whose count is at most 300; `saturating_mul` stands for that.
 fn read(alloc: Global, text: &[u8]) -> Result<(ListFields, Vec<u64>), Fault> {
     let mut components = vec![in alloc; 0u64; layout::BASKET_WIDTH]?;
-    let list = list_reading::read(&flags::TABLE, text, &mut components)?;
+    let list = list_reading::read(flags::our_table(), text, &mut components)?;
     components.truncate(layout::COMPONENT_WIDTH.saturating_mul(list.fields.count));
     Ok((list.fields, components))
 }

@@ -95,7 +95,7 @@ mod tests {
             text.push_str("\r\n")?;
         }
         let mut run = [0; 2 * layout::COMPONENT_WIDTH];
-        let joined = match list_reading::read(&flags::TABLE, text.as_bytes(), &mut run) {
+        let joined = match list_reading::read(flags::our_table(), text.as_bytes(), &mut run) {
             Ok(read) => Names::new(text.as_bytes(), &read).join(rt.alloc())?,
             Err(_) => None,
         };
