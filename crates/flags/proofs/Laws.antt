@@ -1,21 +1,72 @@
 -- What callers need of a flag table: that ours obeys its rules, and what the rules say of the columns of any that does.
 use mathlib.Core.Path.{◌≡◌, refl, sym, ◌∙◌}
-use mathlib.Core.Bool.{Bool, true, false, not, ◌||◌, ◌&&◌, false≢true}
+use mathlib.Core.Bool.{Bool, true, false, cond, not, ◌||◌, ◌&&◌, and-false, false≢true}
 use mathlib.Core.List.{List, [], ◌∷◌}
-use Prim.Native.Nat.{ℕ, ◌<◌}
+use Prim.Native.Nat.{ℕ, ◌≤◌, ◌<◌}
+use native.Mathlib.Nat.{le_trans}
 use native.Mathlib.Omega.{arith}
-use borrow.Author.Tests.{lt-ltb, ltb-true, not-false, not-true}
+use lib.Dec.{leb, ltb}
+use lib.ListN.{length, get_or-eq_default}
+use borrow.Author.Tests.{lt-ltb, le-ltb, ltb-true, ltb-false, leb-true, not-false, not-true}
 use Rattle.sequences.specs.Below.{all_below, first_below}
 use Rattle.sequences.specs.Every.{every}
-use Rattle.sequences.proofs.Below.{first_all}
+use Rattle.sequences.proofs.Below.{all_at, first_all}
 use Rattle.sequences.proofs.Every.{every_at, false_of}
 use Rattle.flags.specs.Table.{FlagTable, flag_count, flag_columns, row_of, says, entry, is_binary, use_fits, shortage_fits, row_fits, table_fault, flag_table}
 use Rattle.flags.specs.Table.{stock_moves, shortage_in_cash, rate_used, amount_used, shanghai, priced, in_use}
+
+-- past either end a table has no entry
+pub past_flags : (t : FlagTable) (flag column : ℕ) → flag_count ≤ flag → entry t flag column ≡ false
+unfolding entry
+past_flags t flag column h = rw (le-ltb flag flag_count h) refl
+
+pub past_columns : (t : FlagTable) (flag column : ℕ) → flag_columns ≤ column → entry t flag column ≡ false
+unfolding entry
+past_columns t flag column h = rw (le-ltb column flag_columns h, and-false) refl
 
 -- our table loads
 pub ours_loads : table_fault flag_table ≡ flag_count
 unfolding table_fault first_below row_fits is_binary use_fits shortage_fits says all_below every flag_table
 ours_loads = refl
+
+-- two answers are the same
+abbrev agree : Bool → Bool → Bool
+agree a b = cond a b (not b)
+
+agree_same : (a b : Bool) → agree a b ≡ true → a ≡ b
+agree_same true b e = sym e
+agree_same false true e = absurd (false≢true e)
+agree_same false false e = refl
+
+-- within its ends our table's rows say yes only where their flag is in use
+rows_agree : all_below (λ flag. all_below (λ column. agree (entry flag_table flag column) (says (row_of flag_table flag) column)) flag_columns) flag_count ≡ true
+unfolding all_below entry says flag_table
+rows_agree = refl
+
+rows_width : all_below (λ flag. leb (length (row_of flag_table flag)) flag_columns) flag_count ≡ true
+unfolding all_below flag_table
+rows_width = refl
+
+-- and past them they say nothing
+row_past : (row : List ℕ) (column : ℕ) → length row ≤ column → says row column ≡ false
+unfolding says
+row_past row column h = rw (get_or-eq_default row 0 {n = column} h) refl
+
+flag_past : (flag column : ℕ) → flag_count ≤ flag → says (row_of flag_table flag) column ≡ false
+unfolding flag_table
+flag_past flag column h = row_past (row_of flag_table flag) column (rw (get_or-eq_default flag_table [] {n = flag} h) (omega arith))
+
+-- so an entry of ours is what its row says
+pub entry_ours : (flag column : ℕ) → entry flag_table flag column ≡ says (row_of flag_table flag) column
+entry_ours flag column = go (ltb flag flag_count) refl (ltb column flag_columns) refl
+  where
+    go : (a : Bool) → ltb flag flag_count ≡ a → (b : Bool) → ltb column flag_columns ≡ b → entry flag_table flag column ≡ says (row_of flag_table flag) column
+    go true e true f = agree_same _ _ (all_at _ flag_columns (all_at _ flag_count rows_agree flag (ltb-true _ _ e)) column (ltb-true _ _ f))
+    go true e false f =
+        let past = ltb-false _ _ f in
+        let wide = leb-true _ _ (all_at _ flag_count rows_width flag (ltb-true _ _ e)) in
+        past_columns flag_table flag column past ∙ sym (row_past _ column (le_trans wide past))
+    go false e b f = let past = ltb-false _ _ e in past_flags flag_table flag column past ∙ sym (flag_past flag column past)
 
 -- a and b, taken apart
 parts : (a b : Bool) → (a && b) ≡ true → (a ≡ true) × (b ≡ true)

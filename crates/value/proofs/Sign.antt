@@ -13,7 +13,7 @@ use borrow.Author.Tests.{leb-true, ltb-true}
 use Rattle.fund.specs.Fund.{cash_in_range}
 use Rattle.rules.specs.Value.{cash_added, cash_taken}
 
-small : (e : ℤ) → cash_in_range e ≡ true → nat_abs e ≤ 9_999_999_999
+pub small : (e : ℤ) → cash_in_range e ≡ true → nat_abs e ≤ 9_999_999_999
 unfolding cash_in_range
 small (pos n) h = leb-true n 9_999_999_999 h
 small (negsuc n) h = omega (arith, ltb-true n 999_999_999 h)
