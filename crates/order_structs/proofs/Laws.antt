@@ -3,7 +3,7 @@
 use mathlib.Core.Path.{◌≡◌, refl, ap, ◌∙◌}
 use mathlib.Core.Bool.{Bool, true, false, cond}
 use mathlib.Core.List.{List, map}
-use Prim.Native.Nat.{ℕ, ◌-◌}
+use Prim.Native.Nat.{ℕ, ◌-◌, ◌<◌}
 use native.Mathlib.Omega.{arith}
 use lib.ListN.{length}
 use Rattle.sequences.specs.Checks.{Reply, is_accepted}
@@ -12,12 +12,16 @@ use Rattle.layout.specs.declared.Record.{Record}
 use Rattle.layout.specs.Records.{at_front}
 use Rattle.layout.specs.Reports.{with_reports}
 use Rattle.rules.specs.declared.Ask.{Ask}
+use Rattle.rules.specs.declared.Kind.{Kind}
 use Rattle.rules.specs.declared.Rooms.{Rooms}
 use Rattle.rules.specs.declared.Refusal.TheVariants.{UnsoundDay}
 use Rattle.rules.specs.Replies.{if_accepted}
 use Rattle.rules.specs.Reports.{opposite}
 use Rattle.rules.specs.Sound.{is_sound}
-use Rattle.rules.specs.Kinds.{records_of, reports_of, rooms_beside, asked_reply, asked_moves, asked_book}
+use Rattle.rules.specs.Lent.{Lent}
+use Rattle.rules.specs.Orders.{number_of, kind_at}
+use Rattle.rules.specs.Kinds.{ask_of, records_of, reports_of, rooms_beside, asked_reply, asked_moves, asked_book, asked_lists}
+use Rattle.rules.proofs.Sides.{number-below, kind_back}
 use Rattle.rules.proofs.Replies.{leaves_before}
 use Rattle.order_records.specs.Put.{put_all}
 use Rattle.record_writer.specs.declared.Writer.{Writer}
@@ -27,6 +31,27 @@ use Rattle.orders.proofs.Laws.{left_part, left_same, records_fit}
 use Rattle.orders.specs.Orders.{asked_answer}
 use Rattle.order_calls.proofs.Laws.{order_five, order_own}
 use Rattle.order_structs.specs.Made.{made_records, made_reports}
+
+-- The kind of an ask that is given as a number: it is taken for 0 or 1.
+pub known : (number : ℕ) → number_of (kind_at number) < 2
+known number = number-below (kind_at number)
+
+-- and the ask comes to what it does with that number
+module _ (d : Day) (b ps : List ℕ) (number a units : ℕ) where
+  same_ask : ask_of (kind_at (number_of (kind_at number))) a units ≡ ask_of (kind_at number) a units
+  same_ask = ap (λ (kind : Kind). ask_of kind a units) (kind_back (kind_at number))
+
+  pub known_reply : (rooms : Rooms)
+      → asked_reply d b ps (ask_of (kind_at (number_of (kind_at number))) a units) rooms ≡ asked_reply d b ps (ask_of (kind_at number) a units) rooms
+  known_reply rooms = ap (λ (ask : Ask). asked_reply d b ps ask rooms) same_ask
+
+  pub known_book : (rooms : Rooms)
+      → asked_book d b ps (ask_of (kind_at (number_of (kind_at number))) a units) rooms ≡ asked_book d b ps (ask_of (kind_at number) a units) rooms
+  known_book rooms = ap (λ (ask : Ask). asked_book d b ps ask rooms) same_ask
+
+  pub known_lists : (lent : Lent)
+      → asked_lists d b ps (ask_of (kind_at (number_of (kind_at number))) a units) lent ≡ asked_lists d b ps (ask_of (kind_at number) a units) lent
+  known_lists lent = ap (λ (ask : Ask). asked_lists d b ps ask lent) same_ask
 
 module _ (d : Day) (b ps : List ℕ) (unsound : is_sound d b ps ≡ false) (ask : Ask) (rooms : Rooms) where
   pub list_five : (list : List Record) → list ≡ made_records d b ps ask rooms list

@@ -1,5 +1,5 @@
 -- What the two sides of a trade and of an order make of an account's stretch.
-use mathlib.Core.Path.{◌≡◌, ap, ◌∙◌}
+use mathlib.Core.Path.{◌≡◌, refl, ap, ◌∙◌}
 use mathlib.Core.Logic.{◌≢◌}
 use mathlib.Core.List.{List}
 use Prim.Native.Nat.{ℕ, ◌+◌, ◌≤◌, ◌<◌}
@@ -11,7 +11,7 @@ use Rattle.layout.specs.Places.{lines_from}
 use Rattle.layout.specs.Book.{cash, head_at, put_head, lots_at, on_line, each_line, line_from, behind_line, counter}
 use Rattle.rules.specs.declared.Kind.{Kind}
 use Rattle.rules.specs.declared.Kind.TheVariants.{Creation, Redemption}
-use Rattle.rules.specs.Orders.{number_of, account_side, fund_side}
+use Rattle.rules.specs.Orders.{number_of, kind_at, account_side, fund_side}
 use Rattle.layout.proofs.Account.{put-head-length, head-put-same, head-put-other, lots-put-head, on_length, head_on, on_other, on_same, each-length, head_each, each_later, each_at}
 
 -- one line changed by f, and cash set to c: a side of a trade
@@ -38,6 +38,11 @@ module _ (f : Lots → Lots) (line c : ℕ) (s : List ℕ) where
 pub number-below : (kind : Kind) → number_of kind < 2
 number-below Creation = lit< tt
 number-below Redemption = lit< tt
+
+-- and that number gives the kind again
+pub kind_back : (kind : Kind) → kind_at (number_of kind) ≡ kind
+kind_back Creation = refl
+kind_back Redemption = refl
 
 -- the account's side of an order of n components
 module _ (n : ℕ) (kind : Kind) (units : ℕ) (f : ℕ → Lots → Lots) (g : Lots → Lots) (c : ℕ) (s : List ℕ) where

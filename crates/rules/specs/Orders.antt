@@ -17,6 +17,10 @@ abbrev pub number_of : Kind → ℕ
 number_of Creation = 0
 number_of Redemption = 1
 
+-- the kind of an order that is asked by a number: every number other than 0 is a redemption's
+abbrev pub kind_at : ℕ → Kind
+kind_at number = cond (eqb number 0) Creation Redemption
+
 -- the other kind
 abbrev pub opposite_kind : Kind → Kind
 opposite_kind Creation = Redemption

@@ -6,7 +6,7 @@ ghost use Rattle.layout.specs.Book.{counter};
 ghost use Rattle.rules.specs.Kinds.{all_cash, cash_report_count, ask_of};
 ghost use Rattle.rules.specs.Lent.{rooms_of, rooms_in};
 ghost use Rattle.rules.specs.Lists.{lent_in};
-ghost use Rattle.rules.specs.Orders.{number_of, opposite_kind};
+ghost use Rattle.rules.specs.Orders.{kind_at, number_of, opposite_kind};
 ghost use Rattle.rules.specs.Records.{side_number, side_at};
 ghost use Rattle.rules.specs.Reports.{turned, type_number, cash_number};
 
@@ -94,7 +94,7 @@ pub enum Kind {
 }
 
 impl Kind {
-    // Its place, as limits, counters and the switch's numbers are laid out. No `From`, unlike a side: the paper gives it no number.
+    // Its place, as limits, counters and the switch's numbers are laid out. No `From<Kind>`, unlike a side: the paper gives it no number.
     pub fn number(self) -> usize
         ensures { result ≡ number_of self }
     {
@@ -126,6 +126,18 @@ impl Kind {
             kind: self,
             account,
             units,
+        }
+    }
+}
+
+impl From<usize> for Kind {
+    ghost from_gives = { λ number kind. kind ≡ kind_at number };
+
+    // For a caller that has the kind as a number: 0 is a creation, and every other number a redemption.
+    fn from(number: usize) -> Kind {
+        match number {
+            0 => Kind::Creation,
+            _ => Kind::Redemption,
         }
     }
 }
