@@ -9,6 +9,9 @@ use program_io::items::{Item, split};
 // holdings, or the book and the prices.
 pub const HEAD: usize = 1 + layout::TABLE_FROM + 4;
 
+// How many numbers of an item a whole flag table takes, with its length: an item of a form with no table may have so many fewer.
+pub const TABLE_NUMBERS: usize = 1 + flags::TABLE_WIDTH;
+
 // How long a book and prices are.
 #[derive(Clone, Copy)]
 pub struct Lengths {

@@ -10,7 +10,7 @@ use std::io::Write;
 // What makes a program's calls on a session. From each opening and each state that `Replay` reads it is the default again; a state may
 // also be an item of the program's own.
 pub trait Caller: Default + Drop {
-    // The most numbers that an item may have, and the longest book and prices.
+    // The most numbers that an item with a whole flag table may have, and the longest book and prices.
     const MOST_NUMBERS: usize;
 
     const LONGEST: Lengths;
@@ -34,7 +34,7 @@ impl<C: Caller> Player for Replay<C> {
     const MOST_NUMBERS: usize = C::MOST_NUMBERS;
 
     fn new(alloc: Global) -> Result<Replay<C>, AllocError> {
-        let session = Session::new(alloc, C::LONGEST)?;
+        let session = Session::new(alloc, C::LONGEST, C::MOST_NUMBERS)?;
         let caller = C::default();
         Ok(Replay { session, caller })
     }

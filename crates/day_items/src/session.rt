@@ -1,6 +1,8 @@
 // The day, book and prices that calls are made on, and the items that give them.
+ghost use Rattle.std.specs.Prelude.{◌+◌, ◌≤◌, length, IfOk};
+
 use crate::given::{Given, Lengths};
-use crate::replies;
+use crate::{given, replies};
 use answers::Numbers;
 use layout::DayHead;
 use program_io::fault::Fault;
@@ -18,6 +20,8 @@ pub struct Session {
     pub book: Vec<u64>,
     pub prices: Vec<u64>,
     longest: Lengths,
+    // The most numbers of an opening or a state with a whole flag table.
+    most_numbers: usize,
 }
 
 // A book and prices of their own, copied from a session, so that calls leave its own as they were.
@@ -44,18 +48,30 @@ impl Kept {
 
 impl Session {
     // The blank day, with no book and no prices.
-    pub fn new(alloc: Global, longest: Lengths) -> Result<Session, AllocError> {
+    pub fn new(
+        alloc: Global,
+        longest: Lengths,
+        most_numbers: usize,
+    ) -> Result<Session, AllocError> {
         Ok(Session {
             alloc,
             day: vec![in alloc; 0u64; layout::DAY_WIDTH]?,
             book: Vec::new(alloc),
             prices: Vec::new(alloc),
             longest,
+            most_numbers,
         })
     }
 
-    fn fits(&self, given: &Given<'_>) -> Result<(), Fault> {
-        if self.longest.book < given.lengths.book || self.longest.prices < given.lengths.prices {
+    // What is given has no more numbers, with a whole table in place of its own, and no longer book or prices than there is room for.
+    fn fits(&self, given: &Given<'_>) -> Result<(), Fault>
+        ensures { IfOk result (λ _. 91 + length given.now.components.now + length given.now.rest.now ≤ self.now.most_numbers) }
+    {
+        let numbers = given::HEAD + flags::TABLE_WIDTH + given.components.len() + given.rest.len();
+        if self.most_numbers < numbers
+            || self.longest.book < given.lengths.book
+            || self.longest.prices < given.lengths.prices
+        {
             return Err(Fault::BadInput);
         }
         Ok(())

@@ -74,7 +74,9 @@ impl Caller for Calls {
                 *self = Calls::Anew;
                 session.set(&Given::try_from(item)?, out)
             }
-            9 => Ok(show(session, out)?),
+            9 if given::TABLE_NUMBERS + item.numbers.len() <= Self::MOST_NUMBERS => {
+                Ok(show(session, out)?)
+            }
             _ => self.make(session, Call::try_from(item)?, out),
         }
     }
@@ -182,11 +184,56 @@ mod tests {
 
     #[test]
     fn items_in_room(rt: HostRuntime) -> Result<(), Fail> {
-        for (length, want) in [(60_275, "book\nprices\n"), (60_276, "bad input\n")] {
+        for (length, want) in [(60_204, "book\nprices\n"), (60_205, "bad input\n")] {
             let numbers = " 0".repeat(rt.alloc(), length)?;
             let item = format!(in rt.alloc(); "9 {length}{numbers}")?;
             let out = player::printed::<Replay<Calls>, _>(rt.alloc(), item.as_bytes())?;
             assert_eq!(rt; out.as_slice(), want.as_bytes(), "{length}");
+        }
+        Ok(())
+    }
+
+    // How many numbers an opening has behind its head and its flag table. A state has no more than its three lengths give.
+    #[test]
+    fn openings_in_room(rt: HostRuntime) -> Result<(), Fail> {
+        for (length, table, behind, is_read) in [
+            (0, 0, 60_184, true),
+            (0, 0, 60_185, false),
+            (1, 0, 60_184, true),
+            (1, 0, 60_185, false),
+            (71, 70, 60_184, true),
+            (71, 70, 60_185, false),
+        ] {
+            let width = table + behind + 21;
+            let numbers = " 0".repeat(rt.alloc(), table + behind)?;
+            let head = "1 2 1 510050 2 9524 1 0 2 0 0 0 0 0 0 0 0";
+            let item = format!(in rt.alloc(); "1 {width} {head} {length} 0 0 0{numbers}")?;
+            let out = player::printed::<Replay<Calls>, _>(rt.alloc(), item.as_bytes())?;
+            let want = if is_read {
+                "row 1\nopening 1 0 0 0\nsame\n"
+            } else {
+                "bad input\n"
+            };
+            assert_eq!(rt; out.as_slice(), want.as_bytes(), "{length}, {behind}");
+        }
+        Ok(())
+    }
+
+    #[test]
+    fn states_in_room(rt: HostRuntime) -> Result<(), Fail> {
+        for (tag, prices, want) in [
+            (2, 400, "row 1\n"),
+            (2, 401, "bad input\n"),
+            (3, 400, "row 1\n"),
+            (3, 401, "bad input\n"),
+        ] {
+            let behind = 1800 + 57_984 + prices;
+            let width = behind + 91;
+            let numbers = " 0".repeat(rt.alloc(), behind + 70)?;
+            let head = "1 2 1 510050 2 9524 1 0 2 0 0 0 0 0 0 0 0 71 1800 57984";
+            let item = format!(in rt.alloc(); "{tag} {width} {head} {prices}{numbers}")?;
+            let out = player::printed::<Replay<Calls>, _>(rt.alloc(), item.as_bytes())?;
+            assert_eq!(rt; out.as_slice(), want.as_bytes(), "{tag}, {prices}");
         }
         Ok(())
     }

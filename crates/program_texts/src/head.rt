@@ -1,5 +1,7 @@
 // The head of a text or a list: its row, how long the lent run or output is, and its flag table.
 // The casts by `as` lose nothing: usize and u64 both have 64 bits.
+ghost use Rattle.std.specs.Prelude.{◌+◌, ◌≤◌, length, IfOk};
+
 use program_io::fault::Fault;
 use program_io::items::split;
 
@@ -20,12 +22,17 @@ fn table_of(numbers: &[u64]) -> Option<&flags::Table> {
 }
 
 impl<'a> Head<'a> {
-    // The head of an item's numbers, and those behind it.
-    pub fn split(numbers: &'a [u64]) -> Result<(Head<'a>, &'a [u64]), Fault> {
+    // The head of an item's numbers, and those behind it, which with the row and the room are no more than an item may have.
+    pub fn split(numbers: &'a [u64]) -> Result<(Head<'a>, &'a [u64]), Fault>
+        ensures { IfOk result (λ parts. 2 + length parts.1.now ≤ 20_100) }
+    {
         let [row, room, table, body @ ..] = numbers else {
             return Err(Fault::BadInput);
         };
         let (table, behind) = split(body, *table as usize)?;
+        if crate::MOST_ITEM < 2 + behind.len() {
+            return Err(Fault::BadInput);
+        }
         let table = table_of(table).ok_or(Fault::BadInput)?;
         let head = Head {
             row: *row,

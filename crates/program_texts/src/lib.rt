@@ -24,6 +24,9 @@ const MOST_RUN: usize = layout::BASKET_WIDTH + 600;
 
 const MOST_BYTES: usize = 20_000;
 
+// The most numbers of an item, a flag table and the number that says its length aside.
+const MOST_ITEM: usize = MOST_BYTES + 100;
+
 #[derive(Drop)]
 struct Replay {
     alloc: Global,
@@ -43,7 +46,8 @@ impl Replay {
 }
 
 impl Player for Replay {
-    const MOST_NUMBERS: usize = MOST_BYTES + 100;
+    // With a whole flag table and its length; `Head` tests the other numbers of an item that has them.
+    const MOST_NUMBERS: usize = MOST_ITEM + 1 + flags::TABLE_WIDTH;
 
     fn new(alloc: Global) -> Result<Replay, AllocError> {
         let base = Vec::new(alloc);
@@ -70,7 +74,7 @@ impl Player for Replay {
                 texts::read(alloc, head, &text, out)
             }
             // A text of which only the letters and one component's name are asked for.
-            (4, [row, component, change @ ..]) => {
+            (4, [row, component, change @ ..]) if item.numbers.len() <= MOST_ITEM => {
                 let text = Change::try_from(change)?.made(alloc, &self.base)?;
                 Ok(Asking::new(*row, *component).print(&text, out)?)
             }
@@ -141,14 +145,67 @@ mod tests {
         Ok(())
     }
 
+    // How many bytes a change and a grown text give, with no flag table and with one.
+    #[test]
+    fn bytes_in_room(rt: HostRuntime) -> Result<(), Fail> {
+        for (tag, table, made, places, bytes, want) in [
+            (2, 0, "0 0", 2, 20_096, REFUSED),
+            (2, 0, "0 0", 2, 20_097, "bad input\n"),
+            (2, 70, "0 0", 2, 20_096, REFUSED),
+            (2, 70, "0 0", 2, 20_097, "bad input\n"),
+            (3, 0, "1 0 0", 3, 20_095, REFUSED),
+            (3, 0, "1 0 0", 3, 20_096, "bad input\n"),
+            (3, 70, "1 0 0", 3, 20_095, REFUSED),
+            (3, 70, "1 0 0", 3, 20_096, "bad input\n"),
+        ] {
+            let width = table + places + bytes + 3;
+            let zeros = " 0".repeat(rt.alloc(), table)?;
+            let numbers = " 65".repeat(rt.alloc(), bytes)?;
+            let item = format!(in rt.alloc(); "{tag} {width} 1 6 {table}{zeros} {made}{numbers}")?;
+            let out = player::printed::<Replay, _>(rt.alloc(), item.as_bytes())?;
+            assert_eq!(rt; out.as_slice(), want.as_bytes(), "{tag} {table} {bytes}");
+        }
+        Ok(())
+    }
+
+    // The bytes of a change of which the letters and a name alone are asked for: no table stands in it.
+    #[test]
+    fn parts_in_room(rt: HostRuntime) -> Result<(), Fail> {
+        for (bytes, want) in [(20_096, "row 1\nletters\nname\n"), (20_097, "bad input\n")] {
+            let width = bytes + 4;
+            let numbers = " 65".repeat(rt.alloc(), bytes)?;
+            let item = format!(in rt.alloc(); "4 {width} 1 0 0 0{numbers}")?;
+            let out = player::printed::<Replay, _>(rt.alloc(), item.as_bytes())?;
+            assert_eq!(rt; out.as_slice(), want.as_bytes(), "{bytes}");
+        }
+        Ok(())
+    }
+
+    // The components of a list with a flag table.
+    #[test]
+    fn tables_in_room(rt: HostRuntime) -> Result<(), Fail> {
+        for (components, want) in [
+            (20_074, "row 1\nwrite 1 0 0\nsame\n"),
+            (20_075, "bad input\n"),
+        ] {
+            let width = components + 97;
+            let zeros = " 0".repeat(rt.alloc(), 70)?;
+            let numbers = " 0".repeat(rt.alloc(), components + 22)?;
+            let item = format!(in rt.alloc(); "5 {width} 1 0 70{zeros} {components} 0{numbers}")?;
+            let out = player::printed::<Replay, _>(rt.alloc(), item.as_bytes())?;
+            assert_eq!(rt; out.as_slice(), want.as_bytes(), "{components}");
+        }
+        Ok(())
+    }
+
     // The lengths of the output, of components, names and letters. A list with no component is refused.
     #[test]
     fn lists_in_room(rt: HostRuntime) -> Result<(), Fail> {
         for (output, components, names, letters, is_read) in [
             (20_000, 0, 0, 0, true),
             (20_001, 0, 0, 0, false),
-            (0, 20_073, 0, 0, true),
-            (0, 20_074, 0, 0, false),
+            (0, 20_074, 0, 0, true),
+            (0, 20_075, 0, 0, false),
             (0, 0, 3_000, 0, true),
             (0, 0, 3_001, 0, false),
             (0, 0, 0, 100, true),

@@ -7,8 +7,8 @@ mod lent;
 use answers::Numbers;
 use day_items::given::Lengths;
 use day_items::replay::{Caller, Replay};
-use day_items::replies;
 use day_items::session::Session;
+use day_items::{given, replies};
 use lent::{Batch, Lent};
 use program_io::fault::Fault;
 use program_io::items::Item;
@@ -34,7 +34,7 @@ fn run_both<W: Write>(session: &mut Session, batch: Batch<'_>, out: &mut W) -> R
 struct Batches;
 
 impl Caller for Batches {
-    const MOST_NUMBERS: usize = 12_000;
+    const MOST_NUMBERS: usize = 12_000 + given::TABLE_NUMBERS;
 
     const LONGEST: Lengths = Lengths {
         book: 12_000,
@@ -47,6 +47,9 @@ impl Caller for Batches {
         item: &Item,
         out: &mut W,
     ) -> Result<(), Fault> {
+        if Self::MOST_NUMBERS < given::TABLE_NUMBERS + item.numbers.len() {
+            return Err(Fault::BadInput);
+        }
         run_both(session, Batch::try_from(item)?, out)
     }
 }
@@ -68,8 +71,8 @@ mod tests {
             ("12000 400", 0, true),
             ("12001 1", 0, false),
             ("18 401", 0, false),
-            ("18 1", 11_979, true),
-            ("18 1", 11_980, false),
+            ("18 1", 11_980, true),
+            ("18 1", 11_981, false),
         ] {
             let width = behind + 21;
             let numbers = " 0".repeat(rt.alloc(), behind)?;
@@ -82,6 +85,37 @@ mod tests {
                 "bad input\n"
             };
             assert_eq!(rt; out.as_slice(), want.as_bytes(), "{lengths}, {behind}");
+        }
+        Ok(())
+    }
+
+    // The same with a flag table: an opening, and a state with a book as long as all that stands behind the table.
+    #[test]
+    fn tables_in_room(rt: HostRuntime) -> Result<(), Fail> {
+        for (tag, behind, want) in [
+            (1, 11_980, "row 1\nopening 1 0 0 0\nsame\n"),
+            (1, 11_981, "bad input\n"),
+            (3, 11_980, "row 1\n"),
+            (3, 11_981, "bad input\n"),
+        ] {
+            let width = behind + 91;
+            let numbers = " 0".repeat(rt.alloc(), behind + 70)?;
+            let head = "1 2 1 510050 2 9524 1 0 2 0 0 0 0 0 0 0 0 71 0";
+            let item = format!(in rt.alloc(); "{tag} {width} {head} {behind} 0{numbers}")?;
+            let out = player::printed::<Replay<Batches>, _>(rt.alloc(), item.as_bytes())?;
+            assert_eq!(rt; out.as_slice(), want.as_bytes(), "{tag}, {behind}");
+        }
+        Ok(())
+    }
+
+    #[test]
+    fn rows_in_room(rt: HostRuntime) -> Result<(), Fail> {
+        for (width, is_read) in [(12_000, true), (12_001, false)] {
+            let numbers = " 0".repeat(rt.alloc(), width)?;
+            let item = format!(in rt.alloc(); "10 {width}{numbers}")?;
+            let out = player::printed::<Replay<Batches>, _>(rt.alloc(), item.as_bytes())?;
+            let is_bad = out.as_slice() == b"bad input\n".as_slice();
+            assert_eq!(rt; is_bad, !is_read, "{width}");
         }
         Ok(())
     }
