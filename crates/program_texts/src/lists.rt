@@ -115,7 +115,7 @@ impl<'a> List<'a> {
         }
     }
 
-    // What was written, and that it is read back. Writing answers no more than the output has; `split` stands for a contract of it.
+    // What was written, and that it is read back. Writing answers no more than the output has; `min` stands for a contract of it.
     fn print_written<W: Write>(
         &self,
         alloc: Global,
@@ -123,7 +123,7 @@ impl<'a> List<'a> {
         size: usize,
         out: &mut W,
     ) -> Result<(), Fault> {
-        let (text, _) = split(output, size)?;
+        let text = &output[..size.min(output.len())];
         writeln!(out, "text{}", Row(text))?;
         let places = [("rest output", marks::first_marred(output, size))];
         changes::print(out, "rest same", &places)?;
