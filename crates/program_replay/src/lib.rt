@@ -83,8 +83,14 @@ impl Caller for Calls {
 }
 
 // Plays standard input, from the blank day on.
-pub fn run<R: Input + Print + AllocGlobal>(rt: &R) -> Result<(), Fault> {
+pub fn play<R: Input + Print + AllocGlobal>(rt: &R) -> Result<(), Fault> {
     player::run::<Replay<Calls>, R>(rt)
+}
+
+// The same for a caller that has no use for a failure: this form cannot fail, as it could not while it asked for no memory.
+// What ended the run early is left out.
+pub fn run<R: Input + Print + AllocGlobal>(rt: &R) {
+    let _ = play(rt);
 }
 
 #[cfg(test)]

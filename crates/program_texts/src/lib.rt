@@ -85,8 +85,14 @@ impl Player for Replay {
 }
 
 // Plays standard input.
-pub fn run<R: Input + Print + AllocGlobal>(rt: &R) -> Result<(), Fault> {
+pub fn play<R: Input + Print + AllocGlobal>(rt: &R) -> Result<(), Fault> {
     player::run::<Replay, R>(rt)
+}
+
+// The same for a caller that has no use for a failure: this form cannot fail, as it could not while it asked for no memory.
+// What ended the run early is left out.
+pub fn run<R: Input + Print + AllocGlobal>(rt: &R) {
+    let _ = play(rt);
 }
 
 #[cfg(test)]

@@ -5,5 +5,5 @@ use program_io::fault::Fault;
 // Reads the list texts of its standard input: those of the test vectors, and texts at the edges of the paper. The same `main` as that
 // of `replay_lists`: a program is run on the one `stdin` beside its `src`, so that two inputs are two programs.
 fn main(rt: HostRuntime) -> Result<(), Fault> {
-    program_texts::run(&rt)
+    program_texts::play(&rt)
 }
