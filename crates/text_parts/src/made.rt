@@ -73,22 +73,24 @@ impl<'a> TryFrom<&'a [u64]> for Grown<'a> {
 }
 
 impl Grown<'_> {
-    // Whether it is no longer than the longest text.
-    fn fits(&self) -> bool {
+    // How long it is, where it is no longer than the longest text.
+    fn length(&self) -> Option<usize> {
         let rest = self.front.len().saturating_add(self.tail.len());
-        self.times
-            .saturating_mul(self.part.len())
-            .saturating_add(rest)
-            <= MOST_BYTES
+        let parts = self.times.saturating_mul(self.part.len());
+        let length = parts.saturating_add(rest);
+        (length <= MOST_BYTES).then_some(length)
     }
 
-    // The text.
+    // The text, in the room that it takes: all its parts together are not made beside it. A part of no bytes, which may stand in it any number
+    // of times, is put no more often than the longest text has bytes.
     pub fn made(&self, alloc: Global) -> Result<Vec<u8>, Fault> {
-        if !self.fits() {
-            return Err(Fault::BadInput);
+        let length = self.length().ok_or(Fault::BadInput)?;
+        let part = bytes::of_numbers(alloc, self.part)?;
+        let mut text = Vec::with_capacity(alloc, length)?;
+        text.extend_from_slice(&bytes::of_numbers(alloc, self.front)?)?;
+        for _ in 0..self.times.min(MOST_BYTES) {
+            text.extend_from_slice(&part)?;
         }
-        let mut text = bytes::of_numbers(alloc, self.front)?;
-        text.extend_from_slice(&bytes::of_numbers(alloc, self.part)?.repeat(alloc, self.times)?)?;
         text.extend_from_slice(&bytes::of_numbers(alloc, self.tail)?)?;
         Ok(text)
     }
