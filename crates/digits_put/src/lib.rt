@@ -11,9 +11,11 @@ pub fn put_bytes(dst: &mut [u8], at: usize, src: &[u8]) -> usize
     requires { at + length src.now ≤ length dst.old }
     ensures { Written dst.old at src.now dst.new result }
 {
-    let next = at + src.len();
-    dst[at..next].copy_from_slice(src);
-    next
+    // By place: of `copy_from_slice`, which goes over raw pointers, LLVM makes memmove, and the archive for C would need that name from outside.
+    for i in 0..src.len() {
+        dst[at + i] = src[i];
+    }
+    at + src.len()
 }
 
 // The number before the last digit, and that digit as a byte. By 64 bits at any size: with a division of 32 bits beside it for small

@@ -1,5 +1,5 @@
 // A day in a run, and a day where it lies.
-ghost use Rattle.std.specs.Prelude.{◌≡◌, ◌-◌, ◌≤◌, ◌<◌, ◌++◌, length, get_or, replicate};
+ghost use Rattle.std.specs.Prelude.{◌≡◌, ◌-◌, ◌≤◌, ◌<◌, ◌++◌, length, get_or, drop, replicate};
 ghost use Rattle.flags.specs.Table.{table_width};
 ghost use Rattle.std.proofs.lemmas.List.Edits.{sets};
 ghost use Rattle.layout.specs.Places.{most_components, basket_width, table_from, day_width};
@@ -94,13 +94,24 @@ pub fn view_of(run: &[u64]) -> DayView<'_>
     DayView { run }
 }
 
+// Stores numbers at the front of a run. By place: of `copy_from_slice`, which goes over raw pointers, LLVM makes memmove, and the archive for C
+// would need that name from outside.
+fn put_front(run: &mut [u64], numbers: &[u64])
+    requires { length numbers.now ≤ length run.old }
+    ensures { run.new ≡ numbers.now ++ drop (length numbers.now) run.old }
+{
+    for i in 0..numbers.len() {
+        run[i] = numbers[i];
+    }
+}
+
 // Stores components as a basket: zeros stand behind them.
 fn put_basket(basket: &mut [u64], components: &[u64])
     requires { length components.now ≤ length basket.old }
     ensures { basket.new ≡ components.now ++ replicate (length basket.old - length components.now) 0 }
 {
     let (front, rest) = basket.split_at_mut(components.len());
-    front.copy_from_slice(components);
+    put_front(front, components);
     rest.fill(0);
 }
 
@@ -111,7 +122,7 @@ fn put_table(day: &mut [u64], table: &[u64])
     requires table_len { length table.now ≡ table_width }
     ensures { day.new ≡ sets day.old table_from table.now }
 {
-    day[TABLE_FROM..BASKET_FROM].copy_from_slice(table);
+    put_front(&mut day[TABLE_FROM..BASKET_FROM], table);
 }
 
 // Stores a day, of its head, the numbers of its flag table and its components.
