@@ -14,7 +14,7 @@ use std::collections::{BTreeMap, BTreeSet};
 use std::path::Path;
 use std::process::Command;
 use tools::{
-    all_compilers, c_compilers, cplusplus_compilers, is_there, root, run, scratch, text_of,
+    all_compilers, archive, c_compilers, cplusplus_compilers, is_there, root, run, scratch, text_of,
 };
 
 const PROGRAMS: &str = "rust/roffelaine-check/tests/c_kit";
@@ -162,6 +162,23 @@ fn the_example_prints_the_paper_day() {
     for compiler in all_compilers() {
         let built = compiler.compile_here(EXAMPLE, &folder);
         assert_eq!(run(&mut Command::new(built)), expected::EXAMPLE);
+    }
+}
+
+/// What every program has from the C library.
+const FROM_OUTSIDE: [&str; 2] = ["memcpy", "memset"];
+
+#[test]
+fn the_archive_needs_no_other_name_from_outside() {
+    if is_there("nm", "the names that the archive needs") {
+        let listed = run(Command::new("nm").arg("-u").arg(archive()));
+        // a kind and a name; a line that names a file of the archive has no blank
+        let names = listed
+            .lines()
+            .filter_map(|line| line.trim().split_once(' '));
+        let names = names.map(|(_, name)| name);
+        let others: Vec<&str> = names.filter(|name| !FROM_OUTSIDE.contains(name)).collect();
+        assert_eq!(others, Vec::<&str>::new());
     }
 }
 
