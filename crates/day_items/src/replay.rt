@@ -34,7 +34,7 @@ impl<C: Caller> Player for Replay<C> {
     const MOST_NUMBERS: usize = C::MOST_NUMBERS;
 
     fn new(alloc: Global) -> Result<Replay<C>, AllocError> {
-        let session = Session::new(alloc, C::LONGEST, C::MOST_NUMBERS)?;
+        let session = Session::with_most(alloc, C::LONGEST, C::MOST_NUMBERS)?;
         let caller = C::default();
         Ok(Replay { session, caller })
     }

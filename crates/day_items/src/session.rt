@@ -47,8 +47,13 @@ impl Kept {
 }
 
 impl Session {
-    // The blank day, with no book and no prices.
-    pub fn new(
+    // The blank day, with no book and no prices; an opening or a state may have any count of numbers.
+    pub fn new(alloc: Global, longest: Lengths) -> Result<Session, AllocError> {
+        Session::with_most(alloc, longest, usize::MAX)
+    }
+
+    // The same where an opening or a state, with a whole flag table in place of its own, has no more numbers than that.
+    pub fn with_most(
         alloc: Global,
         longest: Lengths,
         most_numbers: usize,
@@ -63,7 +68,6 @@ impl Session {
         })
     }
 
-    // What is given has no more numbers, with a whole table in place of its own, and no longer book or prices than there is room for.
     fn fits(&self, given: &Given<'_>) -> Result<(), Fault>
         ensures { IfOk result (λ _. 91 + length given.now.components.now + length given.now.rest.now ≤ self.now.most_numbers) }
     {
