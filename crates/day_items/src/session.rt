@@ -1,5 +1,7 @@
 // The day, book and prices that calls are made on, and the items that give them.
 ghost use Rattle.std.specs.Prelude.{◌+◌, ◌≤◌, length, IfOk};
+ghost use Rattle.flags.specs.Table.{table_width};
+ghost use Rattle.day_items.specs.declared.given.TheConstants.{HEAD};
 
 use crate::given::{Given, Lengths};
 use crate::{given, replies};
@@ -69,7 +71,7 @@ impl Session {
     }
 
     fn fits(&self, given: &Given<'_>) -> Result<(), Fault>
-        ensures { IfOk result (λ _. 91 + length given.now.components.now + length given.now.rest.now ≤ self.now.most_numbers) }
+        ensures { IfOk result (λ _. HEAD + table_width + length given.now.components.now + length given.now.rest.now ≤ self.now.most_numbers) }
     {
         let numbers = given::HEAD + flags::TABLE_WIDTH + given.components.len() + given.rest.len();
         if self.most_numbers < numbers

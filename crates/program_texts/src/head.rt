@@ -1,6 +1,7 @@
 // The head of a text or a list: its row, how long the lent run or output is, and its flag table.
 // The casts by `as` lose nothing: usize and u64 both have 64 bits.
 ghost use Rattle.std.specs.Prelude.{◌+◌, ◌≤◌, length, IfOk};
+ghost use Rattle.program_texts.specs.declared.TheConstants.{MOST_ITEM};
 
 use program_io::fault::Fault;
 use program_io::items::split;
@@ -24,7 +25,7 @@ fn table_of(numbers: &[u64]) -> Option<&flags::Table> {
 impl<'a> Head<'a> {
     // The head of an item's numbers, and those behind it, which with the row and the room are no more than an item may have.
     pub fn split(numbers: &'a [u64]) -> Result<(Head<'a>, &'a [u64]), Fault>
-        ensures { IfOk result (λ parts. 2 + length parts.1.now ≤ 20_100) }
+        ensures { IfOk result (λ parts. 2 + length parts.1.now ≤ MOST_ITEM) }
     {
         let [row, room, table, body @ ..] = numbers else {
             return Err(Fault::BadInput);
