@@ -28,12 +28,17 @@ pub numbers_stored : (run : List ℕ) (at n : ℕ) (part numbers : List ℕ) →
     → part ≡ numbers → put_mid at n run part ≡ sets run at numbers
 numbers_stored run at n part numbers size h e = rw (e, size, drop-drop) (sym (sets-eq numbers run at h ∙ rw append_assoc))
 
--- The numbers of a day's flag table, put at the front of the table's place.
+-- The numbers of a day's flag table.
 pub table_stored : (run numbers : List ℕ) (n : ℕ) (part : List ℕ) → length run ≡ day_width → length numbers ≡ table_width → n ≡ table_width
+    → part ≡ numbers → put_mid table_from n run part ≡ sets run table_from numbers
+table_stored run numbers n part full table size e = numbers_stored run table_from n part numbers (size ∙ sym table) (omega (arith, full, table)) e
+
+-- The same where they are put at the front of the table's place.
+pub table_put : (run numbers : List ℕ) (n : ℕ) (part : List ℕ) → length run ≡ day_width → length numbers ≡ table_width → n ≡ table_width
     → part ≡ numbers ++ drop (length numbers) (take n (drop table_from run)) → put_mid table_from n run part ≡ sets run table_from numbers
-table_stored run numbers n part full table size e =
+table_put run numbers n part full table size e =
     let none : drop (length numbers) (take n (drop table_from run)) ≡ [] = drop_of_length-le (take n (drop table_from run)) (rw length-take (omega (arith, table, size))) in
-    numbers_stored run table_from n part numbers (size ∙ sym table) (omega (arith, full, table)) (e ∙ rw none (append-nil numbers))
+    table_stored run numbers n part full table size (e ∙ rw none (append-nil numbers))
 
 -- The limits.
 pub limits_stored : (run limits : List ℕ) (at n : ℕ) (part : List ℕ) → length limits ≡ limit_count → n ≡ limit_count → at + limit_count ≤ length run

@@ -116,7 +116,7 @@ fn put_basket(basket: &mut [u64], components: &[u64])
 }
 
 // Stores the numbers of a flag table in a day.
-#[tactic(auto, using(crate::proofs::Stored::table_stored))]
+#[tactic(auto, using(crate::proofs::Stored::table_put))]
 fn put_table(day: &mut [u64], table: &[u64])
     requires day_len { length day.old ≡ day_width }
     requires table_len { length table.now ≡ table_width }
