@@ -10,10 +10,13 @@ use std::io::Write;
 // What makes a program's calls on a session. From each opening and each state that `Replay` reads it is the default again; a state may
 // also be an item of the program's own.
 pub trait Caller: Default + Drop {
-    // The most numbers that an item with a whole flag table may have, and the longest book and prices.
+    // The most numbers that an item may have, and the longest book and prices.
     const MOST_NUMBERS: usize;
 
     const LONGEST: Lengths;
+
+    // The most numbers that an opening or a state may have with a whole flag table in place of its own: any count, unless a caller says one.
+    const MOST_GIVEN: usize = usize::MAX;
 
     // Does what any other item says, and prints what comes of it.
     fn obey<W: Write>(
@@ -34,7 +37,7 @@ impl<C: Caller> Player for Replay<C> {
     const MOST_NUMBERS: usize = C::MOST_NUMBERS;
 
     fn new(alloc: Global) -> Result<Replay<C>, AllocError> {
-        let session = Session::with_most(alloc, C::LONGEST, C::MOST_NUMBERS)?;
+        let session = Session::with_most(alloc, C::LONGEST, C::MOST_GIVEN)?;
         let caller = C::default();
         Ok(Replay { session, caller })
     }
@@ -51,5 +54,51 @@ impl<C: Caller> Player for Replay<C> {
             }
             _ => self.caller.obey(&mut self.session, item, out),
         }
+    }
+}
+
+#[cfg(test)]
+mod tests {
+    use super::*;
+    use program_io::player;
+    use std::test::Fail;
+
+    // A caller that has no items of its own, and says no count of numbers with a whole flag table.
+    #[derive(Default, Drop)]
+    struct Plain;
+
+    impl Caller for Plain {
+        const MOST_NUMBERS: usize = 40;
+
+        const LONGEST: Lengths = Lengths { book: 0, prices: 0 };
+
+        fn obey<W: Write>(&mut self, _: &mut Session, _: &Item, _: &mut W) -> Result<(), Fault> {
+            Err(Fault::BadInput)
+        }
+    }
+
+    // An opening with no flag table, with one of a number, and with all numbers that an item may have.
+    #[test]
+    fn openings_in_room(rt: HostRuntime) -> Result<(), Fail> {
+        for (width, table, is_read) in [
+            (21, 0, true),
+            (40, 0, true),
+            (40, 2, true),
+            (40, 20, true),
+            (40, 21, false),
+            (41, 0, false),
+        ] {
+            let behind = " 0".repeat(rt.alloc(), width - 21)?;
+            let head = "1 2 1 510050 2 9524 1 0 2 0 0 0 0 0 0 0 0";
+            let item = format!(in rt.alloc(); "1 {width} {head} {table} 0 0 0{behind}")?;
+            let out = player::printed::<Replay<Plain>, _>(rt.alloc(), item.as_bytes())?;
+            let want = if is_read {
+                "row 1\nopening 1 0 0 0\nsame\n"
+            } else {
+                "bad input\n"
+            };
+            assert_eq!(rt; out.as_slice(), want.as_bytes(), "{width}, {table}");
+        }
+        Ok(())
     }
 }

@@ -1,5 +1,5 @@
 // The day, book and prices that calls are made on, and the items that give them.
-ghost use Rattle.std.specs.Prelude.{◌+◌, ◌≤◌, length, IfOk};
+ghost use Rattle.std.specs.Prelude.{◌≡◌, ◌+◌, ◌≤◌, length, IfOk};
 ghost use Rattle.flags.specs.Table.{table_width};
 ghost use Rattle.day_items.specs.declared.given.TheConstants.{HEAD};
 
@@ -50,7 +50,9 @@ impl Kept {
 
 impl Session {
     // The blank day, with no book and no prices; an opening or a state may have any count of numbers.
-    pub fn new(alloc: Global, longest: Lengths) -> Result<Session, AllocError> {
+    pub fn new(alloc: Global, longest: Lengths) -> Result<Session, AllocError>
+        ensures { IfOk result (λ session. session.most_numbers ≡ usize.MAX) }
+    {
         Session::with_most(alloc, longest, usize::MAX)
     }
 
@@ -59,7 +61,9 @@ impl Session {
         alloc: Global,
         longest: Lengths,
         most_numbers: usize,
-    ) -> Result<Session, AllocError> {
+    ) -> Result<Session, AllocError>
+        ensures { IfOk result (λ session. session.most_numbers ≡ most_numbers) }
+    {
         Ok(Session {
             alloc,
             day: vec![in alloc; 0u64; layout::DAY_WIDTH]?,

@@ -58,6 +58,8 @@ impl Caller for Calls {
         + MOST_BOOK
         + MOST_PRICES;
 
+    const MOST_GIVEN: usize = Self::MOST_NUMBERS;
+
     const LONGEST: Lengths = Lengths {
         book: MOST_BOOK,
         prices: MOST_PRICES,

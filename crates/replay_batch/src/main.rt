@@ -36,6 +36,8 @@ struct Batches;
 impl Caller for Batches {
     const MOST_NUMBERS: usize = 12_000 + given::TABLE_NUMBERS;
 
+    const MOST_GIVEN: usize = Self::MOST_NUMBERS;
+
     const LONGEST: Lengths = Lengths {
         book: 12_000,
         prices: 400,
