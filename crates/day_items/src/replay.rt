@@ -15,7 +15,7 @@ pub trait Caller: Default + Drop {
 
     const LONGEST: Lengths;
 
-    // The most numbers that an opening or a state may have with a whole flag table in place of its own: any count, unless a caller says one.
+    // How many numbers an opening or a state may have, a whole flag table counted in place of its own: any count, unless a caller says one.
     const MOST_GIVEN: usize = usize::MAX;
 
     // Does what any other item says, and prints what comes of it.
@@ -77,7 +77,8 @@ mod tests {
         }
     }
 
-    // An opening with no flag table, with one of a number, and with all numbers that an item may have.
+    // Openings with no flag table, with one of a single number, and with one that takes all the numbers behind the head; then a table one
+    // longer than what is there, and an item one number too long.
     #[test]
     fn openings_in_room(rt: HostRuntime) -> Result<(), Fail> {
         for (width, table, is_read) in [

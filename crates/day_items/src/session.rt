@@ -198,3 +198,34 @@ impl Session {
         Ok(())
     }
 }
+
+#[cfg(test)]
+mod tests {
+    use super::*;
+    use program_io::items::Item;
+    use std::test::Fail;
+
+    // An opening that is a head alone counts as 91 numbers, with a whole flag table. It is read, and refused with 1.
+    #[test]
+    fn counts_in_room(rt: HostRuntime) -> Result<(), Fail> {
+        for (most_numbers, is_read) in [(None, true), (Some(91), true), (Some(90), false)] {
+            let longest = Lengths { book: 0, prices: 0 };
+            let mut session = match most_numbers {
+                Some(most_numbers) => Session::with_most(rt.alloc(), longest, most_numbers)?,
+                None => Session::new(rt.alloc(), longest)?,
+            };
+            let numbers = vec![in rt.alloc(); 0u64; 21]?;
+            let item = Item { tag: 1, numbers };
+            let mut out = Vec::new(rt.alloc());
+            let opened = session.open(&Given::try_from(&item)?, &mut out);
+            assert_eq!(rt; opened.is_ok(), is_read, "{most_numbers:?}");
+            let want = if is_read {
+                "row 0\nopening 1 0 0 0\nsame\n"
+            } else {
+                ""
+            };
+            assert_eq!(rt; out.as_slice(), want.as_bytes(), "{most_numbers:?}");
+        }
+        Ok(())
+    }
+}
